@@ -41,7 +41,7 @@ fn add_value_ranges(faults: &mut Vec<BuildFault>, outside: &[Key]) -> Result<(),
     ensures { OnOk result (faults.new.items ≡ faults.old.items ++ map ValueRange outside.now) }
 {
     for key in outside {
-        faults.push(BuildFault::ValueRange(*key))?;
+        attempt_in_memory!(faults.push(BuildFault::ValueRange(*key)));
     }
     Ok(())
 }
@@ -59,10 +59,10 @@ fn add_faults<S: ObjectStore>(
         ++ parameter_faults outside.now (S.description store.now) (S.contents store.now))
         ++ list_if is_too_many TooMany)) }
 {
-    add_value_ranges(faults, outside)?;
-    add_words(faults, store, rows, outside)?;
-    add_lone_objects(faults, store, rows)?;
-    add_mappings(faults, store, rows, outside)?;
+    attempt!(add_value_ranges(faults, outside));
+    attempt!(add_words(faults, store, rows, outside));
+    attempt!(add_lone_objects(faults, store, rows));
+    attempt!(add_mappings(faults, store, rows, outside));
     add_if(faults, is_too_many, BuildFault::TooMany)
 }
 
@@ -90,8 +90,8 @@ fn sound_store<S: FromRows>(
         domains: 0,
         own: &[],
     };
-    let sound = sound_rows(alloc, node_id, rows)?;
-    let store = S::from_rows(alloc, node_id, &no_room, sound.as_slice(), dummies)?;
+    let sound = attempt!(sound_rows(alloc, node_id, rows));
+    let store = attempt!(S::from_rows(alloc, node_id, &no_room, sound.as_slice(), dummies));
     Ok(store)
 }
 
@@ -113,9 +113,9 @@ fn found_in<S: ObjectStore>(
         (map (λ row. row.key) rows.now)) }
 {
     let mut faults = Vec::new(alloc);
-    add_faults(&mut faults, store, rows, outside, is_too_many)?;
+    attempt!(add_faults(&mut faults, store, rows, outside, is_too_many));
     let mut mappings = Vec::new(alloc);
-    add_words_at_fault(alloc, &mut mappings, store, rows, outside)?;
+    attempt!(add_words_at_fault(alloc, &mut mappings, store, rows, outside));
     Ok(BuildFaults { faults, mappings })
 }
 
@@ -136,12 +136,12 @@ fn find_in_rows<S: FromRows + Drop>(
 {
     if node_id < 1 || node_id > 127 {
         let mut faults = Vec::new(alloc);
-        faults.push(BuildFault::NodeId)?;
+        attempt_in_memory!(faults.push(BuildFault::NodeId));
         let mappings = Vec::new(alloc);
         return Ok(BuildFaults { faults, mappings });
     }
-    let outside = sums_outside(alloc, node_id, rows)?;
-    let store: S = sound_store(alloc, node_id, rows, dummies)?;
+    let outside = attempt!(sums_outside(alloc, node_id, rows));
+    let store: S = attempt!(sound_store(alloc, node_id, rows, dummies));
     found_in(
         alloc,
         &store,

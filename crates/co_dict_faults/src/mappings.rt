@@ -1,6 +1,6 @@
 //! The faults of a mapping (CiA 301, 7.5.2.36, 7.5.2.38).
 
-ghost use Rattle.std.specs.Prelude.{◌≡◌, ◌≤◌, ◌*◌, ◌++◌, true, min, unwrap_or, IfOk, OnOk};
+ghost use Rattle.std.specs.Prelude.{◌≡◌, ◌≤◌, ◌*◌, ◌++◌, [], true, min, unwrap_or, IfOk, OnOk};
 ghost use Rattle.co_dict.specs.MappingCounts.{is_mapping_index, counted_words, total_width};
 ghost use Rattle.co_dict.specs.MappingWords.{word_width};
 ghost use Rattle.co_dict_faults.specs.MappingReasons.{
@@ -28,34 +28,32 @@ fn add_reason(
     ensures { OnOk result
         (faults.new.items ≡ faults.old.items ++ fault_list index sub reason) }
 {
-    match reason {
-        Some(reason) => {
-            let key = Key { index, sub };
-            faults.push(MappingFault { key, reason })?;
-            Ok(())
-        }
-        None => Ok(()),
-    }
+    let Some(reason) = reason else {
+        return Ok(());
+    };
+    let key = Key { index, sub };
+    attempt_in_memory!(faults.push(MappingFault { key, reason }));
+    Ok(())
 }
 
-// the faults of the first words, up to 64
-fn word_faults<S: ObjectStore>(
-    alloc: Global,
+// adds the faults of the first words, up to 64, to none
+fn add_word_faults<S: ObjectStore>(
+    faults: &mut Vec<MappingFault>,
     store: &S,
     side: Side,
     index: u16,
     count: u8,
-) -> Result<Vec<MappingFault>, AllocError>
-    requires { is_mapping_index side index ≡ true }
-    ensures { IfOk result (λ faults. faults.items
+) -> Result<(), AllocError>
+    requires none { faults.old.items ≡ [] }
+    requires index { is_mapping_index side index ≡ true }
+    ensures { OnOk result (faults.new.items
         ≡ word_faults side (S.description store.now) (S.contents store.now) index count) }
 {
-    let mut faults = Vec::new(alloc);
     for earlier in 0..count.min(64) {
         let reason = sub_reason(store, side, index, earlier + 1);
-        add_reason(&mut faults, index, earlier + 1, reason)?;
+        attempt!(add_reason(faults, index, earlier + 1, reason));
     }
-    Ok(faults)
+    Ok(())
 }
 
 // how many bytes a word maps; 0 where it can't be mapped
@@ -117,22 +115,22 @@ fn count_reason<S: ObjectStore>(
     }
 }
 
-// the faults of a mapping that counts this many words
-fn counted_faults<S: ObjectStore>(
-    alloc: Global,
+// adds the faults of a mapping that counts this many words to none
+fn add_counted_faults<S: ObjectStore>(
+    faults: &mut Vec<MappingFault>,
     store: &S,
     side: Side,
     index: u16,
     count: u8,
-) -> Result<Vec<MappingFault>, AllocError>
-    requires { is_mapping_index side index ≡ true }
-    ensures { IfOk result (λ faults. faults.items
+) -> Result<(), AllocError>
+    requires none { faults.old.items ≡ [] }
+    requires index { is_mapping_index side index ≡ true }
+    ensures { OnOk result (faults.new.items
         ≡ counted_faults side (S.description store.now) (S.contents store.now) index count) }
 {
-    let mut faults = word_faults(alloc, store, side, index, count)?;
+    attempt!(add_word_faults(faults, store, side, index, count));
     let reason = count_reason(is_empty(faults.as_slice()), store, side, index, count);
-    add_reason(&mut faults, index, 0, reason)?;
-    Ok(faults)
+    add_reason(faults, index, 0, reason)
 }
 
 fn is_empty(faults: &[MappingFault]) -> bool
@@ -158,9 +156,11 @@ pub fn mapping_faults<S: ObjectStore>(
     ensures { IfOk result (λ faults. faults.items
         ≡ mapping_faults side (S.description store.now) (S.contents store.now) index) }
 {
+    let mut faults = Vec::new(alloc);
     let count = number_u8(store, Key { index, sub: 0 });
     if count == 0 {
-        return Ok(Vec::new(alloc));
+        return Ok(faults);
     }
-    counted_faults(alloc, store, side, index, count)
+    attempt!(add_counted_faults(&mut faults, store, side, index, count));
+    Ok(faults)
 }

@@ -46,7 +46,7 @@ pub(crate) fn add_words<S: ObjectStore>(
 {
     for row in rows {
         let is_found = is_word_found(store, outside, row.key);
-        add_if(faults, is_found, BuildFault::BadCobId(row.key))?;
+        attempt!(add_if(faults, is_found, BuildFault::BadCobId(row.key)));
     }
     Ok(())
 }
@@ -59,9 +59,10 @@ pub(crate) fn add_if(
 ) -> Result<(), AllocError>
     ensures { OnOk result (faults.new.items ≡ faults.old.items ++ list_if condition fault) }
 {
-    if condition {
-        faults.push(fault)?;
+    if !condition {
+        return Ok(());
     }
+    attempt_in_memory!(faults.push(fault));
     Ok(())
 }
 
@@ -96,7 +97,7 @@ pub(crate) fn add_lone_objects<S: ObjectStore>(
     for row in rows {
         let index = row.key.index;
         let is_lone = is_lone(store, last, index);
-        add_if(faults, is_lone, BuildFault::PdoPair(index))?;
+        attempt!(add_if(faults, is_lone, BuildFault::PdoPair(index)));
         last = Some(index);
     }
     Ok(())
@@ -123,7 +124,7 @@ pub(crate) fn add_mappings<S: ObjectStore>(
 {
     for row in rows {
         let is_found = is_mapping_found(store, outside, row.key);
-        add_if(faults, is_found, BuildFault::BadMapping(row.key))?;
+        attempt!(add_if(faults, is_found, BuildFault::BadMapping(row.key)));
     }
     Ok(())
 }
@@ -153,7 +154,7 @@ fn add_words_of_mapping<S: ObjectStore>(
     if !is_mapping_found(store, outside, key) {
         return Ok(());
     }
-    let found = mapping_faults(alloc, store, side_of(key.index), key.index)?;
+    let found = attempt!(mapping_faults(alloc, store, side_of(key.index), key.index));
     words.extend_from_slice(found.as_slice())
 }
 
@@ -170,7 +171,7 @@ pub(crate) fn add_words_at_fault<S: ObjectStore>(
         (map (λ row. row.key) rows.now)) }
 {
     for row in rows {
-        add_words_of_mapping(alloc, words, store, outside, row.key)?;
+        attempt!(add_words_of_mapping(alloc, words, store, outside, row.key));
     }
     Ok(())
 }

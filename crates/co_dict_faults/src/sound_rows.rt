@@ -25,7 +25,7 @@ pub(crate) fn sums_outside(
     let mut keys = Vec::new(alloc);
     for row in rows {
         if is_sum_outside(node_id, row) {
-            keys.push(row.key)?;
+            attempt_in_memory!(keys.push(row.key));
         }
     }
     Ok(keys)
@@ -51,9 +51,9 @@ pub(crate) fn sound_rows<'a>(
     ensures { IfOk result (λ sound. map row_view sound.items
         ≡ map (sound_row node_id) (map row_view rows.now)) }
 {
-    let mut sound = Vec::with_capacity(alloc, rows.len())?;
+    let mut sound = attempt!(Vec::with_capacity(alloc, rows.len()));
     for row in rows {
-        sound.push(sound_row(node_id, row))?;
+        attempt_in_memory!(sound.push(sound_row(node_id, row)));
     }
     Ok(sound)
 }

@@ -79,8 +79,8 @@ fn add_after_lists(
     ensures { OnOk result (faults.new.items ≡ faults.old.items
         ++ collected_after has_lists are_lists_bad named.now (map section_view sections.now)) }
 {
-    add_compact_pdo(faults, sections)?;
-    let is_listing_bad = add_listings(alloc, faults, sections, named)?;
+    attempt!(add_compact_pdo(faults, sections));
+    let is_listing_bad = attempt!(add_listings(alloc, faults, sections, named));
     let is_missing = is_mandatory_missing(has_lists, are_lists_bad, is_listing_bad, named);
     add_if(faults, is_missing, FaultKind::MissingMandatory, 0)
 }
@@ -97,9 +97,9 @@ pub(crate) fn collect(
         ≡ faults.old.items ++ collected (map section_view sections.now)) }
 {
     let has_lists = has_mandatory_list(sections);
-    add_if(faults, !has_lists, FaultKind::MissingSection, 0)?;
+    attempt!(add_if(faults, !has_lists, FaultKind::MissingSection, 0));
     let mut named = Vec::new(alloc);
-    let are_lists_bad = add_sections(faults, &mut named, sections)?;
+    let are_lists_bad = attempt!(add_sections(faults, &mut named, sections));
     let named = named.as_slice();
     add_after_lists(alloc, faults, sections, named, has_lists, are_lists_bad)
 }

@@ -133,7 +133,7 @@ fn add_type(faults: &mut Vec<SheetFault>, entry: &EntrySection) -> Result<(), Al
     ensures { OnOk result
         (faults.new.items ≡ faults.old.items ++ type_collected (entry_view entry.now)) }
 {
-    add_unread_at(faults, entry.section, b"DataType")?;
+    attempt!(add_unread_at(faults, entry.section, b"DataType"));
     let line = type_line(entry);
     if is_type_bad(entry) {
         return add_if(faults, true, FaultKind::BadType, line);
@@ -302,11 +302,11 @@ fn add_numeric(
 {
     let section = entry.section;
     let limits = limits_of(entry, data_type);
-    add_unread_limit(faults, section, data_type, b"LowLimit")?;
-    add_unread_limit(faults, section, data_type, b"HighLimit")?;
-    add_limit(faults, section, b"LowLimit", limits.is_low_bad)?;
-    add_limit(faults, section, b"HighLimit", limits.is_high_bad)?;
-    add_default(faults, entry, data_type, &limits, b"DefaultValue")?;
+    attempt!(add_unread_limit(faults, section, data_type, b"LowLimit"));
+    attempt!(add_unread_limit(faults, section, data_type, b"HighLimit"));
+    attempt!(add_limit(faults, section, b"LowLimit", limits.is_low_bad));
+    attempt!(add_limit(faults, section, b"HighLimit", limits.is_high_bad));
+    attempt!(add_default(faults, entry, data_type, &limits, b"DefaultValue"));
     add_default(faults, entry, data_type, &limits, b"ParameterValue")
 }
 
@@ -343,7 +343,7 @@ fn add_values(
     if data_type.width().is_some() {
         return add_numeric(faults, entry, data_type);
     }
-    add_pairs(faults, entry, data_type, b"DefaultValue")?;
+    attempt!(add_pairs(faults, entry, data_type, b"DefaultValue"));
     add_pairs(faults, entry, data_type, b"ParameterValue")
 }
 
@@ -379,9 +379,9 @@ pub(crate) fn add_entry(
     ensures { OnOk result
         (faults.new.items ≡ faults.old.items ++ entry_collected (entry_view entry.now)) }
 {
-    add_missing_key(faults, entry)?;
-    add_type(faults, entry)?;
-    add_unread_at(faults, entry.section, b"PDOMapping")?;
-    add_access(faults, entry)?;
+    attempt!(add_missing_key(faults, entry));
+    attempt!(add_type(faults, entry));
+    attempt!(add_unread_at(faults, entry.section, b"PDOMapping"));
+    attempt!(add_access(faults, entry));
     add_typed_values(faults, entry)
 }

@@ -24,9 +24,10 @@ pub(crate) fn add_if(
 ) -> Result<(), AllocError>
     ensures { OnOk result (faults.new.items ≡ faults.old.items ++ fault_if test kind line) }
 {
-    if test {
-        faults.push(SheetFault { kind, line })?;
+    if !test {
+        return Ok(());
     }
+    attempt_in_memory!(faults.push(SheetFault { kind, line }));
     Ok(())
 }
 
@@ -49,10 +50,10 @@ pub(crate) fn add_unread(
     ensures { OnOk result
         (faults.new.items ≡ faults.old.items ++ fault_at line (numeral_fault fault) ∷ []) }
 {
-    faults.push(SheetFault {
+    attempt_in_memory!(faults.push(SheetFault {
         kind: unread_kind(fault),
         line,
-    })?;
+    }));
     Ok(())
 }
 

@@ -12,6 +12,7 @@ ghost use Rattle.co_sheet_text.specs.SectionLaws.{IsParsed};
 ghost use Rattle.co_sheet_faults.specs.private.Collected.{collected, text_collected};
 
 use crate::collect::collect;
+use crate::faults::add_if;
 use co_sheet::{FaultKind, GREATEST_SIZE, SheetFault, sheet_fault};
 use co_sheet_text::{ParsedText, TextFault, all_sections_in};
 use std::alloc::{AllocError, Global};
@@ -23,7 +24,7 @@ pub fn read_sections(alloc: Global, text: &[u8]) -> Result<ParsedText<'_>, Alloc
     requires { length text.now ≤ 1048576 }
     ensures { IfOk result (λ sections. sections ≡ sections_read (lines_of text.now)) }
 {
-    let (sections, _) = all_sections_in(alloc, text)?;
+    let (sections, _) = attempt!(all_sections_in(alloc, text));
     Ok(sections)
 }
 
@@ -32,7 +33,7 @@ fn add_lines(faults: &mut Vec<SheetFault>, lines: &[TextFault]) -> Result<(), Al
         (faults.new.items ≡ faults.old.items ++ map sheet_fault lines.now) }
 {
     for fault in lines {
-        faults.push(sheet_fault(*fault))?;
+        attempt_in_memory!(faults.push(sheet_fault(*fault)));
     }
     Ok(())
 }
@@ -48,8 +49,8 @@ fn add_found(
     ensures { OnOk result (faults.new.items
         ≡ faults.old.items ++ map sheet_fault lines.now ++ collected parsed.now) }
 {
-    add_lines(faults, lines)?;
-    let sections = parsed.sections(alloc)?;
+    attempt!(add_lines(faults, lines));
+    let sections = attempt!(parsed.sections(alloc));
     collect(alloc, faults, sections.as_slice())
 }
 
@@ -59,7 +60,7 @@ fn add_collected(alloc: Global, faults: &mut Vec<SheetFault>, text: &[u8]) -> Re
     ensures { OnOk result
         (faults.new.items ≡ faults.old.items ++ text_collected (lines_of text.now)) }
 {
-    let (parsed, lines) = all_sections_in(alloc, text)?;
+    let (parsed, lines) = attempt!(all_sections_in(alloc, text));
     add_found(alloc, faults, &parsed, lines.as_slice())
 }
 
@@ -71,7 +72,7 @@ fn put_in_order(faults: &mut Vec<SheetFault>) -> Result<(), AllocError>
         → Contains faults.old.items fault) }
     ensures increase { OnOk result (IsStrictlySortedBy fault_cmp faults.new.items) }
 {
-    faults.sort_by_key(|fault| (fault.line, fault.kind.number()))?;
+    attempt!(faults.sort_by_key(|fault| (fault.line, fault.kind.number())));
     faults.dedup_by_key(|fault| (fault.line, fault.kind.number()));
     Ok(())
 }
@@ -86,13 +87,9 @@ fn add_all(alloc: Global, faults: &mut Vec<SheetFault>, text: &[u8]) -> Result<(
     ensures increase { OnOk result (IsStrictlySortedBy fault_cmp faults.new.items) }
 {
     if text.len() > GREATEST_SIZE {
-        faults.push(SheetFault {
-            kind: FaultKind::TooLarge,
-            line: 0,
-        })?;
-        return Ok(());
+        return add_if(faults, true, FaultKind::TooLarge, 0);
     }
-    add_collected(alloc, faults, text)?;
+    attempt!(add_collected(alloc, faults, text));
     put_in_order(faults)
 }
 
@@ -113,6 +110,6 @@ pub fn find_faults(alloc: Global, text: &[u8]) -> Result<Vec<SheetFault>, AllocE
     ensures increase { IfOk result (λ found. IsStrictlySortedBy fault_cmp found.items) }
 {
     let mut faults = Vec::new(alloc);
-    add_all(alloc, &mut faults, text)?;
+    attempt!(add_all(alloc, &mut faults, text));
     Ok(faults)
 }

@@ -36,7 +36,7 @@ fn add_unread_numbers(
         ++ flat_map unread_number (map property_view properties.now)) }
 {
     for given in properties {
-        add_unread_number(faults, given)?;
+        attempt!(add_unread_number(faults, given));
     }
     Ok(())
 }
@@ -107,12 +107,12 @@ fn add_section(
         ≡ map listing_view named.old.items ++ named_by (section_view section.now)) }
     ensures bad { IfOk result (λ bad. bad ≡ is_list_at_fault (section_view section.now)) }
 {
-    add_numbers(faults, section)?;
+    attempt!(add_numbers(faults, section));
     if !section.kind.is_list() {
         return Ok(false);
     }
-    let is_bad = read_list(named, section)?;
-    add_bad_list(faults, section, is_bad)?;
+    let is_bad = attempt!(read_list(named, section));
+    attempt!(add_bad_list(faults, section, is_bad));
     let is_unread = has_unread(section);
     Ok(is_unread | is_bad)
 }
@@ -133,7 +133,8 @@ pub(crate) fn add_sections(
 {
     let mut is_bad = false;
     for section in sections {
-        is_bad |= add_section(faults, named, section)?;
+        let is_here = attempt!(add_section(faults, named, section));
+        is_bad |= is_here;
     }
     Ok(is_bad)
 }
@@ -187,8 +188,8 @@ fn add_each_listing(
 {
     let mut is_bad = false;
     for listing in named {
-        let is_first = seen.insert(listing.index)?;
-        add_listing(faults, tables, listing, is_first)?;
+        let is_first = attempt_in_memory!(seen.insert(listing.index));
+        attempt!(add_listing(faults, tables, listing, is_first));
         is_bad |= is_listing_bad(tables, listing, is_first);
     }
     Ok(is_bad)
@@ -211,7 +212,7 @@ pub(crate) fn add_listings(
         ≡ list_any (is_listing_at_fault (map section_view sections.now))
         (listings (map section_view sections.now))) }
 {
-    let tables = Tables::new(alloc, sections)?;
+    let tables = attempt!(Tables::new(alloc, sections));
     let mut seen = IndexSet::new(alloc);
     add_each_listing(faults, &mut seen, &tables, named)
 }

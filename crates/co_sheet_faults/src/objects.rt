@@ -74,7 +74,7 @@ fn add_compact(faults: &mut Vec<SheetFault>, section: &TextSection) -> Result<()
     ensures { OnOk result (faults.new.items
         ≡ faults.old.items ++ compact_collected (section_view section.now)) }
 {
-    add_unread_at(faults, section, b"CompactSubObj")?;
+    attempt!(add_unread_at(faults, section, b"CompactSubObj"));
     add_compact_form(faults, section, b"CompactSubObj")
 }
 
@@ -120,7 +120,7 @@ fn add_part(
     ensures { OnOk result (faults.new.items
         ≡ faults.old.items ++ part_collected is_entry (entry_view part.now)) }
 {
-    add_object_type(faults, part.section, true)?;
+    attempt!(add_object_type(faults, part.section, true));
     if is_entry {
         add_entry(faults, part)
     } else {
@@ -137,7 +137,7 @@ fn add_each_part(
         ++ flat_map (part_collected is_entry) (map entry_view parts.now)) }
 {
     for part in parts {
-        add_part(faults, part, is_entry)?;
+        attempt!(add_part(faults, part, is_entry));
     }
     Ok(())
 }
@@ -176,8 +176,8 @@ pub(crate) fn add_object(
     ensures { OnOk result (faults.new.items
         ≡ faults.old.items ++ object_collected tables.now (object_view object.now)) }
 {
-    add_object_type(faults, object.section, false)?;
-    add_compact(faults, object.section)?;
-    add_missing_sub_index_0(faults, tables, object)?;
+    attempt!(add_object_type(faults, object.section, false));
+    attempt!(add_compact(faults, object.section));
+    attempt!(add_missing_sub_index_0(faults, tables, object));
     add_parts(faults, tables, object)
 }

@@ -133,7 +133,7 @@ fn add_telling<'a>(
     match key_on(topic, line, text) {
         Some(key) if matches!(key.topic, Topic::FileInfo | Topic::DeviceInfo) || !is_known(&key) =>
             {
-                keys.push(key)?;
+                attempt_in_memory!(keys.push(key));
                 Ok(())
             }
         _ => Ok(()),
@@ -154,7 +154,7 @@ pub(crate) fn keys_in<'a>(
     let mut number = 1;
     for line in lines {
         let text = text_read(line);
-        add_telling(&mut keys, topic, number, text)?;
+        attempt!(add_telling(&mut keys, topic, number, text));
         topic = topic_after(topic, text);
         number += 1;
     }

@@ -2,6 +2,26 @@
 //! and its words.
 #![tactic(auto)]
 
+// As `?`, without a conversion of the error: a `match` is one step of a proof where `?` is three.
+macro_rules! attempt {
+    ($result:expr) => {
+        match $result {
+            Ok(value) => value,
+            Err(fault) => return Err(fault),
+        }
+    };
+}
+
+// The same of what couldn't be put into a list: memory ran out.
+macro_rules! attempt_in_memory {
+    ($result:expr) => {
+        match $result {
+            Ok(value) => value,
+            Err(_) => return Err(AllocError),
+        }
+    };
+}
+
 mod cob_ids;
 mod communication;
 mod find;

@@ -31,7 +31,7 @@ pub fn text_lines(alloc: Global, text: &[u8]) -> Result<Vec<&[u8]>, AllocError>
     let mut lines = Vec::new(alloc);
     let mut rest = without_mark(text);
     while let Some((line, after)) = split_line(rest) {
-        lines.push(line)?;
+        attempt_in_memory!(lines.push(line));
         rest = after;
     }
     Ok(lines)
@@ -64,7 +64,7 @@ pub(crate) fn add_long_lines(
 {
     let mut number = 1;
     for line in lines {
-        add_one(warnings, kind, long_line(number, line))?;
+        attempt!(add_one(warnings, kind, long_line(number, line)));
         number += 1;
     }
     Ok(())

@@ -33,9 +33,10 @@ fn add_named(listings: &mut Vec<Listing>, section: &TextSection) -> Result<(), A
     ensures { OnOk result (map listing_view listings.new.items
         ≡ map listing_view listings.old.items ++ named_by (section_view section.now)) }
 {
-    if section.kind.is_list() {
-        let _is_bad = read_list(listings, section)?;
+    if !section.kind.is_list() {
+        return Ok(());
     }
+    let _is_bad = attempt!(read_list(listings, section));
     Ok(())
 }
 
@@ -73,7 +74,7 @@ fn add_wrong_listings(
         ++ warnings_at kind (filter_map (wrong_listing list) (map listing_view listings.now))) }
 {
     for listing in listings {
-        add_one(warnings, kind, wrong_listing(list, listing))?;
+        attempt!(add_one(warnings, kind, wrong_listing(list, listing)));
     }
     Ok(())
 }
@@ -113,7 +114,7 @@ fn add_places_of_list(
         ≡ warnings.old.items ++ warnings_at kind (list_places check (section_view section.now))) }
 {
     let mut listings = Vec::new(alloc);
-    add_named(&mut listings, section)?;
+    attempt!(add_named(&mut listings, section));
     match check {
         ListCheck::Objects => {
             add_wrong_listings(warnings, kind, section.kind, listings.as_slice())
@@ -134,7 +135,7 @@ pub(crate) fn add_places_of_lists(
         ++ warnings_at kind (flat_map (list_places check) (map section_view sections.now))) }
 {
     for section in sections {
-        add_places_of_list(alloc, warnings, kind, check, section)?;
+        attempt!(add_places_of_list(alloc, warnings, kind, check, section));
     }
     Ok(())
 }
@@ -146,7 +147,7 @@ fn indices_of(alloc: Global, listings: &[Listing]) -> Result<IndexSet<u64>, Allo
 {
     let mut indices = IndexSet::new(alloc);
     for listing in listings {
-        indices.insert(listing.index)?;
+        attempt_in_memory!(indices.insert(listing.index));
     }
     Ok(indices)
 }
@@ -161,7 +162,7 @@ pub(crate) fn listed_indices(
 {
     let mut all = Vec::new(alloc);
     for section in sections {
-        add_named(&mut all, section)?;
+        attempt!(add_named(&mut all, section));
     }
     indices_of(alloc, all.as_slice())
 }

@@ -15,9 +15,10 @@ pub(crate) fn add_one(
     ensures { (lines : List ℕ) → option_to_list found ≡ lines →
         OnOk result (warnings.new.items ≡ warnings.old.items ++ warnings_at kind lines) }
 {
-    if let Some(line) = found {
-        warnings.push(Warning { kind, line })?;
-    }
+    let Some(line) = found else {
+        return Ok(());
+    };
+    attempt_in_memory!(warnings.push(Warning { kind, line }));
     Ok(())
 }
 
@@ -31,7 +32,7 @@ pub(crate) fn add_each(
         ≡ warnings.old.items ++ warnings_at kind (flat_map option_to_list found.now)) }
 {
     for line in found {
-        add_one(warnings, kind, *line)?;
+        attempt!(add_one(warnings, kind, *line));
     }
     Ok(())
 }

@@ -57,8 +57,8 @@ impl<'s, 'a> ReadText<'s, 'a> {
         ensures { IfOk result (λ text. text ≡ text_view bytes.now
             (map (λ line. line.now) lines.now) (map section_view sections.now) keys.now node) }
     {
-        let tables = Tables::new(alloc, sections)?;
-        let indices = listed_indices(alloc, sections)?;
+        let tables = attempt!(Tables::new(alloc, sections));
+        let indices = attempt!(listed_indices(alloc, sections));
         Ok(ReadText {
             bytes,
             lines,

@@ -168,7 +168,7 @@ fn is_repeated<'a>(
         ≡ (if again then map scoped_view before.old.keys
         else map scoped_view before.old.keys ++ scoped_view name.entry ∷ [])) }
 {
-    let is_new = before.insert(name)?;
+    let is_new = attempt_in_memory!(before.insert(name));
     Ok(!is_new)
 }
 
@@ -184,14 +184,16 @@ fn add_repeat<'a>(
     ensures before { OnOk result (map scoped_view before.new.keys
         ≡ kept_with (map scoped_view before.old.keys) (option_map name_view found.entry)) }
 {
-    if let Some(place) = found {
-        if is_repeated(before, place.name)? {
-            warnings.push(Warning {
-                kind,
-                line: place.line,
-            })?;
-        }
+    let Some(place) = found else {
+        return Ok(());
+    };
+    if !attempt!(is_repeated(before, place.name)) {
+        return Ok(());
     }
+    attempt_in_memory!(warnings.push(Warning {
+        kind,
+        line: place.line,
+    }));
     Ok(())
 }
 
@@ -208,7 +210,7 @@ fn add_repeats<'a>(
         (filter_map (placed_in once) (map section_view sections.now)))) }
 {
     for section in sections {
-        add_repeat(warnings, kind, before, placed_in(once, section))?;
+        attempt!(add_repeat(warnings, kind, before, placed_in(once, section)));
     }
     Ok(())
 }

@@ -71,9 +71,9 @@ fn add_others(
     ensures { OnOk result (warnings.new.items
         ≡ warnings.old.items ++ warnings_at kind (other_places text.now kind)) }
 {
-    add_one(warnings, kind, place_in_text(text, kind))?;
+    attempt!(add_one(warnings, kind, place_in_text(text, kind)));
     for section in text.sections() {
-        add_one(warnings, kind, place_in(text, kind, section))?;
+        attempt!(add_one(warnings, kind, place_in(text, kind, section)));
     }
     Ok(())
 }

@@ -34,9 +34,10 @@ fn add_name<'a>(names: &mut Vec<&'a [u8]>, line: &'a [u8]) -> Result<(), AllocEr
     ensures { OnOk result (map (λ name. name.now) names.new.items
         ≡ map (λ name. name.now) names.old.items ++ option_to_list (name_in line.now)) }
 {
-    if let Some(name) = name_in(line) {
-        names.push(name)?;
-    }
+    let Some(name) = name_in(line) else {
+        return Ok(());
+    };
+    attempt_in_memory!(names.push(name));
     Ok(())
 }
 
@@ -47,7 +48,7 @@ pub(crate) fn add_names<'a>(names: &mut Vec<&'a [u8]>, lines: &[&'a [u8]]) -> Re
         ≡ names_in (map (λ line. line.now) lines.now)) }
 {
     for line in lines {
-        add_name(names, line)?;
+        attempt!(add_name(names, line));
     }
     Ok(())
 }
@@ -93,9 +94,10 @@ fn add_if_kept(
         ++ kept_of (passes_by (map (λ one. one.now) given.now) (map (λ one. one.now) in_sheet.now))
         mark) }
 {
-    if !passes(name_of(mark.subject), given, in_sheet) {
-        left.push(mark)?;
+    if passes(name_of(mark.subject), given, in_sheet) {
+        return Ok(());
     }
+    attempt_in_memory!(left.push(mark));
     Ok(())
 }
 
@@ -112,7 +114,7 @@ pub(crate) fn add_kept(
         marks.now) }
 {
     for mark in marks {
-        add_if_kept(left, *mark, given, in_sheet)?;
+        attempt!(add_if_kept(left, *mark, given, in_sheet));
     }
     Ok(())
 }

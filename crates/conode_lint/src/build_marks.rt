@@ -35,10 +35,10 @@ fn add_build_fault(
     match fault {
         BuildFault::BadMapping(_) => Ok(()),
         other => {
-            marks.push(Mark {
+            attempt_in_memory!(marks.push(Mark {
                 line: build_line(sheet, sections, other),
                 subject: Subject::Build(other),
-            })?;
+            }));
             Ok(())
         }
     }
@@ -54,7 +54,7 @@ fn add_build_faults(
         ++ flat_map (build_marks sheet.now (map section_view sections.now)) faults.now) }
 {
     for fault in faults {
-        add_build_fault(marks, sheet, sections, *fault)?;
+        attempt!(add_build_fault(marks, sheet, sections, *fault));
     }
     Ok(())
 }
@@ -69,10 +69,10 @@ fn add_mapping_faults(
         ++ map (mapping_mark sheet.now (map section_view sections.now)) faults.now) }
 {
     for fault in faults {
-        marks.push(Mark {
+        attempt_in_memory!(marks.push(Mark {
             line: entry_line(sheet, sections, fault.key),
             subject: Subject::Mapping(*fault),
-        })?;
+        }));
     }
     Ok(())
 }
@@ -89,7 +89,7 @@ fn add_at_lines(
         ++ marks_with sheet.now (map section_view sections.now)
         found.now.faults.items found.now.mappings.items) }
 {
-    add_build_faults(marks, sheet, sections, found.faults.as_slice())?;
+    attempt!(add_build_faults(marks, sheet, sections, found.faults.as_slice()));
     add_mapping_faults(marks, sheet, sections, found.mappings.as_slice())
 }
 

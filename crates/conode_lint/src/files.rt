@@ -113,7 +113,7 @@ impl Session {
     ) -> Result<(), CmdFault> {
         for sheet in &sheets.paths {
             let path = sheet.as_str();
-            self.take_read(rt.alloc(), path, file_text(rt, path), options, out, err)?;
+            attempt!(self.take_read(rt.alloc(), path, file_text(rt, path), options, out, err));
         }
         if sheets.are_all {
             return Ok(());
@@ -150,7 +150,7 @@ impl Session {
     ) -> Result<(), CmdFault> {
         self.report.begin(rt.alloc(), options.version);
         for path in paths {
-            self.take_path(rt, path, options, out, err)?;
+            attempt!(self.take_path(rt, path, options, out, err));
         }
         Ok(())
     }
@@ -218,25 +218,6 @@ fn status_of(counts: &Counts, strict: bool) -> u8
     }
 }
 
-// checks the names that are to be allowed, lints all paths, and returns the status
-fn lint_all<R: Files + AllocGlobal + Input + Clone + Drop, O: Write, E: Write>(
-    rt: &R,
-    paths: &[&str],
-    options: &LintOptions<'_>,
-    out: &mut O,
-    err: &mut E,
-) -> Result<u8, CmdFault> {
-    if let Some(name) = unknown_name(options.checks.allowed) {
-        let _ = writeln!(err, "no finding has the name {name}");
-        return Ok(2);
-    }
-    let outcome = lint_paths(rt, paths, options, out, err);
-    match flushed(out, outcome) {
-        Ok(counts) => Ok(status_of(&counts, options.strict)),
-        Err(fault) => Err(fault),
-    }
-}
-
 /// Lints files, the `*.eds` and `*.dcf` of folders, and standard input for `-`, and writes what is
 /// found to `out`. A file or a folder that can't be read is named on `err`, and the others are
 /// linted all the same. The status is 2 if one couldn't be read, or if a name to be allowed is that
@@ -249,8 +230,13 @@ pub fn lint_files<R: Files + AllocGlobal + Input + Clone + Drop, O: Write, E: Wr
     out: &mut O,
     err: &mut E,
 ) -> ExitCode {
-    match lint_all(rt, paths, options, out, err) {
-        Ok(status) => ExitCode::from(status),
+    if let Some(name) = unknown_name(options.checks.allowed) {
+        let _ = writeln!(err, "no finding has the name {name}");
+        return ExitCode::from(2);
+    }
+    let outcome = lint_paths(rt, paths, options, out, err);
+    match flushed(out, outcome) {
+        Ok(counts) => ExitCode::from(status_of(&counts, options.strict)),
         Err(fault) => stopped(fault, out, err).status(),
     }
 }

@@ -60,8 +60,10 @@ fn add_entry<R: Files + AllocGlobal + Drop>(
 ) -> Result<bool, CmdFault> {
     match entry {
         Ok(entry) => {
-            add_sheet(rt, paths, entry.file_name(), entry.path().to_string_lossy())?;
-            Ok(true)
+            match add_sheet(rt, paths, entry.file_name(), entry.path().to_string_lossy()) {
+                Ok(()) => Ok(true),
+                Err(_) => Err(CmdFault::Memory),
+            }
         }
         Err(error) if error.kind() == io::ErrorKind::InvalidFilename => Ok(false),
         Err(error) => Err(fault_of(error)),
@@ -80,9 +82,8 @@ fn add_sheets<R: Files + AllocGlobal + Clone + Drop>(
     };
     let mut are_named = true;
     for entry in entries {
-        if !add_entry(rt, paths, entry)? {
-            are_named = false;
-        }
+        let is_named = attempt!(add_entry(rt, paths, entry));
+        are_named = are_named && is_named;
     }
     Ok(are_named)
 }

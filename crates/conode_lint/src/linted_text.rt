@@ -60,7 +60,7 @@ fn add_findings<'a>(
         ≡ map (finding_of (map (λ line. line.now) lines.now)) marks.now) }
 {
     for mark in marks {
-        findings.push(finding_of(lines, *mark))?;
+        attempt_in_memory!(findings.push(finding_of(lines, *mark)));
     }
     Ok(())
 }

@@ -49,10 +49,10 @@ fn add_faults(marks: &mut Vec<Mark>, faults: &[SheetFault]) -> Result<(), AllocE
     ensures { OnOk result (marks.new.items ≡ marks.old.items ++ map fault_mark faults.now) }
 {
     for fault in faults {
-        marks.push(Mark {
+        attempt_in_memory!(marks.push(Mark {
             line: fault.line,
             subject: Subject::Fault(fault.kind),
-        })?;
+        }));
     }
     Ok(())
 }
@@ -61,10 +61,10 @@ fn add_warnings(marks: &mut Vec<Mark>, warnings: &[Warning]) -> Result<(), Alloc
     ensures { OnOk result (marks.new.items ≡ marks.old.items ++ map warning_mark warnings.now) }
 {
     for warning in warnings {
-        marks.push(Mark {
+        attempt_in_memory!(marks.push(Mark {
             line: warning.line,
             subject: Subject::Warning(warning.kind),
-        })?;
+        }));
     }
     Ok(())
 }
@@ -168,9 +168,9 @@ fn add_marks<'s, 'a>(
     requires sheet { sheet.now ≡ sheet_of text.now }
     ensures { OnOk result (IsMarked text.now checks.now faults.now marks.new.items) }
 {
-    add_faults(marks, faults)?;
+    attempt!(add_faults(marks, faults));
     let node = node_for(checks.node, sheet);
-    add_built(alloc, marks, sections, sheet, node, &checks.limits)?;
+    attempt!(add_built(alloc, marks, sections, sheet, node, &checks.limits));
     add_suspicious(alloc, marks, text, lines, sections, checks)
 }
 
@@ -250,7 +250,7 @@ fn add_large(
 fn put_by_line(marks: &mut Vec<Mark>) -> Result<(), AllocError>
     ensures { OnOk result (IsByLine marks.old.items marks.new.items) }
 {
-    marks.sort_by_key(|mark| mark.line)?;
+    attempt!(marks.sort_by_key(|mark| mark.line));
     Ok(())
 }
 
@@ -268,10 +268,10 @@ fn format_of(lines: &[&[u8]], faults: &[SheetFault]) -> Option<OtherFormat>
 fn add_format(marks: &mut Vec<Mark>, format: OtherFormat) -> Result<(), AllocError>
     ensures { OnOk result (marks.new.items ≡ marks.old.items ++ format_mark format ∷ []) }
 {
-    marks.push(Mark {
+    attempt_in_memory!(marks.push(Mark {
         line: 1,
         subject: Subject::Format(format),
-    })?;
+    }));
     Ok(())
 }
 
@@ -297,10 +297,10 @@ fn add_found<'a>(
         return add_format(marks, format);
     }
     if text.len() > GREATEST_SIZE {
-        add_large(marks, text, sheet, faults, checks)?;
+        attempt!(add_large(marks, text, sheet, faults, checks));
         return put_by_line(marks);
     }
-    add_marked(alloc, marks, text, lines, sheet, faults, checks)?;
+    attempt!(add_marked(alloc, marks, text, lines, sheet, faults, checks));
     put_by_line(marks)
 }
 

@@ -45,6 +45,6 @@ pub(crate) fn other_format(lines: &[&[u8]]) -> Option<OtherFormat>
 pub fn text_format(alloc: Global, text: &[u8]) -> Result<Option<OtherFormat>, AllocError>
     ensures { IfOk result (λ format. format ≡ text_format text.now) }
 {
-    let lines = text_lines(alloc, text)?;
+    let lines = attempt!(text_lines(alloc, text));
     Ok(other_format(lines.as_slice()))
 }

@@ -7,7 +7,7 @@ use conode_lint_text::{
     Finding, push_finding, push_more, push_summary, put_document_end, put_document_head, put_file,
     put_log_end, put_log_head, put_results,
 };
-use percent_encoding::{AsciiSet, NON_ALPHANUMERIC, percent_encode};
+use percent_encoding::{NON_ALPHANUMERIC, percent_encode};
 use std::alloc::{AllocError, Global};
 
 /// The form in which findings are written.
@@ -50,22 +50,19 @@ impl Counts {
     }
 }
 
-/// The characters of a path that a URI has to escape: all but letters, digits and these five.
-fn kept_out() -> AsciiSet {
-    NON_ALPHANUMERIC
+// the URI of a path: a reference for a relative one; all is escaped but letters, digits and these
+// five
+fn push_uri(uri: &mut String, path: &str) -> Result<(), AllocError> {
+    if path.starts_with('/') {
+        attempt!(uri.push_str("file://"));
+    }
+    let escaped = NON_ALPHANUMERIC
         .remove(b'-')
         .remove(b'.')
         .remove(b'_')
         .remove(b'~')
-        .remove(b'/')
-}
-
-// the URI of a path: a reference for a relative one
-fn push_uri(uri: &mut String, path: &str) -> Result<(), AllocError> {
-    if path.starts_with('/') {
-        uri.push_str("file://")?;
-    }
-    percent_encode(path.as_bytes(), kept_out()).append_to(uri)
+        .remove(b'/');
+    percent_encode(path.as_bytes(), escaped).append_to(uri)
 }
 
 // appends the lines of findings in a file of this name, in characters
@@ -77,7 +74,7 @@ fn push_findings(
     linted: &Linted<'_>,
 ) -> Result<(), AllocError> {
     for finding in &linted.findings {
-        push_finding(alloc, text, colours, file, finding)?;
+        attempt!(push_finding(alloc, text, colours, file, finding));
     }
     if linted.more > 0 {
         return push_more(text, file, linted.more);

@@ -65,29 +65,25 @@ static SUBJECTS: [Subject; 50] = [
     Subject::Warning(WarningKind::LineEnds),
 ];
 
-// the rule of a kind
+// the rule of a kind; how to fix a misspelt key doesn't say which key is meant
 fn rule_of(subject: Subject) -> Rule<'static> {
+    let fix = match subject {
+        Subject::Warning(WarningKind::MisspeltKey(_)) => "write the key as the standard has it",
+        _ => fix_of(subject),
+    };
     Rule {
         name: name_of(subject),
         severity: severity_of(subject),
         meaning: meaning_of(Mark { line: 1, subject }),
-        fix: rule_fix(subject),
+        fix,
         subject: subject_of(subject),
-    }
-}
-
-// how to fix a finding of a kind; for a misspelt key it doesn't say which key is meant
-fn rule_fix(subject: Subject) -> &'static str {
-    match subject {
-        Subject::Warning(WarningKind::MisspeltKey(_)) => "write the key as the standard has it",
-        _ => fix_of(subject),
     }
 }
 
 /// Adds all kinds of findings. `Err`: out of memory.
 pub(crate) fn add_rules(rules: &mut Vec<Rule<'static>>) -> Result<(), AllocError> {
     for subject in &SUBJECTS {
-        rules.push(rule_of(*subject))?;
+        attempt_in_memory!(rules.push(rule_of(*subject)));
     }
     Ok(())
 }

@@ -14,7 +14,7 @@ fn push_shown(text: &mut String, character: char) -> Result<(), AllocError>
     if character == '\t' {
         text.push_str("\\t")
     } else if character.is_control() {
-        text.push_str("\\x")?;
+        attempt!(text.push_str("\\x"));
         push_byte(text, character as u8)
     } else {
         text.push(character)
@@ -27,7 +27,7 @@ pub(crate) fn push_all_shown(text: &mut String, characters: &[char]) -> Result<(
         (string_bytes text.new ≡ string_bytes text.old ++ shown_all characters.now) }
 {
     for character in characters {
-        push_shown(text, *character)?;
+        attempt!(push_shown(text, *character));
     }
     Ok(())
 }

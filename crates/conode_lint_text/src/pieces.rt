@@ -61,8 +61,8 @@ fn push_quoted(text: &mut String, line: usize, characters: &[char]) -> Result<()
     if line == 0 {
         return Ok(());
     }
-    text.push_str("    ")?;
-    push_all_shown(text, characters)?;
+    attempt!(text.push_str("    "));
+    attempt!(push_all_shown(text, characters));
     text.push('\n')
 }
 

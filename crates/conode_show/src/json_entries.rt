@@ -26,9 +26,9 @@ fn begin_entry<'p>(document: &mut Document, key: Key, section: &'p TextSection<'
         Part::BeginObject,
         Part::Number(Member::Index, Some(key.index as i128)),
         Part::Number(Member::SubIndex, Some(key.sub as i128)),
-        Part::Name(section),
+        Part::Property(Member::Name, b"ParameterName", section),
         Part::Shown(Member::Type, None, Content::TypeOf(section)),
-        Part::Access(section),
+        Part::Property(Member::Access, b"AccessType", section),
     ]);
 }
 
@@ -43,10 +43,10 @@ fn put_entry<'p>(
 {
     begin_entry(document, key, section);
     document.put(&[
-        Part::Default(node, section),
-        Part::Value(node, section),
-        Part::Low(section),
-        Part::High(section),
+        Part::Value(Member::Default, b"DefaultValue", node, section),
+        Part::Value(Member::Value, b"ParameterValue", node, section),
+        Part::Limit(Member::Low, b"LowLimit", section),
+        Part::Limit(Member::High, b"HighLimit", section),
         Part::Flag(Member::Mappable, is_mappable(section)),
         Part::EndObject,
     ]);
@@ -61,7 +61,7 @@ fn put_object<'p>(document: &mut Document, index: u16, section: &'p TextSection<
     document.put(&[
         Part::BeginObject,
         Part::Number(Member::Index, Some(index as i128)),
-        Part::Name(section),
+        Part::Property(Member::Name, b"ParameterName", section),
         Part::Shown(Member::Type, None, Content::TypeOf(section)),
         Part::EndObject,
     ]);

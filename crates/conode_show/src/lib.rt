@@ -11,6 +11,16 @@ macro_rules! attempt {
     };
 }
 
+// The same of what couldn't be put into a list: memory ran out.
+macro_rules! attempt_in_memory {
+    ($result:expr) => {
+        match $result {
+            Ok(value) => value,
+            Err(_) => return Err(AllocError),
+        }
+    };
+}
+
 mod form;
 mod json_entries;
 mod json_form;

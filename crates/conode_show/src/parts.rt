@@ -45,17 +45,12 @@ pub(crate) enum Part<'p> {
     Text(Member, &'p str),
     /// A number, nothing for `None`.
     Number(Member, Option<i128>),
-    /// The name of an object or an entry, nothing if it has none.
-    Name(&'p TextSection<'p, 'p>),
-    /// How an entry may be accessed, nothing if the sheet doesn't say it.
-    Access(&'p TextSection<'p, 'p>),
-    /// The default for this node-ID, nothing if there is none.
-    Default(Option<u8>, &'p TextSection<'p, 'p>),
-    /// The value of a device configuration file in the same way.
-    Value(Option<u8>, &'p TextSection<'p, 'p>),
-    /// The low limit, nothing if there is none.
-    Low(&'p TextSection<'p, 'p>),
-    High(&'p TextSection<'p, 'p>),
+    /// The text of a property of this name, nothing if the section has none.
+    Property(Member, &'static [u8], &'p TextSection<'p, 'p>),
+    /// A property that is a value for this node-ID, nothing if there is none.
+    Value(Member, &'static [u8], Option<u8>, &'p TextSection<'p, 'p>),
+    /// A property that is a limit, nothing if there is none.
+    Limit(Member, &'static [u8], &'p TextSection<'p, 'p>),
     /// What a cell of the lines has.
     Shown(Member, Option<u8>, Content<'p>),
     /// The value of an entry of the communication profile: its number, and its words.
@@ -238,34 +233,13 @@ impl HasTokens for Part<'_> {
             Part::Flag(member, is) => writer.put_flag(member.name(), is),
             Part::Text(member, words) => writer.put_text(member.name(), words),
             Part::Number(member, number) => writer.put_number_if(alloc, member.name(), number),
-            Part::Name(section) => {
-                put_property(alloc, writer, Member::Name, b"ParameterName", section)
+            Part::Property(member, name, section) => {
+                put_property(alloc, writer, member, name, section)
             }
-            Part::Access(section) => {
-                put_property(alloc, writer, Member::Access, b"AccessType", section)
+            Part::Value(member, name, node, section) => {
+                put_value(alloc, writer, member, node, name, section)
             }
-            Part::Default(node, section) => {
-                put_value(
-                    alloc,
-                    writer,
-                    Member::Default,
-                    node,
-                    b"DefaultValue",
-                    section,
-                )
-            }
-            Part::Value(node, section) => {
-                put_value(
-                    alloc,
-                    writer,
-                    Member::Value,
-                    node,
-                    b"ParameterValue",
-                    section,
-                )
-            }
-            Part::Low(section) => put_limit(alloc, writer, Member::Low, b"LowLimit", section),
-            Part::High(section) => put_limit(alloc, writer, Member::High, b"HighLimit", section),
+            Part::Limit(member, name, section) => put_limit(alloc, writer, member, name, section),
             Part::Shown(member, node, content) => put_shown(alloc, writer, member, node, &content),
             Part::Said(member, meaning, node, section) => {
                 put_said(alloc, writer, member, meaning, node, section)

@@ -37,10 +37,10 @@ fn properties_with<'a>(
 {
     let mut made = Vec::new(alloc);
     for property in properties {
-        made.push(match code {
+        attempt_in_memory!(made.push(match code {
             Some(code) => retyped_property(code, property),
             None => *property,
-        })?;
+        }));
     }
     Ok(made)
 }
@@ -114,7 +114,7 @@ pub(crate) fn all_retyped<'a>(
 {
     let mut made = Vec::new(alloc);
     for section in sections {
-        push_retyped(&mut made, alloc, originals, section)?;
+        attempt!(push_retyped(&mut made, alloc, originals, section));
     }
     Ok(made)
 }
@@ -129,7 +129,7 @@ pub(crate) fn sections_in<'r, 'a>(
 {
     let mut made = Vec::new(alloc);
     for one in retyped {
-        made.push(one.section())?;
+        attempt_in_memory!(made.push(one.section()));
     }
     Ok(made)
 }

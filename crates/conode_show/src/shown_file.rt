@@ -78,7 +78,7 @@ fn ordered_document(
     ensures { IfOk result (λ text. text.items
         ≡ document_in form node (ordered (map section_view sections.old))) }
 {
-    order(alloc, sections)?;
+    attempt!(order(alloc, sections));
     document_in(alloc, form, node, sections)
 }
 

@@ -1,5 +1,6 @@
 -- A step of a loop that appends what each element gives.
-use Rattle.std.proofs.Common.{◌≡◌, ◌∙◌, ℕ, ◌+◌, ◌<◌, List, [], ◌∷◌, ◌++◌, map, length, take, get_or, replicate, append_assoc, ap, sym}
+use Rattle.std.proofs.Common.{◌≡◌, ◌∙◌, ℕ, ◌+◌, ◌<◌, cond, List, [], ◌∷◌, ◌++◌, Result, Ok, Err, OnOk, map, length, take, get_or, replicate, append_assoc, ap, sym}
+use Rattle.std.specs.Result.{is_ok}
 use Rattle.std.specs.List.{flat_map, fold}
 use Rattle.std.proofs.lemmas.Grind.{fold-append}
 use Rattle.std.proofs.lemmas.List.{flat_map_more, map_more, replicate_more, take_more}
@@ -26,3 +27,8 @@ folded_more f view xs i d begun before after h so_far more =
 pub replicated_more : {Y : Type 0} (y : Y) (n : ℕ) (base before after : List Y) → before ≡ base ++ replicate n y → after ≡ before ++ y ∷ [] → after ≡ base ++ replicate (n + 1) y
 replicated_more y n base before after so_far more =
     more ∙ ap (λ l. l ++ y ∷ []) so_far ∙ append_assoc base (replicate n y) (y ∷ []) ∙ ap (λ l. base ++ l) (replicate_more n y)
+
+-- what `extend_from_slice` appends, where it is the last call
+pub on_extended : {X T E : Type 0} (r : Result T E) (was now part said : List X) → now ≡ cond (is_ok r) (was ++ part) was → part ≡ said → OnOk r (now ≡ was ++ said)
+on_extended (Ok x) was now part said extended same = extended ∙ ap (λ l. was ++ l) same
+on_extended (Err e) was now part said extended same = tt

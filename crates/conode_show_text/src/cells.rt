@@ -77,12 +77,12 @@ pub(crate) fn push_line(
     ensures { OnOk result (text.new.items
         ≡ text.old.items ++ line_of format (map (cell_part node) cells.now)) }
 {
-    begin(line, format)?;
+    attempt!(begin(line, format));
     for cell in cells {
         part.clear();
-        push_content(part, node, &cell.1)?;
-        place(line, format, cell.0, part.as_bytes())?;
+        attempt!(push_content(part, node, &cell.1));
+        attempt!(place(line, format, cell.0, part.as_bytes()));
     }
-    line.push(b'\n')?;
+    attempt_in_memory!(line.push(b'\n'));
     text.extend_from_slice(line.as_slice())
 }

@@ -79,7 +79,7 @@ fn push_lines<'p>(
         ++ chapter_lines chapter format node (map section_view sections.entry.now)) }
 {
     for section in sections {
-        push_text(text, line, part, chapter, format, node, sections, section)?;
+        attempt!(push_text(text, line, part, chapter, format, node, sections, section));
     }
     Ok(())
 }
@@ -91,7 +91,7 @@ fn push_body(text: &mut Vec<u8>, head: &str, body: &[u8]) -> Result<(), AllocErr
     if body.is_empty() {
         return Ok(());
     }
-    text.extend_from_slice(head.as_bytes())?;
+    attempt!(text.extend_from_slice(head.as_bytes()));
     text.extend_from_slice(body)
 }
 
@@ -110,7 +110,7 @@ fn push_chapter<'p>(
         ++ chapter_of chapter format node (map section_view sections.entry.now)) }
 {
     let mut body = Vec::new(alloc);
-    push_lines(&mut body, line, part, chapter, format, node, sections)?;
+    attempt!(push_lines(&mut body, line, part, chapter, format, node, sections));
     push_body(text, head_of(chapter, format), body.as_slice())
 }
 
@@ -128,9 +128,9 @@ fn push_chapters<'p>(
     ensures { OnOk result (text.new.items
         ≡ text.old.items ++ document format node (map section_view sections.entry.now)) }
 {
-    text.extend_from_slice(head_of(Chapter::Entries, format).as_bytes())?;
-    push_lines(text, line, part, Chapter::Entries, format, node, sections)?;
-    push_chapter(
+    attempt!(text.extend_from_slice(head_of(Chapter::Entries, format).as_bytes()));
+    attempt!(push_lines(text, line, part, Chapter::Entries, format, node, sections));
+    attempt!(push_chapter(
         alloc,
         text,
         line,
@@ -139,7 +139,7 @@ fn push_chapters<'p>(
         format,
         node,
         sections,
-    )?;
+    ));
     push_chapter(
         alloc,
         text,
@@ -180,6 +180,6 @@ pub fn document(
         (λ text. text.items ≡ document format node (map section_view sections.now)) }
 {
     let mut text = Vec::new(alloc);
-    push_document(alloc, &mut text, format, node, sections)?;
+    attempt!(push_document(alloc, &mut text, format, node, sections));
     Ok(text)
 }

@@ -120,7 +120,7 @@ fn push_all(text: &mut Vec<u8>, parts: &[&str]) -> Result<(), AllocError>
         (text.new.items ≡ text.old.items ++ flat_map (λ part. part.now) parts.now) }
 {
     for part in parts {
-        text.extend_from_slice(part.as_bytes())?;
+        attempt!(text.extend_from_slice(part.as_bytes()));
     }
     Ok(())
 }
@@ -137,9 +137,9 @@ fn push_heading(
         (text.new.items ≡ text.old.items ++ object_heading index (section_view section.now)) }
 {
     part.clear();
-    push_property(part, section, b"ParameterName")?;
-    push_all(text, &["\n### ", word_digits(index).as_str(), "h "])?;
-    push_cell(text, part.as_bytes())?;
+    attempt!(push_property(part, section, b"ParameterName"));
+    attempt!(push_all(text, &["\n### ", word_digits(index).as_str(), "h "]));
+    attempt!(push_cell(text, part.as_bytes()));
     push_all(text, &["\n\n", entries_head(Format::Markdown)])
 }
 
@@ -189,7 +189,7 @@ pub(crate) fn push_section<'p>(
 {
     let key = match section.kind {
         SectionKind::Object(index) => {
-            push_object_head(text, line, part, format, index, section)?;
+            attempt!(push_object_head(text, line, part, format, index, section));
             if has_sub_indices(section) {
                 return Ok(());
             }

@@ -52,7 +52,7 @@ fn push_blanks(line: &mut Vec<u8>, count: usize) -> Result<(), AllocError>
     ensures { OnOk result (line.new.items ≡ line.old.items ++ replicate count 32) }
 {
     for _blank in 0..count {
-        line.push(b' ')?;
+        attempt_in_memory!(line.push(b' '));
     }
     Ok(())
 }
@@ -67,9 +67,9 @@ fn push_cell_byte(line: &mut Vec<u8>, byte: u8) -> Result<(), AllocError>
     ensures { OnOk result (line.new.items ≡ line.old.items ++ cell_byte byte) }
 {
     if is_markup(byte) {
-        line.push(b'\\')?;
+        attempt_in_memory!(line.push(b'\\'));
     }
-    line.push(byte)?;
+    attempt_in_memory!(line.push(byte));
     Ok(())
 }
 
@@ -78,7 +78,7 @@ pub(crate) fn push_cell(line: &mut Vec<u8>, part: &[u8]) -> Result<(), AllocErro
     ensures { OnOk result (line.new.items ≡ line.old.items ++ flat_map cell_byte part.now) }
 {
     for byte in part {
-        push_cell_byte(line, *byte)?;
+        attempt!(push_cell_byte(line, *byte));
     }
     Ok(())
 }
@@ -97,12 +97,12 @@ pub(crate) fn place(
         Format::Text if part.is_empty() => Ok(()),
         Format::Text => {
             let blanks = gap(column, line.as_slice());
-            push_blanks(line, blanks)?;
+            attempt!(push_blanks(line, blanks));
             line.extend_from_slice(part)
         }
         Format::Markdown => {
-            line.push(b' ')?;
-            push_cell(line, part)?;
+            attempt_in_memory!(line.push(b' '));
+            attempt!(push_cell(line, part));
             line.extend_from_slice(b" |")
         }
     }

@@ -23,6 +23,6 @@ pub fn order(alloc: Global, sections: &mut [TextSection]) -> Result<(), AllocErr
     ensures { OnOk result
         (map section_view sections.new ≡ ordered (map section_view sections.old)) }
 {
-    sections.sort_by_key(alloc, |section| rank(section.kind))?;
+    attempt!(sections.sort_by_key(alloc, |section| rank(section.kind)));
     Ok(())
 }

@@ -198,9 +198,9 @@ fn push_mapped_lines<'p>(
         (map section_view sections.entry.now) index count) }
 {
     for section in sections {
-        push_if_counted(
+        attempt!(push_if_counted(
             text, line, part, format, node, sections, index, count, section,
-        )?;
+        ));
     }
     Ok(())
 }
@@ -224,20 +224,14 @@ fn push_pdo_lines<'p>(
     let transmission = Key { index, sub: 2 };
     let inhibit = Key { index, sub: 3 };
     let timer = Key { index, sub: 5 };
-    push_line(
-        text,
-        line,
-        part,
-        format,
-        node,
-        &[
-            Cell(0, Content::Pdo(index)),
-            Cell(8, Content::Said(Meaning::PdoCobId, section)),
-            Cell(38, said_at(type_meaning(index), sections, transmission)),
-            Cell(72, said_at(Meaning::PdoInhibit, sections, inhibit)),
-            Cell(88, said_at(Meaning::EventTimer, sections, timer)),
-        ],
-    )?;
+    let cells = [
+        Cell(0, Content::Pdo(index)),
+        Cell(8, Content::Said(Meaning::PdoCobId, section)),
+        Cell(38, said_at(type_meaning(index), sections, transmission)),
+        Cell(72, said_at(Meaning::PdoInhibit, sections, inhibit)),
+        Cell(88, said_at(Meaning::EventTimer, sections, timer)),
+    ];
+    attempt!(push_line(text, line, part, format, node, &cells));
     let mapping = index + 0x200;
     let count = mapping_count(node, sections, mapping);
     push_mapped_lines(text, line, part, format, node, sections, mapping, count)

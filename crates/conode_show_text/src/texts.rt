@@ -45,7 +45,7 @@ fn push_escaped_byte(text: &mut String, byte: u8) -> Result<(), AllocError>
     if 32 <= byte && byte <= 126 {
         return text.push(byte as char);
     }
-    push_words(text, "\\x")?;
+    attempt!(push_words(text, "\\x"));
     push_byte(text, byte)
 }
 
@@ -54,7 +54,7 @@ fn push_escaped(text: &mut String, bytes: &[u8]) -> Result<(), AllocError>
         (string_bytes text.new ≡ string_bytes text.old ++ flat_map escaped_byte bytes.now) }
 {
     for byte in bytes {
-        push_escaped_byte(text, *byte)?;
+        attempt!(push_escaped_byte(text, *byte));
     }
     Ok(())
 }

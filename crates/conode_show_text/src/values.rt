@@ -121,8 +121,8 @@ fn push_unnumbered(text: &mut String, data_type: DataType, value: &[u8]) -> Resu
         ≡ string_bytes text.old ++ unnumbered_text data_type value.now) }
 {
     if data_type.code() == VISIBLE_STRING {
-        push_words(text, "\"")?;
-        push_plain(text, value)?;
+        attempt!(push_words(text, "\""));
+        attempt!(push_plain(text, value));
         push_words(text, "\"")
     } else {
         push_plain(text, value)
@@ -200,8 +200,8 @@ pub(crate) fn push_default(
     let value = section.property(b"ParameterValue");
     let default = section.property(b"DefaultValue");
     let between = words_if(value.is_some() & default.is_some(), ", default ");
-    push_value_of(text, node, data_type, value)?;
-    push_words(text, between)?;
+    attempt!(push_value_of(text, node, data_type, value));
+    attempt!(push_words(text, between));
     push_value_of(text, node, data_type, default)
 }
 
@@ -246,8 +246,8 @@ pub(crate) fn push_limits(
     let low = section.property(b"LowLimit");
     let high = section.property(b"HighLimit");
     let between = words_if(low.is_some() | high.is_some(), "..");
-    push_limit(text, data_type, low)?;
-    push_words(text, between)?;
+    attempt!(push_limit(text, data_type, low));
+    attempt!(push_words(text, between));
     push_limit(text, data_type, high)
 }
 

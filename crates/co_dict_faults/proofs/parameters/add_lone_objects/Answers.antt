@@ -11,7 +11,7 @@ loop-row-preserved g c =
     let last = c.loop-row.last in
     faults-turn (λ rows. unpaired_past entries last (map (λ row. row.key) rows)) (λ row. not (is_index last row.key.index) && is_unpaired entries row.key.index) (λ row. PdoPair row.key.index)
     (λ row rows. unpaired_past entries (Some row.key.index) (map (λ row. row.key) rows)) (λ row rows. refl) c.args.rows.now c.loop-row.row-index _ _
-    c.loop-row.faults.items c.add_if.new.faults.items _ c.loop-row-test.true c.is_lone-is_lone.ensures c.in_ok-add_if.ensures c.loop-row.invariant
+    c.loop-row.faults.items c.add_if.new.faults.items _ c.loop-row-test.true c.is_lone-is_lone.ensures c.in-Ok.ensures c.loop-row.invariant
 
 pub returns : goal.returns
 returns g c =

@@ -12,7 +12,7 @@ loop-row-preserved g c =
     let contents = g.S.ObjectStore.contents c.args.store.now in
     let found = λ (rows : List EntryRow). bad_words outside d contents (map (λ row. row.key) rows) in
     faults-turn found (λ row. is_word_found outside d contents row.key) (λ row. BadCobId row.key) (λ row. found) (λ row rows. refl) c.args.rows.now c.loop-row.row-index _ _
-    c.loop-row.faults.items c.add_if.new.faults.items _ c.loop-row-test.true c.is_word_found-is_found.ensures c.in_ok-add_if.ensures c.loop-row.invariant
+    c.loop-row.faults.items c.add_if.new.faults.items _ c.loop-row-test.true c.is_word_found-is_found.ensures c.in-Ok.ensures c.loop-row.invariant
 
 pub returns : goal.returns
 returns g c =

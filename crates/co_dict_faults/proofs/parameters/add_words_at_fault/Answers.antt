@@ -10,7 +10,7 @@ loop-row-preserved g c =
     let contents = g.S.ObjectStore.contents c.args.store.now in
     let before = c.loop-row.words.items in
     pieces-turn (λ rows. words_at_fault outside d contents (map (λ row. row.key) rows)) (λ row. words_of_mapping outside d contents row.key) (λ row rows. refl) c.args.rows.now c.loop-row.row-index _ before c.add_words_of_mapping.new.words.items _ c.loop-row-test.true
-    c.in_ok-add_words_of_mapping.ensures c.loop-row.invariant
+    c.in-Ok.ensures c.loop-row.invariant
 
 pub returns : goal.returns
 returns g c =

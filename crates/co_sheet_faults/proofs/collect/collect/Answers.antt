@@ -11,7 +11,7 @@ pub add_after_lists-requires-clause-named : goal.add_after_lists-requires-clause
 add_after_lists-requires-clause-named c =
     let sections = map section_view c.args.sections.now in
     ap (map listing_view) c.as_slice-named.ensures.value
-    ∙ c.in_ok-are_lists_bad.ensures.named
+    ∙ c.in-Ok-add_sections.ensures.named
     ∙ ap (λ l. map listing_view l ++ flat_map named_by sections) c.new-named.ensures.items
     ∙ sym (named-all sections)
 
@@ -19,11 +19,11 @@ pub returns : goal.returns
 returns c =
     let sections = map section_view c.args.sections.now in
     let named = ap (map listing_view) c.as_slice-named.ensures.value
-    ∙ c.in_ok-are_lists_bad.ensures.named
+    ∙ c.in-Ok-add_sections.ensures.named
     ∙ ap (λ l. map listing_view l ++ flat_map named_by sections) c.new-named.ensures.items
     ∙ sym (named-all sections) in
     on-ok c.add_after_lists.result
     (λ last. collected-all sections c.as_slice-named.result.now c.args.faults.now.items c.add_if.new.faults.items
-    c.add_sections.new.faults.items c.add_after_lists.new.faults.items c.has_mandatory_list-has_lists.result c.in_ok-are_lists_bad.are_lists_bad
-    c.has_mandatory_list-has_lists.ensures c.in_ok-are_lists_bad.ensures.bad named
-    c.in_ok-add_if.ensures c.in_ok-are_lists_bad.ensures.found last) c.add_after_lists.ensures
+    c.add_sections.new.faults.items c.add_after_lists.new.faults.items c.has_mandatory_list-has_lists.result c.in-Ok-add_sections.value
+    c.has_mandatory_list-has_lists.ensures c.in-Ok-add_sections.ensures.bad named
+    c.in-Ok.ensures c.in-Ok-add_sections.ensures.found last) c.add_after_lists.ensures

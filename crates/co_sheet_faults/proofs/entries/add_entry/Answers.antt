@@ -20,5 +20,5 @@ returns c =
     (λ pushed. added now first c.args.faults.now.items (key_found e) (type_collected e ++ mapped) (entry_collected e)
     (added now second first (type_collected e) mapped (type_collected e ++ mapped)
     (added now third second (at_key unread_number (codes "PDOMapping") e.section) accessed mapped
-    (added now c.add_access.new.faults.items third (bad_access e) values accessed pushed c.in_ok-add_access.ensures refl)
-    c.in_ok-add_unread_at.ensures refl) c.in_ok-add_type.ensures refl) c.in_ok-add_missing_key.ensures refl) c.add_typed_values.ensures
+    (added now c.add_access.new.faults.items third (bad_access e) values accessed pushed c.in-Ok-add_access.ensures refl)
+    c.in-Ok-add_unread_at.ensures refl) c.in-Ok-add_type.ensures refl) c.in-Ok.ensures refl) c.add_typed_values.ensures

@@ -16,5 +16,5 @@ returns c =
     on-ok c.add_default-2.result
     (λ pushed. six-added c.args.faults.now.items c.add_unread_limit.new.faults.items c.add_unread_limit-2.new.faults.items c.add_limit.new.faults.items c.add_limit-2.new.faults.items c.add_default.new.faults.items c.add_default-2.new.faults.items
     (at_key (unread_limit t) (codes "LowLimit") e.section) (at_key (unread_limit t) (codes "HighLimit") e.section) low high (default_collected (codes "DefaultValue") t e) (default_collected (codes "ParameterValue") t e)
-    (numeric_collected t e) c.in_ok-add_unread_limit.ensures c.in_ok-add_unread_limit-2.ensures c.in_ok-add_limit.ensures c.in_ok-add_limit-2.ensures c.in_ok-add_default.ensures pushed
+    (numeric_collected t e) c.in-Ok.ensures c.in-Ok-add_unread_limit.ensures c.in-Ok-add_limit.ensures c.in-Ok-add_limit-2.ensures c.in-Ok-add_default.ensures pushed
     (rw (c.limits_of-limits.ensures.is_low_bad, c.limits_of-limits.ensures.is_high_bad) refl)) c.add_default-2.ensures

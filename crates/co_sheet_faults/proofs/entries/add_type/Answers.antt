@@ -15,7 +15,7 @@ returns-then-is_type_bad c =
     let line = ap (λ n. fault_if true BadType n) c.type_line-line.ensures in
     on-ok c.add_if.result
     (λ pushed. added c.add_if.new.faults.items c.add_unread_at.new.faults.items c.args.faults.now.items (at_key unread_number (codes "DataType") e.section) _ (type_collected e)
-    (pushed ∙ ap (λ fs. c.add_unread_at.new.faults.items ++ fs) line) c.in_ok-add_unread_at.ensures (type-bad e at_fault)) c.add_if.ensures
+    (pushed ∙ ap (λ fs. c.add_unread_at.new.faults.items ++ fs) line) c.in-Ok.ensures (type-bad e at_fault)) c.add_if.ensures
 
 pub returns : goal.returns
 returns c =
@@ -24,4 +24,4 @@ returns c =
     let is = ap (λ b. fault_if b LeftOutType c.type_line-line.result) c.is_type_left_out-is_left_out.ensures ∙ ap (λ n. fault_if (is_one_of left_out_codes (type_code e)) LeftOutType n) c.type_line-line.ensures in
     on-ok c.add_if-2.result
     (λ pushed. added c.add_if-2.new.faults.items c.add_unread_at.new.faults.items c.args.faults.now.items (at_key unread_number (codes "DataType") e.section) _ (type_collected e)
-    (pushed ∙ ap (λ fs. c.add_unread_at.new.faults.items ++ fs) is) c.in_ok-add_unread_at.ensures (type-good e good)) c.add_if-2.ensures
+    (pushed ∙ ap (λ fs. c.add_unread_at.new.faults.items ++ fs) is) c.in-Ok.ensures (type-good e good)) c.add_if-2.ensures

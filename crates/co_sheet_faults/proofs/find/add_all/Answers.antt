@@ -11,23 +11,28 @@ use Rattle.co_sheet_faults.proofs.AllLemmas.{large-alone}
 use Rattle.co_sheet_faults.proofs.TextCodeLemmas.{text-found, found-text}
 use Rattle.co_sheet_faults.proofs.find.add_all.Goals as goal
 
+-- that fault is the only one
+alone : (old new : List SheetFault) → old ≡ [] → new ≡ old ++ fault_at 0 TooLarge ∷ [] → new ≡ fault_at 0 TooLarge ∷ []
+alone old new none added = added ∙ ap (λ (l : List SheetFault). l ++ fault_at 0 TooLarge ∷ []) none
+
 pub returns-then-text-gt-GREATEST_SIZE-clause-increase : goal.returns-then-text-gt-GREATEST_SIZE-clause-increase
 unfolding IsStrictlySortedBy
 returns-then-text-gt-GREATEST_SIZE-clause-increase c =
-    let alone : c.push.new.self.items ≡ fault_at 0 TooLarge ∷ [] = c.in_ok-push.ensures.items ∙ ap (λ (l : List SheetFault). l ++ fault_at 0 TooLarge ∷ []) c.requires in
-    subst (IsStrictlySortedBy fault_cmp) (sym alone) (tt, tt)
+    on_ok_weaker c.add_if.result (λ added. subst (IsStrictlySortedBy fault_cmp) (sym (alone _ _ c.requires added)) (tt, tt)) c.add_if.ensures
 
 pub returns-then-text-gt-GREATEST_SIZE-clause-all : goal.returns-then-text-gt-GREATEST_SIZE-clause-all
 returns-then-text-gt-GREATEST_SIZE-clause-all c =
     let large : 1048576 < length c.args.text.now = omega arith in
-    let alone : c.push.new.self.items ≡ fault_at 0 TooLarge ∷ [] = c.in_ok-push.ensures.items ∙ ap (λ (l : List SheetFault). l ++ fault_at 0 TooLarge ∷ []) c.requires in
-    λ fault h. subst (λ (l : List SheetFault). Contains l fault) (large-alone c.args.text.now large ∙ sym alone) h
+    on_ok_weaker c.add_if.result
+    (λ added. λ fault h. subst (λ (l : List SheetFault). Contains l fault) (large-alone c.args.text.now large ∙ sym (alone _ _ c.requires added)) h)
+    c.add_if.ensures
 
 pub returns-then-text-gt-GREATEST_SIZE-clause-only : goal.returns-then-text-gt-GREATEST_SIZE-clause-only
 returns-then-text-gt-GREATEST_SIZE-clause-only c =
     let large : 1048576 < length c.args.text.now = omega arith in
-    let alone : c.push.new.self.items ≡ fault_at 0 TooLarge ∷ [] = c.in_ok-push.ensures.items ∙ ap (λ (l : List SheetFault). l ++ fault_at 0 TooLarge ∷ []) c.requires in
-    λ fault h. subst (λ (l : List SheetFault). Contains l fault) (alone ∙ sym (large-alone c.args.text.now large)) h
+    on_ok_weaker c.add_if.result
+    (λ added. λ fault h. subst (λ (l : List SheetFault). Contains l fault) (alone _ _ c.requires added ∙ sym (large-alone c.args.text.now large)) h)
+    c.add_if.ensures
 
 pub returns-clause-increase : goal.returns-clause-increase
 returns-clause-increase c = c.put_in_order.ensures.increase
@@ -35,7 +40,7 @@ returns-clause-increase c = c.put_in_order.ensures.increase
 pub returns-clause-all : goal.returns-clause-all
 returns-clause-all c =
     let few : length c.args.text.now ≤ 1048576 = omega arith in
-    let collected = c.in_ok-add_collected.ensures ∙ ap (λ (l : List SheetFault). l ++ text_collected (lines_of c.args.text.now)) c.requires in
+    let collected = c.in-Ok.ensures ∙ ap (λ (l : List SheetFault). l ++ text_collected (lines_of c.args.text.now)) c.requires in
     on_ok_weaker c.put_in_order.result
     (λ all. λ fault h. all fault (subst (λ (l : List SheetFault). Contains l fault) (sym collected) (found-text c.args.text.now few fault h)))
     c.put_in_order.ensures.all
@@ -43,7 +48,7 @@ returns-clause-all c =
 pub returns-clause-only : goal.returns-clause-only
 returns-clause-only c =
     let few : length c.args.text.now ≤ 1048576 = omega arith in
-    let collected = c.in_ok-add_collected.ensures ∙ ap (λ (l : List SheetFault). l ++ text_collected (lines_of c.args.text.now)) c.requires in
+    let collected = c.in-Ok.ensures ∙ ap (λ (l : List SheetFault). l ++ text_collected (lines_of c.args.text.now)) c.requires in
     on_ok_weaker c.put_in_order.result
     (λ only. λ fault h. text-found c.args.text.now few fault (subst (λ (l : List SheetFault). Contains l fault) collected (only fault h)))
     c.put_in_order.ensures.only

@@ -12,16 +12,16 @@ use Rattle.co_sheet_faults.proofs.find.put_in_order.Goals as goal
 pub returns-clause-increase : goal.returns-clause-increase
 returns-clause-increase c =
     let key : SheetFault → ℕ × ℕ = λ f. (f.line, fault_number f.kind) in
-    let sorted = c.in_ok-sort_by_key.ensures.sorted key (always_returns_same _ _ _ (λ a r f' k. search rules)) in
+    let sorted = c.in-Ok.ensures.sorted key (always_returns_same _ _ _ (λ a r f' k. search rules)) in
     let is = dedup_same _ same_place _ (λ x y b f' x' y' k. search rules) _ _ c.dedup_by_key.ensures.filtered in
     subst (IsStrictlySortedBy fault_cmp) (sym is) (IsStrictlySortedBy-dedup fault_total ties _ sorted)
 
 pub returns-clause-all : goal.returns-clause-all
 returns-clause-all c = λ fault h.
     let is = dedup_same _ same_place _ (λ x y b f' x' y' k. search rules) _ _ c.dedup_by_key.ensures.filtered in
-    rw is (Contains-dedup same_equiv same_fault _ fault (Contains-permutation _ _ fault c.in_ok-sort_by_key.ensures.permutation h))
+    rw is (Contains-dedup same_equiv same_fault _ fault (Contains-permutation _ _ fault c.in-Ok.ensures.permutation h))
 
 pub returns-clause-only : goal.returns-clause-only
 returns-clause-only c = λ fault h.
     let is = dedup_same _ same_place _ (λ x y b f' x' y' k. search rules) _ _ c.dedup_by_key.ensures.filtered in
-    Contains-permutation _ _ fault (IsPermutation-sym _ _ c.in_ok-sort_by_key.ensures.permutation) (Contains-from_dedup _ _ fault (rw is at h))
+    Contains-permutation _ _ fault (IsPermutation-sym _ _ c.in-Ok.ensures.permutation) (Contains-from_dedup _ _ fault (rw is at h))

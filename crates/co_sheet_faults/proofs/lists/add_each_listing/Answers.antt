@@ -14,7 +14,7 @@ pub add_listing-requires : goal.add_listing-requires
 add_listing-requires c =
     let items = c.args.named.now in
     let i = c.loop-listing.listing-index in
-    c.in_ok-is_first.ensures.added
+    c.in-Ok.ensures.added
     ∙ ap not (c.loop-listing.invariant.seen (get_or items i none_named).index
     ∙ sym (named-before c.args.tables.now items i none_named c.requires.named c.requires.parsed c.loop-listing-test.true))
 
@@ -22,7 +22,7 @@ pub is_listing_bad-is_bad-requires : goal.is_listing_bad-is_bad-requires
 is_listing_bad-is_bad-requires c =
     let items = c.args.named.now in
     let i = c.loop-listing.listing-index in
-    c.in_ok-is_first.ensures.added
+    c.in-Ok.ensures.added
     ∙ ap not (c.loop-listing.invariant.seen (get_or items i none_named).index
     ∙ sym (named-before c.args.tables.now items i none_named c.requires.named c.requires.parsed c.loop-listing-test.true))
 
@@ -32,9 +32,9 @@ loop-listing-preserved c =
     let i = c.loop-listing.listing-index in
     let sections = c.args.tables.now in
     record {
-      found = added-turn listing_view (listing_collected sections) items i none_named _ _ _ c.loop-listing-test.true c.in_ok-add_listing.ensures c.loop-listing.invariant.found;
+      found = added-turn listing_view (listing_collected sections) items i none_named _ _ _ c.loop-listing-test.true c.in-Ok-add_listing.ensures c.loop-listing.invariant.found;
       bad = any-turn listing_view (is_listing_at_fault sections) items i none_named c.loop-listing.is_bad _ _ c.loop-listing-test.true (ap (λ b. c.loop-listing.is_bad || b) c.is_listing_bad-is_bad.ensures) c.loop-listing.invariant.bad;
-      seen = seen-turn items i none_named c.loop-listing.seen.keys c.insert.new.self.keys c.loop-listing-test.true c.in_ok-is_first.ensures.keys c.loop-listing.invariant.seen;
+      seen = seen-turn items i none_named c.loop-listing.seen.keys c.insert.new.self.keys c.loop-listing-test.true c.in-Ok.ensures.keys c.loop-listing.invariant.seen;
     }
 
 pub returns-clause-bad : goal.returns-clause-bad

@@ -10,11 +10,11 @@ pub returns-then-not-is_list-clause-found : goal.returns-then-not-is_list-clause
 returns-then-not-is_list-clause-found c =
     let s = section_view c.args.section.now in
     let other : is_list s.kind ≡ false = sym c.is_list.ensures ∙ c.if-not-is_list.true in
-    c.in_ok-add_numbers.ensures ∙ ap (λ fs. c.args.faults.now.items ++ fs) (sym (section-other s other))
+    c.in-Ok.ensures ∙ ap (λ fs. c.args.faults.now.items ++ fs) (sym (section-other s other))
 
 pub returns-clause-found : goal.returns-clause-found
 returns-clause-found c =
     let s = section_view c.args.section.now in
     let listed : is_list s.kind ≡ true = sym c.is_list.ensures ∙ c.if-not-is_list.false in
     added c.add_bad_list.new.faults.items c.add_numbers.new.faults.items c.args.faults.now.items (numbers_collected s) _ (section_collected s)
-    c.in_ok-add_bad_list.ensures c.in_ok-add_numbers.ensures (section-listed s listed)
+    c.in-Ok-add_bad_list.ensures c.in-Ok.ensures (section-listed s listed)

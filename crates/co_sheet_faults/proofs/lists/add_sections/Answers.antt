@@ -11,9 +11,9 @@ loop-section-preserved c =
     let sections = c.args.sections.now in
     let i = c.loop-section.section-index in
     record {
-      found = added-turn section_view section_collected sections i _ _ _ _ c.loop-section-test.true c.in_ok-is_bad.ensures.found c.loop-section.invariant.found;
-      named = added-turn section_view named_by sections i _ _ _ _ c.loop-section-test.true c.in_ok-is_bad.ensures.named c.loop-section.invariant.named;
-      bad = any-turn section_view is_list_at_fault sections i _ c.loop-section.is_bad _ _ c.loop-section-test.true (ap (λ b. c.loop-section.is_bad || b) c.in_ok-is_bad.ensures.bad) c.loop-section.invariant.bad;
+      found = added-turn section_view section_collected sections i _ _ _ _ c.loop-section-test.true c.in-Ok.ensures.found c.loop-section.invariant.found;
+      named = added-turn section_view named_by sections i _ _ _ _ c.loop-section-test.true c.in-Ok.ensures.named c.loop-section.invariant.named;
+      bad = any-turn section_view is_list_at_fault sections i _ c.loop-section.is_bad _ _ c.loop-section-test.true (ap (λ b. c.loop-section.is_bad || b) c.in-Ok.ensures.bad) c.loop-section.invariant.bad;
     }
 
 pub returns-clause-found : goal.returns-clause-found

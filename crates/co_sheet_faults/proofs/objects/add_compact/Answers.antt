@@ -10,4 +10,4 @@ returns c =
     let s = section_view c.args.section.now in
     on-ok c.add_compact_form.result
     (λ pushed. added c.add_compact_form.new.faults.items c.add_unread_at.new.faults.items c.args.faults.now.items (at_key unread_number (codes "CompactSubObj") s) (compact_in s) (compact_collected s)
-    pushed c.in_ok-add_unread_at.ensures refl) c.add_compact_form.ensures
+    pushed c.in-Ok.ensures refl) c.add_compact_form.ensures

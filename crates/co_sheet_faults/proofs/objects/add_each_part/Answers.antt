@@ -5,7 +5,7 @@ use Rattle.co_sheet_faults.proofs.objects.add_each_part.Goals as goal
 
 pub loop-part-preserved : goal.loop-part-preserved
 loop-part-preserved c =
-    added-turn entry_view (part_collected c.args.is_entry) c.args.parts.now c.loop-part.part-index _ _ _ _ c.loop-part-test.true c.in_ok-add_part.ensures c.loop-part.invariant
+    added-turn entry_view (part_collected c.args.is_entry) c.args.parts.now c.loop-part.part-index _ _ _ _ c.loop-part-test.true c.in-Ok.ensures c.loop-part.invariant
 
 pub returns : goal.returns
 returns c = added-end entry_view (part_collected c.args.is_entry) c.args.parts.now c.loop-part.part-index _ _ c.loop-part-test.false c.loop-part.invariant

@@ -20,5 +20,5 @@ returns c =
     on-ok c.add_parts.result
     (λ pushed. added now mid old (object_type_collected (single_codes ++ compound_codes) o.section) (compact_collected o.section ++ late) (object_collected sections o)
     (added now next mid (compact_collected o.section) late (compact_collected o.section ++ late)
-    (added now last next (sub_index_0_found sections o) parts late pushed c.in_ok-add_missing_sub_index_0.ensures refl)
-    c.in_ok-add_compact.ensures refl) c.in_ok-add_object_type.ensures refl) c.add_parts.ensures
+    (added now last next (sub_index_0_found sections o) parts late pushed c.in-Ok-add_missing_sub_index_0.ensures refl)
+    c.in-Ok-add_compact.ensures refl) c.in-Ok.ensures refl) c.add_parts.ensures

@@ -8,7 +8,7 @@ pub loop-kind-preserved : goal.loop-kind-preserved
 loop-kind-preserved c =
     let text = c.args.text.now in
     pieces-turn (λ ks. warnings_of_kinds text ks) (warnings_with text) (λ x l. refl) c.args.kinds.now c.loop-kind.kind-index SubNumber c.loop-kind.warnings.items c.add_warnings_with.new.warnings.items _ c.loop-kind-test.true
-    c.in_ok-add_warnings_with.ensures c.loop-kind.invariant
+    c.in-Ok.ensures c.loop-kind.invariant
 
 pub returns : goal.returns
 returns c = pieces-end (warnings_of_kinds c.args.text.now) refl c.args.kinds.now c.loop-kind.kind-index _ _ c.loop-kind-test.false c.loop-kind.invariant

@@ -20,11 +20,11 @@ returns c =
     let found = map section_view c.args.sections.now in
     let written = map key_view c.as_slice.result.now in
     let lines : numbered 1 (map (λ (l : Bor (List ℕ)). l.now) c.args.lines.now) ≡ lines_of text = ap (numbered 1) c.requires.lines in
-    let keys : written ≡ telling_keys (lines_of text) = ap (map key_view) c.as_slice.ensures.value ∙ c.in_ok-keys.ensures ∙ ap telling_keys lines in
+    let keys : written ≡ telling_keys (lines_of text) = ap (map key_view) c.as_slice.ensures.value ∙ c.in-Ok.ensures ∙ ap telling_keys lines in
     let is_own : own ≡ own_node node (sections_read (lines_of text)) = c.own_node-own.ensures ∙ ap (own_node node) c.requires.sections in
     let with_lines : List Line → ReadText = λ ls. record { text = text; lines = ls; sections = found; keys = written; node = own } in
     let with_sections : List TextSection → ReadText = λ ss. record { text = text; lines = lines_of text; sections = ss; keys = written; node = own } in
     let with_keys : List WrittenKey → ReadText = λ ks. record { text = text; lines = lines_of text; sections = sections_read (lines_of text); keys = ks; node = own } in
     let with_node : Option ℕ → ReadText = λ n. record { text = text; lines = lines_of text; sections = sections_read (lines_of text); keys = telling_keys (lines_of text); node = n } in
-    let whole : c.in_ok-read.read ≡ read_text text node = c.in_ok-read.ensures ∙ ap with_lines lines ∙ ap with_sections c.requires.sections ∙ ap with_keys keys ∙ ap with_node is_own in
+    let whole : c.in-Ok-new.value ≡ read_text text node = c.in-Ok-new.ensures ∙ ap with_lines lines ∙ ap with_sections c.requires.sections ∙ ap with_keys keys ∙ ap with_node is_own in
     subst (λ (t : ReadText). OnOk c.add_all.result (c.add_all.new.warnings.items ≡ c.args.warnings.now.items ++ all_warnings c.args.all t)) whole c.add_all.ensures

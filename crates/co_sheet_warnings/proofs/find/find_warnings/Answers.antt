@@ -16,11 +16,11 @@ returns c =
     let old = c.add_warnings_of.new.warnings.items in
     let new = c.sort_by_key.new.self.items in
     let line : Warning → ℕ = λ w. w.line in
-    let stable = c.in_ok-sort_by_key.ensures.stable line (always_returns_same _ _ _ (λ a r f' k. search rules)) in
+    let stable = c.in-Ok-sort_by_key.ensures.stable line (always_returns_same _ _ _ (λ a r f' k. search rules)) in
     let found : old ≡ warnings_of text c.args.node c.args.all =
-    c.in_ok-add_warnings_of.ensures ∙ ap (λ (ws : List Warning). ws ++ all) c.new-warnings.ensures.items ∙ ap (λ b. cond b [] all) (sym (within 1048576 (length text) c.requires.size)) in
+    c.in-Ok.ensures ∙ ap (λ (ws : List Warning). ws ++ all) c.new-warnings.ensures.items ∙ ap (λ b. cond b [] all) (sym (within 1048576 (length text) c.requires.size)) in
     subst (λ (ws : List Warning). IsByLine ws new) found record {
-      rises = IsNonDecreasingBy-from_sort_by_key line new c.in_ok-sort_by_key.ensures.sorted (λ a r f' k. search rules);
+      rises = IsNonDecreasingBy-from_sort_by_key line new c.in-Ok-sort_by_key.ensures.sorted (λ a r f' k. search rules);
       same = λ n.
           let at : Warning = record { kind = SubNumber; line = n } in
           sym (filter-alike (λ w. not (is_lt (nat_cmp n w.line)) && not (is_lt (nat_cmp w.line n))) (λ w. Rattle.std.proofs.Common.eqb w.line n) (λ w. ties-same n w.line) new)

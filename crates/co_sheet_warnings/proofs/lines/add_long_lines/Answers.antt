@@ -1,4 +1,4 @@
-use Rattle.std.proofs.Common.{ap, arith}
+use Rattle.std.proofs.Common.{◌+◌, ap}
 use Rattle.std.specs.Prelude.{option_to_list}
 use Rattle.co_sheet_warnings.proofs.LineLemmas.{long-end, long-turn}
 use Rattle.co_sheet_warnings.proofs.lines.add_long_lines.Goals as goal
@@ -6,8 +6,8 @@ use Rattle.co_sheet_warnings.proofs.lines.add_long_lines.Goals as goal
 pub loop-line-preserved : goal.loop-line-preserved
 loop-line-preserved c = record {
   found = long-turn c.args.kind c.args.lines.now c.loop-line.line-index _ c.loop-line.number c.loop-line.warnings.items c.add_one.new.warnings.items _ c.loop-line-test.true
-      (c.in_ok-add_one.ensures _ (ap option_to_list c.long_line.ensures)) c.loop-line.invariant.found;
-  next = omega arith;
+      (c.in-Ok.ensures _ (ap option_to_list c.long_line.ensures)) c.loop-line.invariant.found;
+  next = ap (λ n. n + 1) c.loop-line.invariant.next;
 }
 
 pub returns : goal.returns

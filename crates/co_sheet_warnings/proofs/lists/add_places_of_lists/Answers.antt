@@ -10,7 +10,7 @@ pub loop-section-preserved : goal.loop-section-preserved
 loop-section-preserved c =
     let places = list_places c.args.check in
     marked-turn c.args.kind (λ sections. flat_map places (map section_view sections)) (λ section. places (section_view section)) (λ x l. refl) c.args.sections.now c.loop-section.section-index _
-    c.loop-section.warnings.items c.add_places_of_list.new.warnings.items _ c.loop-section-test.true c.in_ok-add_places_of_list.ensures c.loop-section.invariant
+    c.loop-section.warnings.items c.add_places_of_list.new.warnings.items _ c.loop-section-test.true c.in-Ok.ensures c.loop-section.invariant
 
 pub returns : goal.returns
 returns c =

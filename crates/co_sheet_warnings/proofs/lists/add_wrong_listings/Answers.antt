@@ -10,7 +10,7 @@ pub loop-listing-preserved : goal.loop-listing-preserved
 loop-listing-preserved c =
     let wrong = wrong_listing c.args.list in
     marked-turn c.args.kind (λ listings. filter_map wrong (map listing_view listings)) (λ listing. option_to_list (wrong (listing_view listing))) (λ listing listings. piece-first wrong (listing_view listing) (map listing_view listings))
-    c.args.listings.now c.loop-listing.listing-index _ c.loop-listing.warnings.items c.add_one.new.warnings.items _ c.loop-listing-test.true (c.in_ok-add_one.ensures _ (ap option_to_list c.wrong_listing.ensures)) c.loop-listing.invariant
+    c.args.listings.now c.loop-listing.listing-index _ c.loop-listing.warnings.items c.add_one.new.warnings.items _ c.loop-listing-test.true (c.in-Ok.ensures _ (ap option_to_list c.wrong_listing.ensures)) c.loop-listing.invariant
 
 pub returns : goal.returns
 returns c =

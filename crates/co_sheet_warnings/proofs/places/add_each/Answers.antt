@@ -8,7 +8,7 @@ use Rattle.co_sheet_warnings.proofs.places.add_each.Goals as goal
 pub loop-line-preserved : goal.loop-line-preserved
 loop-line-preserved c =
     marked-turn c.args.kind (λ found. flat_map option_to_list found) option_to_list (λ x l. refl) c.args.found.now c.loop-line.line-index None c.loop-line.warnings.items c.add_one.new.warnings.items _ c.loop-line-test.true
-    (c.in_ok-add_one.ensures _ refl) c.loop-line.invariant
+    (c.in-Ok.ensures _ refl) c.loop-line.invariant
 
 pub returns : goal.returns
 returns c = pieces-end (λ found. warnings_at c.args.kind (flat_map option_to_list found)) refl c.args.found.now c.loop-line.line-index _ _ c.loop-line-test.false c.loop-line.invariant

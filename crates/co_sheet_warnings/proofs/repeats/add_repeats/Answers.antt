@@ -11,7 +11,7 @@ use Rattle.co_sheet_warnings.proofs.repeats.add_repeats.Goals as goal
 pub loop-section-preserved : goal.loop-section-preserved
 loop-section-preserved c =
     repeats-turn c.args.kind (placed_in c.args.once) section_view c.args.sections.now c.loop-section.section-index _ _ (map scoped_view c.loop-section.before.keys) (map scoped_view c.add_repeat.new.before.keys)
-    c.loop-section.warnings.items c.add_repeat.new.warnings.items _ c.loop-section-test.true c.placed_in.ensures c.in_ok-add_repeat.ensures.warnings c.in_ok-add_repeat.ensures.before c.loop-section.invariant
+    c.loop-section.warnings.items c.add_repeat.new.warnings.items _ c.loop-section-test.true c.placed_in.ensures c.in-Ok.ensures.warnings c.in-Ok.ensures.before c.loop-section.invariant
 
 pub returns : goal.returns
 returns c =

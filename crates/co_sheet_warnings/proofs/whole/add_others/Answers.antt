@@ -11,7 +11,7 @@ pub loop-section-preserved : goal.loop-section-preserved
 loop-section-preserved c =
     let places = places_in c.args.text.now c.args.kind in
     marked-turn c.args.kind (λ sections. flat_map places (map section_view sections)) (λ section. places (section_view section)) (λ x l. refl) c.sections-section-items.result.now c.loop-section.section-index _
-    c.loop-section.warnings.items c.add_one-in-loop-section.new.warnings.items _ c.loop-section-test.true (c.in_ok-add_one-2.ensures _ c.place_in.ensures) c.loop-section.invariant
+    c.loop-section.warnings.items c.add_one-in-loop-section.new.warnings.items _ c.loop-section-test.true (c.in-Ok-add_one.ensures _ c.place_in.ensures) c.loop-section.invariant
 
 pub returns : goal.returns
 returns c =
@@ -20,7 +20,7 @@ returns c =
     let old = c.args.warnings.now.items in
     let once = place_in_text text kind in
     let more = flat_map (places_in text kind) text.sections in
-    let first = c.in_ok-add_one.ensures once c.place_in_text.ensures in
+    let first = c.in-Ok.ensures once c.place_in_text.ensures in
     let all = pieces-end (λ sections. warnings_at kind (flat_map (places_in text kind) (map section_view sections))) refl c.sections-section-items.result.now c.loop-section.section-index _ _ c.loop-section-test.false c.loop-section.invariant in
     all
     ∙ ap (λ (ss : List TextSection). c.add_one.new.warnings.items ++ warnings_at kind (flat_map (places_in text kind) ss)) c.sections-section-items.ensures

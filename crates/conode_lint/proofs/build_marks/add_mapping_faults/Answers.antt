@@ -1,4 +1,4 @@
-use Rattle.std.proofs.Common.{arith, map, take_all}
+use Rattle.std.proofs.Common.{map, take_all}
 use Rattle.co_sheet_text.specs.Views.{section_view}
 use Rattle.conode_lint.specs.BuildLines.{mapping_mark}
 use Rattle.conode_lint.proofs.LoopLemmas.{pushed_more}
@@ -7,7 +7,7 @@ use Rattle.conode_lint.proofs.build_marks.add_mapping_faults.Goals as goal
 pub loop-fault-preserved : goal.loop-fault-preserved
 loop-fault-preserved c =
     pushed_more (mapping_mark c.args.sheet.now (map section_view c.args.sections.now)) c.args.faults.now c.loop-fault.fault-index _ _ _ _
-    (omega arith) c.loop-fault.invariant (rw c.entry_line.ensures at c.in_ok-push.ensures.items)
+    c.loop-fault-test.true c.loop-fault.invariant (rw c.entry_line.ensures at c.in-Ok.ensures.items)
 
 pub returns : goal.returns
 returns c = rw (take_all c.loop-fault.fault-index c.args.faults.now c.loop-fault-test.false) at c.loop-fault.invariant

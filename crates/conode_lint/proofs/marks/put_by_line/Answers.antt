@@ -8,7 +8,7 @@ pub returns : goal.returns
 returns c =
     let line : Mark → ℕ = λ m. m.line in
     record {
-      moved = c.in_ok-sort_by_key.ensures.permutation;
-      rises = IsNonDecreasingBy-from_sort_by_key line _ c.in_ok-sort_by_key.ensures.sorted (λ a r f' k. search rules);
-      stable = c.in_ok-sort_by_key.ensures.stable line (always_returns_same _ _ _ (λ a r f' k. search rules));
+      moved = c.in-Ok.ensures.permutation;
+      rises = IsNonDecreasingBy-from_sort_by_key line _ c.in-Ok.ensures.sorted (λ a r f' k. search rules);
+      stable = c.in-Ok.ensures.stable line (always_returns_same _ _ _ (λ a r f' k. search rules));
     }

@@ -9,7 +9,7 @@ loop-character-preserved c =
     let character = c.character-item.result in
     let before = take c.loop-character.character-index c.args.characters.now in
     let base = string_bytes c.args.text.now in
-    c.in_ok-push_shown.ensures ∙ ap (λ l. l ++ shown character) c.loop-character.invariant ∙ flat_map_more shown base before character
+    c.in-Ok.ensures ∙ ap (λ l. l ++ shown character) c.loop-character.invariant ∙ flat_map_more shown base before character
     ∙ ap (λ l. base ++ shown_all l) (ap (λ x. before ++ x ∷ []) c.character-item.is ∙ sym (take_more c.args.characters.now c.loop-character.character-index _ c.loop-character-test.true))
 
 pub returns : goal.returns

@@ -14,7 +14,7 @@ pub returns : goal.returns
 returns c =
     let key = λ (s : TextSection). rank s.kind in
     let before = λ (s t : TextSection). is_lt (nat_cmp (rank s.kind) (rank t.kind)) in
-    let sorted = c.in_ok-sort_by_key.ensures.sorted key (always_returns_same _ _ _ (λ a r f' k. search rules)) in
-    let stable = c.in_ok-sort_by_key.ensures.stable key (always_returns_same _ _ _ (λ a r f' k. search rules)) in
+    let sorted = c.in-Ok.ensures.sorted key (always_returns_same _ _ _ (λ a r f' k. search rules)) in
+    let stable = c.in-Ok.ensures.stable key (always_returns_same _ _ _ (λ a r f' k. search rules)) in
     ap (map section_view) (sorted-in_order before (ranks_by nat_cmp_total key) c.args.sections.now c.sort_by_key.new.self sorted stable)
     ∙ in_order-map section_view before (λ s t. nat_lt (rank s.kind) (rank t.kind)) (λ a b. is_lt-number (rank a.kind) (rank b.kind)) c.args.sections.now

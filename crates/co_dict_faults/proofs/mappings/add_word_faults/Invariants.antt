@@ -2,7 +2,7 @@ use Rattle.std.proofs.Common.{◌≡◌, ◌++◌, ◌+◌, ◌-◌, min}
 use Rattle.std.specs.Prelude.{flat_map}
 use Rattle.std.specs.List.{range_with_len}
 use Rattle.co_dict_faults.specs.MappingReasons.{fault_list, sub_reason, word_faults}
-use Rattle.co_dict_faults.proofs.mappings.word_faults.Given as goal
+use Rattle.co_dict_faults.proofs.mappings.add_word_faults.Given as goal
 
 -- those so far, and after them those of the words left
 abbrev pub invariant-loop-earlier : goal.invariant-loop-earlier

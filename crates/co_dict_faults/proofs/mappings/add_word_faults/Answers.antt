@@ -1,7 +1,7 @@
 use Rattle.std.proofs.Common.{◌+◌, ◌++◌, min, arith, ap, ◌∙◌}
 use Rattle.co_dict_faults.specs.MappingReasons.{fault_list, sub_reason}
 use Rattle.co_dict_faults.proofs.MappingLemmas.{sub_added, subs_end}
-use Rattle.co_dict_faults.proofs.mappings.word_faults.Goals as goal
+use Rattle.co_dict_faults.proofs.mappings.add_word_faults.Goals as goal
 
 pub loop-earlier-preserved : goal.loop-earlier-preserved
 loop-earlier-preserved g c =
@@ -10,7 +10,7 @@ loop-earlier-preserved g c =
     let sub = c.loop-earlier.earlier + 1 in
     sub_added (λ sub. fault_list c.args.index sub (sub_reason c.args.side d contents c.args.index sub)) c.loop-earlier.faults.items _ _
     c.loop-earlier.earlier (min c.args.count 64) (omega (arith, c.loop-earlier-test.true, c.min-earlier-end.ensures))
-    (c.in_ok-add_reason.ensures ∙ ap (λ reason. c.loop-earlier.faults.items ++ fault_list c.args.index sub reason) c.sub_reason-reason.ensures)
+    (c.in-Ok.ensures ∙ ap (λ reason. c.loop-earlier.faults.items ++ fault_list c.args.index sub reason) c.sub_reason-reason.ensures)
     c.loop-earlier.invariant
 
 pub returns : goal.returns
