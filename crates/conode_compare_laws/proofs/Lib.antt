@@ -11,6 +11,7 @@ pub mod EmergencyFrames
 pub mod Unjudged
 pub mod Begins
 pub mod NamedKeys
+pub mod ShowsWord
 pub mod Beats
 pub mod Heartbeats
 pub mod Pauses
@@ -48,6 +49,11 @@ pub mod AbortOthers
 pub mod AbortFrames
 pub mod AbortBursts
 pub mod AbortInputs
+pub mod Expedited
+pub mod ExpeditedFrames
+pub mod ExpeditedAnswers
+pub mod ExpeditedInputs
+mod ExpeditedExamples
 mod AbortExamples
 mod AnswerExamples
 mod Examples

@@ -3,8 +3,10 @@
 ghost use Rattle.std.specs.Prelude.{◌≡◌, ◌+◌, ℕ, List, []};
 ghost use Rattle.co_profile.specs.Keys.{emergency_inhibit_key};
 ghost use Rattle.co_sheet.specs.Content.{Row};
+ghost use Rattle.co_node_laws.specs.Apart.{BeginsApart};
 ghost use Rattle.co_node_model.specs.Moments.{Constants};
 ghost use Rattle.conode_compare_rules.specs.declared.limits.Subject.{Subject};
+ghost use Rattle.conode_compare_laws.specs.AnswerSenders.{BeginsOther, HaveBytes};
 ghost use Rattle.conode_compare_laws.specs.Differences.{differences_in, inhibit_differences};
 ghost use Rattle.conode_compare_laws.specs.Identifiers.{
   AllSendWithout,
@@ -14,8 +16,11 @@ ghost use Rattle.conode_compare_laws.specs.Identifiers.{
 };
 ghost use Rattle.conode_compare_laws.specs.Periods.{AllHaveInhibit, KnowsInhibit};
 ghost use Rattle.conode_compare_laws.specs.Recordings.{AreUnhurried, Stamped, recording};
+ghost use Rattle.conode_compare_laws.specs.ShownWords.{AllHaveWord, BeginNoExpeditedDownloads};
 
+use crate::answer_laws::sends_other;
 use crate::aside::sends_aside;
+use co_node_laws::stays_apart;
 
 /// The recording of a device has no `emcy-inhibit` (CiA 301, 7.2.7), whatever the tolerance and the
 /// drift, with events of the application too, and whatever transfers there are on its default SDO
@@ -36,4 +41,28 @@ pub fn no_early_emergencies()
         differences_in inhibit_differences subject rows (recording k inputs) ≡ [] }
 {
     sends_aside();
+}
+
+/// So it has none where clients read 1015:00 on its default SDO channel, and ask to write it, but
+/// for expedited downloads of it (`BeginNoExpeditedDownloads`): what an expedited upload shows is
+/// the time. Conditions: those of `no_early_emergencies`, but that no client names 1015:00; the
+/// entry has two bytes, of that number (`AllHaveWord`); frames have bytes (`HaveBytes`); no other
+/// node sends on the identifier of the answers (`AreElsewhere`); and the COB-IDs with which the
+/// device is built are apart from its default channel, from NMT and from its error control
+/// (`BeginsApart`, `BeginsAside`, `BeginsOther`). This is a law: a call of it changes nothing.
+pub fn no_early_emergencies_shown()
+    ensures { (k : Constants) (subject : Subject) (rows : List Row) (inhibit : ℕ)
+        (inputs : List Stamped) → subject.node ≡ k.description.node →
+        AllHaveInhibit inhibit k [] inputs → AllHaveWord emergency_inhibit_key inhibit k [] inputs →
+        KnowsInhibit inhibit subject → AreUnhurried inputs → HaveBytes inputs →
+        BeginNoExpeditedDownloads emergency_inhibit_key k.description.node inputs →
+        AreElsewhere (0x700 + k.description.node) inputs →
+        AreElsewhere (0x80 + k.description.node) inputs →
+        AreElsewhere (0x580 + k.description.node) inputs → BeginsApart k → BeginsAside k →
+        BeginsOther k → AllSendWithout (0x80 + k.description.node) k [] inputs →
+        differences_in inhibit_differences subject rows (recording k inputs) ≡ [] }
+{
+    sends_aside();
+    sends_other();
+    stays_apart();
 }

@@ -1,0 +1,38 @@
+-- What the laws about heartbeats and EMCY ask where clients read the entries of their times, 1017:00 and 1015:00.
+use Rattle.std.specs.Prelude.{◌≡◌, ℕ, ◌+◌, Bool, false, List, [], ◌∷◌, length, Option, Some}
+use Rattle.std.specs.List.{AllByRecursion}
+use Rattle.co_value.specs.declared.key.Key.{Key}
+use Rattle.co_value.specs.Keys.{same_key}
+use Rattle.co_frame.specs.SdoRequests.{request_in}
+use Rattle.co_frame.specs.declared.sdo_request.SdoRequest.{SdoRequest}
+use Rattle.co_frame.specs.declared.sdo_request.SdoRequest.TheVariants.{DownloadExpedited}
+use Rattle.co_dict.specs.Rows.{Contents, number_at}
+use Rattle.co_node_model.specs.Device.{contents_of}
+use Rattle.co_node_model.specs.Inputs.{InputView, Inputs, Framed, Ticked, Applied}
+use Rattle.co_node_model.specs.Moments.{Constants}
+use Rattle.co_sdo.specs.Uploads.{value_at}
+use Rattle.conode_compare_laws.specs.Recordings.{Stamped}
+
+-- an entry has two bytes, of this number
+pub record HasWord (key : Key) (word : ℕ) (contents : Contents) : Type 0 where
+  pub two : length (value_at contents key) ≡ 2
+  pub number : number_at contents key ≡ word
+
+-- before each of these inputs, which come after those before
+abbrev pub AllHaveWord : Key → ℕ → Constants → Inputs → List Stamped → Type 0
+AllHaveWord key word k before [] = Unit {0}
+AllHaveWord key word k before (s ∷ later) = HasWord key word (contents_of k before) × AllHaveWord key word k (s.input ∷ before) later
+
+-- an expedited download of the entry (CiA 301, 7.2.4.3.3: ccs = 1, e = 1)
+abbrev pub is_expedited_download : Key → Option SdoRequest → Bool
+is_expedited_download key (Some (DownloadExpedited named value)) = same_key named key
+is_expedited_download key other = false
+
+-- an input begins none on the default channel
+abbrev pub BeginsNoExpeditedDownload : Key → ℕ → InputView → Type 0
+BeginsNoExpeditedDownload key node (Framed frame) = frame.id ≡ 0x600 + node → is_expedited_download key (request_in frame.bytes) ≡ false
+BeginsNoExpeditedDownload key node Ticked = Unit {0}
+BeginsNoExpeditedDownload key node (Applied event) = Unit {0}
+
+abbrev pub BeginNoExpeditedDownloads : Key → ℕ → List Stamped → Type 0
+BeginNoExpeditedDownloads key node inputs = AllByRecursion (λ s. BeginsNoExpeditedDownload key node s.input) inputs
