@@ -1,5 +1,5 @@
 -- What a device answers to an initiate request: where an answer has data of an entry at once, they are those that the entry has.
-use Rattle.std.proofs.Common.{◌≡◌, ℕ, ◌<◌, ◌≤◌, Bool, true, false, List, [], ◌∷◌, length, take, Option, Some, None, refl, sym, ap, ◌∙◌, subst, arith}
+use Rattle.std.proofs.Common.{◌≡◌, ℕ, ◌<◌, ◌≤◌, Bool, true, false, List, [], ◌∷◌, length, take, Option, Some, None, refl, sym, ap, ◌∙◌, ◌⊎◌, inl, inr, subst, arith}
 use Rattle.std.specs.Prelude.{◌&&◌, if◌then◌else◌, nat_le, IfSome}
 use Rattle.std.specs.List.{AllByRecursion}
 use Rattle.std.proofs.lemmas.Bool.{false≢true}
@@ -42,10 +42,14 @@ has_data (Some (UploadExpedited key value)) = true
 has_data _ = false
 
 two_word : (word : ℕ) (bytes : List ℕ) → length bytes ≡ 2 → unsigned_of bytes ≡ word → IfSome (first_word (take 64 bytes)) (λ n. n ≡ word)
-two_word word [] two is = absurd (omega (arith, two))
+two_word word [] two is = tt
 two_word word (a ∷ []) two is = absurd (omega (arith, two))
 two_word word (a ∷ b ∷ []) two is = omega (arith, is)
 two_word word (a ∷ b ∷ c ∷ more) two is = absurd (omega (arith, two))
+
+data_word : (word : ℕ) (bytes : List ℕ) → 1 ≤ length bytes → (length bytes ≡ 0) ⊎ (length bytes ≡ 2) → unsigned_of bytes ≡ word → IfSome (first_word (take 64 bytes)) (λ n. n ≡ word)
+data_word word bytes some (inl none) is = absurd (omega (arith, some, none))
+data_word word bytes some (inr two) is = two_word word bytes two is
 
 module _ (key : Key) (word : ℕ) where
   abbrev pub AllFit : List Answer → Type 0
@@ -94,8 +98,10 @@ module _ (key : Key) (word : ℕ) where
         let e : Some (UploadExpedited named (Indicated (record { items = value_at contents named }))) ≡ Some (UploadExpedited other value) = sym (expedited_sent_read named (value_at contents named) small some few) ∙ read in
         let v : Indicated (record { items = value_at contents named }) ≡ value = cc in
         let k : named ≡ other = cc in
+        let own : named ≡ key = k ∙ same_key-is other key same in
         subst (λ (x : ExpeditedData). IfSome (first_word (take 64 (data_of x))) (λ n. n ≡ word)) v
-        (subst (λ (x : Key). IfSome (first_word (take 64 (value_at contents x))) (λ n. n ≡ word)) (sym (k ∙ same_key-is other key same)) (two_word word (value_at contents key) has.two has.number))
+        (subst (λ (x : Key). IfSome (first_word (take 64 (value_at contents x))) (λ n. n ≡ word)) (sym own)
+        (data_word word (value_at contents key) (subst (λ (x : Key). 1 ≤ length (value_at contents x)) own some) has.bytes has.number))
 
     value_fits : (named : Key) (b : Bool) → named.index < 65536 → (nat_le 1 (length (value_at contents named)) && nat_le (length (value_at contents named)) 4) ≡ b
         → AllFit (if b then Replied (UploadExpedited named (Indicated (record { items = value_at contents named }))) ∷ [] else Replied (UploadInitiated named (Some (length (value_at contents named)))) ∷ [])

@@ -1,5 +1,5 @@
 -- Which requests are expedited downloads of 1017:00, and where it has two bytes of a number.
-use Rattle.std.proofs.Common.{◌≡◌, ℕ, Bool, true, false, List, [], ◌∷◌, map, Some, None, refl}
+use Rattle.std.proofs.Common.{◌≡◌, ℕ, Bool, true, false, List, [], ◌∷◌, map, Some, None, refl, inl, inr}
 use Rattle.std.specs.Prelude.{if◌then◌else◌}
 use Rattle.co_frame.specs.SdoRequests.{request_in, request_row_in}
 use Rattle.co_profile.specs.Keys.{emergency_inhibit_key, producer_key}
@@ -30,4 +30,7 @@ abbrev holding : List ℕ → Contents
 holding bytes key = if same_key key producer_key then Some bytes else None
 
 two_bytes : HasWord producer_key 1000 (holding (0xE8 ∷ 3 ∷ []))
-two_bytes = record { two = refl; number = refl }
+two_bytes = record { bytes = inr refl; number = refl }
+
+not_there : HasWord emergency_inhibit_key 0 (holding (0xE8 ∷ 3 ∷ []))
+not_there = record { bytes = inl refl; number = refl }

@@ -67,6 +67,7 @@ pub mod Fitting
 pub mod BuiltEntries
 pub mod KeptEntries
 pub mod AlwaysFitted
+pub mod WordsHeld
 pub mod WrittenBytes
 pub mod HeldBytes
 pub mod TpdoImages

@@ -1,5 +1,5 @@
 -- What the laws about heartbeats and EMCY ask where clients read the entries of their times, 1017:00 and 1015:00.
-use Rattle.std.specs.Prelude.{◌≡◌, ℕ, ◌+◌, Bool, false, List, [], ◌∷◌, length, Option, Some}
+use Rattle.std.specs.Prelude.{◌≡◌, ◌⊎◌, ℕ, ◌+◌, Bool, false, List, [], ◌∷◌, length, Option, Some}
 use Rattle.std.specs.List.{AllByRecursion}
 use Rattle.co_value.specs.declared.key.Key.{Key}
 use Rattle.co_value.specs.Keys.{same_key}
@@ -13,9 +13,9 @@ use Rattle.co_node_model.specs.Moments.{Constants}
 use Rattle.co_sdo.specs.Uploads.{value_at}
 use Rattle.conode_compare_laws.specs.Recordings.{Stamped}
 
--- an entry has two bytes, of this number
+-- an entry has two bytes, or it isn't there; and it has this number
 pub record HasWord (key : Key) (word : ℕ) (contents : Contents) : Type 0 where
-  pub two : length (value_at contents key) ≡ 2
+  pub bytes : (length (value_at contents key) ≡ 0) ⊎ (length (value_at contents key) ≡ 2)
   pub number : number_at contents key ≡ word
 
 -- before each of these inputs, which come after those before

@@ -1,8 +1,13 @@
 //! When EMCY come.
 
 ghost use Rattle.std.specs.Prelude.{◌≡◌, ◌+◌, ℕ, List, []};
+ghost use Rattle.std.specs.List.{All};
 ghost use Rattle.co_profile.specs.Keys.{emergency_inhibit_key};
+ghost use Rattle.co_dict.specs.Rows.{number_at};
+ghost use Rattle.co_dict_build.specs.Built.{Plan};
+ghost use Rattle.co_node.specs.Built.{IsBuilt};
 ghost use Rattle.co_sheet.specs.Content.{Row};
+ghost use Rattle.co_sheet.specs.SheetLaws.{IsSheetRow};
 ghost use Rattle.co_node_laws.specs.Apart.{BeginsApart};
 ghost use Rattle.co_node_model.specs.Moments.{Constants};
 ghost use Rattle.conode_compare_rules.specs.declared.limits.Subject.{Subject};
@@ -18,9 +23,12 @@ ghost use Rattle.conode_compare_laws.specs.Periods.{AllHaveInhibit, KnowsInhibit
 ghost use Rattle.conode_compare_laws.specs.Recordings.{AreUnhurried, Stamped, recording};
 ghost use Rattle.conode_compare_laws.specs.ShownWords.{AllHaveWord, BeginNoExpeditedDownloads};
 
-use crate::answer_laws::sends_other;
+use crate::answer_laws::{begins_other, sends_other};
 use crate::aside::sends_aside;
+use crate::built_devices::begins_aside;
+use co_node::begins_apart;
 use co_node_laws::stays_apart;
+use co_sdo::Bank;
 
 /// The recording of a device has no `emcy-inhibit` (CiA 301, 7.2.7), whatever the tolerance and the
 /// drift, with events of the application too, and whatever transfers there are on its default SDO
@@ -65,4 +73,30 @@ pub fn no_early_emergencies_shown()
     sends_aside();
     sends_other();
     stays_apart();
+}
+
+/// So has the recording of each device that is built from a data sheet:
+/// `no_early_emergencies_shown` of it, without a condition on the bytes of 1015:00, since what is
+/// written into it fits. Conditions: the rows are those of a sheet that was read (`IsSheetRow`);
+/// `compare` has the device's node-ID; 1015:00 has one number from the build on (`AllHaveInhibit`);
+/// and those of `no_early_emergencies_shown` on the data sheet, the stamps and the frames. This is a
+/// law: a call of it changes nothing.
+pub fn built_no_early_emergencies()
+    ensures { (plan : Plan) (k : Constants) (subject : Subject) (rows : List Row) (inhibit : ℕ)
+        (inputs : List Stamped) → IsBuilt plan k → All IsSheetRow plan.rows →
+        subject.node ≡ k.description.node → number_at k.start emergency_inhibit_key ≡ inhibit →
+        AllHaveInhibit inhibit k [] inputs → KnowsInhibit inhibit subject →
+        AreUnhurried inputs → HaveBytes inputs →
+        BeginNoExpeditedDownloads emergency_inhibit_key k.description.node inputs →
+        AreElsewhere (0x700 + k.description.node) inputs →
+        AreElsewhere (0x80 + k.description.node) inputs →
+        AreElsewhere (0x580 + k.description.node) inputs →
+        AllSendWithout (0x80 + k.description.node) k [] inputs →
+        differences_in inhibit_differences subject rows (recording k inputs) ≡ [] }
+{
+    Bank::set_is_permitted();
+    begins_apart();
+    begins_aside();
+    begins_other();
+    no_early_emergencies_shown();
 }
