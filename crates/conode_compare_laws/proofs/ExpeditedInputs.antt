@@ -1,6 +1,6 @@
 -- All inputs of a device: what its transfers show of an entry is what the entry has, where it has that throughout and no client asks to
 -- write it at once.
-use Rattle.std.proofs.Common.{◌≡◌, ℕ, ◌+◌, ◌≢◌, Bool, true, false, List, [], ◌∷◌, ◌++◌, map, length, Option, Some, None, refl, sym, ap, ◌⊎◌, inl, inr, subst}
+use Rattle.std.proofs.Common.{◌≡◌, ℕ, ◌+◌, Bool, true, false, List, [], ◌∷◌, ◌++◌, map, length, Option, Some, None, refl, sym, ap, ◌⊎◌, inl, inr, subst}
 use Rattle.std.specs.Prelude.{◌==◌, IfSome}
 use Rattle.std.specs.List.{AllByRecursion}
 use Rattle.std.proofs.lemmas.Bool.{eqb-true, false≢true}
