@@ -108,15 +108,15 @@ response_is None key value h = absurd (let e : Nothing ≡ Response (UploadExped
 response_is (Some (Refuse named code)) key value h = absurd (let e : Abort code ≡ Response (UploadExpedited key value) = h in cc)
 response_is (Some other) key value h = let e : Response other ≡ Response (UploadExpedited key value) = h in ap (λ x. Some x) cc
 
-abbrev is_answer : Reading → Bool
+abbrev pub is_answer : Reading → Bool
 is_answer (Response response) = true
 is_answer _ = false
 
-begins_no_answer : (reading : Reading) → is_answer (beginning reading) ≡ false
+pub begins_no_answer : (reading : Reading) → is_answer (beginning reading) ≡ false
 begins_no_answer (Begin new) = refl
 begins_no_answer _ = refl
 
-segment_no_answer : (block_size : ℕ) (segment : Option BlockSegment) (otherwise : Reading) → is_answer otherwise ≡ false → is_answer (segment_reading block_size segment otherwise) ≡ false
+pub segment_no_answer : (block_size : ℕ) (segment : Option BlockSegment) (otherwise : Reading) → is_answer otherwise ≡ false → is_answer (segment_reading block_size segment otherwise) ≡ false
 segment_no_answer block_size None otherwise h = h
 segment_no_answer block_size (Some segment) otherwise h = by (nat_le segment.sequence block_size)
   where
@@ -124,7 +124,7 @@ segment_no_answer block_size (Some segment) otherwise h = by (nat_le segment.seq
     by true = refl
     by false = h
 
-never_answers : (reading : Reading) (response : SdoResponse) → is_answer reading ≡ false → reading ≡ Response response → ⊥
+pub never_answers : (reading : Reading) (response : SdoResponse) → is_answer reading ≡ false → reading ≡ Response response → ⊥
 never_answers reading response off is = false≢true (sym off ∙ ap is_answer is)
 
 plain_is : (t : Transfer) (micros : ℕ) (bytes : List ℕ) (key : Key) (value : ExpeditedData) → reading_of (Some t) Server micros bytes ≡ Response (UploadExpedited key value) → response_in bytes ≡ Some (UploadExpedited key value)
@@ -222,7 +222,7 @@ module _ (key : Key) (word : ℕ) where
   differs_after spoilt heard t turn micros side is d =
       differs_turn spoilt (confirmed_with turn.transfer.stage) heard turn.what (after t turn) micros side (subst (Differs key) (sym is) d)
 
-  aborted_after : (spoilt : Bool) (heard : Bool) (t : Transfer) (code : AbortCode) (micros : ℕ) (side : Side) (bytes : List ℕ) → After key word spoilt (follows_by heard (Some t) (Abort code) micros side bytes)
+  pub aborted_after : (spoilt : Bool) (heard : Bool) (t : Transfer) (code : AbortCode) (micros : ℕ) (side : Side) (bytes : List ℕ) → After key word spoilt (follows_by heard (Some t) (Abort code) micros side bytes)
   aborted_after spoilt heard t code micros side bytes = record {
     ended = shown_none key word (ended (one_more t) micros (Aborted side code)) (not_done t.protocol (Aborted side code) _ refl);
     next = tt;
@@ -230,7 +230,7 @@ module _ (key : Key) (word : ℕ) where
 
   -- ---- a frame of the server
 
-  server_by : (spoilt : Bool) (heard : Bool) (t : Transfer) (reading : Reading) (micros : ℕ) (bytes : List ℕ) → Suits key spoilt t → reading_of (Some t) Server micros bytes ≡ reading → (spoilt ≡ true) ⊎ Fits key word bytes
+  pub server_by : (spoilt : Bool) (heard : Bool) (t : Transfer) (reading : Reading) (micros : ℕ) (bytes : List ℕ) → Suits key spoilt t → reading_of (Some t) Server micros bytes ≡ reading → (spoilt ≡ true) ⊎ Fits key word bytes
       → After key word spoilt (follows_by heard (Some t) reading micros Server bytes)
   server_by spoilt heard t (Begin new) micros bytes s is f = absurd (false≢true (sym (server_no_begin (Some t) micros bytes) ∙ ap is_begin is))
   server_by spoilt heard t (Abort code) micros bytes s is f = aborted_after spoilt heard t code micros Server bytes
@@ -243,7 +243,7 @@ module _ (key : Key) (word : ℕ) where
   server_by spoilt heard t (Response one) micros bytes (inr h) is f = turned_after spoilt heard t (Response one) micros bytes h is f (outcome t h.expedited (Response one) bytes)
   server_by spoilt heard t Nothing micros bytes (inr h) is f = turned_after spoilt heard t Nothing micros bytes h is f (outcome t h.expedited Nothing bytes)
 
-  stray_after : (spoilt : Bool) (heard : Bool) (reading : Reading) (micros : ℕ) (side : Side) (bytes : List ℕ) → is_begin reading ≡ false → After key word spoilt (follows_by heard None reading micros side bytes)
+  pub stray_after : (spoilt : Bool) (heard : Bool) (reading : Reading) (micros : ℕ) (side : Side) (bytes : List ℕ) → is_begin reading ≡ false → After key word spoilt (follows_by heard None reading micros side bytes)
   stray_after spoilt heard (Begin new) micros side bytes n = absurd (false≢true (sym n))
   stray_after spoilt heard _ micros side bytes n = record { ended = tt; next = tt }
 
@@ -261,7 +261,7 @@ module _ (key : Key) (word : ℕ) where
   WritesNone (Some (DownloadExpedited named value)) = Differs key named
   WritesNone _ = Unit {0}
 
-  begun_suits : (request : SdoRequest) (micros : ℕ) (bytes : List ℕ) → WritesNone (Some request) → Keeps key false (begun_with request micros bytes)
+  pub begun_suits : (request : SdoRequest) (micros : ℕ) (bytes : List ℕ) → WritesNone (Some request) → Keeps key false (begun_with request micros bytes)
   begun_suits (DownloadExpedited named value) micros bytes n = inl n
   begun_suits (DownloadInitiate named size) micros bytes n = inr (record { unconfirmed = refl; expedited = refl; taken = λ i. refl; odd = λ never. absurd (false≢true never) })
   begun_suits (UploadInitiate named) micros bytes n = inr (record { unconfirmed = refl; expedited = refl; taken = λ i. refl; odd = λ never. absurd (false≢true never) })
@@ -269,7 +269,7 @@ module _ (key : Key) (word : ℕ) where
   begun_suits (BlockDownloadInitiate named size) micros bytes n = inr (record { unconfirmed = refl; expedited = refl; taken = λ i. refl; odd = λ never. absurd (false≢true never) })
   begun_suits _ micros bytes n = tt
 
-  begun_initiates : (request : SdoRequest) (micros : ℕ) (bytes : List ℕ) (new : Transfer) → begun_with request micros bytes ≡ Some new → initiates (Some request) ≡ true
+  pub begun_initiates : (request : SdoRequest) (micros : ℕ) (bytes : List ℕ) (new : Transfer) → begun_with request micros bytes ≡ Some new → initiates (Some request) ≡ true
   begun_initiates (DownloadExpedited named value) micros bytes new e = refl
   begun_initiates (DownloadInitiate named size) micros bytes new e = refl
   begun_initiates (UploadInitiate named) micros bytes new e = refl
@@ -277,7 +277,7 @@ module _ (key : Key) (word : ℕ) where
   begun_initiates (BlockDownloadInitiate named size) micros bytes new e = refl
   begun_initiates _ micros bytes new e = absurd (let f : None ≡ Some new = e in cc)
 
-  left_after : (o : Option Transfer) (micros : ℕ) (bytes : List ℕ) → IfSome (left o micros bytes) (Shown key word)
+  pub left_after : (o : Option Transfer) (micros : ℕ) (bytes : List ℕ) → IfSome (left o micros bytes) (Shown key word)
   left_after None micros bytes = tt
   left_after (Some t) micros bytes = shown_none key word (ended t micros (left_ending t bytes)) (not_done t.protocol (left_ending t bytes) _ (left_off t bytes))
 
@@ -290,7 +290,7 @@ module _ (key : Key) (word : ℕ) where
   from_after : (r : Option SdoRequest) (f : Followed) → After key word true f → Heard r f
   from_after r f h = record { ended = h.ended; next = less key f.next.transfer h.next; later = λ n. h.next }
 
-  client_turn : (heard : Bool) (t : Transfer) (reading : Reading) (micros : ℕ) (bytes : List ℕ) → Suits key false t → is_response reading ≡ false
+  pub client_turn : (heard : Bool) (t : Transfer) (reading : Reading) (micros : ℕ) (bytes : List ℕ) → Suits key false t → is_response reading ≡ false
       → After key word true (turns_at (confirmed_with (turn_of t reading bytes).transfer.stage) heard (turn_of t reading bytes).what (after t (turn_of t reading bytes)) micros Client)
   client_turn heard t reading micros bytes (inl d) n = differs_after true heard t (turn_of t reading bytes) micros Client (kept t reading bytes).key d
   client_turn heard t reading micros bytes (inr h) n =

@@ -1,5 +1,5 @@
--- All inputs of a device: what its transfers show of an entry is what the entry has, where it has that throughout and no client asks to
--- write it at once.
+-- All inputs of a device: what its transfers show of an entry is what the entry has, where it has that throughout and no expedited
+-- download of it is confirmed.
 use Rattle.std.proofs.Common.{◌≡◌, ℕ, ◌+◌, Bool, true, false, List, [], ◌∷◌, ◌++◌, map, length, Option, Some, None, refl, sym, ap, ◌⊎◌, inl, inr, subst}
 use Rattle.std.specs.Prelude.{◌==◌, IfSome}
 use Rattle.std.specs.List.{AllByRecursion}
@@ -12,7 +12,6 @@ use Rattle.co_frame.specs.SdoRequests.{request_in}
 use Rattle.co_frame.specs.declared.heartbeat.Heartbeat.{Heartbeat}
 use Rattle.co_frame.specs.declared.heartbeat.Heartbeat.TheVariants.{BootUp}
 use Rattle.co_frame.specs.declared.sdo_request.SdoRequest.{SdoRequest}
-use Rattle.co_frame.specs.declared.sdo_request.SdoRequest.TheVariants.{DownloadExpedited}
 use Rattle.co_sdo.specs.Channels.{ChannelSettings}
 use Rattle.co_sdo.specs.Events.{ChannelEvent, frames_at, time_out_on}
 use Rattle.co_sdo.specs.Log.{Answer, Log, Ticked as Elapsed, answer_bytes, frames_on}
@@ -45,7 +44,7 @@ use Rattle.conode_compare_rules.specs.FrameKinds.{data_kind}
 use Rattle.conode_compare_rules.specs.Progresses.{after_frame, before_recording, begun, channel_heard, exchange_noted, late_noted, progress_with}
 use Rattle.conode_compare_laws.specs.AnswerSenders.{AllSendOther, AreOther, HasBytes, HaveBytes, HaveOtherChannels, IsOther, SendsOther}
 use Rattle.conode_compare_laws.specs.Identifiers.{AreElsewhere, IsAside, IsElsewhere}
-use Rattle.conode_compare_laws.specs.ShownWords.{AllHaveWord, HasWord, BeginNoExpeditedDownloads, BeginsNoExpeditedDownload, is_expedited_download}
+use Rattle.conode_compare_laws.specs.ShownWords.{AllHaveWord, HasWord, is_expedited_download}
 use Rattle.conode_compare_laws.specs.Recordings.{Stamped, frame_of, heard_from, recording}
 use Rattle.conode_compare_laws.proofs.AnswerCalm.{calm_exchange}
 use Rattle.conode_compare_laws.proofs.AnswerDevice.{IsNumbered, expired_at, found_with, no_exchange_of_event, none_at_event, none_at_frame, none_stopped, numbered, timed_out}
@@ -57,7 +56,9 @@ use Rattle.conode_compare_laws.proofs.AnswerOthers.{begun_has, is_sdo, kind_has,
 use Rattle.conode_compare_laws.proofs.AnswerSteps.{some_map}
 use Rattle.conode_compare_laws.proofs.AnswerTransferInputs.{answers_other, nmt_other, not_equal, only_other}
 use Rattle.conode_compare_laws.proofs.ExpeditedAnswers.{AllFit, aborted_fits, answers_fit}
-use Rattle.conode_compare_laws.proofs.ExpeditedFrames.{After, Fits, Heard, Keeps, WritesNone, client_after, less, server_after}
+use Rattle.conode_compare_laws.proofs.ExpeditedFrames.{After, Fits, Keeps, server_after}
+use Rattle.conode_compare_laws.proofs.ExpeditedRefusals.{AllRefuse, AllRefused, RefusesAt, aborted_refused}
+use Rattle.conode_compare_laws.proofs.ExpeditedWrites.{AfterAll, HeardAll, Holds, Next, NotDone, begins, client_all, goes_on, less_held, lifted, server_all, writes}
 use Rattle.conode_compare_laws.proofs.Frames.{life_kind}
 use Rattle.conode_compare_laws.proofs.Heard.{of_device}
 use Rattle.conode_compare_laws.proofs.ShowsWord.{AllShow, Shown, ShowsAt, ShowsFrom, joined_shows, mapped_shows, then_shows}
@@ -66,7 +67,7 @@ module _ (key : Key) (word : ℕ) where
   -- ---- what compare has
 
   abbrev Has : Bool → Progress → Type 0
-  Has spoilt p = Keeps key spoilt p.dialogue.channel.transfer
+  Has spoilt p = Holds key spoilt p.dialogue.channel.transfer
 
   not_sdo : (p : Progress) (micros : ℕ) (kind : FrameKind) → is_sdo kind ≡ false → ShowsAt key word p micros kind
   not_sdo p micros (Sdo side frame) off = absurd (false≢true (sym off))
@@ -78,7 +79,7 @@ module _ (key : Key) (word : ℕ) where
   kind_shows spoilt subject micros p frame later after off h rest = (
     not_sdo (begun subject p micros) micros (data_kind subject.node frame) off,
     rest (after_frame subject (begun subject p micros) micros (data_kind subject.node frame))
-        (kind_has (Keeps key spoilt) tt subject (begun subject p micros) micros (data_kind subject.node frame) off (begun_has (Keeps key spoilt) tt subject p micros h)),
+        (kind_has (Holds key spoilt) tt subject (begun subject p micros) micros (data_kind subject.node frame) off (begun_has (Holds key spoilt) tt subject p micros h)),
   )
 
   others_show : (subject : Subject) (micros : ℕ) (frames : List FrameContent) (p : Progress) → AreOther subject.node frames → Has false p → AllShow key word subject micros p frames (Has false)
@@ -113,59 +114,76 @@ module _ (key : Key) (word : ℕ) where
       subst (λ kind. ShowsAt key word (begun subject p micros) micros kind × AllShow key word subject micros (after_frame subject (begun subject p micros) micros kind) later after) (sym is)
       (subst (λ o. IfSome o (Shown key word)) (sym (ended_is q.dialogue.channel micros side frame.bytes)) shown, rest (after_frame subject q micros (Sdo side frame)) after_it)
 
-  -- answers: to a request that begins no transfer, whatever they are; or such as fit
-  answers_show : (spoilt : Bool) (subject : Subject) (micros : ℕ) (answers : List Answer) (q : Progress) → (spoilt ≡ true) ⊎ AllFit key word answers → Has spoilt q
+  -- answers: to a request that begins no transfer, whatever they are; or such as fit, and confirm no download of the entry
+  answers_show : (spoilt : Bool) (subject : Subject) (micros : ℕ) (answers : List Answer) (q : Progress) → (spoilt ≡ true) ⊎ (AllFit key word answers × AllRefused key answers) → Has spoilt q
       → AllShow key word subject micros q (frames_on (0x580 + subject.node) answers) (Has spoilt)
   answers_show spoilt subject micros [] q f h = h
   answers_show spoilt subject micros (answer ∷ later) q f h =
       let p : Progress = begun subject q micros in
-      let one : After key word spoilt (reads p.dialogue.channel micros Server (answer_bytes answer)) =
-      server_after key word spoilt p.dialogue.channel micros (answer_bytes answer) (begun_has (Keeps key spoilt) tt subject q micros h) (first f) in
-      sdo_shows subject micros q (record { id = 0x580 + subject.node; bytes = answer_bytes answer }) (frames_on (0x580 + subject.node) later) Server (Keeps key spoilt) (Has spoilt)
+      let one : AfterAll key word spoilt (reads p.dialogue.channel micros Server (answer_bytes answer)) =
+      server_all key word spoilt p.dialogue.channel micros (answer_bytes answer) (begun_has (Holds key spoilt) tt subject q micros h) (first f) in
+      sdo_shows subject micros q (record { id = 0x580 + subject.node; bytes = answer_bytes answer }) (frames_on (0x580 + subject.node) later) Server (Holds key spoilt) (Has spoilt)
       (answer_kind subject.node (answer_bytes answer)) one.ended one.next (λ x g. answers_show spoilt subject micros later x (rest f) g)
     where
-      first : (spoilt ≡ true) ⊎ AllFit key word (answer ∷ later) → (spoilt ≡ true) ⊎ Fits key word (answer_bytes answer)
+      first : (spoilt ≡ true) ⊎ (AllFit key word (answer ∷ later) × AllRefused key (answer ∷ later)) → (spoilt ≡ true) ⊎ (Fits key word (answer_bytes answer) × NotDone key (answer_bytes answer))
       first (inl s) = inl s
-      first (inr all) = inr all.0
+      first (inr all) = inr (all.0.0, all.1.0)
 
-      rest : (spoilt ≡ true) ⊎ AllFit key word (answer ∷ later) → (spoilt ≡ true) ⊎ AllFit key word later
+      rest : (spoilt ≡ true) ⊎ (AllFit key word (answer ∷ later) × AllRefused key (answer ∷ later)) → (spoilt ≡ true) ⊎ (AllFit key word later × AllRefused key later)
       rest (inl s) = inl s
-      rest (inr all) = inr all.1
+      rest (inr all) = inr (all.0.1, all.1.1)
+
+  -- answers that fit, to a request that is no expedited download of the entry
+  fits_show : (subject : Subject) (micros : ℕ) (answers : List Answer) (q : Progress) → AllFit key word answers → Keeps key false q.dialogue.channel.transfer
+      → AllShow key word subject micros q (frames_on (0x580 + subject.node) answers) (λ x. Keeps key false x.dialogue.channel.transfer)
+  fits_show subject micros [] q f h = h
+  fits_show subject micros (answer ∷ later) q f h =
+      let p : Progress = begun subject q micros in
+      let one : After key word false (reads p.dialogue.channel micros Server (answer_bytes answer)) =
+      server_after key word false p.dialogue.channel micros (answer_bytes answer) (begun_has (Keeps key false) tt subject q micros h) (inr f.0) in
+      sdo_shows subject micros q (record { id = 0x580 + subject.node; bytes = answer_bytes answer }) (frames_on (0x580 + subject.node) later) Server (Keeps key false) (λ x. Keeps key false x.dialogue.channel.transfer)
+      (answer_kind subject.node (answer_bytes answer)) one.ended one.next (λ x g. fits_show subject micros later x f.1 g)
 
   -- a request that isn't answered, and one with its answers
-  module _ (subject : Subject) (micros : ℕ) (frame : FrameContent) (p : Progress) (id : frame.id ≡ 0x600 + subject.node) (writes : WritesNone key word (request_in frame.bytes)) (h : Has false p) where
-    heard : Heard key word (request_in frame.bytes) (reads (begun subject p micros).dialogue.channel micros Client frame.bytes)
-    heard = client_after key word (begun subject p micros).dialogue.channel micros frame.bytes (begun_has (Keeps key false) tt subject p micros h) writes
+  module _ (subject : Subject) (micros : ℕ) (frame : FrameContent) (p : Progress) (id : frame.id ≡ 0x600 + subject.node) (h : Has false p) where
+    heard : HeardAll key word (request_in frame.bytes) (reads (begun subject p micros).dialogue.channel micros Client frame.bytes)
+    heard = client_all key word (begun subject p micros).dialogue.channel micros frame.bytes (begun_has (Holds key false) tt subject p micros h)
+
+    any_next : (r : Option SdoRequest) (o : Option Transfer) → Next key word r o → Holds key false o
+    any_next r o (begins i k) = lifted key false o k
+    any_next r o (writes i own k) = k
+    any_next r o (goes_on k) = less_held key o k
 
     ignored_shows : AllShow key word subject micros p (frame ∷ []) (Has false)
-    ignored_shows = sdo_shows subject micros p frame [] Client (Keeps key false) (Has false) (request_kind subject.node frame id) heard.ended heard.next (λ q g. g)
+    ignored_shows =
+        sdo_shows subject micros p frame [] Client (Next key word (request_in frame.bytes)) (Has false) (request_kind subject.node frame id) heard.ended heard.next
+        (λ q g. any_next (request_in frame.bytes) q.dialogue.channel.transfer g)
 
-    exchange_shows : (answers : List Answer) → (initiates (request_in frame.bytes) ≡ true → AllFit key word answers)
+    answered : (answers : List Answer) (q : Progress) → (initiates (request_in frame.bytes) ≡ true → AllFit key word answers) → (is_expedited_download key (request_in frame.bytes) ≡ true → AllRefused key answers)
+        → Next key word (request_in frame.bytes) q.dialogue.channel.transfer → AllShow key word subject micros q (frames_on (0x580 + subject.node) answers) (Has false)
+    answered answers q fit refused (begins i k) =
+        mapped_shows key word subject micros (frames_on (0x580 + subject.node) answers) q (λ x. Keeps key false x.dialogue.channel.transfer) (Has false) (λ x g. lifted key false x.dialogue.channel.transfer g)
+        (fits_show subject micros answers q (fit i) k)
+    answered answers q fit refused (writes i own k) = answers_show false subject micros answers q (inr (fit i, refused own)) k
+    answered answers q fit refused (goes_on k) =
+        mapped_shows key word subject micros (frames_on (0x580 + subject.node) answers) q (Has true) (Has false) (λ x g. less_held key x.dialogue.channel.transfer g) (answers_show true subject micros answers q (inl refl) k)
+
+    exchange_shows : (answers : List Answer) → (initiates (request_in frame.bytes) ≡ true → AllFit key word answers) → (is_expedited_download key (request_in frame.bytes) ≡ true → AllRefused key answers)
         → AllShow key word subject micros p (frame ∷ []) (λ q. AllShow key word subject micros q (frames_on (0x580 + subject.node) answers) (Has false))
-    exchange_shows answers fit = by (initiates (request_in frame.bytes)) refl
-      where
-        by : (b : Bool) → initiates (request_in frame.bytes) ≡ b → AllShow key word subject micros p (frame ∷ []) (λ q. AllShow key word subject micros q (frames_on (0x580 + subject.node) answers) (Has false))
-        by true is =
-            sdo_shows subject micros p frame [] Client (Keeps key false) (λ q. AllShow key word subject micros q (frames_on (0x580 + subject.node) answers) (Has false)) (request_kind subject.node frame id) heard.ended heard.next
-            (λ q g. answers_show false subject micros answers q (inr (fit is)) g)
-        by false is =
-            sdo_shows subject micros p frame [] Client (Keeps key true) (λ q. AllShow key word subject micros q (frames_on (0x580 + subject.node) answers) (Has false)) (request_kind subject.node frame id) heard.ended (heard.later is)
-            (λ q g. mapped_shows key word subject micros (frames_on (0x580 + subject.node) answers) q (Has true) (Has false) (λ x k. less key x.dialogue.channel.transfer k) (answers_show true subject micros answers q (inl refl) g))
+    exchange_shows answers fit refused =
+        sdo_shows subject micros p frame [] Client (Next key word (request_in frame.bytes)) (λ q. AllShow key word subject micros q (frames_on (0x580 + subject.node) answers) (Has false)) (request_kind subject.node frame id)
+        heard.ended heard.next (λ q g. answered answers q fit refused g)
 
   -- ---- an input
 
   record Given (k : Constants) (before : Inputs) (input : InputView) : Type 0 where
     answers : IsElsewhere (0x580 + k.description.node) input
     bytes : HasBytes input
-    writes : BeginsNoExpeditedDownload key k.description.node input
+    refuses : RefusesAt key k before input
     has : HasWord key word (contents_of k before)
     other : SendsOther k (moment k (moments k before) input)
     sync : is_sync_id (contents_of k before) (0x600 + k.description.node) ≡ false
     channels : AllByRecursion (IsNumbered k.description.node) (channels k)
-
-  writes_none : (r : Option SdoRequest) → is_expedited_download key r ≡ false → WritesNone key word r
-  writes_none (Some (DownloadExpedited named value)) h = h
-  writes_none _ h = tt
 
   module _ (k : Constants) (subject : Subject) (micros : ℕ) (before : Inputs) where
     -- the frame that an input is, and the answers to it
@@ -181,19 +199,14 @@ module _ (key : Key) (word : ℕ) where
     by_request : (frame : FrameContent) (p : Progress) → Given k before (Framed frame) → frame.id ≡ 0x600 + k.description.node → Has false p → First (Framed frame) p
     by_request frame p g id h = by (is_state node.Stopped (state_of k before)) (length frame.bytes == 8) refl refl
       where
-        s : Subject
-        s = of_device k subject
-
-        writes : WritesNone key word (request_in frame.bytes)
-        writes = writes_none (request_in frame.bytes) (g.writes id)
-
         by : (stopped eight : Bool) → is_state node.Stopped (state_of k before) ≡ stopped → (length frame.bytes == 8) ≡ eight → First (Framed frame) p
-        by true eight on e = unanswered (Framed frame) p (none_stopped k (moments k before) (Framed frame) on) (ignored_shows (of_device k subject) micros frame p id writes h)
-        by false false on e = unanswered (Framed frame) p (served_is k (moments k before) frame false e id g.sync on) (ignored_shows (of_device k subject) micros frame p id writes h)
+        by true eight on e = unanswered (Framed frame) p (none_stopped k (moments k before) (Framed frame) on) (ignored_shows (of_device k subject) micros frame p id h)
+        by false false on e = unanswered (Framed frame) p (served_is k (moments k before) frame false e id g.sync on) (ignored_shows (of_device k subject) micros frame p id h)
         by false true on e =
             subst (λ x. AllShow key word (of_device k subject) micros p (frame ∷ []) (λ q. AllShow key word (of_device k subject) micros q (frames_at x) (Has false))) (sym (served_is k (moments k before) frame true e id g.sync on))
-            (exchange_shows (of_device k subject) micros frame p id writes h (reply_to k.description (contents_of k before) (channel_logs (moments k before) 0) frame.bytes)
-            (λ i. answers_fit key word (contents_of k before) g.has k.description (opened_after (channel_logs (moments k before) 0)) frame.bytes g.bytes i))
+            (exchange_shows (of_device k subject) micros frame p id h (reply_to k.description (contents_of k before) (channel_logs (moments k before) 0) frame.bytes)
+            (λ i. answers_fit key word (contents_of k before) g.has k.description (opened_after (channel_logs (moments k before) 0)) frame.bytes g.bytes i)
+            (g.refuses id (eqb-true (length frame.bytes) 8 e) on))
 
     first : (input : InputView) (p : Progress) → Given k before input → Has false p → First input p
     first Ticked p g h = h
@@ -225,7 +238,7 @@ module _ (key : Key) (word : ℕ) where
         by true is = λ q h.
             subst (λ i. AllShow key word (of_device k subject) micros q (frames_on i (time_out_reply (Elapsed ∷ channel_logs (moments k before) c.number))) (Has false)) (sym (n.first (zero_is c.number is)).1)
             (answers_show false (of_device k subject) micros (time_out_reply (Elapsed ∷ channel_logs (moments k before) c.number)) q
-            (inr (aborted_fits key word (open_key (opened_after (Elapsed ∷ channel_logs (moments k before) c.number))) timed_out_code)) h)
+            (inr (aborted_fits key word (open_key (opened_after (Elapsed ∷ channel_logs (moments k before) c.number))) timed_out_code, aborted_refused key (open_key (opened_after (Elapsed ∷ channel_logs (moments k before) c.number))) timed_out_code)) h)
         by false is = λ q h.
             others_show (of_device k subject) micros (frames_on c.response (time_out_reply (Elapsed ∷ channel_logs (moments k before) c.number))) q
             (answers_other k.description.node c.response (time_out_reply (Elapsed ∷ channel_logs (moments k before) c.number)) (n.other (not_zero c.number is))) h
@@ -269,20 +282,20 @@ module _ (key : Key) (word : ℕ) where
 
   -- ---- all inputs
 
-  all_show : (k : Constants) (subject : Subject) (inputs : List Stamped) (before : Inputs) (p : Progress) → AreElsewhere (0x580 + k.description.node) inputs → HaveBytes inputs → BeginNoExpeditedDownloads key k.description.node inputs
+  all_show : (k : Constants) (subject : Subject) (inputs : List Stamped) (before : Inputs) (p : Progress) → AreElsewhere (0x580 + k.description.node) inputs → HaveBytes inputs → AllRefuse key k before inputs
       → AllHaveWord key word k before inputs → AllSendOther k before inputs → ((all : Inputs) → is_sync_id (contents_of k all) (0x600 + k.description.node) ≡ false) → AllByRecursion (IsNumbered k.description.node) (channels k)
       → Has false p → ShowsFrom key word (of_device k subject) p (heard_from k before inputs)
-  all_show k subject [] before p answers bytes writes words other sync all h = tt
-  all_show k subject (s ∷ later) before p answers bytes writes words other sync all h =
+  all_show k subject [] before p answers bytes confirm words other sync all h = tt
+  all_show k subject (s ∷ later) before p answers bytes confirm words other sync all h =
       then_shows key word (of_device k subject) s.micros (frame_of s.input ++ prescribed k before s.input) (heard_from k (s.input ∷ before) later) p (Has false)
-      (input_shows k subject s.micros before s.input p (record { answers = answers.0; bytes = bytes.0; writes = writes.0; has = words.0; other = other.0; sync = sync before; channels = all }) h)
-      (λ q g. all_show k subject later (s.input ∷ before) q answers.1 bytes.1 writes.1 words.1 other.1 sync all g)
+      (input_shows k subject s.micros before s.input p (record { answers = answers.0; bytes = bytes.0; refuses = confirm.0; has = words.0; other = other.0; sync = sync before; channels = all }) h)
+      (λ q g. all_show k subject later (s.input ∷ before) q answers.1 bytes.1 confirm.1 words.1 other.1 sync all g)
 
-  pub recording_shows : (k : Constants) (subject : Subject) (inputs : List Stamped) → AreElsewhere (0x580 + k.description.node) inputs → HaveBytes inputs → BeginNoExpeditedDownloads key k.description.node inputs
+  pub recording_shows : (k : Constants) (subject : Subject) (inputs : List Stamped) → AreElsewhere (0x580 + k.description.node) inputs → HaveBytes inputs → AllRefuse key k [] inputs
       → AllHaveWord key word k [] inputs → AllSendOther k [] inputs → ((all : Inputs) → is_sync_id (contents_of k all) (0x600 + k.description.node) ≡ false) → HaveOtherChannels k
       → AllByRecursion (λ c. IsAside k.description.node c.response) (channels k) → ShowsFrom key word (of_device k subject) (before_recording (of_device k subject)) (recording k inputs)
-  recording_shows k subject [] answers bytes writes words other sync others aside = tt
-  recording_shows k subject (s ∷ later) answers bytes writes words other sync others aside =
+  recording_shows k subject [] answers bytes confirm words other sync others aside = tt
+  recording_shows k subject (s ∷ later) answers bytes confirm words other sync others aside =
       then_shows key word (of_device k subject) s.micros (boot_up k ∷ []) (heard_from k [] (s ∷ later)) (before_recording (of_device k subject)) (Has false)
       (life_shows (of_device k subject) s.micros (Some BootUp) (before_recording (of_device k subject)) tt)
-      (λ q g. all_show k subject (s ∷ later) [] q answers bytes writes words other sync (numbered k others aside) g)
+      (λ q g. all_show k subject (s ∷ later) [] q answers bytes confirm words other sync (numbered k others aside) g)

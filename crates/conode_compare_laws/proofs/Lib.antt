@@ -52,6 +52,8 @@ pub mod AbortInputs
 pub mod Expedited
 pub mod ExpeditedFrames
 pub mod ExpeditedAnswers
+pub mod ExpeditedWrites
+pub mod ExpeditedRefusals
 pub mod ExpeditedInputs
 mod ExpeditedExamples
 mod AbortExamples

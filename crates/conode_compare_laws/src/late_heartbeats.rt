@@ -16,7 +16,7 @@ ghost use Rattle.conode_compare_laws.specs.Differences.{differences_in, late_dif
 ghost use Rattle.conode_compare_laws.specs.Identifiers.{AreElsewhere, BeginsAside, IsUnnamed};
 ghost use Rattle.conode_compare_laws.specs.Periods.{AllKeepPeriod, KnowsPeriod};
 ghost use Rattle.conode_compare_laws.specs.Recordings.{AreTimed, Stamped, recording};
-ghost use Rattle.conode_compare_laws.specs.ShownWords.{AllHaveWord, BeginNoExpeditedDownloads};
+ghost use Rattle.conode_compare_laws.specs.ShownWords.{AllHaveWord};
 
 use crate::answer_laws::{begins_other, sends_other};
 use crate::aside::sends_aside;
@@ -44,9 +44,8 @@ pub fn no_late_heartbeats()
     sends_aside();
 }
 
-/// So it has none where clients read 1017:00 on its default SDO channel, and ask to write it, but
-/// for expedited downloads of it (`BeginNoExpeditedDownloads`): what an expedited upload shows is
-/// the period. Conditions: those of `no_late_heartbeats`, but that no client names 1017:00; the
+/// So it has none where clients read 1017:00 on its default SDO channel, and ask to write it: what
+/// an expedited upload shows is the period, and no write is confirmed. Conditions: those of `no_late_heartbeats`, but that no client names 1017:00; the
 /// entry has two bytes (`AllHaveWord`); frames have bytes (`HaveBytes`); no other node sends on the
 /// identifier of the answers (`AreElsewhere`); and the COB-IDs with which the device is built are
 /// apart from its default channel, from NMT and from its error control (`BeginsApart`,
@@ -57,7 +56,6 @@ pub fn no_late_heartbeats_shown()
         number_at k.start producer_key ≡ period → 0 < period → AllKeepPeriod period k [] inputs →
         AllHaveWord producer_key period k [] inputs → KnowsPeriod period subject →
         AreTimed inputs → HaveBytes inputs →
-        BeginNoExpeditedDownloads producer_key k.description.node inputs →
         AreElsewhere (0x700 + k.description.node) inputs →
         AreElsewhere (0x580 + k.description.node) inputs → BeginsApart k → BeginsAside k →
         BeginsOther k →
@@ -79,7 +77,6 @@ pub fn built_no_late_heartbeats()
         subject.node ≡ k.description.node → number_at k.start producer_key ≡ period →
         0 < period → AllKeepPeriod period k [] inputs → KnowsPeriod period subject →
         AreTimed inputs → HaveBytes inputs →
-        BeginNoExpeditedDownloads producer_key k.description.node inputs →
         AreElsewhere (0x700 + k.description.node) inputs →
         AreElsewhere (0x580 + k.description.node) inputs →
         differences_in late_differences subject rows (recording k inputs) ≡ [] }
