@@ -5,7 +5,6 @@ use Rattle.std.specs.Prelude.{if◌then◌else◌, nat_le, IfSome}
 use Rattle.std.proofs.lemmas.Bool.{false≢true}
 use Rattle.co_value.specs.declared.key.Key.{Key}
 use Rattle.co_value.specs.Keys.{same_key, same_key-is}
-use Rattle.co_frame.specs.SdoRequests.{request_in}
 use Rattle.co_frame.specs.SdoResponses.{response_in}
 use Rattle.co_frame.specs.declared.abort_code.AbortCode.{AbortCode}
 use Rattle.co_frame.specs.declared.block_segment.BlockSegment.{BlockSegment}
@@ -33,7 +32,7 @@ use Rattle.conode_explain_transfers.specs.Readings.{awaits_segment}
 use Rattle.conode_explain_transfers.specs.SegmentedTurns.{confirmed}
 use Rattle.conode_explain_transfers.specs.Stages.{confirmed_with, is_initiated}
 use Rattle.conode_explain_transfers.specs.Transfers.{Turn, after, is_same_request, takes_data}
-use Rattle.conode_explain_laws.proofs.Follows.{BegunBy, begun_by, client_no_response, is_response}
+use Rattle.conode_explain_laws.proofs.Follows.{is_response}
 use Rattle.conode_explain_laws.proofs.Readings.{Reading, Segment, Begin, Abort, Request, Response, Nothing, begun_with, beginning, follows_by, plain_reading, reading_of, response_reading, segment_reading, turn_of}
 use Rattle.conode_explain_laws.proofs.Views.{is_begin, server_no_begin}
 use Rattle.co_frame.specs.BlockSegments.{block_segment_in, is_abort_in_sub_block}
@@ -281,36 +280,9 @@ module _ (key : Key) (word : ℕ) where
   left_after None micros bytes = tt
   left_after (Some t) micros bytes = shown_none key word (ended t micros (left_ending t bytes)) (not_done t.protocol (left_ending t bytes) _ (left_off t bytes))
 
-  -- which begins a transfer, or after which one that awaits the answer to its request is spoilt
-  pub record Heard (r : Option SdoRequest) (f : Followed) : Type 0 where
-    pub ended : IfSome f.says.ended (Shown key word)
-    pub next : Keeps key false f.next.transfer
-    pub later : initiates r ≡ false → Keeps key true f.next.transfer
-
-  from_after : (r : Option SdoRequest) (f : Followed) → After key word true f → Heard r f
-  from_after r f h = record { ended = h.ended; next = less key f.next.transfer h.next; later = λ n. h.next }
-
+  -- which begins no transfer: one that awaits the answer to its request is spoilt
   pub client_turn : (heard : Bool) (t : Transfer) (reading : Reading) (micros : ℕ) (bytes : List ℕ) → Suits key false t → is_response reading ≡ false
       → After key word true (turns_at (confirmed_with (turn_of t reading bytes).transfer.stage) heard (turn_of t reading bytes).what (after t (turn_of t reading bytes)) micros Client)
   client_turn heard t reading micros bytes (inl d) n = differs_after true heard t (turn_of t reading bytes) micros Client (kept t reading bytes).key d
   client_turn heard t reading micros bytes (inr h) n =
       goes_after true false heard t (turn_of t reading bytes) micros Client h (client_goes t h.expedited reading bytes n) true (λ s. inl refl)
-
-  client_by : (heard : Bool) (o : Option Transfer) (reading : Reading) (micros : ℕ) (bytes : List ℕ) → Keeps key false o → reading_of o Client micros bytes ≡ reading → WritesNone (request_in bytes)
-      → Heard (request_in bytes) (follows_by heard o reading micros Client bytes)
-  client_by heard o (Begin new) micros bytes k is n =
-      let b : BegunBy bytes micros new = begun_by o micros bytes new is in
-      record {
-        ended = left_after o micros bytes;
-        next = subst (Keeps key false) b.initiates (begun_suits b.request micros bytes (subst WritesNone b.is n));
-        later = λ off. absurd (false≢true (sym off ∙ ap initiates b.is ∙ begun_initiates b.request micros bytes new b.initiates));
-      }
-  client_by heard None reading micros bytes k is n = from_after (request_in bytes) (follows_by heard None reading micros Client bytes) (stray_after true heard reading micros Client bytes refl)
-  client_by heard (Some t) (Abort code) micros bytes k is n = from_after (request_in bytes) (follows_by heard (Some t) (Abort code) micros Client bytes) (aborted_after true heard t code micros Client bytes)
-  client_by heard (Some t) (Segment one) micros bytes k is n = from_after (request_in bytes) (follows_by heard (Some t) (Segment one) micros Client bytes) (client_turn heard t (Segment one) micros bytes k refl)
-  client_by heard (Some t) (Request one) micros bytes k is n = from_after (request_in bytes) (follows_by heard (Some t) (Request one) micros Client bytes) (client_turn heard t (Request one) micros bytes k refl)
-  client_by heard (Some t) Nothing micros bytes k is n = from_after (request_in bytes) (follows_by heard (Some t) Nothing micros Client bytes) (client_turn heard t Nothing micros bytes k refl)
-  client_by heard (Some t) (Response one) micros bytes k is n = absurd (false≢true (sym (client_no_response (Some t) micros bytes) ∙ ap is_response is))
-
-  pub client_after : (following : Following) (micros : ℕ) (bytes : List ℕ) → Keeps key false following.transfer → WritesNone (request_in bytes) → Heard (request_in bytes) (reads following micros Client bytes)
-  client_after following micros bytes k n = client_by following.heard following.transfer (reading_of following.transfer Client micros bytes) micros bytes k refl n

@@ -1,4 +1,4 @@
--- Where a device confirms no expedited download of an entry: none is asked for, or the entry isn't written.
+-- A device confirms no expedited download of an entry where each that is asked for is refused.
 use Rattle.std.proofs.Common.{◌≡◌, ℕ, ◌+◌, Bool, true, false, List, [], ◌∷◌, length, Option, Some, None, refl, sym, ap, ◌∙◌, subst}
 use Rattle.std.specs.Prelude.{◌==◌, if◌then◌else◌}
 use Rattle.std.specs.List.{AllByRecursion}
@@ -45,9 +45,9 @@ use Rattle.co_node_model.specs.Moments.{Constants, History, channels, contents_a
 use Rattle.co_node_model.specs.Nmt.{state_at}
 use Rattle.co_node_model.specs.Sdo.{channel_logs}
 use Rattle.co_node_model.specs.Sync.{is_sync_id}
-use Rattle.conode_compare_laws.specs.Periods.{AllKeepPeriod}
+use Rattle.conode_compare_laws.specs.Periods.{AllKeepPeriod, KeepsPeriod}
 use Rattle.conode_compare_laws.specs.Recordings.{Stamped}
-use Rattle.conode_compare_laws.specs.ShownWords.{BeginNoExpeditedDownloads, BeginsNoExpeditedDownload, is_expedited_download}
+use Rattle.conode_compare_laws.specs.ShownWords.{AllRefuseDownloads, RefusesDownload, is_expedited_download}
 use Rattle.conode_compare_laws.proofs.ExpeditedWrites.{NotDone}
 
 -- ---- answers that confirm none
@@ -130,17 +130,7 @@ module _ (key : Key) where
   AllRefuse k before [] = Unit {0}
   AllRefuse k before (s ∷ later) = RefusesAt k before s.input × AllRefuse k (s.input ∷ before) later
 
-  -- none is asked for
-  unasked : (k : Constants) (before : Inputs) (input : InputView) → BeginsNoExpeditedDownload key k.description.node input → RefusesAt k before input
-  unasked k before (Framed frame) h = λ id eight running own. absurd (false≢true (sym (h id) ∙ own))
-  unasked k before Ticked h = tt
-  unasked k before (Applied event) h = tt
-
-  pub none_asked : (k : Constants) (inputs : List Stamped) (before : Inputs) → BeginNoExpeditedDownloads key k.description.node inputs → AllRefuse k before inputs
-  none_asked k [] before h = tt
-  none_asked k (s ∷ later) before h = (unasked k before s.input h.0, none_asked k later (s.input ∷ before) h.1)
-
--- ---- where the entry isn't written
+-- ---- where the entry isn't written at an input, none is done
 
 written_key : (key : Option Key) → marked_key (written_mark key) ≡ key
 written_key None = refl
@@ -163,15 +153,24 @@ mark_is k history frame id eight sync running =
     let received : marked_key (moment k history (Framed frame)).mark ≡ marked_key (written_mark (key_set (set_of (channels k) k.description (contents_at k history) (channel_logs history) frame))) = rw (address, running) refl in
     received ∙ written_key (key_set (set_of (channels k) k.description (contents_at k history) (channel_logs history) frame)) ∙ ap key_set (set_is k history frame id eight)
 
-unwritten : (k : Constants) (period : ℕ) (before : Inputs) (input : InputView) → is_sync_id (contents_of k before) (0x600 + k.description.node) ≡ false → is_set (marked_key (moment k (moments k before) input).mark) producer_key ≡ false
-    → RefusesAt producer_key k before input
-unwritten k period before (Framed frame) sync off = λ id eight running own.
-    request_refused producer_key k.description (contents_of k before) (channel_logs (moments k before) 0) frame.bytes (request_in frame.bytes) refl own
-    (subst (λ x. is_set x producer_key ≡ false) (mark_is k (moments k before) frame id eight sync running) off)
-unwritten k period before Ticked sync off = tt
-unwritten k period before (Applied event) sync off = tt
+refuses : (key : Key) (k : Constants) (before : Inputs) (input : InputView) → is_sync_id (contents_of k before) (0x600 + k.description.node) ≡ false → RefusesDownload key k before input → RefusesAt key k before input
+refuses key k before (Framed frame) sync h = λ id eight running own.
+    request_refused key k.description (contents_of k before) (channel_logs (moments k before) 0) frame.bytes (request_in frame.bytes) refl own
+    (subst (λ x. is_set x key ≡ false) (mark_is k (moments k before) frame id eight sync running) (h id own))
+refuses key k before Ticked sync h = tt
+refuses key k before (Applied event) sync h = tt
 
-pub none_written : (k : Constants) (period : ℕ) (inputs : List Stamped) (before : Inputs) → ((all : Inputs) → is_sync_id (contents_of k all) (0x600 + k.description.node) ≡ false) → AllKeepPeriod period k before inputs
-    → AllRefuse producer_key k before inputs
-none_written k period [] before sync keep = tt
-none_written k period (s ∷ later) before sync keep = (unwritten k period before s.input (sync before) keep.0.unwritten, none_written k period later (s.input ∷ before) sync keep.1)
+pub all_refuse : (key : Key) (k : Constants) (inputs : List Stamped) (before : Inputs) → ((all : Inputs) → is_sync_id (contents_of k all) (0x600 + k.description.node) ≡ false) → AllRefuseDownloads key k before inputs
+    → AllRefuse key k before inputs
+all_refuse key k [] before sync h = tt
+all_refuse key k (s ∷ later) before sync h = (refuses key k before s.input (sync before) h.0, all_refuse key k later (s.input ∷ before) sync h.1)
+
+-- so where 1017:00 isn't written
+kept_refuses : (k : Constants) (period : ℕ) (before : Inputs) (input : InputView) → KeepsPeriod period (moment k (moments k before) input) → RefusesDownload producer_key k before input
+kept_refuses k period before (Framed frame) keep = λ id own. keep.unwritten
+kept_refuses k period before Ticked keep = tt
+kept_refuses k period before (Applied event) keep = tt
+
+pub period_refuses : (k : Constants) (period : ℕ) (inputs : List Stamped) (before : Inputs) → AllKeepPeriod period k before inputs → AllRefuseDownloads producer_key k before inputs
+period_refuses k period [] before keep = tt
+period_refuses k period (s ∷ later) before keep = (kept_refuses k period before s.input keep.0, period_refuses k period later (s.input ∷ before) keep.1)

@@ -22,7 +22,7 @@ use Rattle.conode_explain_transfers.specs.declared.kinds.What.TheVariants as wha
 use Rattle.conode_explain_transfers.specs.declared.stage.Stage.TheVariants.{Initiated}
 use Rattle.conode_explain_transfers.specs.declared.transfer.Transfer.{Transfer}
 use Rattle.conode_explain_transfers.specs.BlockTurns.{acknowledged, acknowledged_at, block_ended, block_ended_at, block_segment_at, crc_in, end_confirmed, end_confirmed_at, is_block, upload_started_at}
-use Rattle.conode_explain_transfers.specs.Endings.{ended, size_fault, size_verdict, verdict}
+use Rattle.conode_explain_transfers.specs.Endings.{size_fault, size_verdict, verdict}
 use Rattle.conode_explain_transfers.specs.Followed.{Followed, Following, turns_at}
 use Rattle.conode_explain_transfers.specs.Readings.{awaits_segment}
 use Rattle.conode_explain_transfers.specs.SegmentedTurns.{answering, confirmed, download_answered, download_segment_at, segment_done_at, upload_request_at, upload_segment_at}
