@@ -1,4 +1,5 @@
 pub mod Compared
+pub mod ComparedFrames
 pub mod Documents
 pub mod LastLines
 pub mod NodesSeen

@@ -1,6 +1,6 @@
 -- Aborts before the timeout in recordings: where a tick comes sooner than 1 ms after the request, and of another sender; and none where the
 -- data of a block upload look like one.
-use Rattle.std.proofs.Common.{◌≡◌, ℕ, true, false, List, [], ◌∷◌, Some, None, refl}
+use Rattle.std.proofs.Common.{◌≡◌, ℕ, true, false, List, [], ◌∷◌, map, Some, None, refl}
 use Rattle.co_frame.specs.SdoRequests.{request_row_in}
 use Rattle.co_frame.specs.SdoResponses.{response_row_in}
 use Rattle.co_profile.specs.declared.access.Access.TheVariants.{Rw}
@@ -77,6 +77,37 @@ before_timeout : timeouts_found sooner ≡ Transfer (Early (record { index = 0x2
 unfolding findings_at progress_with begun booted found states.after_control after_boot_up after_other awaits_boot_up is_settled progresses.after_control control_findings heartbeat_findings silence_finding channel_heard exchange_at exchange_noted late_noted
     request_findings confirmed_finding answer_findings answer_finding stopped_finding held_finding what_finding held_mismatch dialogue_heard exchange_in is_certain newest_with newest_after breach_at shown_period shown_inhibit asked_to_write mismatch_at request_row_in response_row_in
 before_timeout = refl
+
+-- ---- as before, but the request comes with a tick: the device aborts the transfer after its 2 ms
+
+abbrev in_time : List Recorded
+in_time = recording quick (at 0 Ticked ∷ at 1000 Ticked ∷ at 2000 Ticked ∷ at 2000 (request 0x2101_2000_0500_0000) ∷ at 3000 Ticked ∷ at 4000 Ticked ∷ [])
+
+abbrev after_timeout : List Recorded
+after_timeout = with_stamp 0 (frame 0x705 1 0)
+    ∷ with_stamp 0 (frame 0x705 1 127)
+    ∷ with_stamp 1000 (frame 0x705 1 127)
+    ∷ with_stamp 2000 (frame 0x705 1 127)
+    ∷ with_stamp 2000 (frame 0x605 8 0x2101_2000_0500_0000)
+    ∷ with_stamp 2000 (frame 0x585 8 0x6001_2000_0000_0000)
+    ∷ with_stamp 3000 (frame 0x705 1 127)
+    ∷ with_stamp 4000 (frame 0x585 8 0x8001_2000_0000_0405)
+    ∷ with_stamp 4000 (frame 0x705 1 127)
+    ∷ []
+
+in_time_heard : in_time ≡ after_timeout
+unfolding searches
+in_time_heard = refl
+
+-- compare is given another time: a shorter one, 0, and a longer one
+abbrev found_by : ℕ → List Recorded → List Finding
+found_by time recorded = differences_in timeout_differences (record subject { limits = record subject.limits { time = Some time } }) [] recorded
+
+other_times : map (λ time. found_by time after_timeout) (2 ∷ 1 ∷ 0 ∷ 3 ∷ [])
+    ≡ [] ∷ [] ∷ (Transfer (Early (record { index = 0x2001; sub = 0 }) 2000 0) ∷ []) ∷ (Transfer (Early (record { index = 0x2001; sub = 0 }) 2000 3) ∷ []) ∷ []
+unfolding findings_at progress_with begun booted found states.after_control after_boot_up after_other awaits_boot_up is_settled progresses.after_control control_findings heartbeat_findings silence_finding channel_heard exchange_at exchange_noted late_noted
+    request_findings confirmed_finding answer_findings answer_finding stopped_finding held_finding what_finding held_mismatch dialogue_heard exchange_in is_certain newest_with newest_after breach_at shown_period shown_inhibit asked_to_write mismatch_at request_row_in response_row_in
+other_times = refl
 
 -- ---- another device aborts it
 

@@ -156,11 +156,14 @@ in_time_by tolerance drift time waited (Some e) h = by (times_out e.ending) time
     by true (Some t) h = ap (λ x. if x then Some (Early e.key waited t) else None) h
     by false time h = refl
 
-enough_of : (tolerance drift limit waited : ℕ) (time : Option ℕ) → IfSome time (λ t. t ≡ limit) → 0 < limit → limit * 1000 ≤ waited → IfSome time (λ t. is_early tolerance drift t waited ≡ false)
+enough_of : (tolerance drift limit waited : ℕ) (time : Option ℕ) → IfSome time (λ t. 0 < limit → (0 < t) × (t ≤ limit)) → 0 < limit → limit * 1000 ≤ waited
+    → IfSome time (λ t. is_early tolerance drift t waited ≡ false)
 enough_of tolerance drift limit waited None is some enough = tt
-enough_of tolerance drift limit waited (Some t) is some enough = subst (λ x. is_early tolerance drift x waited ≡ false) (sym is) (waited_enough tolerance drift limit waited some enough)
+enough_of tolerance drift limit waited (Some t) is some enough =
+    let less : t ≤ limit = (is some).1 in
+    waited_enough tolerance drift t waited (is some).0 (omega arith)
 
-awaited_enough : (subject : Subject) (started : ℕ) (d : Dialogue) (micros : ℕ) (frame : FrameContent) (limit : ℕ) → IfSome subject.limits.time (λ t. t ≡ limit) → 0 < limit
+awaited_enough : (subject : Subject) (started : ℕ) (d : Dialogue) (micros : ℕ) (frame : FrameContent) (limit : ℕ) → IfSome subject.limits.time (λ t. 0 < limit → (0 < t) × (t ≤ limit)) → 0 < limit
     → owes_nothing d.newest ≡ true → limit * 1000 ≤ micros - d.requested → IsInTime subject started d micros frame
 unfolding exchange_in
 awaited_enough subject started d micros frame limit is some e enough =
@@ -168,7 +171,7 @@ awaited_enough subject started d micros frame limit is some e enough =
     ∙ in_time_by subject.limits.tolerance subject.limits.drift subject.limits.time (micros - d.requested) (followed d.channel micros Server frame.bytes).says.ended
     (enough_of subject.limits.tolerance subject.limits.drift limit (micros - d.requested) subject.limits.time is some enough)
 
-pub once_over : (subject : Subject) (started : ℕ) (d : Dialogue) (micros : ℕ) (frame : FrameContent) (limit : ℕ) → IfSome subject.limits.time (λ t. t ≡ limit) → 0 < limit
+pub once_over : (subject : Subject) (started : ℕ) (d : Dialogue) (micros : ℕ) (frame : FrameContent) (limit : ℕ) → IfSome subject.limits.time (λ t. 0 < limit → (0 < t) × (t ≤ limit)) → 0 < limit
     → (owes_nothing d.newest ≡ true → d.requested + limit * 1000 ≤ micros) → IsInTime subject started d micros frame
 once_over subject started d micros frame limit is some h = by (owes_nothing d.newest) refl
   where

@@ -84,7 +84,7 @@ module _ (P : Option Transfer → Type 0) (none : P None) where
   unfolding after_fault with_gap
   fault_has p micros = none
 
-  kind_has : (subject : Subject) (p : Progress) (micros : ℕ) (kind : FrameKind) → is_sdo kind ≡ false → Has p → Has (after_frame subject p micros kind)
+  pub kind_has : (subject : Subject) (p : Progress) (micros : ℕ) (kind : FrameKind) → is_sdo kind ≡ false → Has p → Has (after_frame subject p micros kind)
   kind_has subject p micros (Control byte) off h = either (byte == 0) _ _ (boot_has subject p micros) (control_has subject p micros byte h)
   kind_has subject p micros (OddControl length) off h = odd_has subject p micros h
   kind_has subject p micros (Emcy code register) off h = emergency_has p micros h

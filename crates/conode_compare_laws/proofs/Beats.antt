@@ -72,7 +72,7 @@ use Rattle.conode_compare_rules.specs.Progresses.{
 }
 use Rattle.conode_compare_rules.specs.Times.{drift_of}
 use Rattle.conode_compare_transfers.specs.declared.dialogue.Asked.{Asked}
-use Rattle.conode_compare_transfers.specs.Dialogues.{dialogue_heard}
+use Rattle.conode_compare_transfers.specs.Dialogues.{dialogue_heard, exchange_in}
 use Rattle.conode_compare_transfers.specs.Times.{micros_of}
 use Rattle.conode_compare_rules.specs.Verdicts.{found}
 use Rattle.conode_compare_laws.specs.Differences.{late_differences}
@@ -80,7 +80,7 @@ use Rattle.conode_compare_laws.specs.Identifiers.{AreWithout}
 use Rattle.conode_compare_laws.specs.Periods.{KnowsPeriod}
 use Rattle.conode_compare_laws.proofs.Frames.{life_kind}
 use Rattle.conode_compare_laws.proofs.Runs.{AllRun}
-use Rattle.conode_compare_laws.proofs.NamedKeys.{AllName, And, Differs, IsOpenOn, NamesAs, NamesBy, begun_open, ended_such, names_as, noted_open, stays_open}
+use Rattle.conode_compare_laws.proofs.ShowsWord.{AllShow, Shown, ShowsAt}
 
 -- what compare has of the heartbeats at a time: the bus was free then or before; the period, if it is known; and the last heartbeat,
 -- if it is known, so long ago at most
@@ -176,20 +176,28 @@ pub record Passes (subject : Subject) (rows : List Row) (p : Progress) (micros :
   pub none : late_differences kind (findings_in subject rows p micros kind) ≡ []
   pub beats : Beats period micros ago (after_frame subject p micros kind)
 
--- ---- a frame of the default SDO channel, with which no transfer of 1017:00 ends
+-- ---- a frame of the default SDO channel: a transfer of 1017:00 that ends with it shows the period, or nothing
 
-none_shown : (e : Ended) → Differs producer_key e.key → shown_period e ≡ None
+shown_right : (period : ℕ) (e : Ended) → Shown producer_key period e → IfSome (shown_period e) (λ n. n ≡ period)
 unfolding shown_period
-none_shown e other = ap (λ b. if b then done_word e.protocol e.ending e.first.items else None) other
-
--- the period is known as before
-ended_known : (entries : Entries) (o : Option Ended) → IfSome o (λ e. Differs producer_key e.key) → (entries_ended entries o).period ≡ entries.period
-ended_known entries None others = refl
-ended_known entries (Some e) others = inhibit (shown_inhibit e) ∙ ap (λ shown. (with_period entries shown).period) (none_shown e others)
+shown_right period e h = by (same_key e.key producer_key) h
   where
-    inhibit : (shown : Option ℕ) → (with_inhibit (with_period entries (shown_period e)) shown e.end).period ≡ (with_period entries (shown_period e)).period
-    inhibit None = refl
-    inhibit (Some time) = refl
+    by : (b : Bool) → (b ≡ true → IfSome (done_word e.protocol e.ending e.first.items) (λ n. n ≡ period)) → IfSome (if b then done_word e.protocol e.ending e.first.items else None) (λ n. n ≡ period)
+    by true f = f refl
+    by false f = tt
+
+-- it is known then, or as before
+ended_known : (period : ℕ) (entries : Entries) (o : Option Ended) → IfSome o (Shown producer_key period) → IfSome entries.period (λ n. n ≡ period) → IfSome (entries_ended entries o).period (λ n. n ≡ period)
+ended_known period entries None shows h = h
+ended_known period entries (Some e) shows h = inhibit (shown_inhibit e) (with_shown (shown_period e) (shown_right period e shows))
+  where
+    with_shown : (shown : Option ℕ) → IfSome shown (λ n. n ≡ period) → IfSome (with_period entries shown).period (λ n. n ≡ period)
+    with_shown None g = h
+    with_shown (Some n) g = g
+
+    inhibit : (shown : Option ℕ) → IfSome (with_period entries (shown_period e)).period (λ n. n ≡ period) → IfSome (with_inhibit (with_period entries (shown_period e)) shown e.end).period (λ n. n ≡ period)
+    inhibit None g = g
+    inhibit (Some time) g = g
 
 -- or it isn't any more, after a request to write it
 asked_known : (period : ℕ) (entries : Entries) (o : Option Asked) → IfSome entries.period (λ n. n ≡ period) → IfSome (entries_asked entries o).period (λ n. n ≡ period)
@@ -205,27 +213,30 @@ asked_known period entries (Some asked) h = by asked.writes (asked_to_write entr
     by true x g = g
     by false x g = h
 
--- the last heartbeat is as before
-same_since : (beats : Heartbeats) (o : Option Ended) (micros : ℕ) → IfSome o (λ e. Differs producer_key e.key) → (after_transfer beats o micros).since ≡ beats.since
-same_since beats None micros others = refl
-same_since beats (Some e) micros others = ap (λ (shown : Option ℕ). (with_shown shown).since) (none_shown e others)
+-- the last heartbeat is as before, or counts from now
+ended_since : (beats : Heartbeats) (o : Option Ended) (micros ago : ℕ) → IfSome beats.since (λ last. micros ≤ last + ago) → IfSome (after_transfer beats o micros).since (λ last. micros ≤ last + ago)
+ended_since beats None micros ago h = h
+ended_since beats (Some e) micros ago h = by (is_some (shown_period e))
   where
-    with_shown : Option ℕ → Heartbeats
-    with_shown shown = if is_some shown then record { guarded = beats.guarded; since = Some micros; sent = sent_after e.direction e beats.sent } else beats
+    by : (b : Bool) → IfSome (if b then record { guarded = beats.guarded; since = Some micros; sent = sent_after e.direction e beats.sent } else beats).since (λ last. micros ≤ last + ago)
+    by true = omega arith
+    by false = h
 
-sdo_begun : (subject : Subject) (p : Progress) (micros : ℕ) (side : Side) (frame : FrameContent) (period ago : ℕ) → NamesBy (Differs producer_key) side frame.bytes → IsOpenOn (Differs producer_key) p → Begun period micros ago p
+sdo_begun : (subject : Subject) (p : Progress) (micros : ℕ) (side : Side) (frame : FrameContent) (period ago : ℕ) → ShowsAt producer_key period p micros (Sdo side frame) → Begun period micros ago p
     → Begun period micros ago (after_sdo subject p micros side frame)
-unfolding channel_heard exchange_noted
-sdo_begun subject p micros side frame period ago n opened h =
+unfolding channel_heard exchange_at exchange_in exchange_noted
+sdo_begun subject p micros side frame period ago shows h =
     let o : Option Ended = (exchange_at subject p micros side frame).heard.ended in
-    let others : IfSome o (λ e. Differs producer_key e.key) = ended_such (Differs producer_key) subject p micros side frame n opened in
     record {
       free = h.free;
       newest = h.newest;
-      known = asked_known period (entries_ended p.entries o) (dialogue_heard subject.limits.answer p.started p.dialogue micros side frame).asked
-          (subst (λ known. IfSome known (λ number. number ≡ period)) (sym (ended_known p.entries o others)) h.known);
-      since = subst (λ since. IfSome since (λ last. micros ≤ last + ago)) (sym (same_since p.heartbeats o micros others)) h.since;
+      known = asked_known period (entries_ended p.entries o) (dialogue_heard subject.limits.answer p.started p.dialogue micros side frame).asked (ended_known period p.entries o shows h.known);
+      since = ended_since p.heartbeats o micros ago h.since;
     }
+
+noted_shows : (subject : Subject) (p : Progress) (micros : ℕ) (frame : FrameContent) (period : ℕ) → ShowsAt producer_key period p micros (Sdo Server frame) → ShowsAt producer_key period (answer_noted subject p micros) micros (Sdo Server frame)
+unfolding late_noted
+noted_shows subject p micros frame period h = h
 
 noted_begun : (subject : Subject) (p : Progress) (micros period ago : ℕ) → Begun period micros ago p → Begun period micros ago (answer_noted subject p micros)
 unfolding late_noted
@@ -235,13 +246,13 @@ noted_begun subject p micros period ago h = record { free = h.free; newest = h.n
     by true = tt
     by false = h.since
 
-answer_passes : (subject : Subject) (rows : List Row) (p : Progress) (micros : ℕ) (frame : FrameContent) (period ago : ℕ) → (period ≡ 0) ⊎ (ago ≤ period * 1000) → IsOpenOn (Differs producer_key) p → Begun period micros ago p
+answer_passes : (subject : Subject) (rows : List Row) (p : Progress) (micros : ℕ) (frame : FrameContent) (period ago : ℕ) → (period ≡ 0) ⊎ (ago ≤ period * 1000) → ShowsAt producer_key period p micros (Sdo Server frame) → Begun period micros ago p
     → Passes subject rows p micros (Sdo Server frame) period ago
 unfolding answer_findings found
-answer_passes subject rows p micros frame period ago few opened h = record {
+answer_passes subject rows p micros frame period ago few shows h = record {
   none = ap (λ o. option_to_list o) (none_late subject p micros period ago few h);
   beats = ended period micros ago (after_sdo subject (answer_noted subject p micros) micros Server frame)
-      (sdo_begun subject (answer_noted subject p micros) micros Server frame period ago tt (noted_open (Differs producer_key) subject p micros opened) (noted_begun subject p micros period ago h));
+      (sdo_begun subject (answer_noted subject p micros) micros Server frame period ago (noted_shows subject p micros frame period shows) (noted_begun subject p micros period ago h));
 }
 
 confirmed_none : (frame : FrameContent) (o : Option Finding) → late_differences (Sdo Client frame) (confirmed_findings o) ≡ []
@@ -249,12 +260,12 @@ unfolding found
 confirmed_none frame None = refl
 confirmed_none frame (Some finding) = refl
 
-request_passes : (subject : Subject) (rows : List Row) (p : Progress) (micros : ℕ) (frame : FrameContent) (period ago : ℕ) → NamesBy (Differs producer_key) Client frame.bytes → IsOpenOn (Differs producer_key) p → Begun period micros ago p
+request_passes : (subject : Subject) (rows : List Row) (p : Progress) (micros : ℕ) (frame : FrameContent) (period ago : ℕ) → ShowsAt producer_key period p micros (Sdo Client frame) → Begun period micros ago p
     → Passes subject rows p micros (Sdo Client frame) period ago
 unfolding request_findings
-request_passes subject rows p micros frame period ago n opened h = record {
+request_passes subject rows p micros frame period ago shows h = record {
   none = confirmed_none frame (confirmed_finding subject rows p.written (exchange_at subject p micros Client frame) frame);
-  beats = ended period micros ago (after_sdo subject p micros Client frame) (sdo_begun subject p micros Client frame period ago n opened h);
+  beats = ended period micros ago (after_sdo subject p micros Client frame) (sdo_begun subject p micros Client frame period ago shows h);
 }
 
 -- ---- frames that aren't of error control
@@ -282,21 +293,21 @@ unfolding found
 sighted_none id length None = refl
 sighted_none id length (Some sighting) = refl
 
-other_passes : (subject : Subject) (rows : List Row) (p : Progress) (micros : ℕ) (kind : FrameKind) (period ago : ℕ) → (period ≡ 0) ⊎ (ago ≤ period * 1000) → is_other kind ≡ true → NamesAs (Differs producer_key) kind → IsOpenOn (Differs producer_key) p → Begun period micros ago p → Passes subject rows p micros kind period ago
+other_passes : (subject : Subject) (rows : List Row) (p : Progress) (micros : ℕ) (kind : FrameKind) (period ago : ℕ) → (period ≡ 0) ⊎ (ago ≤ period * 1000) → is_other kind ≡ true → ShowsAt producer_key period p micros kind → Begun period micros ago p → Passes subject rows p micros kind period ago
 unfolding emergency_findings found after_emergency process_findings after_process
-other_passes subject rows p micros (Command service) period ago few is n opened h = record { none = refl; beats = command_beats p micros period ago service false h }
-other_passes subject rows p micros (CommandToAll service) period ago few is n opened h = record { none = refl; beats = command_beats p micros period ago service subject.facts.starts_itself h }
-other_passes subject rows p micros (Emcy code register) period ago few is n opened h =
+other_passes subject rows p micros (Command service) period ago few is shows h = record { none = refl; beats = command_beats p micros period ago service false h }
+other_passes subject rows p micros (CommandToAll service) period ago few is shows h = record { none = refl; beats = command_beats p micros period ago service subject.facts.starts_itself h }
+other_passes subject rows p micros (Emcy code register) period ago few is shows h =
     (let e : Beats period micros ago p = ended period micros ago p h in record { none = refl; beats = record { fresh = e.fresh; known = e.known; since = e.since } })
-other_passes subject rows p micros (OddEmergency length) period ago few is n opened h =
+other_passes subject rows p micros (OddEmergency length) period ago few is shows h =
     (let e : Beats period micros ago p = ended period micros ago p h in record { none = refl; beats = record { fresh = e.fresh; known = e.known; since = e.since } })
-other_passes subject rows p micros (Process id length) period ago few is n opened h =
+other_passes subject rows p micros (Process id length) period ago few is shows h =
     (let e : Beats period micros ago p = ended period micros ago p h in record { none = sighted_none id length (tpdos.sighting (moment_at subject p micros) p.pdos id length); beats = record { fresh = e.fresh; known = e.known; since = e.since } })
-other_passes subject rows p micros Other period ago few is n opened h =
+other_passes subject rows p micros Other period ago few is shows h =
     (let e : Beats period micros ago p = ended period micros ago p h in record { none = refl; beats = record { fresh = e.fresh; known = e.known; since = e.since } })
-other_passes subject rows p micros (Sdo Server frame) period ago few is n opened h = answer_passes subject rows p micros frame period ago few opened h
-other_passes subject rows p micros (Sdo Client frame) period ago few is n opened h = request_passes subject rows p micros frame period ago n opened h
-other_passes subject rows p micros _ period ago few is n opened h = absurd (cc)
+other_passes subject rows p micros (Sdo Server frame) period ago few is shows h = answer_passes subject rows p micros frame period ago few shows h
+other_passes subject rows p micros (Sdo Client frame) period ago few is shows h = request_passes subject rows p micros frame period ago shows h
+other_passes subject rows p micros _ period ago few is shows h = absurd (cc)
 
 -- the boot-up, and heartbeats: the next one is awaited from then on
 boot_passes : (subject : Subject) (rows : List Row) (p : Progress) (micros period ago after : ℕ) → KnowsPeriod period subject → Begun period micros ago p → Passes subject rows p micros (Control 0) period after
@@ -353,19 +364,18 @@ other_kind node frame h =
     by false false false false true r = absurd (cc)
     by false false false false false r = refl
 
--- frames that don't name 1017:00, none of error control
-pub all_others : (subject : Subject) (rows : List Row) (micros : ℕ) (frames : List FrameContent) (p : Progress) (period ago : ℕ) → KnowsPeriod period subject → (period ≡ 0) ⊎ (ago ≤ period * 1000)
-    → AreWithout (0x700 + subject.node) frames → AllName (Differs producer_key) subject.node frames → And (Differs producer_key) (Beats period micros ago) p
-    → AllRun late_differences subject rows micros p frames (And (Differs producer_key) (Beats period micros ago))
-all_others subject rows micros [] p period ago knows few without unnamed h = h
-all_others subject rows micros (frame ∷ later) p period ago knows few without unnamed h =
+-- frames that show nothing else of 1017:00, none of error control
+pub all_others : (subject : Subject) (rows : List Row) (micros : ℕ) (frames : List FrameContent) (p : Progress) (period ago : ℕ) (after : Progress → Type 0) → KnowsPeriod period subject → (period ≡ 0) ⊎ (ago ≤ period * 1000)
+    → AreWithout (0x700 + subject.node) frames → Beats period micros ago p → AllShow producer_key period subject micros p frames after
+    → AllRun late_differences subject rows micros p frames (λ q. Beats period micros ago q × after q)
+all_others subject rows micros [] p period ago after knows few without h shows = (h, shows)
+all_others subject rows micros (frame ∷ later) p period ago after knows few without h shows =
     let q : Progress = begun subject p micros in
     let kind : FrameKind = data_kind subject.node frame in
     let first : AllRun late_differences subject rows micros p (frame ∷ []) (Beats period micros ago) =
     one subject rows micros p frame kind period ago refl
-    (other_passes subject rows q micros kind period ago few (other_kind subject.node frame without.0) (names_as (Differs producer_key) subject.node frame unnamed.0)
-    (begun_open (Differs producer_key) subject p micros h.1) (begun_beats subject period micros ago p knows h.0)) in
-    (first.0, all_others subject rows micros later (progress_with subject p micros kind) period ago knows few without.1 unnamed.1 (first.1, stays_open (Differs producer_key) subject p micros frame unnamed.0 h.1))
+    (other_passes subject rows q micros kind period ago few (other_kind subject.node frame without.0) shows.0 (begun_beats subject period micros ago p knows h)) in
+    (first.0, all_others subject rows micros later (progress_with subject p micros kind) period ago after knows few without.1 first.1 shows.1)
 
 byte_of : (life : Heartbeat) (b : Bool) → (state_byte life == 0) ≡ b → ((state_byte life == 0) ≡ false) ⊎ (state_byte life ≡ 0)
 byte_of heartbeat.BootUp b is = inr refl

@@ -134,7 +134,7 @@ there_is : (o : Option Row) → is_some o ≡ true → (row : Row) × (o ≡ Som
 there_is None h = absurd (cc)
 there_is (Some row) h = (row, refl)
 
-fixed_width : (rows : Rows) (key : Key) (t : DataType) (w : ℕ) → HaveTypes rows → fixed_type_of key ≡ Some t → width_of t ≡ Some w → is_some (rows key) ≡ true → HasWidth (rows key) w
+pub fixed_width : (rows : Rows) (key : Key) (t : DataType) (w : ℕ) → HaveTypes rows → fixed_type_of key ≡ Some t → width_of t ≡ Some w → is_some (rows key) ≡ true → HasWidth (rows key) w
 fixed_width rows key t w types is wide there =
     let found = there_is (rows key) there in
     record { row = found.0; is = found.1; width = ap width_of (types.fixed key found.0 t found.1 is) ∙ wide }

@@ -26,13 +26,13 @@ use Rattle.conode_compare_rules.specs.declared.limits.Subject.{Subject}
 use Rattle.conode_compare_rules.specs.declared.progress.Progress.{Progress}
 use Rattle.conode_compare_rules.specs.Progresses.{before_recording}
 use Rattle.conode_compare_laws.specs.Differences.{differences_from, differences_in, late_differences}
-use Rattle.conode_compare_laws.specs.Identifiers.{AllSendAside, AreAside, AreElsewhere, AreWithout, IsElsewhere, IsUnnamed, IsUnnamedAt, SendsAside}
+use Rattle.conode_compare_laws.specs.Identifiers.{AllSendAside, AreAside, AreElsewhere, AreWithout, IsElsewhere, IsUnnamed, SendsAside}
 use Rattle.conode_compare_laws.specs.Periods.{AllKeepPeriod, KeepsPeriod, KnowsPeriod}
-use Rattle.conode_compare_laws.specs.Recordings.{AreInTime, AreTimed, Recorded, Stamped, elapsed, frame_of, heard_from, recording, stamped}
+use Rattle.conode_compare_laws.specs.Recordings.{AreInTime, AreTimed, Recorded, Stamped, elapsed, frame_of, heard_from, recording}
 use Rattle.conode_compare_laws.proofs.Beats.{Beats, all_others, later, life_runs, more_ago, next_rest}
 use Rattle.conode_compare_laws.proofs.Runs.{AllRun, joined, then_none}
 use Rattle.conode_compare_laws.proofs.Heard.{of_device}
-use Rattle.conode_compare_laws.proofs.NamedKeys.{AllName, And, Differs, Names, all_open, first_of, last_of, others_named}
+use Rattle.conode_compare_laws.proofs.ShowsWord.{AllShow, ShowsFrom, at_once, both, parts, unnamed_shows}
 
 -- ---- which frames these are
 
@@ -127,10 +127,10 @@ life_at k subject rows micros more period history input p knows some same off fe
 
 input_runs : (k : Constants) (subject : Subject) (rows : List Row) (micros last period : ℕ) (before : Inputs) (input : InputView) (p : Progress) → KnowsPeriod period subject → 0 < period
     → period_of (producer_log k (moments k before)) ≡ period → KeepsPeriod period (moment k (moments k before) input) → micros ≤ last + elapsed input
-    → IsElsewhere (0x700 + k.description.node) input → SendsAside k (moment k (moments k before) input) → AllName (Differs producer_key) k.description.node (frame_of input ++ prescribed k before input)
-    → And (Differs producer_key) (Beats period last (ago_of period (producer_log k (moments k before)))) p
-    → AllRun late_differences (of_device k subject) rows micros p (frame_of input ++ prescribed k before input) (And (Differs producer_key) (Beats period micros (ago_of period (producer_log k (moments k (input ∷ before))))))
-input_runs k subject rows micros last period before input p knows some same keeps time control aside none h =
+    → IsElsewhere (0x700 + k.description.node) input → SendsAside k (moment k (moments k before) input) → (after : Progress → Type 0)
+    → Beats period last (ago_of period (producer_log k (moments k before))) p → AllShow producer_key period (of_device k subject) micros p (frame_of input ++ prescribed k before input) after
+    → AllRun late_differences (of_device k subject) rows micros p (frame_of input ++ prescribed k before input) (λ q. Beats period micros (ago_of period (producer_log k (moments k (input ∷ before)))) q × after q)
+input_runs k subject rows micros last period before input p knows some same keeps time control aside last_shows h shows =
     let s : Subject = of_device k subject in
     let n : ℕ = k.description.node in
     let m : Moment = moment k (moments k before) input in
@@ -143,68 +143,77 @@ input_runs k subject rows micros last period before input p knows some same keep
     let e : List FrameContent = map (tpdo_frame k.description m.contents) m.due in
     let after : ℕ = ago_of period (producer_log k (m ∷ moments k before)) in
     let known : KnowsPeriod period s = record { before = knows.before; booted = knows.booted } in
-    let N : FrameContent → Type 0 = Names (Differs producer_key) n in
-    let sent : AllName (Differs producer_key) n (a ++ b ++ c ++ d ++ e) = last_of N (frame_of input) (prescribed k before input) none in
-    let sent_d : AllName (Differs producer_key) n (a ++ b ++ c ++ d) = first_of N (a ++ b ++ c ++ d) e sent in
-    let sent_c : AllName (Differs producer_key) n (a ++ b ++ c) = first_of N (a ++ b ++ c) d sent_d in
-    let sent_b : AllName (Differs producer_key) n (a ++ b) = first_of N (a ++ b) c sent_c in
     let within : (period ≡ 0) ⊎ (ago ≤ period * 1000) = inr (at_most period (ticks log) (elapsed input) some (ms input)) in
     let within_after : (period ≡ 0) ⊎ (after ≤ period * 1000) = inr (below period (ticks (producer_log k (m ∷ moments k before))) some) in
-    let then_ago : Progress → Type 0 = And (Differs producer_key) (Beats period micros ago) in
-    let then_after : Progress → Type 0 = And (Differs producer_key) (Beats period micros after) in
-    let now : then_ago p = (later period last micros (ago_of period log) (elapsed input) p time h.0, h.1) in
-    joined late_differences s rows micros (frame_of input) (a ++ b ++ c ++ d ++ e) p then_ago then_after
-    (all_others s rows micros (frame_of input) p period ago known within (came_without (0x700 + n) input control) (first_of N (frame_of input) (prescribed k before input) none) now)
+    let show_e : Progress → Type 0 = λ q. AllShow producer_key period s micros q e last_shows in
+    let show_d : Progress → Type 0 = λ q. AllShow producer_key period s micros q d show_e in
+    let show_c : Progress → Type 0 = λ q. AllShow producer_key period s micros q c show_d in
+    let show_b : Progress → Type 0 = λ q. AllShow producer_key period s micros q b show_c in
+    joined late_differences s rows micros (frame_of input) (a ++ b ++ c ++ d ++ e) p (λ q. Beats period micros ago q × AllShow producer_key period s micros q (a ++ b ++ c ++ d ++ e) last_shows) (λ q. Beats period micros after q × last_shows q)
+    (all_others s rows micros (frame_of input) p period ago (λ q. AllShow producer_key period s micros q (a ++ b ++ c ++ d ++ e) last_shows) known within (came_without (0x700 + n) input control)
+    (later period last micros (ago_of period log) (elapsed input) p time h) (parts producer_key period s micros (frame_of input) (a ++ b ++ c ++ d ++ e) p last_shows shows))
     (λ q0 g0.
-    joined late_differences s rows micros (a ++ b ++ c ++ d) e q0 then_after then_after
-    (joined late_differences s rows micros (a ++ b ++ c) d q0 then_ago then_after
-    (joined late_differences s rows micros (a ++ b) c q0 then_ago then_ago
-    (joined late_differences s rows micros a b q0 then_ago then_ago
-    (all_others s rows micros a q0 period ago known within (uncontrolled n a aside.answers) (first_of N a b sent_b) g0)
-    (λ q g. all_others s rows micros b q period ago known within (uncontrolled n b aside.time_out) (last_of N a b sent_b) g))
-    (λ q g. all_others s rows micros c q period ago known within (uncontrolled n c aside.emergency) (last_of N (a ++ b) c sent_c) g))
-    (λ q g. all_open (Differs producer_key) late_differences s rows micros d q (Beats period micros after) (last_of N (a ++ b ++ c) d sent_d) g.1
-    (life_at k s rows micros (elapsed input) period (moments k before) input q known some same keeps.unwritten (ms input) (no_time k (moments k before) input) g.0)))
-    (λ q g. all_others s rows micros e q period after known within_after (uncontrolled n e aside.tpdos) (last_of N (a ++ b ++ c ++ d) e sent) g))
+    joined late_differences s rows micros (a ++ b ++ c ++ d) e q0 (λ q. Beats period micros after q × show_e q) (λ q. Beats period micros after q × last_shows q)
+    (joined late_differences s rows micros (a ++ b ++ c) d q0 (λ q. Beats period micros ago q × show_d q) (λ q. Beats period micros after q × show_e q)
+    (joined late_differences s rows micros (a ++ b) c q0 (λ q. Beats period micros ago q × show_c q) (λ q. Beats period micros ago q × show_d q)
+    (joined late_differences s rows micros a b q0 (λ q. Beats period micros ago q × show_b q) (λ q. Beats period micros ago q × show_c q)
+    (all_others s rows micros a q0 period ago show_b known within (uncontrolled n a aside.answers) g0.0
+    (parts producer_key period s micros a b q0 show_c
+    (parts producer_key period s micros (a ++ b) c q0 show_d
+    (parts producer_key period s micros (a ++ b ++ c) d q0 show_e
+    (parts producer_key period s micros (a ++ b ++ c ++ d) e q0 last_shows g0.1)))))
+    (λ q g. all_others s rows micros b q period ago show_c known within (uncontrolled n b aside.time_out) g.0 g.1))
+    (λ q g. all_others s rows micros c q period ago show_d known within (uncontrolled n c aside.emergency) g.0 g.1))
+    (λ q g. both producer_key period s micros late_differences rows d q (Beats period micros after) show_e
+    (life_at k s rows micros (elapsed input) period (moments k before) input q known some same keeps.unwritten (ms input) (no_time k (moments k before) input) g.0) g.1))
+    (λ q g. all_others s rows micros e q period after last_shows known within_after (uncontrolled n e aside.tpdos) g.0 g.1))
 
 -- ---- all inputs
 
 all_none : (k : Constants) (subject : Subject) (rows : List Row) (period : ℕ) (inputs : List Stamped) (before : Inputs) (last : ℕ) (p : Progress) → KnowsPeriod period subject → 0 < period
     → period_of (producer_log k (moments k before)) ≡ period → AllKeepPeriod period k before inputs → AreInTime last inputs → AreElsewhere (0x700 + k.description.node) inputs → AllSendAside k before inputs
-    → IsUnnamed producer_key k.description.node (heard_from k before inputs) → And (Differs producer_key) (Beats period last (ago_of period (producer_log k (moments k before)))) p
+    → ShowsFrom producer_key period (of_device k subject) p (heard_from k before inputs) → Beats period last (ago_of period (producer_log k (moments k before))) p
     → differences_from late_differences (of_device k subject) rows p (heard_from k before inputs) ≡ []
-all_none k subject rows period [] before last p knows some same keep time control aside none h = refl
-all_none k subject rows period (s ∷ others) before last p knows some same keep time control aside none h =
+all_none k subject rows period [] before last p knows some same keep time control aside shows h = refl
+all_none k subject rows period (s ∷ others) before last p knows some same keep time control aside shows h =
     let frames : List FrameContent = frame_of s.input ++ prescribed k before s.input in
     let rest : List Recorded = heard_from k (s.input ∷ before) others in
-    let U : Recorded → Type 0 = IsUnnamedAt producer_key k.description.node in
-    then_none late_differences (of_device k subject) rows s.micros frames rest p (And (Differs producer_key) (Beats period s.micros (ago_of period (producer_log k (moments k (s.input ∷ before))))))
-    (input_runs k subject rows s.micros last period before s.input p knows some same keep.0 time.0 control.0 aside.0
-    (others_named producer_key k.description.node s.micros frames (first_of U (stamped s.micros frames) rest none)) h)
-    (λ q g. all_none k subject rows period others (s.input ∷ before) s.micros q knows some (keeps k (moments k before) (moment k (moments k before) s.input) period keep.0 same) keep.1 time.1 control.1 aside.1
-    (last_of U (stamped s.micros frames) rest none) g)
+    let shown : Progress → Type 0 = λ q. ShowsFrom producer_key period (of_device k subject) q rest in
+    then_none late_differences (of_device k subject) rows s.micros frames rest p (λ q. Beats period s.micros (ago_of period (producer_log k (moments k (s.input ∷ before)))) q × shown q)
+    (input_runs k subject rows s.micros last period before s.input p knows some same keep.0 time.0 control.0 aside.0 shown h (at_once producer_key period (of_device k subject) s.micros frames rest p shows))
+    (λ q g. all_none k subject rows period others (s.input ∷ before) s.micros q knows some (keeps k (moments k before) (moment k (moments k before) s.input) period keep.0 same) keep.1 time.1 control.1 aside.1 g.1 g.0)
 
 begins : (k : Constants) (subject : Subject) (rows : List Row) (micros period : ℕ) → KnowsPeriod period subject → 0 < period
-    → AllName (Differs producer_key) k.description.node (boot_up k ∷ [])
-    → AllRun late_differences (of_device k subject) rows micros (before_recording (of_device k subject)) (boot_up k ∷ []) (And (Differs producer_key) (Beats period micros (ago_of period (producer.Begin period ∷ []))))
-begins k subject rows micros period knows some none =
+    → AllRun late_differences (of_device k subject) rows micros (before_recording (of_device k subject)) (boot_up k ∷ []) (Beats period micros (ago_of period (producer.Begin period ∷ [])))
+begins k subject rows micros period knows some =
     let s : Subject = of_device k subject in
-    all_open (Differs producer_key) late_differences s rows micros (boot_up k ∷ []) (before_recording s) (Beats period micros (ago_of period (producer.Begin period ∷ []))) none tt
-    (life_runs s rows micros (before_recording s) BootUp period 0 _ (record { before = knows.before; booted = knows.booted }) (inr (omega arith)) (record { fresh = tt; known = knows.before; since = tt }))
+    life_runs s rows micros (before_recording s) BootUp period 0 _ (record { before = knows.before; booted = knows.booted }) (inr (omega arith)) (record { fresh = tt; known = knows.before; since = tt })
 
 of_recording : (k : Constants) (subject : Subject) (rows : List Row) (period : ℕ) (inputs : List Stamped) → KnowsPeriod period subject → 0 < period → number_at k.start producer_key ≡ period → AllKeepPeriod period k [] inputs → AreTimed inputs
-    → AreElsewhere (0x700 + k.description.node) inputs → AllSendAside k [] inputs → IsUnnamed producer_key k.description.node (recording k inputs)
+    → AreElsewhere (0x700 + k.description.node) inputs → AllSendAside k [] inputs → ShowsFrom producer_key period (of_device k subject) (before_recording (of_device k subject)) (recording k inputs)
     → differences_in late_differences (of_device k subject) rows (recording k inputs) ≡ []
-of_recording k subject rows period [] knows some start keep time control aside none = refl
-of_recording k subject rows period (s ∷ others) knows some start keep time control aside none =
+of_recording k subject rows period [] knows some start keep time control aside shows = refl
+of_recording k subject rows period (s ∷ others) knows some start keep time control aside shows =
     let subj : Subject = of_device k subject in
-    then_none late_differences subj rows s.micros (boot_up k ∷ []) (heard_from k [] (s ∷ others)) (before_recording subj) (And (Differs producer_key) (Beats period s.micros (ago_of period (producer.Begin period ∷ []))))
-    (begins k subject rows s.micros period knows some (others_named producer_key k.description.node s.micros (boot_up k ∷ []) (none.0, tt)))
-    (λ q g. all_none k subject rows period (s ∷ others) [] s.micros q knows some start keep (omega arith, time) control aside none.1 g)
+    let rest : List Recorded = heard_from k [] (s ∷ others) in
+    let shown : Progress → Type 0 = λ q. ShowsFrom producer_key period subj q rest in
+    then_none late_differences subj rows s.micros (boot_up k ∷ []) rest (before_recording subj) (λ q. Beats period s.micros (ago_of period (producer.Begin period ∷ [])) q × shown q)
+    (both producer_key period subj s.micros late_differences rows (boot_up k ∷ []) (before_recording subj) (Beats period s.micros (ago_of period (producer.Begin period ∷ []))) shown
+    (begins k subject rows s.micros period knows some) (at_once producer_key period subj s.micros (boot_up k ∷ []) rest (before_recording subj) shows))
+    (λ q g. all_none k subject rows period (s ∷ others) [] s.micros q knows some start keep (omega arith, time) control aside g.1 g.0)
+
+-- where each transfer of 1017:00 that ends shows this period, or nothing
+pub none_late : (k : Constants) (subject : Subject) (rows : List Row) (period : ℕ) (inputs : List Stamped) → subject.node ≡ k.description.node → KnowsPeriod period subject → 0 < period → number_at k.start producer_key ≡ period
+    → AllKeepPeriod period k [] inputs → AreTimed inputs → AreElsewhere (0x700 + k.description.node) inputs → AllSendAside k [] inputs
+    → ShowsFrom producer_key period (of_device k subject) (before_recording (of_device k subject)) (recording k inputs)
+    → differences_in late_differences subject rows (recording k inputs) ≡ []
+none_late k subject rows period inputs is knows some start keep time control aside shows =
+    subst (λ n. differences_in late_differences (record subject { node = n }) rows (recording k inputs) ≡ []) (sym is)
+    (of_recording k subject rows period inputs knows some start keep time control aside shows)
 
 pub no_late_heartbeats : (k : Constants) (subject : Subject) (rows : List Row) (period : ℕ) (inputs : List Stamped) → subject.node ≡ k.description.node → KnowsPeriod period subject → 0 < period → number_at k.start producer_key ≡ period
     → AllKeepPeriod period k [] inputs → AreTimed inputs → AreElsewhere (0x700 + k.description.node) inputs → AllSendAside k [] inputs → IsUnnamed producer_key k.description.node (recording k inputs)
     → differences_in late_differences subject rows (recording k inputs) ≡ []
 no_late_heartbeats k subject rows period inputs is knows some start keep time control aside none =
-    subst (λ n. differences_in late_differences (record subject { node = n }) rows (recording k inputs) ≡ []) (sym is)
-    (of_recording k subject rows period inputs knows some start keep time control aside none)
+    none_late k subject rows period inputs is knows some start keep time control aside
+    (unnamed_shows producer_key period (of_device k subject) (recording k inputs) (before_recording (of_device k subject)) none tt)

@@ -11,6 +11,7 @@ pub mod EmergencyFrames
 pub mod Unjudged
 pub mod Begins
 pub mod NamedKeys
+pub mod ShowsWord
 pub mod Beats
 pub mod Heartbeats
 pub mod Pauses
@@ -48,6 +49,13 @@ pub mod AbortOthers
 pub mod AbortFrames
 pub mod AbortBursts
 pub mod AbortInputs
+pub mod Expedited
+pub mod ExpeditedFrames
+pub mod ExpeditedAnswers
+pub mod ExpeditedWrites
+pub mod ExpeditedRefusals
+pub mod ExpeditedInputs
+mod ExpeditedExamples
 mod AbortExamples
 mod AnswerExamples
 mod Examples
@@ -61,6 +69,7 @@ pub mod Fitting
 pub mod BuiltEntries
 pub mod KeptEntries
 pub mod AlwaysFitted
+pub mod WordsHeld
 pub mod WrittenBytes
 pub mod HeldBytes
 pub mod TpdoImages

@@ -74,7 +74,7 @@ use Rattle.conode_compare_laws.proofs.Runs.{AllRun}
 abbrev pub Differs : Key → Key → Type 0
 Differs key other = same_key other key ≡ false
 
-differs : (key other : Key) → other ≢ key → Differs key other
+pub differs : (key other : Key) → other ≢ key → Differs key other
 differs key other n = by (same_key other key) refl
   where
     by : (b : Bool) → same_key other key ≡ b → b ≡ false
@@ -199,7 +199,7 @@ follows_such P heard (Some t) (Request request) micros side bytes b h = by_turn 
 follows_such P heard (Some t) (Response response) micros side bytes b h = by_turn P heard t (Response response) micros side bytes h
 follows_such P heard (Some t) Nothing micros side bytes b h = by_turn P heard t Nothing micros side bytes h
 
-followed_such : (P : Key → Type 0) (following : Following) (micros : ℕ) (side : Side) (bytes : List ℕ) → NamesBy P side bytes → IfSome following.transfer (λ t. P t.key) → AreSuch P (followed following micros side bytes)
+pub followed_such : (P : Key → Type 0) (following : Following) (micros : ℕ) (side : Side) (bytes : List ℕ) → NamesBy P side bytes → IfSome following.transfer (λ t. P t.key) → AreSuch P (followed following micros side bytes)
 followed_such P following micros side bytes n h =
     let s = (same_reading following.heard following.transfer micros side bytes bytes).followed in
     let f : AreSuch P (reads following micros side bytes) =

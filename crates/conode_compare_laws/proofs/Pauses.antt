@@ -1,5 +1,5 @@
 -- The inhibit time of EMCY: what compare knows of the last EMCY at each frame of a device's recording, and of the frames at one input.
-use Rattle.std.proofs.Common.{◌≡◌, ◌≢◌, ℕ, ◌+◌, ◌*◌, ◌-◌, ◌/◌, ◌≤◌, Bool, true, false, List, [], ◌∷◌, length, map, Option, Some, None, refl, sym, ap, ◌∙◌, subst, arith}
+use Rattle.std.proofs.Common.{◌≡◌, ◌≢◌, ℕ, ◌+◌, ◌*◌, ◌-◌, ◌/◌, ◌≤◌, Bool, true, false, List, [], ◌∷◌, length, map, Option, Some, None, refl, sym, ap, subst, arith}
 use Rattle.std.specs.Prelude.{if◌then◌else◌, ◌==◌, ◌&&◌, ◌||◌, not, nat_lt, IfSome}
 use Rattle.std.specs.List.{list_all}
 use Rattle.std.proofs.lemmas.Bool.{le-ltb, leb-true, ne_eqb}
@@ -59,14 +59,14 @@ use Rattle.conode_compare_rules.specs.States.{is_initialising, is_settled}
 use Rattle.conode_compare_rules.specs.Times.{drift_of}
 use Rattle.conode_compare_rules.specs.Verdicts.{found}
 use Rattle.conode_compare_transfers.specs.declared.dialogue.Asked.{Asked}
-use Rattle.conode_compare_transfers.specs.Dialogues.{dialogue_heard}
+use Rattle.conode_compare_transfers.specs.Dialogues.{dialogue_heard, exchange_in}
 use Rattle.conode_compare_transfers.specs.Times.{micros_of}
 use Rattle.conode_compare_laws.specs.Differences.{inhibit_differences, only_inhibit}
 use Rattle.conode_compare_laws.specs.Identifiers.{AreWithout}
 use Rattle.conode_compare_laws.specs.Periods.{KnowsInhibit}
 use Rattle.conode_compare_laws.proofs.Frames.{life_kind}
 use Rattle.conode_compare_laws.proofs.Runs.{AllRun}
-use Rattle.conode_compare_laws.proofs.NamedKeys.{AllName, And, Differs, IsOpenOn, Names, NamesAs, NamesBy, begun_open, ended_such, names_as, noted_open, stays_open}
+use Rattle.conode_compare_laws.proofs.ShowsWord.{AllShow, Shown, ShowsAt}
 
 -- the device sent its newest EMCY as long after this stamp as its age is ago, with this inhibit time
 abbrev pub IsSince : ℕ → ℕ → ℕ → List Sending → Type 0
@@ -148,18 +148,28 @@ record Passes (inhibit micros : ℕ) (sent : List Sending) (subject : Subject) (
   none : inhibit_differences kind (findings_in subject rows p micros kind) ≡ []
   calm : Calm inhibit micros sent (after_frame subject p micros kind)
 
--- a frame of the default SDO channel, with which no transfer of 1015:00 ends: the time is known as before
-none_shown : (e : Ended) → Differs emergency_inhibit_key e.key → shown_inhibit e ≡ None
+-- a frame of the default SDO channel: a transfer of 1015:00 that ends with it shows the time, or nothing
+shown_right : (inhibit : ℕ) (e : Ended) → Shown emergency_inhibit_key inhibit e → IfSome (shown_inhibit e) (λ n. n ≡ inhibit)
 unfolding shown_inhibit
-none_shown e other = ap (λ b. if b then done_word e.protocol e.ending e.first.items else None) other
-
-ended_known : (entries : Entries) (o : Option Ended) → IfSome o (λ e. Differs emergency_inhibit_key e.key) → (entries_ended entries o).inhibit ≡ entries.inhibit
-ended_known entries None others = refl
-ended_known entries (Some e) others = ap (λ shown. (with_inhibit (with_period entries (shown_period e)) shown e.end).inhibit) (none_shown e others) ∙ period (shown_period e)
+shown_right inhibit e h = by (same_key e.key emergency_inhibit_key) h
   where
-    period : (shown : Option ℕ) → (with_period entries shown).inhibit ≡ entries.inhibit
-    period None = refl
-    period (Some n) = refl
+    by : (b : Bool) → (b ≡ true → IfSome (done_word e.protocol e.ending e.first.items) (λ n. n ≡ inhibit)) → IfSome (if b then done_word e.protocol e.ending e.first.items else None) (λ n. n ≡ inhibit)
+    by true f = f refl
+    by false f = tt
+
+-- it is known then, or as before
+ended_known : (inhibit : ℕ) (entries : Entries) (o : Option Ended) → IfSome o (Shown emergency_inhibit_key inhibit) → IfSome entries.inhibit (λ n. n ≡ inhibit) → IfSome (entries_ended entries o).inhibit (λ n. n ≡ inhibit)
+ended_known inhibit entries None shows h = h
+ended_known inhibit entries (Some e) shows h = by (shown_inhibit e) (shown_right inhibit e shows) (period (shown_period e))
+  where
+    period : (shown : Option ℕ) → IfSome (with_period entries shown).inhibit (λ n. n ≡ inhibit)
+    period None = h
+    period (Some n) = h
+
+    by : (shown : Option ℕ) → IfSome shown (λ n. n ≡ inhibit) → IfSome (with_period entries (shown_period e)).inhibit (λ n. n ≡ inhibit)
+        → IfSome (with_inhibit (with_period entries (shown_period e)) shown e.end).inhibit (λ n. n ≡ inhibit)
+    by None g f = f
+    by (Some n) g f = g
 
 -- or it isn't any more, after a request to write it
 asked_known : (inhibit : ℕ) (entries : Entries) (o : Option Asked) → IfSome entries.inhibit (λ n. n ≡ inhibit) → IfSome (entries_asked entries o).inhibit (λ n. n ≡ inhibit)
@@ -175,17 +185,19 @@ asked_known inhibit entries (Some asked) h = by asked.writes (asked_to_write ent
     by true x g = g
     by false x g = h
 
-sdo_calm : (inhibit micros : ℕ) (sent : List Sending) (subject : Subject) (p : Progress) (side : Side) (frame : FrameContent) → NamesBy (Differs emergency_inhibit_key) side frame.bytes → IsOpenOn (Differs emergency_inhibit_key) p
+sdo_calm : (inhibit micros : ℕ) (sent : List Sending) (subject : Subject) (p : Progress) (side : Side) (frame : FrameContent) → ShowsAt emergency_inhibit_key inhibit p micros (Sdo side frame)
     → Calm inhibit micros sent p → Calm inhibit micros sent (after_sdo subject p micros side frame)
-unfolding channel_heard exchange_noted
-sdo_calm inhibit micros sent subject p side frame n opened h =
+unfolding channel_heard exchange_at exchange_in exchange_noted
+sdo_calm inhibit micros sent subject p side frame shows h =
     let o : Option Ended = (exchange_at subject p micros side frame).heard.ended in
-    let others : IfSome o (λ e. Differs emergency_inhibit_key e.key) = ended_such (Differs emergency_inhibit_key) subject p micros side frame n opened in
     record {
-      known = asked_known inhibit (entries_ended p.entries o) (dialogue_heard subject.limits.answer p.started p.dialogue micros side frame).asked
-          (subst (λ known. IfSome known (λ number. number ≡ inhibit)) (sym (ended_known p.entries o others)) h.known);
+      known = asked_known inhibit (entries_ended p.entries o) (dialogue_heard subject.limits.answer p.started p.dialogue micros side frame).asked (ended_known inhibit p.entries o shows h.known);
       since = h.since;
     }
+
+noted_shows : (inhibit micros : ℕ) (subject : Subject) (p : Progress) (frame : FrameContent) → ShowsAt emergency_inhibit_key inhibit p micros (Sdo Server frame) → ShowsAt emergency_inhibit_key inhibit (answer_noted subject p micros) micros (Sdo Server frame)
+unfolding late_noted
+noted_shows inhibit micros subject p frame h = h
 
 noted_calm : (inhibit micros : ℕ) (sent : List Sending) (subject : Subject) (p : Progress) → Calm inhibit micros sent p → Calm inhibit micros sent (answer_noted subject p micros)
 unfolding late_noted
@@ -199,19 +211,19 @@ command_calm inhibit micros sent p EnterPreOperational own h = record { known = 
 command_calm inhibit micros sent p ResetNode own h = record { known = tt; since = tt }
 command_calm inhibit micros sent p ResetCommunication own h = record { known = tt; since = tt }
 
-quiet_passes : (inhibit micros : ℕ) (sent : List Sending) (subject : Subject) (rows : List Row) (p : Progress) (kind : FrameKind) → is_quiet kind ≡ true → NamesAs (Differs emergency_inhibit_key) kind
-    → IsOpenOn (Differs emergency_inhibit_key) p → Calm inhibit micros sent p → Passes inhibit micros sent subject rows p kind
+quiet_passes : (inhibit micros : ℕ) (sent : List Sending) (subject : Subject) (rows : List Row) (p : Progress) (kind : FrameKind) → is_quiet kind ≡ true → ShowsAt emergency_inhibit_key inhibit p micros kind
+    → Calm inhibit micros sent p → Passes inhibit micros sent subject rows p kind
 unfolding after_process
-quiet_passes inhibit micros sent subject rows p (Command service) is n opened h = record { none = refl; calm = command_calm inhibit micros sent p service false h }
-quiet_passes inhibit micros sent subject rows p (CommandToAll service) is n opened h = record { none = refl; calm = command_calm inhibit micros sent p service subject.facts.starts_itself h }
-quiet_passes inhibit micros sent subject rows p (Sdo Server frame) is n opened h = record {
+quiet_passes inhibit micros sent subject rows p (Command service) is shows h = record { none = refl; calm = command_calm inhibit micros sent p service false h }
+quiet_passes inhibit micros sent subject rows p (CommandToAll service) is shows h = record { none = refl; calm = command_calm inhibit micros sent p service subject.facts.starts_itself h }
+quiet_passes inhibit micros sent subject rows p (Sdo Server frame) is shows h = record {
   none = refl;
-  calm = sdo_calm inhibit micros sent subject (answer_noted subject p micros) Server frame n (noted_open (Differs emergency_inhibit_key) subject p micros opened) (noted_calm inhibit micros sent subject p h);
+  calm = sdo_calm inhibit micros sent subject (answer_noted subject p micros) Server frame (noted_shows inhibit micros subject p frame shows) (noted_calm inhibit micros sent subject p h);
 }
-quiet_passes inhibit micros sent subject rows p (Sdo Client frame) is n opened h = record { none = refl; calm = sdo_calm inhibit micros sent subject p Client frame n opened h }
-quiet_passes inhibit micros sent subject rows p (Process id length) is n opened h = record { none = refl; calm = record { known = h.known; since = h.since } }
-quiet_passes inhibit micros sent subject rows p Other is n opened h = record { none = refl; calm = record { known = h.known; since = h.since } }
-quiet_passes inhibit micros sent subject rows p _ is n opened h = absurd (cc)
+quiet_passes inhibit micros sent subject rows p (Sdo Client frame) is shows h = record { none = refl; calm = sdo_calm inhibit micros sent subject p Client frame shows h }
+quiet_passes inhibit micros sent subject rows p (Process id length) is shows h = record { none = refl; calm = record { known = h.known; since = h.since } }
+quiet_passes inhibit micros sent subject rows p Other is shows h = record { none = refl; calm = record { known = h.known; since = h.since } }
+quiet_passes inhibit micros sent subject rows p _ is shows h = absurd (cc)
 
 one : (inhibit micros : ℕ) (sent : List Sending) (subject : Subject) (rows : List Row) (p : Progress) (frame : FrameContent) (kind : FrameKind) → data_kind subject.node frame ≡ kind
     → Passes inhibit micros sent subject rows (begun subject p micros) kind → AllRun inhibit_differences subject rows micros p (frame ∷ []) (Calm inhibit micros sent)
@@ -220,19 +232,18 @@ one inhibit micros sent subject rows p frame kind is h =
     let pass : Passes inhibit micros sent subject rows (begun subject p micros) (data_kind subject.node frame) = subst (λ other. Passes inhibit micros sent subject rows (begun subject p micros) other) (sym is) h in
     (pass.none, pass.calm)
 
--- frames that don't name 1015:00, none of EMCY or of error control
-pub quiets : (inhibit micros : ℕ) (sent : List Sending) (subject : Subject) (rows : List Row) (frames : List FrameContent) (p : Progress) → KnowsInhibit inhibit subject
-    → AreWithout (0x80 + subject.node) frames → AreWithout (0x700 + subject.node) frames → AllName (Differs emergency_inhibit_key) subject.node frames
-    → And (Differs emergency_inhibit_key) (Calm inhibit micros sent) p → AllRun inhibit_differences subject rows micros p frames (And (Differs emergency_inhibit_key) (Calm inhibit micros sent))
-quiets inhibit micros sent subject rows [] p knows emergency control unnamed h = h
-quiets inhibit micros sent subject rows (frame ∷ frames) p knows emergency control unnamed h =
+-- frames that show nothing else of 1015:00, none of EMCY or of error control
+pub quiets : (inhibit micros : ℕ) (sent : List Sending) (subject : Subject) (rows : List Row) (frames : List FrameContent) (p : Progress) (after : Progress → Type 0) → KnowsInhibit inhibit subject
+    → AreWithout (0x80 + subject.node) frames → AreWithout (0x700 + subject.node) frames → Calm inhibit micros sent p → AllShow emergency_inhibit_key inhibit subject micros p frames after
+    → AllRun inhibit_differences subject rows micros p frames (λ q. Calm inhibit micros sent q × after q)
+quiets inhibit micros sent subject rows [] p after knows emergency control h shows = (h, shows)
+quiets inhibit micros sent subject rows (frame ∷ frames) p after knows emergency control h shows =
     let q : Progress = begun subject p micros in
     let kind : FrameKind = data_kind subject.node frame in
     let first : AllRun inhibit_differences subject rows micros p (frame ∷ []) (Calm inhibit micros sent) =
     one inhibit micros sent subject rows p frame kind refl
-    (quiet_passes inhibit micros sent subject rows q kind (quiet_kind subject.node frame emergency.0 control.0) (names_as (Differs emergency_inhibit_key) subject.node frame unnamed.0)
-    (begun_open (Differs emergency_inhibit_key) subject p micros h.1) (begun_calm subject inhibit micros sent p knows h.0)) in
-    (first.0, quiets inhibit micros sent subject rows frames (progress_with subject p micros kind) knows emergency.1 control.1 unnamed.1 (first.1, stays_open (Differs emergency_inhibit_key) subject p micros frame unnamed.0 h.1))
+    (quiet_passes inhibit micros sent subject rows q kind (quiet_kind subject.node frame emergency.0 control.0) shows.0 (begun_calm subject inhibit micros sent p knows h)) in
+    (first.0, quiets inhibit micros sent subject rows frames (progress_with subject p micros kind) after knows emergency.1 control.1 first.1 shows.1)
 
 -- ---- the boot-up, and heartbeats
 
@@ -335,11 +346,11 @@ unfolding after_emergency
 odd_passes inhibit micros length sent subject rows p h = record { none = refl; calm = record { known = h.known; since = (omega arith, refl) } }
 
 -- on another identifier than compare has for EMCY
-other_passes : (inhibit micros : ℕ) (sent : List Sending) (subject : Subject) (rows : List Row) (p : Progress) (kind : FrameKind) → is_quiet kind ≡ true → NamesAs (Differs emergency_inhibit_key) kind → IsOpenOn (Differs emergency_inhibit_key) p
+other_passes : (inhibit micros : ℕ) (sent : List Sending) (subject : Subject) (rows : List Row) (p : Progress) (kind : FrameKind) → is_quiet kind ≡ true → ShowsAt emergency_inhibit_key inhibit p micros kind
     → Calm inhibit micros sent p → Passes inhibit micros (just_now inhibit ∷ sent) subject rows p kind
-other_passes inhibit micros sent subject rows p kind is n opened h =
+other_passes inhibit micros sent subject rows p kind is shows h =
     let now : Calm inhibit micros (just_now inhibit ∷ sent) p = record { known = h.known; since = now_since inhibit micros sent p.emergency h.since } in
-    quiet_passes inhibit micros (just_now inhibit ∷ sent) subject rows p kind is n opened now
+    quiet_passes inhibit micros (just_now inhibit ∷ sent) subject rows p kind is shows now
 
 -- what a frame of EMCY may be
 abbrev is_own : FrameKind → Bool
@@ -347,16 +358,16 @@ is_own (Emcy code register) = true
 is_own (OddEmergency length) = true
 is_own kind = is_quiet kind
 
-own_passes : (inhibit micros : ℕ) (sent : List Sending) (subject : Subject) (rows : List Row) (p : Progress) (kind : FrameKind) → is_own kind ≡ true → NamesAs (Differs emergency_inhibit_key) kind → IsOpenOn (Differs emergency_inhibit_key) p
+own_passes : (inhibit micros : ℕ) (sent : List Sending) (subject : Subject) (rows : List Row) (p : Progress) (kind : FrameKind) → is_own kind ≡ true → ShowsAt emergency_inhibit_key inhibit p micros kind
     → list_all is_past sent ≡ true → Calm inhibit micros sent p → Passes inhibit micros (just_now inhibit ∷ sent) subject rows p kind
-own_passes inhibit micros sent subject rows p (Emcy code register) is n opened over h = emergency_passes inhibit micros code register sent subject rows p over h
-own_passes inhibit micros sent subject rows p (OddEmergency length) is n opened over h = odd_passes inhibit micros length sent subject rows p h
-own_passes inhibit micros sent subject rows p (Command service) is n opened over h = other_passes inhibit micros sent subject rows p (Command service) refl n opened h
-own_passes inhibit micros sent subject rows p (CommandToAll service) is n opened over h = other_passes inhibit micros sent subject rows p (CommandToAll service) refl n opened h
-own_passes inhibit micros sent subject rows p (Sdo side frame) is n opened over h = other_passes inhibit micros sent subject rows p (Sdo side frame) refl n opened h
-own_passes inhibit micros sent subject rows p (Process id length) is n opened over h = other_passes inhibit micros sent subject rows p (Process id length) refl n opened h
-own_passes inhibit micros sent subject rows p Other is n opened over h = other_passes inhibit micros sent subject rows p Other refl n opened h
-own_passes inhibit micros sent subject rows p _ is n opened over h = absurd (cc)
+own_passes inhibit micros sent subject rows p (Emcy code register) is shows over h = emergency_passes inhibit micros code register sent subject rows p over h
+own_passes inhibit micros sent subject rows p (OddEmergency length) is shows over h = odd_passes inhibit micros length sent subject rows p h
+own_passes inhibit micros sent subject rows p (Command service) is shows over h = other_passes inhibit micros sent subject rows p (Command service) refl shows h
+own_passes inhibit micros sent subject rows p (CommandToAll service) is shows over h = other_passes inhibit micros sent subject rows p (CommandToAll service) refl shows h
+own_passes inhibit micros sent subject rows p (Sdo side frame) is shows over h = other_passes inhibit micros sent subject rows p (Sdo side frame) refl shows h
+own_passes inhibit micros sent subject rows p (Process id length) is shows over h = other_passes inhibit micros sent subject rows p (Process id length) refl shows h
+own_passes inhibit micros sent subject rows p Other is shows over h = other_passes inhibit micros sent subject rows p Other refl shows h
+own_passes inhibit micros sent subject rows p _ is shows over h = absurd (cc)
 
 quiet_own : (kind : FrameKind) → is_quiet kind ≡ true → is_own kind ≡ true
 quiet_own (Command service) h = refl
@@ -388,9 +399,8 @@ own_kind node frame control =
     by false false false false false r = refl
 
 pub emergency_runs : (inhibit micros : ℕ) (sent : List Sending) (subject : Subject) (rows : List Row) (frame : FrameContent) (p : Progress) → KnowsInhibit inhibit subject → frame.id ≢ 0x700 + subject.node
-    → Names (Differs emergency_inhibit_key) subject.node frame → list_all is_past sent ≡ true → And (Differs emergency_inhibit_key) (Calm inhibit micros sent) p
+    → list_all is_past sent ≡ true → Calm inhibit micros sent p → (after : Progress → Type 0) → AllShow emergency_inhibit_key inhibit subject micros p (frame ∷ []) after
     → AllRun inhibit_differences subject rows micros p (frame ∷ []) (Calm inhibit micros (just_now inhibit ∷ sent))
-emergency_runs inhibit micros sent subject rows frame p knows control unnamed over h =
+emergency_runs inhibit micros sent subject rows frame p knows control over h after shows =
     one inhibit micros (just_now inhibit ∷ sent) subject rows p frame (data_kind subject.node frame) refl
-    (own_passes inhibit micros sent subject rows (begun subject p micros) (data_kind subject.node frame) (own_kind subject.node frame control) (names_as (Differs emergency_inhibit_key) subject.node frame unnamed)
-    (begun_open (Differs emergency_inhibit_key) subject p micros h.1) over (begun_calm subject inhibit micros sent p knows h.0))
+    (own_passes inhibit micros sent subject rows (begun subject p micros) (data_kind subject.node frame) (own_kind subject.node frame control) shows.0 over (begun_calm subject inhibit micros sent p knows h))

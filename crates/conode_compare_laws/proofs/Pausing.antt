@@ -40,14 +40,14 @@ use Rattle.conode_compare_rules.specs.declared.limits.Subject.{Subject}
 use Rattle.conode_compare_rules.specs.declared.progress.Progress.{Progress}
 use Rattle.conode_compare_rules.specs.Progresses.{before_recording}
 use Rattle.conode_compare_laws.specs.Differences.{differences_from, differences_in, inhibit_differences}
-use Rattle.conode_compare_laws.specs.Identifiers.{AllSendAside, AllSendWithout, AreElsewhere, AreWithout, IsElsewhere, IsUnnamed, IsUnnamedAt, SendsAside, SendsWithout}
+use Rattle.conode_compare_laws.specs.Identifiers.{AllSendAside, AllSendWithout, AreElsewhere, AreWithout, IsElsewhere, IsUnnamed, SendsAside, SendsWithout}
 use Rattle.conode_compare_laws.specs.Periods.{AllHaveInhibit, KnowsInhibit}
-use Rattle.conode_compare_laws.specs.Recordings.{AreSpaced, AreUnhurried, Recorded, Stamped, elapsed, frame_of, heard_from, recording, stamped}
+use Rattle.conode_compare_laws.specs.Recordings.{AreSpaced, AreUnhurried, Recorded, Stamped, elapsed, frame_of, heard_from, recording}
 use Rattle.conode_compare_laws.proofs.Heard.{of_device}
 use Rattle.conode_compare_laws.proofs.Heartbeats.{came_without, uncontrolled}
 use Rattle.conode_compare_laws.proofs.Pauses.{Calm, boots, emergency_runs, later, lives, quiets}
 use Rattle.conode_compare_laws.proofs.Runs.{AllRun, joined, then_none}
-use Rattle.conode_compare_laws.proofs.NamedKeys.{AllName, And, Differs, Names, all_open, first_of, last_of, others_named}
+use Rattle.conode_compare_laws.proofs.ShowsWord.{AllShow, ShowsFrom, at_once, both, parts, unnamed_shows}
 
 -- ---- the log of an input
 
@@ -102,30 +102,30 @@ took k history (Applied event) = ap (λ b. if b then 1000 else 0) (event_off k.d
 -- ---- the EMCY that is sent at an input, then the boot-up or a heartbeat
 
 front_runs : (inhibit micros : ℕ) (subject : Subject) (rows : List Row) (p : Progress) (c : Contents) (front : Option Emergency) (log : EmergencyLog) → KnowsInhibit inhibit subject → number_at c emergency_inhibit_key ≡ inhibit
-    → AreWithout (0x700 + subject.node) (emergency_frames c front) → AllName (Differs emergency_inhibit_key) subject.node (emergency_frames c front) → list_all is_past (sendings log) ≡ true
-    → And (Differs emergency_inhibit_key) (Calm inhibit micros (sendings log)) p
+    → AreWithout (0x700 + subject.node) (emergency_frames c front) → list_all is_past (sendings log) ≡ true → Calm inhibit micros (sendings log) p
+    → (after : Progress → Type 0) → AllShow emergency_inhibit_key inhibit subject micros p (emergency_frames c front) after
     → AllRun inhibit_differences subject rows micros p (emergency_frames c front) (Calm inhibit micros (sendings (with_sending front (number_at c emergency_inhibit_key) log)))
-front_runs inhibit micros subject rows p c None log knows same control unnamed over h = h.0
-front_runs inhibit micros subject rows p c (Some e) log knows same control unnamed over h =
+front_runs inhibit micros subject rows p c None log knows same control over h after shows = h
+front_runs inhibit micros subject rows p c (Some e) log knows same control over h after shows =
     let frame : FrameContent = record { id = identifier_of (number_at c emergency_key); bytes = emergency_bytes e } in
     subst (λ n. AllRun inhibit_differences subject rows micros p (frame ∷ []) (Calm inhibit micros (record { age = 0; inhibit = n } ∷ sendings log))) (sym same)
-    (emergency_runs inhibit micros (sendings log) subject rows frame p knows control.0 unnamed.0 over h)
+    (emergency_runs inhibit micros (sendings log) subject rows frame p knows control.0 over h after shows)
 
 due_runs : (inhibit micros : ℕ) (subject : Subject) (rows : List Row) (p : Progress) (c : Contents) (may : Bool) (log : EmergencyLog) → KnowsInhibit inhibit subject → number_at c emergency_inhibit_key ≡ inhibit
     → AreWithout (0x700 + subject.node) (emergency_frames c (if may && is_inhibit_over log then slice_get (queue_of log) 0 else None))
-    → AllName (Differs emergency_inhibit_key) subject.node (emergency_frames c (if may && is_inhibit_over log then slice_get (queue_of log) 0 else None))
-    → And (Differs emergency_inhibit_key) (Calm inhibit micros (sendings log)) p
+    → Calm inhibit micros (sendings log) p → (after : Progress → Type 0)
+    → AllShow emergency_inhibit_key inhibit subject micros p (emergency_frames c (if may && is_inhibit_over log then slice_get (queue_of log) 0 else None)) after
     → AllRun inhibit_differences subject rows micros p (emergency_frames c (if may && is_inhibit_over log then slice_get (queue_of log) 0 else None))
     (Calm inhibit micros (sendings (with_sending (if may && is_inhibit_over log then slice_get (queue_of log) 0 else None) (number_at c emergency_inhibit_key) log)))
-due_runs inhibit micros subject rows p c false log knows same control unnamed h = h.0
-due_runs inhibit micros subject rows p c true log knows same control unnamed h = by (is_inhibit_over log) refl control unnamed
+due_runs inhibit micros subject rows p c false log knows same control h after shows = h
+due_runs inhibit micros subject rows p c true log knows same control h after shows = by (is_inhibit_over log) refl control shows
   where
     by : (b : Bool) → is_inhibit_over log ≡ b → AreWithout (0x700 + subject.node) (emergency_frames c (if b then slice_get (queue_of log) 0 else None))
-        → AllName (Differs emergency_inhibit_key) subject.node (emergency_frames c (if b then slice_get (queue_of log) 0 else None))
+        → AllShow emergency_inhibit_key inhibit subject micros p (emergency_frames c (if b then slice_get (queue_of log) 0 else None)) after
         → AllRun inhibit_differences subject rows micros p (emergency_frames c (if b then slice_get (queue_of log) 0 else None))
         (Calm inhibit micros (sendings (with_sending (if b then slice_get (queue_of log) 0 else None) (number_at c emergency_inhibit_key) log)))
-    by true is o n = front_runs inhibit micros subject rows p c (slice_get (queue_of log) 0) log knows same o n is h
-    by false is o n = h.0
+    by true is o n = front_runs inhibit micros subject rows p c (slice_get (queue_of log) 0) log knows same o is h after n
+    by false is o n = h
 
 -- a reset empties the queue, and no EMCY is sent; so what compare has changes with the boot-up
 abbrev event_log : Bool → Bool → EmergencyLog → EmergencyLog
@@ -144,13 +144,13 @@ Between inhibit micros c may false tick log p =
     Calm inhibit micros (sendings (with_sending (due_in may (event_log false tick log)) (number_at c emergency_inhibit_key) (event_log false tick log))) p
 
 emergency_part : (inhibit micros : ℕ) (subject : Subject) (rows : List Row) (p : Progress) (c : Contents) (may reset tick : Bool) (log : EmergencyLog) → KnowsInhibit inhibit subject → number_at c emergency_inhibit_key ≡ inhibit
-    → AreWithout (0x700 + subject.node) (emergency_frames c (due_in may (event_log reset tick log))) → AllName (Differs emergency_inhibit_key) subject.node (emergency_frames c (due_in may (event_log reset tick log)))
-    → And (Differs emergency_inhibit_key) (Calm inhibit micros (aged tick log)) p
+    → AreWithout (0x700 + subject.node) (emergency_frames c (due_in may (event_log reset tick log))) → Calm inhibit micros (aged tick log) p
+    → (after : Progress → Type 0) → AllShow emergency_inhibit_key inhibit subject micros p (emergency_frames c (due_in may (event_log reset tick log))) after
     → AllRun inhibit_differences subject rows micros p (emergency_frames c (due_in may (event_log reset tick log))) (Between inhibit micros c may reset tick log)
-emergency_part inhibit micros subject rows p c true true tick log knows same control unnamed h = h.0
-emergency_part inhibit micros subject rows p c false true tick log knows same control unnamed h = h.0
-emergency_part inhibit micros subject rows p c may false true log knows same control unnamed h = due_runs inhibit micros subject rows p c may (Noted Tick ∷ log) knows same control unnamed h
-emergency_part inhibit micros subject rows p c may false false log knows same control unnamed h = due_runs inhibit micros subject rows p c may (Noted Quiet ∷ log) knows same control unnamed h
+emergency_part inhibit micros subject rows p c true true tick log knows same control h after shows = h
+emergency_part inhibit micros subject rows p c false true tick log knows same control h after shows = h
+emergency_part inhibit micros subject rows p c may false true log knows same control h after shows = due_runs inhibit micros subject rows p c may (Noted Tick ∷ log) knows same control h after shows
+emergency_part inhibit micros subject rows p c may false false log knows same control h after shows = due_runs inhibit micros subject rows p c may (Noted Quiet ∷ log) knows same control h after shows
 
 life_part : (inhibit micros : ℕ) (subject : Subject) (rows : List Row) (p : Progress) (c : Contents) (may reset tick due : Bool) (log : EmergencyLog) (final : NodeState) → KnowsInhibit inhibit subject
     → Between inhibit micros c may reset tick log p
@@ -168,10 +168,10 @@ input_runs : (k : Constants) (subject : Subject) (rows : List Row) (micros inhib
     → number_at (moment k (moments k before) input).contents emergency_inhibit_key ≡ inhibit
     → IsElsewhere (0x700 + k.description.node) input → IsElsewhere (0x80 + k.description.node) input
     → SendsAside k (moment k (moments k before) input) → SendsWithout (0x80 + k.description.node) k (moment k (moments k before) input)
-    → AllName (Differs emergency_inhibit_key) k.description.node (frame_of input ++ prescribed k before input)
-    → And (Differs emergency_inhibit_key) (Calm inhibit micros (aged (marked_tick (moment k (moments k before) input).mark) (emergency_log (moments k before)))) p
-    → AllRun inhibit_differences (of_device k subject) rows micros p (frame_of input ++ prescribed k before input) (And (Differs emergency_inhibit_key) (Calm inhibit micros (sendings (emergency_log (moments k (input ∷ before))))))
-input_runs k subject rows micros inhibit before input p knows same control emergency aside without none h =
+    → (after : Progress → Type 0) → Calm inhibit micros (aged (marked_tick (moment k (moments k before) input).mark) (emergency_log (moments k before))) p
+    → AllShow emergency_inhibit_key inhibit (of_device k subject) micros p (frame_of input ++ prescribed k before input) after
+    → AllRun inhibit_differences (of_device k subject) rows micros p (frame_of input ++ prescribed k before input) (λ q. Calm inhibit micros (sendings (emergency_log (moments k (input ∷ before)))) q × after q)
+input_runs k subject rows micros inhibit before input p knows same control emergency aside without last_shows h shows =
     let s : Subject = of_device k subject in
     let n : ℕ = k.description.node in
     let m : Moment = moment k (moments k before) input in
@@ -188,60 +188,62 @@ input_runs k subject rows micros inhibit before input p knows same control emerg
     let d : List FrameContent = life_frames n m.life in
     let e : List FrameContent = map (tpdo_frame k.description m.contents) m.due in
     let known : KnowsInhibit inhibit s = record { before = knows.before; booted = knows.booted } in
-    let N : FrameContent → Type 0 = Names (Differs emergency_inhibit_key) n in
-    let sent : AllName (Differs emergency_inhibit_key) n (a ++ b ++ c ++ d ++ e) = last_of N (frame_of input) (prescribed k before input) none in
-    let sent_d : AllName (Differs emergency_inhibit_key) n (a ++ b ++ c ++ d) = first_of N (a ++ b ++ c ++ d) e sent in
-    let sent_c : AllName (Differs emergency_inhibit_key) n (a ++ b ++ c) = first_of N (a ++ b ++ c) d sent_d in
-    let sent_b : AllName (Differs emergency_inhibit_key) n (a ++ b) = first_of N (a ++ b) c sent_c in
-    let came : Progress → Type 0 = And (Differs emergency_inhibit_key) (Calm inhibit micros (aged tick log)) in
-    let between : Progress → Type 0 = Between inhibit micros m.contents may reset tick log in
-    let middle : Progress → Type 0 = And (Differs emergency_inhibit_key) between in
     let last : List Sending = sendings (emergency_log (m ∷ moments k before)) in
-    let after : Progress → Type 0 = And (Differs emergency_inhibit_key) (Calm inhibit micros last) in
-    let now : came p = (subst (λ sendings_then. Calm inhibit micros (if tick then map older sendings_then else sendings_then) p) (sym (all_same m old)) h.0, h.1) in
-    joined inhibit_differences s rows micros (frame_of input) (a ++ b ++ c ++ d ++ e) p came after
-    (quiets inhibit micros (aged tick log) s rows (frame_of input) p known (came_without (0x80 + n) input emergency) (came_without (0x700 + n) input control) (first_of N (frame_of input) (prescribed k before input) none) now)
+    let came : Progress → Type 0 = Calm inhibit micros (aged tick log) in
+    let between : Progress → Type 0 = Between inhibit micros m.contents may reset tick log in
+    let ends : Progress → Type 0 = Calm inhibit micros last in
+    let show_e : Progress → Type 0 = λ q. AllShow emergency_inhibit_key inhibit s micros q e last_shows in
+    let show_d : Progress → Type 0 = λ q. AllShow emergency_inhibit_key inhibit s micros q d show_e in
+    let show_c : Progress → Type 0 = λ q. AllShow emergency_inhibit_key inhibit s micros q c show_d in
+    let show_b : Progress → Type 0 = λ q. AllShow emergency_inhibit_key inhibit s micros q b show_c in
+    let now : came p = subst (λ sendings_then. Calm inhibit micros (if tick then map older sendings_then else sendings_then) p) (sym (all_same m old)) h in
+    joined inhibit_differences s rows micros (frame_of input) (a ++ b ++ c ++ d ++ e) p (λ q. came q × AllShow emergency_inhibit_key inhibit s micros q (a ++ b ++ c ++ d ++ e) last_shows) (λ q. ends q × last_shows q)
+    (quiets inhibit micros (aged tick log) s rows (frame_of input) p (λ q. AllShow emergency_inhibit_key inhibit s micros q (a ++ b ++ c ++ d ++ e) last_shows) known (came_without (0x80 + n) input emergency) (came_without (0x700 + n) input control) now
+    (parts emergency_inhibit_key inhibit s micros (frame_of input) (a ++ b ++ c ++ d ++ e) p last_shows shows))
     (λ q0 g0.
-    joined inhibit_differences s rows micros (a ++ b ++ c ++ d) e q0 after after
-    (joined inhibit_differences s rows micros (a ++ b ++ c) d q0 middle after
-    (joined inhibit_differences s rows micros (a ++ b) c q0 came middle
-    (joined inhibit_differences s rows micros a b q0 came came
-    (quiets inhibit micros (aged tick log) s rows a q0 known without.answers (uncontrolled n a aside.answers) (first_of N a b sent_b) g0)
-    (λ q g. quiets inhibit micros (aged tick log) s rows b q known without.time_out (uncontrolled n b aside.time_out) (last_of N a b sent_b) g))
-    (λ q g. all_open (Differs emergency_inhibit_key) inhibit_differences s rows micros c q between (last_of N (a ++ b) c sent_c) g.1
-    (emergency_part inhibit micros s rows q m.contents may reset tick log known same (uncontrolled n c aside.emergency) (last_of N (a ++ b) c sent_c) g)))
-    (λ q g. all_open (Differs emergency_inhibit_key) inhibit_differences s rows micros d q (Calm inhibit micros last) (last_of N (a ++ b ++ c) d sent_d) g.1
-    (life_part inhibit micros s rows q m.contents may reset tick due log final known g.0)))
-    (λ q g. quiets inhibit micros last s rows e q known without.tpdos (uncontrolled n e aside.tpdos) (last_of N (a ++ b ++ c ++ d) e sent) g))
+    joined inhibit_differences s rows micros (a ++ b ++ c ++ d) e q0 (λ q. ends q × show_e q) (λ q. ends q × last_shows q)
+    (joined inhibit_differences s rows micros (a ++ b ++ c) d q0 (λ q. between q × show_d q) (λ q. ends q × show_e q)
+    (joined inhibit_differences s rows micros (a ++ b) c q0 (λ q. came q × show_c q) (λ q. between q × show_d q)
+    (joined inhibit_differences s rows micros a b q0 (λ q. came q × show_b q) (λ q. came q × show_c q)
+    (quiets inhibit micros (aged tick log) s rows a q0 show_b known without.answers (uncontrolled n a aside.answers) g0.0
+    (parts emergency_inhibit_key inhibit s micros a b q0 show_c
+    (parts emergency_inhibit_key inhibit s micros (a ++ b) c q0 show_d
+    (parts emergency_inhibit_key inhibit s micros (a ++ b ++ c) d q0 show_e
+    (parts emergency_inhibit_key inhibit s micros (a ++ b ++ c ++ d) e q0 last_shows g0.1)))))
+    (λ q g. quiets inhibit micros (aged tick log) s rows b q show_c known without.time_out (uncontrolled n b aside.time_out) g.0 g.1))
+    (λ q g. both emergency_inhibit_key inhibit s micros inhibit_differences rows c q between show_d
+    (emergency_part inhibit micros s rows q m.contents may reset tick log known same (uncontrolled n c aside.emergency) g.0 show_d g.1) g.1))
+    (λ q g. both emergency_inhibit_key inhibit s micros inhibit_differences rows d q ends show_e
+    (life_part inhibit micros s rows q m.contents may reset tick due log final known g.0) g.1))
+    (λ q g. quiets inhibit micros last s rows e q last_shows known without.tpdos (uncontrolled n e aside.tpdos) g.0 g.1))
 
 -- ---- all inputs
 
 -- after an input nothing is found at those that follow it
 step : (k : Constants) (subject : Subject) (rows : List Row) (inhibit : ℕ) (s : Stamped) (others : List Stamped) (before : Inputs) (p : Progress) → KnowsInhibit inhibit subject → AllHaveInhibit inhibit k before (s ∷ others)
     → AreElsewhere (0x700 + k.description.node) (s ∷ others) → AreElsewhere (0x80 + k.description.node) (s ∷ others) → AllSendAside k before (s ∷ others) → AllSendWithout (0x80 + k.description.node) k before (s ∷ others)
-    → IsUnnamed emergency_inhibit_key k.description.node (heard_from k before (s ∷ others))
-    → And (Differs emergency_inhibit_key) (Calm inhibit s.micros (aged (marked_tick (moment k (moments k before) s.input).mark) (emergency_log (moments k before)))) p
-    → ((q : Progress) → And (Differs emergency_inhibit_key) (Calm inhibit s.micros (sendings (emergency_log (moments k (s.input ∷ before))))) q → IsUnnamed emergency_inhibit_key k.description.node (heard_from k (s.input ∷ before) others)
+    → ShowsFrom emergency_inhibit_key inhibit (of_device k subject) p (heard_from k before (s ∷ others))
+    → Calm inhibit s.micros (aged (marked_tick (moment k (moments k before) s.input).mark) (emergency_log (moments k before))) p
+    → ((q : Progress) → Calm inhibit s.micros (sendings (emergency_log (moments k (s.input ∷ before)))) q → ShowsFrom emergency_inhibit_key inhibit (of_device k subject) q (heard_from k (s.input ∷ before) others)
     → differences_from inhibit_differences (of_device k subject) rows q (heard_from k (s.input ∷ before) others) ≡ [])
     → differences_from inhibit_differences (of_device k subject) rows p (heard_from k before (s ∷ others)) ≡ []
-step k subject rows inhibit s others before p knows same control emergency aside without none h rest_none =
+step k subject rows inhibit s others before p knows same control emergency aside without shows h rest_none =
     let frames : List FrameContent = frame_of s.input ++ prescribed k before s.input in
     let rest : List Recorded = heard_from k (s.input ∷ before) others in
-    let U : Recorded → Type 0 = IsUnnamedAt emergency_inhibit_key k.description.node in
-    then_none inhibit_differences (of_device k subject) rows s.micros frames rest p (And (Differs emergency_inhibit_key) (Calm inhibit s.micros (sendings (emergency_log (moments k (s.input ∷ before))))))
-    (input_runs k subject rows s.micros inhibit before s.input p knows same.0 control.0 emergency.0 aside.0 without.0
-    (others_named emergency_inhibit_key k.description.node s.micros frames (first_of U (stamped s.micros frames) rest none)) h)
-    (λ q g. rest_none q g (last_of U (stamped s.micros frames) rest none))
+    let shown : Progress → Type 0 = λ q. ShowsFrom emergency_inhibit_key inhibit (of_device k subject) q rest in
+    then_none inhibit_differences (of_device k subject) rows s.micros frames rest p (λ q. Calm inhibit s.micros (sendings (emergency_log (moments k (s.input ∷ before)))) q × shown q)
+    (input_runs k subject rows s.micros inhibit before s.input p knows same.0 control.0 emergency.0 aside.0 without.0 shown h (at_once emergency_inhibit_key inhibit (of_device k subject) s.micros frames rest p shows))
+    (λ q g. rest_none q g.0 g.1)
 
 all_none : (k : Constants) (subject : Subject) (rows : List Row) (inhibit : ℕ) (inputs : List Stamped) (before : Inputs) (last : ℕ) (p : Progress) → KnowsInhibit inhibit subject → AllHaveInhibit inhibit k before inputs
     → AreSpaced last inputs → AreElsewhere (0x700 + k.description.node) inputs → AreElsewhere (0x80 + k.description.node) inputs → AllSendAside k before inputs → AllSendWithout (0x80 + k.description.node) k before inputs
-    → IsUnnamed emergency_inhibit_key k.description.node (heard_from k before inputs) → And (Differs emergency_inhibit_key) (Calm inhibit last (sendings (emergency_log (moments k before)))) p
+    → ShowsFrom emergency_inhibit_key inhibit (of_device k subject) p (heard_from k before inputs) → Calm inhibit last (sendings (emergency_log (moments k before))) p
     → differences_from inhibit_differences (of_device k subject) rows p (heard_from k before inputs) ≡ []
-all_none k subject rows inhibit [] before last p knows same time control emergency aside without none h = refl
-all_none k subject rows inhibit (s ∷ others) before last p knows same time control emergency aside without none h =
+all_none k subject rows inhibit [] before last p knows same time control emergency aside without shows h = refl
+all_none k subject rows inhibit (s ∷ others) before last p knows same time control emergency aside without shows h =
     let history : History = moments k before in
-    step k subject rows inhibit s others before p knows same control emergency aside without none
-    (later inhibit last s.micros (marked_tick (moment k history s.input).mark) (sendings (emergency_log history)) p (subst (λ more. last + more ≤ s.micros) (sym (took k history s.input)) time.0) h.0, h.1)
+    step k subject rows inhibit s others before p knows same control emergency aside without shows
+    (later inhibit last s.micros (marked_tick (moment k history s.input).mark) (sendings (emergency_log history)) p (subst (λ more. last + more ≤ s.micros) (sym (took k history s.input)) time.0) h)
     (λ q g rest. all_none k subject rows inhibit others (s.input ∷ before) s.micros q knows same.1 time.1 control.1 emergency.1 aside.1 without.1 rest g)
 
 -- before the first one no EMCY was sent
@@ -251,22 +253,31 @@ none_aged inhibit micros false p h = h
 
 of_recording : (k : Constants) (subject : Subject) (rows : List Row) (inhibit : ℕ) (inputs : List Stamped) → KnowsInhibit inhibit subject → AllHaveInhibit inhibit k [] inputs → AreUnhurried inputs
     → AreElsewhere (0x700 + k.description.node) inputs → AreElsewhere (0x80 + k.description.node) inputs → AllSendAside k [] inputs → AllSendWithout (0x80 + k.description.node) k [] inputs
-    → IsUnnamed emergency_inhibit_key k.description.node (recording k inputs) → differences_in inhibit_differences (of_device k subject) rows (recording k inputs) ≡ []
-of_recording k subject rows inhibit [] knows same time control emergency aside without none = refl
-of_recording k subject rows inhibit (s ∷ others) knows same time control emergency aside without none =
+    → ShowsFrom emergency_inhibit_key inhibit (of_device k subject) (before_recording (of_device k subject)) (recording k inputs) → differences_in inhibit_differences (of_device k subject) rows (recording k inputs) ≡ []
+of_recording k subject rows inhibit [] knows same time control emergency aside without shows = refl
+of_recording k subject rows inhibit (s ∷ others) knows same time control emergency aside without shows =
     let subj : Subject = of_device k subject in
     let known : KnowsInhibit inhibit subj = record { before = knows.before; booted = knows.booted } in
-    then_none inhibit_differences subj rows s.micros (boot_up k ∷ []) (heard_from k [] (s ∷ others)) (before_recording subj) (And (Differs emergency_inhibit_key) (Calm inhibit s.micros []))
-    (all_open (Differs emergency_inhibit_key) inhibit_differences subj rows s.micros (boot_up k ∷ []) (before_recording subj) (Calm inhibit s.micros [])
-    (others_named emergency_inhibit_key k.description.node s.micros (boot_up k ∷ []) (none.0, tt)) tt
-    (boots inhibit s.micros [] [] subj rows (before_recording subj) BootUp refl known))
-    (λ q g. step k subject rows inhibit s others [] q knows same control emergency aside without none.1
-    (none_aged inhibit s.micros (marked_tick (moment k [] s.input).mark) q g.0, g.1)
-    (λ q2 g2 rest. all_none k subject rows inhibit others (s.input ∷ []) s.micros q2 knows same.1 time control.1 emergency.1 aside.1 without.1 rest g2))
+    let rest : List Recorded = heard_from k [] (s ∷ others) in
+    let shown : Progress → Type 0 = λ q. ShowsFrom emergency_inhibit_key inhibit subj q rest in
+    then_none inhibit_differences subj rows s.micros (boot_up k ∷ []) rest (before_recording subj) (λ q. Calm inhibit s.micros [] q × shown q)
+    (both emergency_inhibit_key inhibit subj s.micros inhibit_differences rows (boot_up k ∷ []) (before_recording subj) (Calm inhibit s.micros []) shown
+    (boots inhibit s.micros [] [] subj rows (before_recording subj) BootUp refl known) (at_once emergency_inhibit_key inhibit subj s.micros (boot_up k ∷ []) rest (before_recording subj) shows))
+    (λ q g. step k subject rows inhibit s others [] q knows same control emergency aside without g.1
+    (none_aged inhibit s.micros (marked_tick (moment k [] s.input).mark) q g.0)
+    (λ q2 g2 rest_shows. all_none k subject rows inhibit others (s.input ∷ []) s.micros q2 knows same.1 time control.1 emergency.1 aside.1 without.1 rest_shows g2))
+
+-- where each transfer of 1015:00 that ends shows this time, or nothing
+pub none_early : (k : Constants) (subject : Subject) (rows : List Row) (inhibit : ℕ) (inputs : List Stamped) → subject.node ≡ k.description.node → KnowsInhibit inhibit subject → AllHaveInhibit inhibit k [] inputs
+    → AreUnhurried inputs → AreElsewhere (0x700 + k.description.node) inputs → AreElsewhere (0x80 + k.description.node) inputs → AllSendAside k [] inputs → AllSendWithout (0x80 + k.description.node) k [] inputs
+    → ShowsFrom emergency_inhibit_key inhibit (of_device k subject) (before_recording (of_device k subject)) (recording k inputs) → differences_in inhibit_differences subject rows (recording k inputs) ≡ []
+none_early k subject rows inhibit inputs is knows same time control emergency aside without shows =
+    subst (λ n. differences_in inhibit_differences (record subject { node = n }) rows (recording k inputs) ≡ []) (sym is)
+    (of_recording k subject rows inhibit inputs knows same time control emergency aside without shows)
 
 pub no_early_emergencies : (k : Constants) (subject : Subject) (rows : List Row) (inhibit : ℕ) (inputs : List Stamped) → subject.node ≡ k.description.node → KnowsInhibit inhibit subject → AllHaveInhibit inhibit k [] inputs
     → AreUnhurried inputs → AreElsewhere (0x700 + k.description.node) inputs → AreElsewhere (0x80 + k.description.node) inputs → AllSendAside k [] inputs → AllSendWithout (0x80 + k.description.node) k [] inputs
     → IsUnnamed emergency_inhibit_key k.description.node (recording k inputs) → differences_in inhibit_differences subject rows (recording k inputs) ≡ []
 no_early_emergencies k subject rows inhibit inputs is knows same time control emergency aside without none =
-    subst (λ n. differences_in inhibit_differences (record subject { node = n }) rows (recording k inputs) ≡ []) (sym is)
-    (of_recording k subject rows inhibit inputs knows same time control emergency aside without none)
+    none_early k subject rows inhibit inputs is knows same time control emergency aside without
+    (unnamed_shows emergency_inhibit_key inhibit (of_device k subject) (recording k inputs) (before_recording (of_device k subject)) none tt)

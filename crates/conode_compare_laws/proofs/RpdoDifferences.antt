@@ -7,6 +7,9 @@ use Rattle.co_frame.specs.FrameContent.{FrameContent}
 use Rattle.co_frame.specs.declared.nmt.NmtService.{NmtService}
 use Rattle.co_sheet.specs.Content.{Row}
 use Rattle.conode_explain_transfers.specs.declared.kinds.Side.TheVariants.{Client, Server}
+use Rattle.conode_record.specs.declared.content.Content.{Content}
+use Rattle.conode_record.specs.declared.fields.Identifier.{Identifier}
+use Rattle.conode_record.specs.declared.fields.Identifier.TheVariants.{Base}
 use Rattle.conode_record.specs.declared.line.Record.{Record}
 use Rattle.conode_compare_transfers.specs.declared.dialogue.Exchange.{Exchange}
 use Rattle.conode_compare_held.specs.declared.written.HeldMismatch.{HeldMismatch}
@@ -53,11 +56,13 @@ use Rattle.conode_compare_rules.specs.Progresses.{
 use Rattle.conode_compare_rules.specs.States.{is_reset}
 use Rattle.conode_compare_rules.specs.Verdicts.{found}
 use Rattle.conode_compare_receptions.specs.declared.receptions.Receptions.{Receptions}
+use Rattle.conode_compare_receptions.specs.AllFrames.{kind_at, program_from, program_over, progress_after, receptions_after}
 use Rattle.conode_compare_receptions.specs.Receptions.{holds_none, no_receptions, with_receptions}
 use Rattle.conode_compare_laws.specs.AnswerFindings.{of_answers, of_data, of_timeouts, of_toggles, of_transfers}
 use Rattle.conode_compare_laws.specs.Differences.{differences_from, differences_in, kind_in}
 use Rattle.conode_compare_laws.specs.Recordings.{Recorded}
 use Rattle.conode_compare_laws.specs.RpdoDifferences.{
+  AreReadAs,
   LawsPickNoHeld,
   PicksNoHeld,
   all_besides_held,
@@ -65,11 +70,6 @@ use Rattle.conode_compare_laws.specs.RpdoDifferences.{
   besides_held,
   findings_from,
   findings_over,
-  kind_at,
-  program_from,
-  program_over,
-  progress_after,
-  receptions_after,
   without_held,
 }
 
@@ -243,6 +243,27 @@ module _ (these : FrameKind → Findings → List Finding) (picks : PicksNoHeld 
 
   pub same_read : (subject : Subject) (rows : List Row) (recorded : List Recorded) → program_over these subject rows (map as_read recorded) ≡ differences_in these subject rows recorded
   same_read subject rows recorded = same subject rows (map as_read recorded) ∙ read_same subject rows recorded (before_recording subject)
+
+  -- at a frame with this stamp, identifier and content, and at those that follow
+  abbrev at : Subject → List Row → Progress → Receptions → ℕ → Identifier → Content → List Record → List Finding
+  at subject rows p r micros id content later =
+      program_from these subject rows p r (record { micros = micros; interface = []; id = id; content = content; direction = None } ∷ later)
+
+  any_read : (subject : Subject) (rows : List Row) (frames : List Record) (recorded : List Recorded) (p : Progress) (r : Receptions) → AreReadAs frames recorded
+      → program_from these subject rows p r frames ≡ program_from these subject rows p r (map as_read recorded)
+  any_read subject rows [] [] p r h = refl
+  any_read subject rows [] (y ∷ later) p r h = absurd h
+  any_read subject rows (x ∷ more) [] p r h = absurd h
+  any_read subject rows (x ∷ more) (y ∷ later) p r h =
+      ap (λ (micros : ℕ). at subject rows p r micros x.id x.content more) h.0.micros
+      ∙ ap (λ (id : Identifier). at subject rows p r y.micros id x.content more) h.0.id
+      ∙ ap (λ (content : Content). at subject rows p r y.micros (Base y.frame.id) content more) h.0.content
+      ∙ ap (λ (l : List Finding). these (kind_in subject y) (findings_at subject rows p y.micros (kind_in subject y)) ++ l)
+      (any_read subject rows more later (progress_after subject rows p r (as_read y)) (receptions_after subject rows p r (as_read y)) h.1)
+
+  pub all_read : (subject : Subject) (rows : List Row) (frames : List Record) (recorded : List Recorded) → AreReadAs frames recorded
+      → program_over these subject rows frames ≡ differences_in these subject rows recorded
+  all_read subject rows frames recorded h = any_read subject rows frames recorded (before_recording subject) no_receptions h ∙ same_read subject rows recorded
 
 -- ---- which differences these are
 

@@ -32,10 +32,11 @@ use Rattle.conode_compare_rules.specs.Progresses.{after_command, after_process, 
 use Rattle.conode_compare_rules.specs.States as states
 use Rattle.conode_compare_rules.specs.States.{after_boot_up, after_other, awaits_boot_up, boot_finding, control_finding, is_settled, second_boot_up, state_finding}
 use Rattle.conode_compare_rules.specs.Verdicts.{found}
+use Rattle.conode_compare_receptions.specs.AllFrames.{program_over}
 use Rattle.conode_compare_receptions.specs.Receptions.{booted_receptions, exchanged_by, is_sure, no_receptions, process_received, receptions_with, with_receptions}
 use Rattle.conode_compare_laws.specs.Differences.{differences_in}
 use Rattle.conode_compare_laws.specs.Recordings.{Recorded, with_stamp}
-use Rattle.conode_compare_laws.specs.RpdoDifferences.{all_besides_held, as_read, besides_held, program_over}
+use Rattle.conode_compare_laws.specs.RpdoDifferences.{all_besides_held, as_read, besides_held}
 
 -- ---- node 5, with an RPDO on 205h for 2000:00, which is held to what was written
 

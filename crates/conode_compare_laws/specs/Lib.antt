@@ -13,3 +13,4 @@ pub mod AnswerSenders
 pub mod AnswerEntries
 pub mod WrittenEntries
 pub mod GivenRooms
+pub mod ShownWords

@@ -1,6 +1,6 @@
 -- Heartbeats of one period, EMCY of one inhibit time, and the SDO timeout: what the laws about them ask of a device, of its data sheet,
 -- and of the limits.
-use Rattle.std.specs.Prelude.{◌≡◌, ℕ, false, List, [], ◌∷◌, IfSome}
+use Rattle.std.specs.Prelude.{◌≡◌, ℕ, ◌<◌, ◌≤◌, false, List, [], ◌∷◌, IfSome}
 use Rattle.co_profile.specs.Keys.{emergency_inhibit_key, producer_key}
 use Rattle.co_dict.specs.Rows.{number_at}
 use Rattle.co_node_model.specs.Inputs.{Inputs}
@@ -41,6 +41,7 @@ pub record KnowsInhibit (inhibit : ℕ) (subject : Subject) : Type 0 where
 
 -- ---- the time after which the SDO server times out
 
--- what is said of it is nothing, or the device's own, in ms; with 0 it never does
+-- what is said of it is nothing, or no longer than the device's own, in ms, and not 0; a device whose
+-- own is 0 never does, so of it anything may be said
 abbrev pub KnowsTimeout : Constants → Subject → Type 0
-KnowsTimeout k subject = IfSome subject.limits.time (λ time. time ≡ k.time)
+KnowsTimeout k subject = IfSome subject.limits.time (λ time. 0 < k.time → (0 < time) × (time ≤ k.time))

@@ -1,4 +1,5 @@
--- What the program finds in a recording: between two frames it looks at what RPDOs write to the entries that `--held` names.
+-- What the program finds in a recording (`program_over` of conode_compare_receptions), where nothing is looked at between two frames, and
+-- which differences what RPDOs write to the entries that `--held` names doesn't change.
 use Rattle.std.specs.Prelude.{◌≡◌, Bool, List, [], ◌∷◌, ◌++◌, Option, Some, None}
 use Rattle.std.specs.Option.{option_to_list}
 use Rattle.co_frame.specs.FrameContent.{FrameContent}
@@ -15,18 +16,12 @@ use Rattle.conode_compare_rules.specs.declared.kind.FrameKind.TheVariants.{Sdo}
 use Rattle.conode_compare_rules.specs.declared.limits.Subject.{Subject}
 use Rattle.conode_compare_rules.specs.declared.progress.Progress.{Progress}
 use Rattle.conode_compare_rules.specs.declared.verdict.Findings.{Findings}
-use Rattle.conode_compare_rules.specs.FrameKinds.{kind_of}
 use Rattle.conode_compare_rules.specs.Progresses.{before_recording, findings_at, progress_with}
-use Rattle.conode_compare_receptions.specs.declared.receptions.Receptions.{Receptions}
-use Rattle.conode_compare_receptions.specs.Receptions.{no_receptions, receptions_with, with_receptions}
+use Rattle.conode_compare_receptions.specs.AllFrames.{kind_at}
 use Rattle.conode_compare_laws.specs.AnswerFindings.{answer_differences, data_differences, timeout_differences, toggle_differences, transfer_differences}
 use Rattle.conode_compare_laws.specs.Differences.{emergency_differences, inhibit_differences, late_differences, state_differences}
 use Rattle.conode_compare_laws.specs.Recordings.{Recorded}
 use Rattle.conode_compare_laws.specs.TpdoDifferences.{tpdo_differences}
-
--- what a frame is to the device, whatever frame it is
-abbrev pub kind_at : Subject → Record → FrameKind
-kind_at subject r = kind_of subject.node r.id r.content
 
 -- of what is found at each frame these, in their order, as `differences_from` of Differences, where
 -- nothing is looked at between two frames
@@ -36,33 +31,27 @@ findings_from these subject rows progress (r ∷ later) =
     these (kind_at subject r) (findings_at subject rows progress r.micros (kind_at subject r))
     ++ findings_from these subject rows (progress_with subject progress r.micros (kind_at subject r)) later
 
--- what RPDOs wrote to the entries that are held, after a frame
-abbrev pub receptions_after : Subject → List Row → Progress → Receptions → Record → Receptions
-receptions_after subject rows progress receptions r =
-    receptions_with subject rows receptions (progress_with subject progress r.micros (kind_at subject r)) r.micros (kind_at subject r) r.id r.content
-
--- and what is known of the device then: `frame_taken` of conode_compare
-abbrev pub progress_after : Subject → List Row → Progress → Receptions → Record → Progress
-progress_after subject rows progress receptions r =
-    with_receptions subject (progress_with subject progress r.micros (kind_at subject r)) (receptions_after subject rows progress receptions r)
-
--- of what the program finds at each frame these
-abbrev pub program_from : (FrameKind → Findings → List Finding) → Subject → List Row → Progress → Receptions → List Record → List Finding
-program_from these subject rows progress receptions [] = []
-program_from these subject rows progress receptions (r ∷ later) =
-    these (kind_at subject r) (findings_at subject rows progress r.micros (kind_at subject r))
-    ++ program_from these subject rows (progress_after subject rows progress receptions r) (receptions_after subject rows progress receptions r) later
-
 -- over a whole recording
 abbrev pub findings_over : (FrameKind → Findings → List Finding) → Subject → List Row → List Record → List Finding
 findings_over these subject rows frames = findings_from these subject rows (before_recording subject) frames
 
-abbrev pub program_over : (FrameKind → Findings → List Finding) → Subject → List Row → List Record → List Finding
-program_over these subject rows frames = program_from these subject rows (before_recording subject) no_receptions frames
-
 -- a data frame as the program reads it of a line
 abbrev pub as_read : Recorded → Record
 as_read r = record { micros = r.micros; interface = []; id = Base r.frame.id; content = Data r.frame.bytes; direction = None }
+
+-- a frame that the program reads of a line is this data frame, on whatever interface, and whether it
+-- was received or sent
+pub record IsReadAs (r : Record) (of : Recorded) : Type 0 where
+  pub micros : r.micros ≡ of.micros
+  pub id : r.id ≡ Base of.frame.id
+  pub content : r.content ≡ Data of.frame.bytes
+
+-- so each of these
+abbrev pub AreReadAs : List Record → List Recorded → Type 0
+AreReadAs [] [] = Unit {0}
+AreReadAs [] (of ∷ later) = ⊥
+AreReadAs (r ∷ more) [] = ⊥
+AreReadAs (r ∷ more) (of ∷ later) = IsReadAs r of × AreReadAs more later
 
 -- ---- which differences don't depend on it
 

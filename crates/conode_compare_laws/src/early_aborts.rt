@@ -23,12 +23,12 @@ use co_node_laws::stays_apart;
 /// the drift, and whatever transfers there are, in segments and in blocks: no transfer is aborted
 /// as timed out sooner after the client's newest frame than its time. Requests may come in whatever
 /// state, out of turn, and of any length; the data of block uploads may look like such an abort.
-/// Conditions: `compare` has the device's node-ID; the time that it is given is none, or the
-/// device's own SDO timeout (`KnowsTimeout`); no stamp is earlier than the ticks have it
-/// (`AreUnhurried`); no other node sends on the identifier of the answers (`AreElsewhere`); and the
-/// COB-IDs with which the device is built are apart from its default channel, from NMT and from its
-/// error control (`BeginsApart`, `BeginsAside`, `BeginsOther`). This is a law: a call of it changes
-/// nothing.
+/// Conditions: `compare` has the device's node-ID; the time that it is given is none, or above 0
+/// and no longer than the device's own SDO timeout, where that isn't 0 (`KnowsTimeout`); no stamp is
+/// earlier than the ticks have it (`AreUnhurried`); no other node sends on the identifier of the
+/// answers (`AreElsewhere`); and the COB-IDs with which the device is built are apart from its
+/// default channel, from NMT and from its error control (`BeginsApart`, `BeginsAside`,
+/// `BeginsOther`). This is a law: a call of it changes nothing.
 pub fn no_early_aborts()
     ensures { (k : Constants) (subject : Subject) (rows : List Row) (inputs : List Stamped) →
         subject.node ≡ k.description.node → KnowsTimeout k subject → AreUnhurried inputs →

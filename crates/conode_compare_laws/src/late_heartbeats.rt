@@ -1,17 +1,29 @@
 //! When heartbeats come.
 
 ghost use Rattle.std.specs.Prelude.{◌≡◌, ◌+◌, ◌<◌, ℕ, List, []};
+ghost use Rattle.std.specs.List.{All};
 ghost use Rattle.co_profile.specs.Keys.{producer_key};
 ghost use Rattle.co_dict.specs.Rows.{number_at};
+ghost use Rattle.co_dict_build.specs.Built.{Plan};
+ghost use Rattle.co_node.specs.Built.{IsBuilt};
 ghost use Rattle.co_sheet.specs.Content.{Row};
+ghost use Rattle.co_sheet.specs.SheetLaws.{IsSheetRow};
+ghost use Rattle.co_node_laws.specs.Apart.{BeginsApart};
 ghost use Rattle.co_node_model.specs.Moments.{Constants};
 ghost use Rattle.conode_compare_rules.specs.declared.limits.Subject.{Subject};
+ghost use Rattle.conode_compare_laws.specs.AnswerSenders.{BeginsOther, HaveBytes};
 ghost use Rattle.conode_compare_laws.specs.Differences.{differences_in, late_differences};
 ghost use Rattle.conode_compare_laws.specs.Identifiers.{AreElsewhere, BeginsAside, IsUnnamed};
 ghost use Rattle.conode_compare_laws.specs.Periods.{AllKeepPeriod, KnowsPeriod};
 ghost use Rattle.conode_compare_laws.specs.Recordings.{AreTimed, Stamped, recording};
+ghost use Rattle.conode_compare_laws.specs.ShownWords.{AllHaveWord};
 
+use crate::answer_laws::{begins_other, sends_other};
 use crate::aside::sends_aside;
+use crate::built_devices::begins_aside;
+use co_node::begins_apart;
+use co_node_laws::stays_apart;
+use co_sdo::Bank;
 
 /// The recording of a device has no `heartbeat-late` (CiA 301, 7.2.8.3.2), whatever the tolerance
 /// and the drift, and whatever transfers there are on its default SDO channel but of 1017:00.
@@ -30,4 +42,48 @@ pub fn no_late_heartbeats()
         differences_in late_differences subject rows (recording k inputs) ≡ [] }
 {
     sends_aside();
+}
+
+/// So it has none where clients read 1017:00 on its default SDO channel, and ask to write it: what
+/// an expedited upload shows is the period, and no write is confirmed. Conditions: those of `no_late_heartbeats`, but that no client names 1017:00; the
+/// entry has two bytes (`AllHaveWord`); frames have bytes (`HaveBytes`); no other node sends on the
+/// identifier of the answers (`AreElsewhere`); and the COB-IDs with which the device is built are
+/// apart from its default channel, from NMT and from its error control (`BeginsApart`,
+/// `BeginsAside`, `BeginsOther`). This is a law: a call of it changes nothing.
+pub fn no_late_heartbeats_shown()
+    ensures { (k : Constants) (subject : Subject) (rows : List Row) (period : ℕ)
+        (inputs : List Stamped) → subject.node ≡ k.description.node →
+        number_at k.start producer_key ≡ period → 0 < period → AllKeepPeriod period k [] inputs →
+        AllHaveWord producer_key period k [] inputs → KnowsPeriod period subject →
+        AreTimed inputs → HaveBytes inputs →
+        AreElsewhere (0x700 + k.description.node) inputs →
+        AreElsewhere (0x580 + k.description.node) inputs → BeginsApart k → BeginsAside k →
+        BeginsOther k →
+        differences_in late_differences subject rows (recording k inputs) ≡ [] }
+{
+    sends_aside();
+    sends_other();
+    stays_apart();
+}
+
+/// So has the recording of each device that is built from a data sheet: `no_late_heartbeats_shown`
+/// of it, without a condition on the bytes of 1017:00, since what is written into it fits.
+/// Conditions: the rows are those of a sheet that was read (`IsSheetRow`); `compare` has the
+/// device's node-ID; and those of `no_late_heartbeats_shown` on the period, the stamps and the
+/// frames. This is a law: a call of it changes nothing.
+pub fn built_no_late_heartbeats()
+    ensures { (plan : Plan) (k : Constants) (subject : Subject) (rows : List Row) (period : ℕ)
+        (inputs : List Stamped) → IsBuilt plan k → All IsSheetRow plan.rows →
+        subject.node ≡ k.description.node → number_at k.start producer_key ≡ period →
+        0 < period → AllKeepPeriod period k [] inputs → KnowsPeriod period subject →
+        AreTimed inputs → HaveBytes inputs →
+        AreElsewhere (0x700 + k.description.node) inputs →
+        AreElsewhere (0x580 + k.description.node) inputs →
+        differences_in late_differences subject rows (recording k inputs) ≡ [] }
+{
+    Bank::set_is_permitted();
+    begins_apart();
+    begins_aside();
+    begins_other();
+    no_late_heartbeats_shown();
 }

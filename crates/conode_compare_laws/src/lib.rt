@@ -25,11 +25,13 @@ pub use answer_laws::{
 pub use aside::sends_aside;
 pub use built_devices::{begins_aside, built_no_state_differences};
 pub use early_aborts::{built_no_early_aborts, no_early_aborts};
-pub use early_emergencies::no_early_emergencies;
+pub use early_emergencies::{
+    built_no_early_emergencies, no_early_emergencies, no_early_emergencies_shown,
+};
 pub use emergencies::no_emergency_differences;
 pub use entries::stays_dictionary;
 pub use held_entries::held_changes_no_other;
-pub use late_heartbeats::no_late_heartbeats;
+pub use late_heartbeats::{built_no_late_heartbeats, no_late_heartbeats, no_late_heartbeats_shown};
 pub use rooms::rooms_of_device;
 pub use states::no_state_differences;
 pub use tpdo_built::{built_no_pdo_length, keeps_tpdos, tpdos_of_sheet};

@@ -1,1 +1,2 @@
 pub mod Receptions
+pub mod AllFrames
