@@ -247,8 +247,8 @@ unfolding held_of words_in key_in
 mapped_key = refl
 
 -- the identifiers that a PDO or a SYNC may have
-restricted : map is_restricted (0 ∷ 0x7F ∷ 0x80 ∷ 0x100 ∷ 0x101 ∷ 0x180 ∷ 0x181 ∷ 0x580 ∷ 0x581 ∷ 0x5FF ∷ 0x600 ∷ 0x601 ∷ 0x67F ∷ 0x680 ∷ 0x6DF ∷ 0x6E0 ∷ 0x701 ∷ 0x7FF ∷ [])
-    ≡ true ∷ true ∷ false ∷ false ∷ true ∷ true ∷ false ∷ false ∷ true ∷ true ∷ false ∷ true ∷ true ∷ false ∷ false ∷ true ∷ true ∷ true ∷ []
+restricted : map is_restricted (0 ∷ 0x7F ∷ 0x80 ∷ 0x100 ∷ 0x101 ∷ 0x180 ∷ 0x181 ∷ 0x580 ∷ 0x581 ∷ 0x5FF ∷ 0x600 ∷ 0x601 ∷ 0x67F ∷ 0x680 ∷ 0x6DF ∷ 0x6E0 ∷ 0x6FF ∷ 0x700 ∷ 0x701 ∷ 0x7FF ∷ [])
+    ≡ true ∷ true ∷ false ∷ false ∷ true ∷ true ∷ false ∷ false ∷ true ∷ true ∷ false ∷ true ∷ true ∷ false ∷ false ∷ true ∷ true ∷ false ∷ true ∷ true ∷ []
 restricted = refl
 
 -- the first may be in a PDO, the second may not

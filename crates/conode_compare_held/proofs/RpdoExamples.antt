@@ -5,7 +5,7 @@ use Rattle.co_profile.specs.declared.access.Access.TheVariants.{Constant, Ro, Rw
 use Rattle.co_sheet.specs.Content.{Row}
 use Rattle.co_sheet.specs.Limits.{absent}
 use Rattle.co_value.specs.declared.data_type.DataType.{DataType}
-use Rattle.co_value.specs.declared.data_type.DataType.TheVariants.{Unsigned8, Unsigned16}
+use Rattle.co_value.specs.declared.data_type.DataType.TheVariants.{Boolean, Unsigned8, Unsigned16}
 use Rattle.conode_compare_pdos.specs.declared.rpdo.Rpdo.{Rpdo}
 use Rattle.conode_compare_pdos.specs.declared.rpdos.Rpdos.{Rpdos}
 use Rattle.conode_compare_pdos.specs.Rpdos.{mapped_from}
@@ -95,6 +95,12 @@ shared = refl
 limited : map (λ bytes. all_fit rows rpdo bytes) ((9 ∷ 2 ∷ 1 ∷ 100 ∷ []) ∷ (9 ∷ 2 ∷ 1 ∷ 101 ∷ []) ∷ (9 ∷ 2 ∷ 1 ∷ []) ∷ []) ≡ true ∷ false ∷ false ∷ []
 unfolding fits_from
 limited = refl
+
+-- a BOOLEAN has 0 and 1 alone, the byte of another type any number
+bits : map (λ data_type. map (λ byte. all_fit (row 0x2000 data_type None ∷ []) (record rpdo { count = Some 1; objects = Some 0x20000008 ∷ [] }) (byte ∷ [])) (0 ∷ 1 ∷ 2 ∷ 255 ∷ [])) (Boolean ∷ Unsigned8 ∷ [])
+    ≡ (true ∷ true ∷ false ∷ false ∷ []) ∷ (true ∷ true ∷ true ∷ true ∷ []) ∷ []
+unfolding fits_from
+bits = refl
 
 -- down to a limit, and past it; a limit that can't be meant counts too
 lowest : map (λ first. all_fit (record (row 0x2000 Unsigned8 None) { low = Some (pos 10) } ∷ []) (record rpdo { count = Some 1; objects = Some 0x20000008 ∷ [] }) (first ∷ [])) (10 ∷ 9 ∷ []) ≡ true ∷ false ∷ []

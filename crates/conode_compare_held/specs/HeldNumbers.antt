@@ -119,7 +119,8 @@ abbrev pub is_restricted : ℕ → Bool
 is_restricted id =
     nat_le id 0x7F
     || ((nat_le 0x101 id && nat_le id 0x180)
-    || ((nat_le 0x581 id && nat_le id 0x5FF) || ((nat_le 0x601 id && nat_le id 0x67F) || nat_le 0x6E0 id)))
+    || ((nat_le 0x581 id && nat_le id 0x5FF) || ((nat_le 0x601 id && nat_le id 0x67F)
+    || ((nat_le 0x6E0 id && nat_le id 0x6FF) || nat_le 0x701 id))))
 
 -- what entries have that a PDO may have is unknown, from the one at a place on
 unfoldable pub unmapped_from : ℕ → List HeldEntry → Written → Written

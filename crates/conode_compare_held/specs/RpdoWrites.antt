@@ -11,7 +11,7 @@ use Rattle.conode_compare_pdos.specs.declared.rpdo.Rpdo.{Rpdo}
 use Rattle.conode_compare_pdos.specs.declared.rpdos.Rpdos.{Rpdos}
 use Rattle.conode_compare_pdos.specs.Rpdos.{another_maps, is_object_of, object_key}
 use Rattle.conode_compare_transfers.specs.Times.{is_past}
-use Rattle.conode_compare_values.specs.SheetValues.{is_within}
+use Rattle.conode_compare_values.specs.SheetValues.{is_boolean, is_within}
 use Rattle.conode_compare_held.specs.declared.entries.HeldEntry.{HeldEntry}
 use Rattle.conode_compare_held.specs.declared.rpdo_writes.Brought.{Brought}
 use Rattle.conode_compare_held.specs.declared.rpdo_writes.Brought.TheVariants.{Nothing, Unclear, Number}
@@ -41,11 +41,20 @@ is_received Rww = true
 is_received Wo = true
 is_received other = false
 
--- The sheet has the entry of an object with its length, an RPDO may have it, and the number is within
--- its limits: a device may refuse a frame with a number that isn't, and map nothing of a mapping
--- with another object.
+-- the byte of a BOOLEAN is 0 or 1: of another one a device may refuse the frame, or take a bit
+abbrev pub is_bit : List ℕ → Bool
+is_bit (byte ∷ []) = nat_le byte 1
+is_bit other = false
+
+abbrev pub is_value : Row → List ℕ → Bool
+is_value row bytes = not (is_boolean row.data_type) || is_bit bytes
+
+-- The sheet has the entry of an object with its length, an RPDO may have it, and the number is one of
+-- its type and within its limits: a device may refuse a frame with a number that isn't, and map nothing
+-- of a mapping with another object.
 abbrev pub takes : Row → List ℕ → Bool
-takes row bytes = (row.mappable && (is_received row.access && nat_le 0x2000 row.key.index)) && is_within row bytes
+takes row bytes =
+    (row.mappable && (is_received row.access && nat_le 0x2000 row.key.index)) && (is_value row bytes && is_within row bytes)
 
 abbrev pub fits : List Row → ℕ → List ℕ → Bool
 fits rows word bytes = option_map_or (λ row. takes row bytes) (row_at rows (object_key word)) false

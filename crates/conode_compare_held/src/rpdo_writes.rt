@@ -18,9 +18,11 @@ ghost use Rattle.conode_compare_held.specs.RpdoWrites.{
   fits_from,
   forgotten,
   forgotten_at,
+  is_bit,
   is_received,
   is_same,
   is_shown,
+  is_value,
   later_bytes,
   no_writes,
   numbered_at,
@@ -43,7 +45,7 @@ use crate::written::Written;
 use co_profile::Access;
 use co_sheet::EntryRow;
 use co_sheet_changes::row_at;
-use co_value::{Key, unsigned_of};
+use co_value::{DataType, Key, unsigned_of};
 use conode_compare_pdos::{Rpdo, Rpdos, is_object_of, object_key};
 use conode_compare_transfers::is_past;
 use conode_compare_values::is_within;
@@ -119,11 +121,32 @@ fn is_received(access: Access) -> bool
     matches!(access, Access::Rw | Access::Rww | Access::Wo)
 }
 
-// whether an RPDO may have an entry, and a number is within its limits
+// whether a byte is 0 or 1
+fn is_bit(bytes: &[u8]) -> bool
+    ensures { result ≡ is_bit bytes.now }
+{
+    match bytes {
+        [byte] => *byte <= 1,
+        _ => false,
+    }
+}
+
+// whether bytes are a number of a type, as far as that isn't any of its length
+fn is_value(row: &EntryRow<'_>, bytes: &[u8]) -> bool
+    ensures { result ≡ is_value (row_view row.now) bytes.now }
+{
+    !matches!(row.data_type, DataType::Boolean) || is_bit(bytes)
+}
+
+// whether an RPDO may have an entry, and a number is one of its type and within its limits
 fn takes(row: &EntryRow<'_>, bytes: &[u8]) -> bool
     ensures { result ≡ takes (row_view row.now) bytes.now }
 {
-    row.mappable && is_received(row.access) && row.key.index >= 0x2000 && is_within(row, bytes)
+    row.mappable
+        && is_received(row.access)
+        && row.key.index >= 0x2000
+        && is_value(row, bytes)
+        && is_within(row, bytes)
 }
 
 // whether the sheet has the entry of an object with these bytes

@@ -97,7 +97,8 @@ pub fn is_restricted(id: u16) -> bool
         || (0x101 <= id && id <= 0x180)
         || (0x581 <= id && id <= 0x5FF)
         || (0x601 <= id && id <= 0x67F)
-        || 0x6E0 <= id
+        || (0x6E0 <= id && id <= 0x6FF)
+        || 0x701 <= id
 }
 
 /// What differs, where both numbers are known and aren't the same.

@@ -1,6 +1,6 @@
 -- What RPDOs write to the entries that are held, and what leaves a doubt, on both sides of each edge, computed from the definitions.
 use Rattle.std.proofs.Common.{◌≡◌, ℕ, Bool, true, false, List, [], ◌∷◌, map, Option, Some, None, refl}
-use Rattle.std.specs.Prelude.{pos, slice_index_or}
+use Rattle.std.specs.Prelude.{option_map, pos, slice_index_or}
 use Rattle.co_frame.specs.FrameContent.{FrameContent}
 use Rattle.co_frame.specs.declared.nmt.NmtService.TheVariants.{Start, ResetNode}
 use Rattle.co_profile.specs.declared.access.Access.{Access}
@@ -19,7 +19,7 @@ use Rattle.conode_explain_transfers.specs.declared.kinds.Side.{Side}
 use Rattle.conode_explain_transfers.specs.declared.kinds.Side.TheVariants.{Client, Server}
 use Rattle.conode_explain_transfers.specs.declared.kinds.What.{What}
 use Rattle.conode_explain_transfers.specs.declared.kinds.What.TheVariants.{Initiate, Part}
-use Rattle.conode_record.specs.declared.content.Content.TheVariants.{Data}
+use Rattle.conode_record.specs.declared.content.Content.TheVariants.{Data, Fd}
 use Rattle.conode_record.specs.declared.fields.Identifier.{Identifier}
 use Rattle.conode_record.specs.declared.fields.Identifier.TheVariants.{Base, Extended}
 use Rattle.conode_compare_pdos.specs.declared.rpdo.Rpdo.{Rpdo}
@@ -112,8 +112,9 @@ followed_by device all = (booted_receptions device all).followed
 
 follows : (followed_by subject rows ≡ true) × (followed_by subject [] ≡ false)
     × (followed_by (record subject { facts = record (facts_of rows 5 false) { starts_itself = true } }) rows ≡ false)
+    × (followed_by (record subject { facts = record (facts_of rows 5 false) { modular = true } }) rows ≡ false)
 unfolding booted_receptions has_few_rpdos facts_of
-follows = (refl, refl, refl)
+follows = (refl, refl, refl, refl)
 
 takes : map (λ bytes. number_in (after booted operational (rpdo bytes))) ((2 ∷ 1 ∷ []) ∷ (5 ∷ 0 ∷ []) ∷ (5 ∷ []) ∷ []) ≡ None ∷ Some 5 ∷ Some 5 ∷ []
 unfolding booted_receptions has_few_rpdos facts_of rpdo_of mapped_from fits_from brought_from taken_from no_writes nothing_written process_received is_sure is_settled
@@ -130,13 +131,18 @@ others : map (λ id. number_in (after booted operational (record { id = id; byte
 unfolding booted_receptions has_few_rpdos facts_of rpdo_of no_writes nothing_written process_received
 others = refl
 
-not_followed : map (λ id. (after (record booted { followed = false }) (record operational { pdos = record unknown_pdos { third = booted_tpdo (record nothing_known { id = Some 0x185 }) } }) (record { id = id; bytes = [] })).touched)
-    (0x206 ∷ 0x701 ∷ 0x185 ∷ []) ≡ Some 20000 ∷ None ∷ None ∷ []
-unfolding booted_receptions has_few_rpdos facts_of rpdo_of no_writes nothing_written process_received
-not_followed = refl
+abbrev unfollowed : ℕ → Receptions
+unfollowed id =
+    let pdos = record unknown_pdos { third = booted_tpdo (record nothing_known { id = Some 0x185 }) } in
+    after (record booted { followed = false }) (record operational { pdos = pdos; written = booted.writes.written }) (record { id = id; bytes = [] })
+
+not_followed : (map (λ id. number_in (unfollowed id)) (0x206 ∷ 0x701 ∷ 0x185 ∷ []) ≡ None ∷ Some 5 ∷ Some 5 ∷ [])
+    × (map (λ id. (unfollowed id).touched) (0x206 ∷ 0x701 ∷ 0x185 ∷ []) ≡ Some 20000 ∷ None ∷ None ∷ [])
+unfolding booted_receptions has_few_rpdos facts_of rpdo_of no_writes nothing_written process_received unmapped_from
+not_followed = (refl, refl)
 
 -- then what is known is what the recording shows
-as_before : map (λ written. number_in (after (record booted { followed = false }) (record operational { written = written }) (record { id = 0x206; bytes = [] }))) (nothing_written ∷ booted.writes.written ∷ []) ≡ None ∷ Some 5 ∷ []
+as_before : number_in (after (record booted { followed = false }) operational (record { id = 0x701; bytes = [] })) ≡ None
 unfolding booted_receptions has_few_rpdos facts_of rpdo_of no_writes nothing_written process_received
 as_before = refl
 
@@ -169,6 +175,33 @@ unsettled : map (λ changed. value_in (after (first (record own { changed = Some
     ≡ None ∷ Some (record { number = 0x102; since = 20000 }) ∷ []
 unfolding booted_receptions has_few_rpdos facts_of rpdo_of mapped_from fits_from brought_from taken_from no_writes nothing_written process_received is_sure is_settled unmapped_from
 unsettled = refl
+
+-- within it each identifier may be the one before; a frame that may have waited for a SYNC by the parameters before ends following
+abbrev moved : Rpdo
+moved = record own { cob_id = Some 0x305; changed = Some 10000 }
+
+not_yet_apart : map (λ r. doubts r operational) (first moved ∷ first (record moved { changed = Some 9999 }) ∷ first (record moved { kind = Some 1 }) ∷ first (record moved { changed = Some 9999; kind = Some 1 }) ∷ [])
+    ≡ (None, None, true) ∷ (Some 5, None, true) ∷ (None, None, false) ∷ (Some 5, None, true) ∷ []
+unfolding booted_receptions has_few_rpdos facts_of rpdo_of mapped_from fits_from brought_from taken_from no_writes nothing_written process_received is_sure is_settled unmapped_from
+not_yet_apart = refl
+
+-- the parameters of each of the four
+each_of_four : map (λ rpdos. value_in (after (record booted { rpdos = rpdos }) operational (rpdo (2 ∷ 1 ∷ []))))
+    (record booted.rpdos { second = record booted.rpdos.second { changed = Some 10000 } } ∷ record booted.rpdos { third = record booted.rpdos.third { changed = Some 10000 } }
+    ∷ record booted.rpdos { fourth = record booted.rpdos.fourth { changed = Some 10000 } } ∷ record booted.rpdos { fourth = record booted.rpdos.fourth { changed = Some 9999 } } ∷ [])
+    ≡ None ∷ None ∷ None ∷ Some (record { number = 0x102; since = 20000 }) ∷ []
+unfolding booted_receptions has_few_rpdos facts_of rpdo_of mapped_from fits_from brought_from taken_from no_writes nothing_written process_received is_sure is_settled unmapped_from
+each_of_four = refl
+
+-- an RPDO whose COB-ID isn't known has none that CiA 301 restricts
+restricted : map (λ id. number_in (after (first (record own { cob_id = None })) operational (record { id = id; bytes = [] }))) (0x206 ∷ 0x701 ∷ []) ≡ None ∷ Some 5 ∷ []
+unfolding booted_receptions has_few_rpdos facts_of rpdo_of no_writes nothing_written process_received is_sure unmapped_from
+restricted = refl
+
+-- a frame that is doubted, or of another RPDO, may have been taken
+touches : map (λ r. (after r operational (rpdo (2 ∷ 1 ∷ []))).touched) (record booted { writing = true } ∷ booted ∷ first (record own { cob_id = Some 0x206 }) ∷ []) ≡ Some 20000 ∷ Some 20000 ∷ None ∷ []
+unfolding booted_receptions has_few_rpdos facts_of rpdo_of mapped_from fits_from brought_from taken_from no_writes nothing_written process_received is_sure is_settled unmapped_from
+touches = refl
 
 commanded_just_now : map (λ micros. value_in (after booted (record operational { nmt = record (nmt_in Operational) { commanded = Some (record { service = Start; micros = micros }) } }) (rpdo (2 ∷ 1 ∷ [])))) (10000 ∷ 9999 ∷ [])
     ≡ None ∷ Some (record { number = 0x102; since = 20000 }) ∷ []
@@ -231,6 +264,13 @@ resets : map (λ kind. (with taken 30001 kind).followed) (Command ResetNode ∷ 
 unfolding booted_receptions has_few_rpdos facts_of no_receptions receptions_with initial_entries sheet_entries rpdo_of mapped_from fits_from brought_from taken_from no_writes nothing_written process_received is_sure is_settled
 resets = refl
 
+-- a request to write 1010h, 1011h or 1F00h to 1FFFh: all RPDOs may be others
+changes_all : map (λ at. (requested booted at).rpdos.first.cob_id)
+    (asks_for 0x2B 0x0F 0x10 ∷ asks_for 0x2B 0x10 0x10 ∷ asks_for 0x2B 0x11 0x10 ∷ asks_for 0x2B 0x12 0x10 ∷ asks_for 0x2B 0xFF 0x1E ∷ asks_for 0x2B 0 0x1F ∷ asks_for 0x2B 0xFF 0x1F ∷ asks_for 0x2B 0 0x20 ∷ [])
+    ≡ Some 0x205 ∷ None ∷ None ∷ Some 0x205 ∷ Some 0x205 ∷ None ∷ None ∷ Some 0x205 ∷ []
+unfolding booted_receptions has_few_rpdos facts_of no_writes nothing_written exchanged_by settled_from rpdo_of
+changes_all = refl
+
 -- ---- downloads
 
 abbrev ended : Direction → ℕ → Option Ended
@@ -256,6 +296,11 @@ later : map (λ begun. number_in (answered taken Download begun)) (30000 ∷ 300
 unfolding booted_receptions has_few_rpdos facts_of rpdo_of mapped_from fits_from brought_from taken_from no_writes nothing_written process_received is_sure is_settled exchanged_by
 later = refl
 
+-- after the request, and none
+touched_when : map (λ touched. number_in (answered (record taken { touched = touched }) Download 30000)) (Some 40000 ∷ Some 19999 ∷ None ∷ []) ≡ None ∷ Some 5 ∷ Some 5 ∷ []
+unfolding booted_receptions has_few_rpdos facts_of rpdo_of mapped_from fits_from brought_from taken_from no_writes nothing_written process_received is_sure is_settled exchanged_by
+touched_when = refl
+
 uploads : number_in (answered taken Upload 30000) ≡ Some 5
 unfolding booted_receptions has_few_rpdos facts_of rpdo_of mapped_from fits_from brought_from taken_from no_writes nothing_written process_received is_sure is_settled exchanged_by
 uploads = refl
@@ -266,6 +311,25 @@ opens : map (λ r. r.writing) (requested booted (asks_for 0x2B 1 0x20) ∷ reque
 unfolding booted_receptions has_few_rpdos facts_of no_writes nothing_written exchanged_by settled_from rpdo_of
 opens = refl
 
+-- not where an earlier request may have been answered, nor by the client
+abbrev closed_by : Bool → Side → Bool
+closed_by certain side =
+    (exchanged_by subject (record booted { writing = true }) (shows Operational 50000) 50000 side (asks_for 0x60 0 0x20) (record (exchange_of Part (ended Download 30001)) { certain = certain })).writing
+
+closes_surely : (closed_by true Server ≡ false) × (closed_by false Server ≡ true) × (closed_by true Client ≡ true)
+unfolding booted_receptions has_few_rpdos facts_of no_writes nothing_written exchanged_by settled_from rpdo_of
+closes_surely = (refl, refl, refl)
+
+-- nor is a parameter known then
+abbrev cob_id_after : Bool → Option ℕ
+cob_id_after certain =
+    let download : Option Ended = option_map (λ e. record e { key = key 0x1400 1; first = record { items = 5 ∷ 3 ∷ 0 ∷ 0 ∷ [] } }) (ended Download 30001) in
+    (exchanged_by subject booted (shows Operational 50000) 50000 Server (asks_for 0x60 0 0x14) (record (exchange_of Part download) { certain = certain })).rpdos.first.cob_id
+
+shows_surely : map cob_id_after (true ∷ false ∷ []) ≡ Some 0x305 ∷ Some 0x205 ∷ []
+unfolding booted_receptions has_few_rpdos facts_of no_writes nothing_written exchanged_by settled_from rpdo_of
+shows_surely = refl
+
 -- ---- other frames
 
 abbrev seen : FrameKind → Identifier → Receptions
@@ -275,6 +339,29 @@ seen kind id = receptions_with subject rows booted (record (shows Operational 20
 shared : map number_in (seen (Emergency 0 0) (Base 0x85) ∷ seen (Process 0x206 2) (Base 0x206) ∷ seen Other (Base 0) ∷ seen Other (Extended 0x205) ∷ []) ≡ Some 5 ∷ Some 5 ∷ Some 5 ∷ None ∷ []
 unfolding booted_receptions has_few_rpdos facts_of rpdo_of no_writes nothing_written receptions_with process_received initial_entries sheet_entries
 shared = refl
+
+-- where an RPDO has it, and where RPDOs aren't followed
+abbrev emergency_after : Receptions → Receptions
+emergency_after r = receptions_with subject rows r (record (shows Operational 20000) { written = booted.writes.written }) 20000 (Emergency 0 0) (Base 0x85) (Data (2 ∷ 1 ∷ []))
+
+emergency_id : map (λ r. value_in (emergency_after r)) (first (record own { cob_id = Some 0x85 }) ∷ booted ∷ []) ≡ Some (record { number = 0x102; since = 20000 }) ∷ None ∷ []
+unfolding booted_receptions has_few_rpdos facts_of rpdo_of mapped_from fits_from brought_from taken_from no_writes nothing_written receptions_with process_received is_sure is_settled initial_entries sheet_entries
+emergency_id = refl
+
+abbrev emergency_unfollowed : Receptions
+emergency_unfollowed = emergency_after (record booted { followed = false })
+
+emergency_not_followed : (number_in emergency_unfollowed ≡ None) × (emergency_unfollowed.touched ≡ Some 20000)
+unfolding booted_receptions has_few_rpdos facts_of rpdo_of no_writes nothing_written receptions_with process_received initial_entries sheet_entries unmapped_from
+emergency_not_followed = (refl, refl)
+
+-- of CAN FD, with 11 bits
+abbrev fd_seen : Receptions
+fd_seen = receptions_with subject rows booted (shows Operational 20000) 20000 Other (Base 0x206) (Fd 0 [])
+
+fd : (fd_seen.followed ≡ false) × (fd_seen.touched ≡ Some 20000)
+unfolding booted_receptions has_few_rpdos facts_of rpdo_of no_writes nothing_written receptions_with process_received initial_entries sheet_entries
+fd = (refl, refl)
 
 extended : (seen Other (Extended 0x205)).followed ≡ false
 unfolding booted_receptions has_few_rpdos facts_of rpdo_of no_writes nothing_written receptions_with process_received initial_entries sheet_entries

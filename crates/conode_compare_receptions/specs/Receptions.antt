@@ -43,12 +43,13 @@ unfoldable pub no_receptions : Receptions
 no_receptions = record { rpdos = unknown_rpdos; writes = no_writes; followed = false; writing = true; touched = None; operational = None }
 
 -- After a boot-up no RPDO that came before takes effect. RPDOs are followed where there are none but
--- the first four. A device with 1F80h may become operational by itself.
+-- the first four. A device with 1F80h may become operational by itself; which RPDOs a modular one has,
+-- its modules decide.
 unfoldable pub booted_receptions : Subject → List Row → Receptions
 booted_receptions subject rows = record {
   rpdos = rpdos_of rows subject.node subject.facts.as_sheet;
   writes = no_writes;
-  followed = not subject.facts.starts_itself && has_few_rpdos rows;
+  followed = (not subject.facts.starts_itself && not subject.facts.modular) && has_few_rpdos rows;
   writing = false;
   touched = None;
   operational = None;
@@ -162,12 +163,27 @@ is_used pdos id = is_id pdos.sync id || is_tpdo pdos id
 abbrev pub is_rpdo_settled : ℕ → Option ℕ → ℕ → Bool
 is_rpdo_settled tolerance changed free = option_map_or (λ c. is_past c tolerance free) changed true
 
--- what an RPDO writes with a frame, at once, is known: its parameters are, no download is open, and
--- nothing else has its identifier
+-- of none of them: a frame may be taken as by the parameters before
+abbrev pub all_settled : ℕ → Rpdos → ℕ → Bool
+all_settled tolerance rpdos free =
+    is_rpdo_settled tolerance rpdos.first.changed free && (is_rpdo_settled tolerance rpdos.second.changed free
+    && (is_rpdo_settled tolerance rpdos.third.changed free && is_rpdo_settled tolerance rpdos.fourth.changed free))
+
+-- what an RPDO receives takes effect at once, whether by its parameters or by those before
+abbrev pub is_prompt : ℕ → ℕ → Rpdo → Bool
+is_prompt tolerance free rpdo = is_rpdo_settled tolerance rpdo.changed free || is_immediate rpdo
+
+abbrev pub all_prompt : ℕ → Rpdos → ℕ → Bool
+all_prompt tolerance rpdos free =
+    is_prompt tolerance free rpdos.first && (is_prompt tolerance free rpdos.second
+    && (is_prompt tolerance free rpdos.third && is_prompt tolerance free rpdos.fourth))
+
+-- what an RPDO writes with a frame, at once, is known: the parameters of all are, no download is open,
+-- and nothing else has its identifier
 unfoldable pub is_sure : Subject → Receptions → Progress → ℕ → Rpdo → Bool
 is_sure subject r progress id rpdo =
     ((r.followed && not r.writing) && (is_some rpdo.cob_id && is_immediate rpdo))
-    && (is_rpdo_settled subject.limits.tolerance rpdo.changed progress.free
+    && (all_settled subject.limits.tolerance r.rpdos progress.free
     && (takes_rpdos subject progress && not (is_used progress.pdos id)))
 
 -- A frame that may be an RPDO: what the entries have that a PDO may have is unknown. Where what it
@@ -175,7 +191,7 @@ is_sure subject r progress id rpdo =
 abbrev pub doubted : Subject → Receptions → Progress → ℕ → ℕ → Receptions
 doubted subject r progress micros id = record r {
   writes = record (without_values r.writes) { written = unmapped subject.held.entries.items progress.written };
-  followed = r.followed && all_at_once id r.rpdos;
+  followed = (r.followed && all_at_once id r.rpdos) && all_prompt subject.limits.tolerance r.rpdos progress.free;
   touched = Some micros;
 }
 
@@ -198,21 +214,20 @@ abbrev pub received_by : Subject → List Row → Receptions → Progress → �
 received_by subject rows r progress micros id bytes None = doubted subject r progress micros id
 received_by subject rows r progress micros id bytes (Some rpdo) = taken_by subject rows r progress micros id bytes rpdo (mapped_length rpdo)
 
--- none of its RPDOs has this identifier
-abbrev pub is_apart : Receptions → ℕ → Bool
-is_apart r id = is_restricted id || not (any_receives id r.rpdos)
+-- none of its RPDOs has this identifier, nor had it within the tolerance
+abbrev pub is_apart : Subject → Receptions → Progress → ℕ → Bool
+is_apart subject r progress id =
+    is_restricted id || (not (any_receives id r.rpdos) && all_settled subject.limits.tolerance r.rpdos progress.free)
 
 -- where RPDOs aren't followed, each frame may be one, or a SYNC, but those of the device's TPDOs
-abbrev pub touched_by : Receptions → Progress → ℕ → ℕ → Option ℕ
-touched_by r progress micros id = if is_restricted id || is_tpdo progress.pdos id then r.touched else Some micros
-
-abbrev pub with_any : Receptions → Progress → ℕ → ℕ → Receptions
-with_any r progress micros id = record (with_written r progress.written) { touched = touched_by r progress micros id }
+abbrev pub with_any : Subject → Receptions → Progress → ℕ → ℕ → Receptions
+with_any subject r progress micros id =
+    if is_restricted id || is_tpdo progress.pdos id then with_written r progress.written else doubted subject r progress micros id
 
 unfoldable pub process_received : Subject → List Row → Receptions → Progress → ℕ → FrameContent → Receptions
 process_received subject rows r progress micros frame =
-    if not r.followed then with_any r progress micros frame.id
-    else (if is_apart r frame.id then r else received_by subject rows r progress micros frame.id frame.bytes (receiver frame.id r.rpdos))
+    if not r.followed then with_any subject r progress micros frame.id
+    else (if is_apart subject r progress frame.id then r else received_by subject rows r progress micros frame.id frame.bytes (receiver frame.id r.rpdos))
 
 -- with an identifier of 29 bits, or of CAN FD: what an RPDO writes with it may wait for a SYNC
 abbrev pub other_received : Receptions → Progress → ℕ → Receptions
@@ -232,21 +247,17 @@ frame_received subject rows r progress micros (Base id) content = base_received 
 frame_received subject rows r progress micros (Extended id) content = other_received r progress micros
 frame_received subject rows r progress micros (Error class) content = other_received r progress micros
 
--- CiA 301 doesn't restrict the identifier of EMCY: an RPDO may have it
-abbrev pub shared_received : Subject → List Row → Receptions → Progress → ℕ → Identifier → Content → Receptions
-shared_received subject rows r progress micros id content =
-    if r.followed then frame_received subject rows r progress micros id content else with_written r progress.written
-
 -- ---- every frame
 
+-- CiA 301 doesn't restrict the identifier of EMCY: an RPDO may have it
 abbrev pub receptions_at : Subject → List Row → Receptions → Progress → ℕ → FrameKind → Identifier → Content → Receptions
 receptions_at subject rows r progress micros (Control byte) id content = controlled subject rows r progress byte
 receptions_at subject rows r progress micros (OddControl length) id content = with_written (without_brought r) progress.written
 receptions_at subject rows r progress micros (Command service) id content = commanded r progress service
 receptions_at subject rows r progress micros (CommandToAll service) id content = commanded r progress service
 receptions_at subject rows r progress micros (Sdo side frame) id content = exchanged subject r progress micros side frame progress.exchange
-receptions_at subject rows r progress micros (Emergency code register) id content = shared_received subject rows r progress micros id content
-receptions_at subject rows r progress micros (OddEmergency length) id content = shared_received subject rows r progress micros id content
+receptions_at subject rows r progress micros (Emergency code register) id content = frame_received subject rows r progress micros id content
+receptions_at subject rows r progress micros (OddEmergency length) id content = frame_received subject rows r progress micros id content
 receptions_at subject rows r progress micros (Process own length) id content = frame_received subject rows r progress micros id content
 receptions_at subject rows r progress micros Other id content = frame_received subject rows r progress micros id content
 receptions_at subject rows r progress micros (Polled polled) id content = r

@@ -6,10 +6,13 @@ ghost use Rattle.co_sheet.specs.SheetViews.{row_view};
 ghost use Rattle.co_value.specs.Keys.{is_key_before};
 ghost use Rattle.conode_record.specs.Grammar.{IsIdentifier};
 ghost use Rattle.conode_compare_receptions.specs.Receptions.{
+  all_prompt,
+  all_settled,
   brought,
   doubted,
   frame_received,
   is_apart,
+  is_prompt,
   is_rpdo_settled,
   is_sure,
   is_tpdo,
@@ -17,7 +20,6 @@ ghost use Rattle.conode_compare_receptions.specs.Receptions.{
   other_received,
   process_received,
   received_by,
-  shared_received,
   taken,
   with_any,
 };
@@ -26,7 +28,7 @@ use crate::receptions::Receptions;
 use co_frame::Frame;
 use co_sheet::EntryRow;
 use conode_compare_held::{all_fit, is_restricted};
-use conode_compare_pdos::{Pdos, Rpdo, is_id};
+use conode_compare_pdos::{Pdos, Rpdo, Rpdos, is_id};
 use conode_compare_rules::{Progress, Subject};
 use conode_compare_transfers::is_past;
 use conode_record::{Content, Identifier};
@@ -58,6 +60,33 @@ fn is_rpdo_settled(tolerance: u32, changed: Option<u64>, free: u64) -> bool
     }
 }
 
+// whether it is of all of them
+fn all_settled(tolerance: u32, rpdos: &Rpdos, free: u64) -> bool
+    ensures { result ≡ all_settled tolerance rpdos.now free }
+{
+    is_rpdo_settled(tolerance, rpdos.first.changed, free)
+        && is_rpdo_settled(tolerance, rpdos.second.changed, free)
+        && is_rpdo_settled(tolerance, rpdos.third.changed, free)
+        && is_rpdo_settled(tolerance, rpdos.fourth.changed, free)
+}
+
+// whether what an RPDO receives takes effect at once, by its parameters or by those before
+fn is_prompt(tolerance: u32, free: u64, rpdo: &Rpdo) -> bool
+    ensures { result ≡ is_prompt tolerance free rpdo.now }
+{
+    is_rpdo_settled(tolerance, rpdo.changed, free) || rpdo.is_immediate()
+}
+
+// whether what all of them receive does
+fn all_prompt(tolerance: u32, rpdos: &Rpdos, free: u64) -> bool
+    ensures { result ≡ all_prompt tolerance rpdos.now free }
+{
+    is_prompt(tolerance, free, &rpdos.first)
+        && is_prompt(tolerance, free, &rpdos.second)
+        && is_prompt(tolerance, free, &rpdos.third)
+        && is_prompt(tolerance, free, &rpdos.fourth)
+}
+
 impl Receptions {
     // whether what an RPDO writes with a frame is known
     #[tactic(auto, unfolding(crate::specs::Receptions::is_sure))]
@@ -68,7 +97,7 @@ impl Receptions {
             && !self.writing
             && rpdo.cob_id.is_some()
             && rpdo.is_immediate()
-            && is_rpdo_settled(subject.limits.tolerance, rpdo.changed, progress.free)
+            && all_settled(subject.limits.tolerance, &self.rpdos, progress.free)
             && progress.takes_rpdos(subject)
             && !is_used(progress.pdos(), id)
     }
@@ -80,7 +109,9 @@ impl Receptions {
         self.writes.forget_values();
         self.writes.written = progress.written;
         self.writes.written.forget_mapped(&subject.held);
-        self.followed = self.followed && self.rpdos.all_at_once(id);
+        self.followed = self.followed
+            && self.rpdos.all_at_once(id)
+            && all_prompt(subject.limits.tolerance, &self.rpdos, progress.free);
         self.touched = Some(micros);
     }
 
@@ -145,20 +176,23 @@ impl Receptions {
         self.doubt(subject, progress, micros, frame.id());
     }
 
-    // whether none of its RPDOs has an identifier
-    fn is_apart(&self, id: u16) -> bool
-        ensures { result ≡ is_apart self.now id }
+    // whether none of its RPDOs has an identifier, nor had it within the tolerance
+    fn is_apart(&self, subject: &Subject, progress: &Progress, id: u16) -> bool
+        ensures { result ≡ is_apart subject.now self.now progress.now id }
     {
-        is_restricted(id) || !self.rpdos.any_receives(id)
+        is_restricted(id)
+            || (!self.rpdos.any_receives(id)
+                && all_settled(subject.limits.tolerance, &self.rpdos, progress.free))
     }
 
     // A data frame came, and RPDOs aren't followed.
-    fn take_any(&mut self, progress: &Progress, micros: u64, id: u16)
-        ensures { self.new ≡ with_any self.old progress.now micros id }
+    fn take_any(&mut self, subject: &Subject, progress: &Progress, micros: u64, id: u16)
+        ensures { self.new ≡ with_any subject.now self.old progress.now micros id }
     {
-        self.writes.written = progress.written;
-        if !is_restricted(id) && !is_tpdo(progress.pdos(), id) {
-            self.touched = Some(micros);
+        if is_restricted(id) || is_tpdo(progress.pdos(), id) {
+            self.set_written(progress.written);
+        } else {
+            self.doubt(subject, progress, micros, id);
         }
     }
 
@@ -177,10 +211,10 @@ impl Receptions {
             subject.now (map row_view rows.now) self.old progress.now micros frame.now }
     {
         if !self.followed {
-            self.take_any(progress, micros, frame.id());
+            self.take_any(subject, progress, micros, frame.id());
             return;
         }
-        if self.is_apart(frame.id()) {
+        if self.is_apart(subject, progress, frame.id()) {
             return;
         }
         let rpdo = self.rpdos.receiver(frame.id());
@@ -218,28 +252,6 @@ impl Receptions {
                 self.take_process(subject, rows, progress, micros, &frame);
             }
             _ => self.take_other(progress, micros),
-        }
-    }
-
-    // A frame with an identifier that EMCY may share with an RPDO.
-    pub(crate) fn take_shared(
-        &mut self,
-        subject: &Subject,
-        rows: &[EntryRow<'_>],
-        progress: &Progress,
-        micros: u64,
-        id: Identifier,
-        content: &Content<'_>,
-    )
-        requires rows { AllPairs (λ e f. is_key_before e.key f.key ≡ true) rows.now }
-        requires id { IsIdentifier id }
-        ensures { self.new ≡ shared_received
-            subject.now (map row_view rows.now) self.old progress.now micros id content.now }
-    {
-        if self.followed {
-            self.take_frame(subject, rows, progress, micros, id, content);
-        } else {
-            self.set_written(progress.written);
         }
     }
 }

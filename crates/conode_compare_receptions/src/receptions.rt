@@ -75,7 +75,9 @@ impl Receptions {
         Receptions {
             rpdos: Rpdos::of(rows, subject.node, subject.facts.as_sheet),
             writes: RpdoWrites::none(),
-            followed: !subject.facts.starts_itself && has_few_rpdos(rows),
+            followed: !subject.facts.starts_itself
+                && !subject.facts.modular
+                && has_few_rpdos(rows),
             writing: false,
             touched: None,
             operational: None,
@@ -166,10 +168,10 @@ impl Receptions {
                 self.take_command(progress, *service);
             }
             FrameKind::Sdo(side, frame) => self.take_sdo(subject, progress, micros, *side, frame),
-            FrameKind::Emergency(_, _) | FrameKind::OddEmergency(_) => {
-                self.take_shared(subject, rows, progress, micros, id, content);
-            }
-            FrameKind::Process(_, _) | FrameKind::Other => {
+            FrameKind::Emergency(_, _)
+            | FrameKind::OddEmergency(_)
+            | FrameKind::Process(_, _)
+            | FrameKind::Other => {
                 self.take_frame(subject, rows, progress, micros, id, content);
             }
             FrameKind::Polled(_) | FrameKind::Guarding | FrameKind::Fault => {}
