@@ -1,8 +1,19 @@
 //! The text of a value, by its data type and its bits.
 #![tactic(auto)]
 
-// As `?`, without a conversion of the error: a `match` is one step of a proof where `?` is three.
+// As `?` of a result without a value, and without a conversion of the error: a `match` is one step
+// of a proof where `?` is three.
 macro_rules! attempt {
+    ($result:expr) => {
+        match $result {
+            Ok(()) => {}
+            Err(fault) => return Err(fault),
+        }
+    };
+}
+
+// The same of a result with a value.
+macro_rules! attempt_value {
     ($result:expr) => {
         match $result {
             Ok(value) => value,

@@ -37,7 +37,7 @@ fn text_of_digits(
     if number == 0 || number >= MANY_DIGITS {
         return Ok(None);
     }
-    let text = attempt!(rounded_text(alloc, real.is_negative(bits), number as u64, tens));
+    let text = attempt_value!(rounded_text(alloc, real.is_negative(bits), number as u64, tens));
     if real.is_read_as(bits, text.as_bytes()) {
         Ok(Some(text))
     } else {

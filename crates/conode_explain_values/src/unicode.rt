@@ -91,7 +91,7 @@ fn push_characters(text: &mut String, bytes: &[u8]) -> Result<(), AllocError>
 {
     let mut rest = bytes;
     while rest.len() >= 2 {
-        rest = attempt!(push_character(text, rest));
+        rest = attempt_value!(push_character(text, rest));
     }
     Ok(())
 }

@@ -1,6 +1,6 @@
 //! The data types of values.
 
-ghost use Rattle.std.specs.Prelude.{◌≡◌};
+ghost use Rattle.std.specs.Prelude.{◌≡◌, bytes_eq};
 ghost use Rattle.std.specs.Option.{option_copied};
 ghost use Rattle.conode_explain_values.specs.Types.{is_boolean_type, original_type, type_bits, type_of, is_whole};
 
@@ -27,19 +27,26 @@ pub enum ValueType {
     TimeDifference,
 }
 
+// (a call where a comparison of slices is four times the code)
+fn is_code(code: &[u8], of: &[u8]) -> bool
+    ensures { result ≡ bytes_eq code.now of.now }
+{
+    code == of
+}
+
 // the type that the code of an original type says
 fn original_type(code: &[u8]) -> Option<ValueType>
     ensures { result ≡ original_type code.now }
 {
-    if code == b"0x0008".as_slice() {
+    if is_code(code, b"0x0008") {
         Some(ValueType::Real32)
-    } else if code == b"0x000B".as_slice() {
+    } else if is_code(code, b"0x000B") {
         Some(ValueType::UnicodeString)
-    } else if code == b"0x000C".as_slice() {
+    } else if is_code(code, b"0x000C") {
         Some(ValueType::TimeOfDay)
-    } else if code == b"0x000D".as_slice() {
+    } else if is_code(code, b"0x000D") {
         Some(ValueType::TimeDifference)
-    } else if code == b"0x0011".as_slice() {
+    } else if is_code(code, b"0x0011") {
         Some(ValueType::Real64)
     } else {
         None

@@ -1,7 +1,7 @@
 //! Why a line isn't one of a recording.
 
 /// What is wrong with a line: its first wrong part.
-#[derive(Clone, Copy, Debug, PartialEq, Eq)]
+#[derive(Clone, Copy)]
 pub enum BadLine {
     /// It doesn't begin with a stamp, as `(1700000000.250000)`: seconds in 1 to 12 digits and
     /// microseconds in 6.

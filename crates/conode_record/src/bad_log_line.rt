@@ -41,6 +41,25 @@ pub enum BadLogLine {
     Ending,
 }
 
+/// What is wrong, in the order of `BadLogLine`.
+static WORDS: [&str; 15] = [
+    "no recorder is known that writes such a line; --log FORM names one",
+    "the version of the .trc isn't 1.1, 1.3, 2.0 or 2.1",
+    "the columns aren't N,O,T,B,I,d,R,L,D, where B and R may be left out, and l may be there for L",
+    "after base there is no hex or dec, or after that no timestamps absolute or relative",
+    "there is no stamp as this form of log has it",
+    "the stamps up to here add up to more than 999999999999 seconds",
+    "there is no interface of at most 15 bytes, or no channel from 1 to 255",
+    "the message is of no type that this form of log has",
+    "there is no direction, Rx or Tx",
+    "there is no identifier up to 7FF (11 bits) or 1FFFFFFF (29 bits) as this form of log has it",
+    "there are no flags of a CAN FD frame",
+    "there is no length up to 8, or of a CAN FD frame up to 64, as this form of log has it",
+    "the data aren't as many bytes as the length says",
+    "there are more than 8 data bytes, or in a CAN FD frame more than 64",
+    "after the frame comes something else",
+];
+
 impl BadLogLine {
     /// What is wrong with a line of a recording as `candump -L` writes it.
     pub fn of_record(bad: BadLine) -> BadLogLine
@@ -62,35 +81,6 @@ impl BadLogLine {
     pub fn words(self) -> &'static str
         ensures { result.now ≡ bad_words self }
     {
-        match self {
-            BadLogLine::Unknown =>
-                "no recorder is known that writes such a line; --log FORM names one",
-            BadLogLine::Version => "the version of the .trc isn't 1.1, 1.3, 2.0 or 2.1",
-            BadLogLine::Columns => {
-                "the columns aren't N,O,T,B,I,d,R,L,D, where B and R may be left out, and l may be there for L"
-            }
-            BadLogLine::Base => {
-                "after base there is no hex or dec, or after that no timestamps absolute or relative"
-            }
-            BadLogLine::Stamp => "there is no stamp as this form of log has it",
-            BadLogLine::TooLate => "the stamps up to here add up to more than 999999999999 seconds",
-            BadLogLine::Interface => {
-                "there is no interface of at most 15 bytes, or no channel from 1 to 255"
-            }
-            BadLogLine::Type => "the message is of no type that this form of log has",
-            BadLogLine::Direction => "there is no direction, Rx or Tx",
-            BadLogLine::Identifier => {
-                "there is no identifier up to 7FF (11 bits) or 1FFFFFFF (29 bits) as this form of log has it"
-            }
-            BadLogLine::Flags => "there are no flags of a CAN FD frame",
-            BadLogLine::Length => {
-                "there is no length up to 8, or of a CAN FD frame up to 64, as this form of log has it"
-            }
-            BadLogLine::Data => "the data aren't as many bytes as the length says",
-            BadLogLine::TooManyBytes => {
-                "there are more than 8 data bytes, or in a CAN FD frame more than 64"
-            }
-            BadLogLine::Ending => "after the frame comes something else",
-        }
+        WORDS[self as usize]
     }
 }

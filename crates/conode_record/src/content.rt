@@ -180,8 +180,10 @@ pub(crate) fn data_in(text: &[u8]) -> Result<(PackedBytes, Option<Direction>), B
     let Some((bytes, rest)) = few_pairs_at(text) else {
         return Err(BadLine::TooManyBytes);
     };
-    let direction = ending_in(rest)?;
-    Ok((bytes, direction))
+    match ending_in(rest) {
+        Ok(direction) => Ok((bytes, direction)),
+        Err(bad) => Err(bad),
+    }
 }
 
 fn fd_in(text: &[u8]) -> Result<(Content<'_>, Option<Direction>), BadLine>
@@ -196,8 +198,10 @@ fn fd_in(text: &[u8]) -> Result<(Content<'_>, Option<Direction>), BadLine>
     let Some((bytes, rest)) = fd_pairs_at(text) else {
         return Err(BadLine::TooManyBytes);
     };
-    let direction = ending_in(rest)?;
-    Ok((Content::Fd(flags, bytes), direction))
+    match ending_in(rest) {
+        Ok(direction) => Ok((Content::Fd(flags, bytes), direction)),
+        Err(bad) => Err(bad),
+    }
 }
 
 // the length of a remote frame, and what follows
@@ -222,8 +226,10 @@ fn remote_in(text: &[u8]) -> Result<(Content<'_>, Option<Direction>), BadLine>
     let Some((length, rest)) = length_at(text) else {
         return Err(BadLine::Length);
     };
-    let direction = ending_in(rest)?;
-    Ok((Content::Remote(length), direction))
+    match ending_in(rest) {
+        Ok(direction) => Ok((Content::Remote(length), direction)),
+        Err(bad) => Err(bad),
+    }
 }
 
 /// Whether a CAN FD frame or a remote frame follows the number sign; else data do.

@@ -7,8 +7,9 @@ ghost use Rattle.conode_record.specs.Lines.{frame_in, is_skipped, line_in};
 
 use crate::bad_line::BadLine;
 use crate::content::{Content, Direction, data_in, is_other, other_in};
-use crate::fields::{Identifier, identifier_at, interface_at, stamp_at};
+use crate::fields::{Identifier, identifier_at, interface_at};
 use crate::interface::Interface;
+use crate::numbers::stamp_at;
 
 /// A frame of a recording.
 #[derive(Drop)]
@@ -81,7 +82,10 @@ fn frame_in(line: &[u8]) -> Result<RecordLine<'_>, BadLine>
         return Err(BadLine::Identifier);
     };
     if is_other(rest) {
-        let (content, direction) = other_in(rest)?;
+        let (content, direction) = match other_in(rest) {
+            Ok(found) => found,
+            Err(bad) => return Err(bad),
+        };
         return Ok(RecordLine::Frame(Record {
             micros,
             interface,
@@ -90,7 +94,10 @@ fn frame_in(line: &[u8]) -> Result<RecordLine<'_>, BadLine>
             direction,
         }));
     }
-    let (bytes, direction) = data_in(rest)?;
+    let (bytes, direction) = match data_in(rest) {
+        Ok(found) => found,
+        Err(bad) => return Err(bad),
+    };
     Ok(RecordLine::Frame(Record {
         micros,
         interface,
