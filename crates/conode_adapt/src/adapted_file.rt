@@ -32,15 +32,11 @@ fn write_refused<E: Write>(
         AdaptFault::TooLarge => FaultKind::TooLarge,
     };
     let mut report = String::new(alloc);
-    push_faults(
-        alloc,
-        &mut report,
-        name,
-        b"",
-        &[],
-        &[SheetFault { kind, line: 0 }],
-    )?;
-    hand_over(report.as_bytes(), err)
+    let faults = [SheetFault { kind, line: 0 }];
+    match push_faults(alloc, &mut report, name, b"", &[], &faults) {
+        Ok(()) => hand_over(report.as_bytes(), err),
+        Err(_) => Err(CmdFault::Memory),
+    }
 }
 
 // writes the changes and the sheet if it is accepted, else the faults that remain; returns whether
@@ -93,7 +89,7 @@ pub fn write_adapted<O: Write, E: Write>(
     match outcome_of(alloc, text, name, version, orders) {
         Ok(outcome) => write_outcome(&outcome, out, err),
         Err(refusal) => {
-            write_refused(alloc, name, refusal, err)?;
+            attempt!(write_refused(alloc, name, refusal, err));
             Ok(false)
         }
     }
@@ -126,7 +122,7 @@ fn write_asked<O: Write, E: Write>(
             write_adapted(alloc, text, name, version, orders, out, err)
         }
         Err(refusal) => {
-            write_refused(alloc, name, refusal, err)?;
+            attempt!(write_refused(alloc, name, refusal, err));
             Ok(false)
         }
     }

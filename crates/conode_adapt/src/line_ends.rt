@@ -28,7 +28,7 @@ pub(crate) fn push_mark(
     if !source.starts_with(b"\xEF\xBB\xBF") {
         return Ok(());
     }
-    push_place(alloc, text, name, 1)?;
+    attempt!(push_place(alloc, text, name, 1));
     text.extend_from_slice(b"byte order mark: EF BB BF -> dropped\n")
 }
 
@@ -65,9 +65,9 @@ fn push_ends(
     let [first, ..] = lines else {
         return Ok(());
     };
-    push_place(alloc, text, name, *first)?;
-    text.extend_from_slice(b"ends of lines, ")?;
-    push_number(alloc, text, lines.len() as u64)?;
+    attempt!(push_place(alloc, text, name, *first));
+    attempt!(text.extend_from_slice(b"ends of lines, "));
+    attempt!(push_number(alloc, text, lines.len() as u64));
     text.extend_from_slice(b" in all: CR LF -> LF\n")
 }
 
@@ -86,7 +86,7 @@ pub(crate) fn push_line_ends(
     if stays {
         return Ok(());
     }
-    let lines = returns_in(alloc, source)?;
+    let lines = attempt!(returns_in(alloc, source));
     push_ends(alloc, text, name, lines.as_slice())
 }
 
@@ -119,7 +119,7 @@ fn push_last(
     let Some(line) = line else {
         return Ok(());
     };
-    push_place(alloc, text, name, line)?;
+    attempt!(push_place(alloc, text, name, line));
     text.extend_from_slice(b"end of the last line: none -> LF\n")
 }
 

@@ -23,7 +23,7 @@ ghost use Rattle.conode_adapt.specs.Listing.{
 
 use co_sheet_changes::{Change, ChangeKind, Piece, change_name, push_number};
 use co_sheet_text::trim;
-use co_text::{push_decimal, push_u16};
+use conode_text::{Value, push_filled};
 use std::alloc::{AllocError, Global};
 
 fn shown_byte(byte: u8) -> u8
@@ -68,7 +68,7 @@ fn push_new_bytes(text: &mut Vec<u8>, bytes: &[u8]) -> Result<(), AllocError>
     ensures { OnOk result (text.new.items ≡ text.old.items ++ flat_map new_byte bytes.now) }
 {
     for byte in bytes {
-        push_new_byte(text, *byte)?;
+        attempt!(push_new_byte(text, *byte));
     }
     Ok(())
 }
@@ -85,57 +85,75 @@ fn push_new(text: &mut Vec<u8>, lines: &[u8]) -> Result<(), AllocError>
 }
 
 // the sections that an object in compact form is given
+#[tactic(auto, unfolding(conode_text::specs::Filled::filled))]
 fn push_sections(words: &mut String, index: u16, count: u8) -> Result<(), AllocError>
     ensures { OnOk result (string_bytes words.new ≡ string_bytes words.old
         ++ sections_text index count) }
 {
-    words.push_str(", [")?;
-    push_u16(words, index)?;
-    words.push_str("sub0] and ")?;
-    push_decimal(words, count as u64)?;
-    words.push_str(" more")
+    push_filled(
+        words,
+        ", [%sub0] and % more",
+        &[Value::Short(index), Value::Number(count as u64)],
+    )
 }
 
-fn push_if(words: &mut String, is: bool, word: &str) -> Result<(), AllocError>
-    ensures { OnOk result (string_bytes words.new ≡ string_bytes words.old ++ word_if is word.now) }
+fn word_if(is: bool, word: &str) -> &str
+    ensures { result.now ≡ word_if is word.entry.now }
 {
-    if is { words.push_str(word) } else { Ok(()) }
+    if is { word } else { "" }
 }
 
 // the sub-indices from 3 on of a communication object
+#[tactic(auto, unfolding(conode_text::specs::Filled::filled))]
 fn push_subs(words: &mut String, subs: u64) -> Result<(), AllocError>
     ensures { OnOk result (string_bytes words.new ≡ string_bytes words.old ++ subs_text subs) }
 {
-    push_if(words, subs / 4 % 2 == 1, " 3")?;
-    push_if(words, subs / 8 % 2 == 1, " 4")?;
-    push_if(words, subs / 16 % 2 == 1, " 5")?;
-    push_if(words, subs / 32 % 2 == 1, " 6")
+    push_filled(
+        words,
+        "%%%%",
+        &[
+            Value::Words(word_if(subs / 4 % 2 == 1, " 3")),
+            Value::Words(word_if(subs / 8 % 2 == 1, " 4")),
+            Value::Words(word_if(subs / 16 % 2 == 1, " 5")),
+            Value::Words(word_if(subs / 32 % 2 == 1, " 6")),
+        ],
+    )
 }
 
 // the objects that PDOs in compact form are given
-#[tactic(auto, unfolding(crate::specs::Listing::invented))]
+#[tactic(auto, unfolding(crate::specs::Listing::invented, conode_text::specs::Filled::filled))]
 fn push_objects(words: &mut String, count: u64, subs: u64) -> Result<(), AllocError>
     ensures { OnOk result
         (string_bytes words.new ≡ string_bytes words.old ++ objects_text count subs) }
 {
-    words.push_str(", ")?;
-    push_decimal(words, count)?;
-    words.push_str(" objects, sub-indices 0 1 2")?;
-    push_subs(words, subs)?;
+    attempt!(push_filled(
+        words,
+        ", % objects, sub-indices 0 1 2",
+        &[Value::Number(count)],
+    ));
+    attempt!(push_subs(words, subs));
     words.push_str("; invented: not valid, type 255, timers 0, mappings of 0 entries")
 }
 
-// the sections or objects that a change adds
+// the sections or objects that a change adds, in words
 #[tactic(auto, unfolding(crate::specs::Listing::sub_indices_text))]
+fn push_words(words: &mut String, kind: ChangeKind) -> Result<(), AllocError>
+    ensures { OnOk result
+        (string_bytes words.new ≡ string_bytes words.old ++ sub_indices_text kind) }
+{
+    match kind {
+        ChangeKind::CompactSubObj { index, count } => push_sections(words, index, count),
+        ChangeKind::CompactPdo { count, subs } => push_objects(words, count, subs),
+        _ => Ok(()),
+    }
+}
+
+// the same
 fn push_sub_indices(text: &mut Vec<u8>, alloc: Global, kind: ChangeKind) -> Result<(), AllocError>
     ensures { OnOk result (text.new.items ≡ text.old.items ++ sub_indices_text kind) }
 {
     let mut words = String::new(alloc);
-    match kind {
-        ChangeKind::CompactSubObj { index, count } => push_sections(&mut words, index, count)?,
-        ChangeKind::CompactPdo { count, subs } => push_objects(&mut words, count, subs)?,
-        _ => {}
-    }
+    attempt!(push_words(&mut words, kind));
     text.extend_from_slice(words.as_bytes())
 }
 
@@ -149,9 +167,9 @@ pub(crate) fn push_place(
 ) -> Result<(), AllocError>
     ensures { OnOk result (text.new.items ≡ text.old.items ++ place_text name.now line) }
 {
-    push_shown(text, name)?;
-    text.push(b':')?;
-    push_number(alloc, text, line as u64)?;
+    attempt!(push_shown(text, name));
+    attempt!(text.extend_from_slice(b":"));
+    attempt!(push_number(alloc, text, line as u64));
     text.extend_from_slice(b": ")
 }
 
@@ -165,12 +183,11 @@ fn push_old_and_new(
     ensures { OnOk result
         (text.new.items ≡ text.old.items ++ old_and_new (change_view change.now)) }
 {
-    push_shown(text, trim(change.old))?;
-    text.extend_from_slice(b" -> ")?;
-    push_new(text, change.new.as_slice())?;
-    push_sub_indices(text, alloc, change.kind)?;
-    text.push(b'\n')?;
-    Ok(())
+    attempt!(push_shown(text, trim(change.old)));
+    attempt!(text.extend_from_slice(b" -> "));
+    attempt!(push_new(text, change.new.as_slice()));
+    attempt!(push_sub_indices(text, alloc, change.kind));
+    text.extend_from_slice(b"\n")
 }
 
 // the line of a change: `NAME:LINE: what changed: old -> new`
@@ -184,11 +201,10 @@ fn push_change(
     ensures { OnOk result
         (text.new.items ≡ text.old.items ++ change_line name.now (change_view change.now)) }
 {
-    push_place(alloc, text, name, change.line)?;
-    text.extend_from_slice(change_name(change.kind).as_bytes())?;
-    text.extend_from_slice(b": ")?;
-    push_old_and_new(alloc, text, change)?;
-    Ok(())
+    attempt!(push_place(alloc, text, name, change.line));
+    attempt!(text.extend_from_slice(change_name(change.kind).as_bytes()));
+    attempt!(text.extend_from_slice(b": "));
+    push_old_and_new(alloc, text, change)
 }
 
 // the line of a piece that is changed
@@ -218,7 +234,7 @@ pub(crate) fn push_changes(
         ≡ text.old.items ++ flat_map (piece_line name.now) (map piece_view pieces.now)) }
 {
     for piece in pieces {
-        push_piece(alloc, text, name, piece)?;
+        attempt!(push_piece(alloc, text, name, piece));
     }
     Ok(())
 }

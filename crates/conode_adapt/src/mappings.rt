@@ -28,7 +28,7 @@ fn mappings_of(alloc: Global, sheet: &Sheet<'_>) -> Result<Vec<u16>, AllocError>
         own: &[],
     };
     let node = sheet.node_id().unwrap_or(1);
-    let found = find_build_faults::<ListStore>(alloc, sheet, node, &limits)?;
+    let found = attempt!(find_build_faults::<ListStore>(alloc, sheet, node, &limits));
     mappings_in(alloc, found.faults.as_slice())
 }
 
@@ -43,8 +43,8 @@ fn faulty_mappings(alloc: Global, text: &[u8]) -> Result<Vec<u16>, AllocError> {
 
 // the mappings at fault in a text after it was forced and adapted
 fn mappings_by(alloc: Global, text: &[u8], orders: Orders<'_>) -> Result<Vec<u16>, AdaptFault> {
-    let forced = on_request(alloc, text, orders.force_request())?;
-    let adapted = adapt(alloc, forced.text.as_slice(), b"")?;
+    let forced = attempt!(on_request(alloc, text, orders.force_request()));
+    let adapted = attempt!(adapt(alloc, forced.text.as_slice(), b""));
     match faulty_mappings(alloc, adapted.text.as_slice()) {
         Ok(mappings) => Ok(mappings),
         Err(_) => Err(AdaptFault::Memory),
@@ -62,6 +62,6 @@ pub(crate) fn mappings_at_fault(
         leading_zeros,
         force: Some(&[]),
     };
-    let read = on_request(alloc, text, orders.zeros_request())?;
+    let read = attempt!(on_request(alloc, text, orders.zeros_request()));
     mappings_by(alloc, read.text.as_slice(), orders)
 }

@@ -37,8 +37,8 @@ pub(crate) struct Outcome {
 fn by_line(alloc: Global, version: &str, name: &str) -> Result<Vec<u8>, AllocError>
     ensures { IfOk result (λ made. made.items ≡ by_line version.now name.now) }
 {
-    let mut made = joined(alloc, b"conode ", version.as_bytes(), b" from ")?;
-    made.extend_from_slice(name.as_bytes())?;
+    let mut made = attempt!(joined(alloc, b"conode ", version.as_bytes(), b" from "));
+    attempt!(made.extend_from_slice(name.as_bytes()));
     Ok(made)
 }
 
@@ -66,12 +66,12 @@ fn listed(
 {
     let name = name.as_bytes();
     let mut changes = Vec::new(alloc);
-    push_mark(alloc, &mut changes, name, text)?;
-    push_line_ends(alloc, &mut changes, name, text, steps.stays)?;
-    push_last_line(alloc, &mut changes, name, text, steps.stays)?;
-    push_changes(alloc, &mut changes, name, steps.read)?;
-    push_changes(alloc, &mut changes, name, steps.forced)?;
-    push_changes(alloc, &mut changes, name, steps.adapted)?;
+    attempt!(push_mark(alloc, &mut changes, name, text));
+    attempt!(push_line_ends(alloc, &mut changes, name, text, steps.stays));
+    attempt!(push_last_line(alloc, &mut changes, name, text, steps.stays));
+    attempt!(push_changes(alloc, &mut changes, name, steps.read));
+    attempt!(push_changes(alloc, &mut changes, name, steps.forced));
+    attempt!(push_changes(alloc, &mut changes, name, steps.adapted));
     Ok(changes)
 }
 
@@ -118,8 +118,8 @@ fn outcome_with(
         adapted: adapted.pieces.as_slice(),
         stays: stays_with(adapted.stays, read.has_changes, forced.has_changes),
     };
-    let changes = listed(alloc, text, name, &steps)?;
-    let remaining = remaining_of(alloc, text, name, &adapted)?;
+    let changes = attempt!(listed(alloc, text, name, &steps));
+    let remaining = attempt!(remaining_of(alloc, text, name, &adapted));
     Ok(Outcome {
         sheet: adapted.text,
         changes,
@@ -143,8 +143,10 @@ fn adapted_by<'a>(
     ensures accepted { IfOk result (λ made. made.is_accepted ≡ is_none
         (first_fault made.text.items)) }
 {
-    let by = by_line(alloc, version, name)?;
-    adapt(alloc, text, by.as_slice())
+    match by_line(alloc, version, name) {
+        Ok(by) => adapt(alloc, text, by.as_slice()),
+        Err(_) => Err(AdaptFault::Memory),
+    }
 }
 
 /// Adapts a text. `TooLarge` if it, or what is added to it, has more than 1,048,576 bytes; `Memory`

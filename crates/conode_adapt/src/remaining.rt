@@ -3,9 +3,10 @@
 use co_sheet_changes::Piece;
 use co_sheet_faults::{FaultKind, SheetFault, find_faults, fix_of, meaning_of, subject_of};
 use co_sheet_text::{number_in, same_name, trim, without_mark};
-use co_text::{push_decimal, split_at_first, split_line};
+use co_text::{split_at_first, split_line};
 use conode_json::characters_of;
 use conode_lint_text::{About, Finding, Place, Severity, push_finding, push_more};
+use conode_text::{Value, push_filled};
 use std::alloc::{AllocError, Global};
 
 /// The most faults that are printed.
@@ -25,8 +26,7 @@ fn push_lines(sources: &mut Vec<usize>, text: &[u8], number: usize) -> Result<()
 }
 
 // for each line of the rewritten text, the number of its source line; the first line is a comment
-fn sources_of(alloc: Global, pieces: &[Piece<'_>]) -> Result<Vec<usize>, AllocError> {
-    let mut sources = Vec::new(alloc);
+fn push_sources(sources: &mut Vec<usize>, pieces: &[Piece<'_>]) -> Result<(), AllocError> {
     sources.push(0)?;
     let mut number: usize = 0;
     for piece in pieces {
@@ -37,12 +37,14 @@ fn sources_of(alloc: Global, pieces: &[Piece<'_>]) -> Result<Vec<usize>, AllocEr
             }
             Piece::Changed(change) => {
                 number = number.saturating_add(1);
-                push_lines(&mut sources, change.new.as_slice(), number)?;
+                attempt!(push_lines(sources, change.new.as_slice(), number));
             }
-            Piece::Added { line, text } => push_lines(&mut sources, text.as_slice(), *line)?,
+            Piece::Added { line, text } => {
+                attempt!(push_lines(sources, text.as_slice(), *line));
+            }
         }
     }
-    Ok(sources)
+    Ok(())
 }
 
 fn lines_of(alloc: Global, text: &[u8]) -> Result<Vec<&[u8]>, AllocError> {
@@ -118,11 +120,11 @@ fn digits_of(line: &[u8]) -> &[u8] {
 fn push_both(report: &mut String, line: &[u8]) -> Result<(), AllocError> {
     let digits = digits_of(line);
     if let (Some(octal), Some(decimal)) = (number_in(8, digits), number_in(10, digits)) {
-        report.push_str("  note: ")?;
-        push_decimal(report, octal)?;
-        report.push_str(" in octal, ")?;
-        push_decimal(report, decimal)?;
-        report.push_str(" in decimal\n")?;
+        return push_filled(
+            report,
+            "  note: % in octal, % in decimal\n",
+            &[Value::Number(octal), Value::Number(decimal)],
+        );
     }
     Ok(())
 }
@@ -142,9 +144,9 @@ fn push_fault(
     text: &[u8],
     fault: SheetFault,
 ) -> Result<(), AllocError> {
-    push_finding(alloc, report, false, file, &finding_of(fault, text))?;
+    attempt!(push_finding(alloc, report, false, file, &finding_of(fault, text)));
     if fault.kind == FaultKind::AmbiguousNumber {
-        push_both(report, text)?;
+        return push_both(report, text);
     }
     Ok(())
 }
@@ -165,10 +167,10 @@ fn push_all(
             kind: fault.kind,
             line,
         };
-        push_fault(alloc, report, file, line_at(lines, line), fault)?;
+        attempt!(push_fault(alloc, report, file, line_at(lines, line), fault));
     }
     if !more.is_empty() {
-        push_more(report, file, more.len())?;
+        return push_more(report, file, more.len());
     }
     Ok(())
 }
@@ -183,8 +185,8 @@ pub(crate) fn push_faults(
     sources: &[usize],
     faults: &[SheetFault],
 ) -> Result<(), AllocError> {
-    let file = characters_of(alloc, name.as_bytes())?;
-    let lines = lines_of(alloc, source)?;
+    let file = attempt!(characters_of(alloc, name.as_bytes()));
+    let lines = attempt!(lines_of(alloc, source));
     push_all(
         alloc,
         report,
@@ -203,16 +205,17 @@ pub(crate) fn remaining(
     rewritten: &[u8],
     pieces: &[Piece<'_>],
 ) -> Result<String, AllocError> {
-    let faults = find_faults(alloc, rewritten)?;
-    let sources = sources_of(alloc, pieces)?;
+    let faults = attempt!(find_faults(alloc, rewritten));
+    let mut sources = Vec::new(alloc);
+    attempt!(push_sources(&mut sources, pieces));
     let mut report = String::new(alloc);
-    push_faults(
+    attempt!(push_faults(
         alloc,
         &mut report,
         name,
         source,
         sources.as_slice(),
         faults.as_slice(),
-    )?;
+    ));
     Ok(report)
 }
