@@ -1,8 +1,7 @@
 //! What one word of a filter asks for.
 
-ghost use Rattle.std.specs.Prelude.{◌≡◌, ◌≤◌, length, IfSome};
+ghost use Rattle.std.specs.Prelude.{◌≡◌};
 ghost use Rattle.std.specs.Option.{option_copied};
-ghost use Rattle.conode_record.specs.Fields.{hex_number};
 ghost use Rattle.conode_explain_filter.specs.Conditions.{
   condition_in,
   holds,
@@ -17,8 +16,9 @@ use crate::kind::Kind;
 use crate::moment::Moment;
 use crate::option::FilterOption;
 use crate::subject::Subject;
-use co_text::{decimal_in, hex_digit, split_at_first};
+use co_text::{decimal_in, split_at_first};
 use conode_explain_text::Times;
+use conode_record::hex_number;
 
 /// An identifier as it is written.
 #[derive(Clone, Copy)]
@@ -43,21 +43,6 @@ pub enum Condition {
     From(Moment),
     /// Frames at a time or before.
     Until(Moment),
-}
-
-// hexadecimal digits as a number
-fn hex_number(digits: &[u8]) -> Option<u32>
-    requires { length digits.now ≤ 8 }
-    ensures { result ≡ hex_number digits.now }
-{
-    let mut number: u64 = 0;
-    for byte in digits {
-        let Some(digit) = hex_digit(*byte) else {
-            return None;
-        };
-        number = 16 * number + digit as u64;
-    }
-    Some(number as u32)
 }
 
 // the identifier that a word is: one to three digits up to 7FF, or eight up to 3FFFFFFF
