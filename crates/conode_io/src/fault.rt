@@ -3,19 +3,25 @@
 use arrayvec::ArrayString;
 use itoa::Buffer;
 use std::alloc::AllocError;
+use thiserror::Error;
 
 /// Why a command ended before its input did.
-#[derive(Clone, Copy, PartialEq, Eq)]
+#[derive(Clone, Copy, Debug, PartialEq, Eq, Error)]
 pub enum CmdFault {
     /// The reader failed.
+    #[error("Read")]
     Read,
     /// The writer failed.
+    #[error("Write")]
     Write,
     /// A line, counted from 1, is no line of a trace.
+    #[error("BadLine {0}")]
     BadLine(usize),
     /// Memory ran out.
+    #[error("Memory")]
     Memory,
     /// The reader was asked 16,777,216 times, and the input didn't end.
+    #[error("NeverEnds")]
     NeverEnds,
 }
 

@@ -1,6 +1,6 @@
 //! What goes to a writer: lines as they are made, and the rest at the end of a command.
 
-ghost use Rattle.std.specs.Prelude.{◌≡◌, ◌≢◌, ◌⊎◌, ◌++◌, ◌∷◌, [], IfOk, IfErr, OnOk, Ok, Err};
+ghost use Rattle.std.specs.Prelude.{◌≡◌, ◌≢◌, ◌⊎◌, IfOk, IfErr, OnOk, Ok, Err};
 ghost use Rattle.std.specs.Io.KnownBytes.{Appends, Keeps};
 ghost use Rattle.conode_io.specs.Endings.{stopped_line};
 ghost use Rattle.conode_io.specs.Messages.{message_line};
@@ -60,36 +60,30 @@ pub fn flushed<W: Write, T: Drop>(
     }
 }
 
-// writes a line of two parts
-fn write_line<W: Write>(front: &str, text: &str, writer: &mut W) -> io::Result<()>
-    ensures { OnOk result (Appends (W.contents writer.old) (W.contents writer.new)
-        ((front.now ++ text.now) ++ 10 ∷ [])) }
-{
-    writeln!(writer, "{front}{text}")
-}
-
-// writes the line of a message
-fn write_message<W: Write>(message: Message<'_>, writer: &mut W) -> io::Result<()>
-    ensures { OnOk result
-        (Appends (W.contents writer.old) (W.contents writer.new) (message_line message.entry)) }
-{
-    match message {
-        Message::Stopped(fault) => write_line("stopped: ", fault.text().as_str(), writer),
-        Message::Fault(fault) => write_line("", fault.text().as_str(), writer),
-        Message::BuildFault(fault) => write_line("", fault.text().as_str(), writer),
-        Message::CannotRead(name) => write_line("cannot read ", name, writer),
-    }
-}
-
 /// Writes the line of a message at once.
 pub fn say<W: Write>(message: Message<'_>, writer: &mut W) -> io::Result<()>
     ensures { OnOk result
         (Appends (W.contents writer.old) (W.contents writer.new) (message_line message.entry)) }
 {
-    match write_message(message, writer) {
-        Ok(()) => writer.flush(),
-        Err(error) => Err(error),
+    match message {
+        Message::Stopped(fault) => {
+            let text = fault.text();
+            let text = text.as_str();
+            writeln!(writer, "stopped: {text}")?;
+        }
+        Message::Fault(fault) => {
+            let text = fault.text();
+            let text = text.as_str();
+            writeln!(writer, "{text}")?;
+        }
+        Message::BuildFault(fault) => {
+            let text = fault.text();
+            let text = text.as_str();
+            writeln!(writer, "{text}")?;
+        }
+        Message::CannotRead(name) => writeln!(writer, "cannot read {name}")?,
     }
+    writer.flush()
 }
 
 /// Says why a command stopped early: on `out`, or for `Write` on `err`.
