@@ -1,1 +1,2 @@
+pub mod OtherIds
 pub mod Receptions
