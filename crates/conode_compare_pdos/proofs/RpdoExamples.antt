@@ -53,14 +53,20 @@ missing : map (may_receive 0x305) (rpdo_of rows 5 false 1 ∷ rpdo_of rows 5 fal
 unfolding rpdo_of
 missing = refl
 
+-- 80000000h, which says nothing, and a COB-ID that isn't valid
+unplaced : map (λ cob_id. (rpdo_of (row 0x1400 1 (number (pos cob_id)) ∷ []) 5 true 0).cob_id) (0x80000000 ∷ 0 ∷ 0x80000800 ∷ 0x80000205 ∷ 0x205 ∷ [])
+    ≡ None ∷ None ∷ None ∷ Some 0x80000205 ∷ Some 0x205 ∷ []
+unfolding rpdo_of
+unplaced = refl
+
 inhibited : (rpdo_of (row 0x1400 1 (number (pos 0x205)) ∷ row 0x1400 3 (number (pos 10)) ∷ []) 5 true 0).inhibit ≡ Some 10
 unfolding rpdo_of
 inhibited = refl
 
 -- one of the first four, and none after them
 few : map has_few_rpdos ([] ∷ rows ∷ (row 0x1403 1 absent ∷ []) ∷ (row 0x1403 1 absent ∷ row 0x1404 1 absent ∷ []) ∷ (row 0x1403 1 absent ∷ row 0x15FF 1 absent ∷ [])
-    ∷ (row 0x1403 1 absent ∷ row 0x1600 1 absent ∷ []) ∷ (row 0x1403 2 absent ∷ []) ∷ [])
-    ≡ false ∷ true ∷ true ∷ false ∷ false ∷ true ∷ false ∷ []
+    ∷ (row 0x1403 1 absent ∷ row 0x1600 1 absent ∷ []) ∷ (row 0x1403 2 absent ∷ []) ∷ (row 0x1403 1 absent ∷ row 0x1404 2 absent ∷ []) ∷ [])
+    ≡ false ∷ true ∷ true ∷ false ∷ false ∷ true ∷ false ∷ true ∷ []
 unfolding has_few_rpdos
 few = refl
 

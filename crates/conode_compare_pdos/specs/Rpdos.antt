@@ -34,11 +34,17 @@ unknown_rpdo = record { cob_id = None; kind = None; inhibit = None; count = None
 
 -- ---- a data sheet
 
+-- A COB-ID whose 11 bits are 0 says nothing of where a PDO is: it may stand in a sheet for one that was
+-- left out (CompactPDO).
+abbrev pub placed : Option ℕ → Option ℕ
+placed None = None
+placed (Some cob_id) = if cob_id % 0x800 == 0 then None else Some cob_id
+
 -- An RPDO that the data sheet doesn't have doesn't exist. `certain`: the values of the sheet are in
 -- force.
 abbrev pub sheet_cob_id : List Row → ℕ → Bool → ℕ → Option ℕ
 sheet_cob_id rows node certain index =
-    option_map_or (λ row. if certain then number_of node row.default else None) (row_at rows (key_of index 1)) (Some no_pdo)
+    option_map_or (λ row. if certain then placed (number_of node row.default) else None) (row_at rows (key_of index 1)) (Some no_pdo)
 
 abbrev pub sheet_inhibit : List Row → ℕ → Bool → ℕ → Option ℕ
 sheet_inhibit rows node certain index =

@@ -19,6 +19,7 @@ ghost use Rattle.conode_compare_pdos.specs.Rpdos.{
   may_map,
   may_receive,
   object_key,
+  placed,
   rpdo_asked,
   rpdo_communication,
   rpdo_ended,
@@ -84,13 +85,23 @@ fn rpdo_mapping(number: u8) -> u16
     0x1600 + number as u16
 }
 
+// a COB-ID of a data sheet, where it has an identifier
+fn placed(cob_id: Option<u64>) -> Option<u64>
+    ensures { result ≡ placed cob_id }
+{
+    match cob_id {
+        Some(cob_id) if cob_id % 0x800 != 0 => Some(cob_id),
+        _ => None,
+    }
+}
+
 // the COB-ID that a data sheet has; an RPDO that isn't in it doesn't exist
 fn sheet_cob_id(rows: &[EntryRow<'_>], node: u8, certain: bool, index: u16) -> Option<u64>
     requires { AllPairs (λ e f. is_key_before e.key f.key ≡ true) rows.now }
     ensures { result ≡ sheet_cob_id (map row_view rows.now) node certain index }
 {
     match row_at(rows, key_of(index, PDO_COB_ID)) {
-        Some(row) if certain => number_of(node, row.default),
+        Some(row) if certain => placed(number_of(node, row.default)),
         Some(_) => None,
         None => Some(NO_PDO),
     }

@@ -39,7 +39,9 @@ use Rattle.conode_compare_rules.specs.declared.limits.Limits.{Limits}
 use Rattle.conode_compare_rules.specs.declared.limits.Subject.{Subject}
 use Rattle.conode_compare_rules.specs.declared.nmt.Nmt.{Nmt}
 use Rattle.conode_compare_rules.specs.declared.progress.Progress.{Progress}
+use Rattle.conode_compare_receptions.specs.declared.other_ids.OtherIds.{OtherIds}
 use Rattle.conode_compare_receptions.specs.declared.receptions.Receptions.{Receptions}
+use Rattle.conode_compare_receptions.specs.OtherIds.{other_ids_of}
 use Rattle.conode_compare_rules.specs.EntriesInForce.{facts_of, initial_entries, sheet_entries}
 use Rattle.conode_compare_rules.specs.Progresses.{before_recording}
 use Rattle.conode_compare_rules.specs.States.{is_settled}
@@ -113,22 +115,28 @@ followed_by device all = (booted_receptions device all).followed
 follows : (followed_by subject rows ≡ true) × (followed_by subject [] ≡ false)
     × (followed_by (record subject { facts = record (facts_of rows 5 false) { starts_itself = true } }) rows ≡ false)
     × (followed_by (record subject { facts = record (facts_of rows 5 false) { modular = true } }) rows ≡ false)
-unfolding booted_receptions has_few_rpdos facts_of
+unfolding booted_receptions other_ids_of has_few_rpdos facts_of
 follows = (refl, refl, refl, refl)
 
+-- a TPDO after the fourth; an SDO channel but the default one
+further : map (λ index. followed_by subject (row 0x1400 1 Unsigned32 Rw (number (pos 0x205)) ∷ row index 1 Unsigned32 Rw absent ∷ []))
+    (0x1200 ∷ 0x1201 ∷ 0x12FF ∷ 0x1300 ∷ 0x1803 ∷ 0x1804 ∷ 0x19FF ∷ 0x1A00 ∷ []) ≡ true ∷ false ∷ false ∷ true ∷ true ∷ false ∷ false ∷ true ∷ []
+unfolding booted_receptions other_ids_of has_few_rpdos facts_of
+further = refl
+
 takes : map (λ bytes. number_in (after booted operational (rpdo bytes))) ((2 ∷ 1 ∷ []) ∷ (5 ∷ 0 ∷ []) ∷ (5 ∷ []) ∷ []) ≡ None ∷ Some 5 ∷ Some 5 ∷ []
-unfolding booted_receptions has_few_rpdos facts_of rpdo_of mapped_from fits_from brought_from taken_from no_writes nothing_written process_received is_sure is_settled
+unfolding booted_receptions other_ids_of has_few_rpdos facts_of rpdo_of mapped_from fits_from brought_from taken_from no_writes nothing_written process_received is_sure is_settled
 takes = refl
 
 -- one byte is too few, of three the first two count
 brings : map (λ bytes. value_in (after booted operational (rpdo bytes))) ((2 ∷ 1 ∷ []) ∷ (2 ∷ 1 ∷ 9 ∷ []) ∷ (2 ∷ []) ∷ (5 ∷ 0 ∷ []) ∷ [])
     ≡ Some (record { number = 0x102; since = 20000 }) ∷ Some (record { number = 0x102; since = 20000 }) ∷ None ∷ None ∷ []
-unfolding booted_receptions has_few_rpdos facts_of rpdo_of mapped_from fits_from brought_from taken_from no_writes nothing_written process_received is_sure is_settled
+unfolding booted_receptions other_ids_of has_few_rpdos facts_of rpdo_of mapped_from fits_from brought_from taken_from no_writes nothing_written process_received is_sure is_settled
 brings = refl
 
 -- the PDO of another node, a heartbeat; where RPDOs aren't followed the first may be one, and a TPDO of the device is none
 others : map (λ id. number_in (after booted operational (record { id = id; bytes = [] }))) (0x206 ∷ 0x701 ∷ []) ≡ Some 5 ∷ Some 5 ∷ []
-unfolding booted_receptions has_few_rpdos facts_of rpdo_of no_writes nothing_written process_received
+unfolding booted_receptions other_ids_of has_few_rpdos facts_of rpdo_of no_writes nothing_written process_received
 others = refl
 
 abbrev unfollowed : ℕ → Receptions
@@ -138,12 +146,12 @@ unfollowed id =
 
 not_followed : (map (λ id. number_in (unfollowed id)) (0x206 ∷ 0x701 ∷ 0x185 ∷ []) ≡ None ∷ Some 5 ∷ Some 5 ∷ [])
     × (map (λ id. (unfollowed id).touched) (0x206 ∷ 0x701 ∷ 0x185 ∷ []) ≡ Some 20000 ∷ None ∷ None ∷ [])
-unfolding booted_receptions has_few_rpdos facts_of rpdo_of no_writes nothing_written process_received unmapped_from
+unfolding booted_receptions other_ids_of has_few_rpdos facts_of rpdo_of no_writes nothing_written process_received unmapped_from
 not_followed = (refl, refl)
 
 -- then what is known is what the recording shows
 as_before : number_in (after (record booted { followed = false }) operational (record { id = 0x701; bytes = [] })) ≡ None
-unfolding booted_receptions has_few_rpdos facts_of rpdo_of no_writes nothing_written process_received
+unfolding booted_receptions other_ids_of has_few_rpdos facts_of rpdo_of no_writes nothing_written process_received
 as_before = refl
 
 -- ---- doubts
@@ -161,19 +169,19 @@ doubts r progress = let next = after r (record progress { written = r.writes.wri
 in_doubt : map (λ r. doubts r operational)
     (record booted { writing = true } ∷ first (record own { cob_id = None }) ∷ first (record own { count = None }) ∷ record booted { rpdos = record booted.rpdos { second = own } } ∷ [])
     ≡ (None, None, true) ∷ (None, None, true) ∷ (None, None, true) ∷ (None, None, true) ∷ []
-unfolding booted_receptions has_few_rpdos facts_of rpdo_of mapped_from fits_from brought_from taken_from no_writes nothing_written process_received is_sure is_settled unmapped_from
+unfolding booted_receptions other_ids_of has_few_rpdos facts_of rpdo_of mapped_from fits_from brought_from taken_from no_writes nothing_written process_received is_sure is_settled unmapped_from
 in_doubt = refl
 
 -- of another type, or with an inhibit time, it may take effect later: RPDOs aren't followed any more
 waits : map (λ r. doubts r operational) (first (record own { kind = Some 1 }) ∷ first (record own { kind = None }) ∷ first (record own { inhibit = Some 1 }) ∷ [])
     ≡ (None, None, false) ∷ (None, None, false) ∷ (None, None, false) ∷ []
-unfolding booted_receptions has_few_rpdos facts_of rpdo_of mapped_from fits_from brought_from taken_from no_writes nothing_written process_received is_sure is_settled unmapped_from
+unfolding booted_receptions other_ids_of has_few_rpdos facts_of rpdo_of mapped_from fits_from brought_from taken_from no_writes nothing_written process_received is_sure is_settled unmapped_from
 waits = refl
 
 -- for the tolerance after one of its parameters was written or read, and after a command; in another state
 unsettled : map (λ changed. value_in (after (first (record own { changed = Some changed })) operational (rpdo (2 ∷ 1 ∷ [])))) (10000 ∷ 9999 ∷ [])
     ≡ None ∷ Some (record { number = 0x102; since = 20000 }) ∷ []
-unfolding booted_receptions has_few_rpdos facts_of rpdo_of mapped_from fits_from brought_from taken_from no_writes nothing_written process_received is_sure is_settled unmapped_from
+unfolding booted_receptions other_ids_of has_few_rpdos facts_of rpdo_of mapped_from fits_from brought_from taken_from no_writes nothing_written process_received is_sure is_settled unmapped_from
 unsettled = refl
 
 -- within it each identifier may be the one before; a frame that may have waited for a SYNC by the parameters before ends following
@@ -182,7 +190,7 @@ moved = record own { cob_id = Some 0x305; changed = Some 10000 }
 
 not_yet_apart : map (λ r. doubts r operational) (first moved ∷ first (record moved { changed = Some 9999 }) ∷ first (record moved { kind = Some 1 }) ∷ first (record moved { changed = Some 9999; kind = Some 1 }) ∷ [])
     ≡ (None, None, true) ∷ (Some 5, None, true) ∷ (None, None, false) ∷ (Some 5, None, true) ∷ []
-unfolding booted_receptions has_few_rpdos facts_of rpdo_of mapped_from fits_from brought_from taken_from no_writes nothing_written process_received is_sure is_settled unmapped_from
+unfolding booted_receptions other_ids_of has_few_rpdos facts_of rpdo_of mapped_from fits_from brought_from taken_from no_writes nothing_written process_received is_sure is_settled unmapped_from
 not_yet_apart = refl
 
 -- the parameters of each of the four
@@ -190,42 +198,44 @@ each_of_four : map (λ rpdos. value_in (after (record booted { rpdos = rpdos }) 
     (record booted.rpdos { second = record booted.rpdos.second { changed = Some 10000 } } ∷ record booted.rpdos { third = record booted.rpdos.third { changed = Some 10000 } }
     ∷ record booted.rpdos { fourth = record booted.rpdos.fourth { changed = Some 10000 } } ∷ record booted.rpdos { fourth = record booted.rpdos.fourth { changed = Some 9999 } } ∷ [])
     ≡ None ∷ None ∷ None ∷ Some (record { number = 0x102; since = 20000 }) ∷ []
-unfolding booted_receptions has_few_rpdos facts_of rpdo_of mapped_from fits_from brought_from taken_from no_writes nothing_written process_received is_sure is_settled unmapped_from
+unfolding booted_receptions other_ids_of has_few_rpdos facts_of rpdo_of mapped_from fits_from brought_from taken_from no_writes nothing_written process_received is_sure is_settled unmapped_from
 each_of_four = refl
 
 -- an RPDO whose COB-ID isn't known has none that CiA 301 restricts
 restricted : map (λ id. number_in (after (first (record own { cob_id = None })) operational (record { id = id; bytes = [] }))) (0x206 ∷ 0x701 ∷ []) ≡ None ∷ Some 5 ∷ []
-unfolding booted_receptions has_few_rpdos facts_of rpdo_of no_writes nothing_written process_received is_sure unmapped_from
+unfolding booted_receptions other_ids_of has_few_rpdos facts_of rpdo_of no_writes nothing_written process_received is_sure unmapped_from mapped_from
 restricted = refl
 
 -- a frame that is doubted, or of another RPDO, may have been taken
 touches : map (λ r. (after r operational (rpdo (2 ∷ 1 ∷ []))).touched) (record booted { writing = true } ∷ booted ∷ first (record own { cob_id = Some 0x206 }) ∷ []) ≡ Some 20000 ∷ Some 20000 ∷ None ∷ []
-unfolding booted_receptions has_few_rpdos facts_of rpdo_of mapped_from fits_from brought_from taken_from no_writes nothing_written process_received is_sure is_settled unmapped_from
+unfolding booted_receptions other_ids_of has_few_rpdos facts_of rpdo_of mapped_from fits_from brought_from taken_from no_writes nothing_written process_received is_sure is_settled unmapped_from
 touches = refl
 
 commanded_just_now : map (λ micros. value_in (after booted (record operational { nmt = record (nmt_in Operational) { commanded = Some (record { service = Start; micros = micros }) } }) (rpdo (2 ∷ 1 ∷ [])))) (10000 ∷ 9999 ∷ [])
     ≡ None ∷ Some (record { number = 0x102; since = 20000 }) ∷ []
-unfolding booted_receptions has_few_rpdos facts_of rpdo_of mapped_from fits_from brought_from taken_from no_writes nothing_written process_received is_sure is_settled unmapped_from
+unfolding booted_receptions other_ids_of has_few_rpdos facts_of rpdo_of mapped_from fits_from brought_from taken_from no_writes nothing_written process_received is_sure is_settled unmapped_from
 commanded_just_now = refl
 
 other_states : map (λ state. doubts booted (shows state 20000)) (PreOperational ∷ Unknown ∷ []) ≡ (None, None, true) ∷ (None, None, true) ∷ []
-unfolding booted_receptions has_few_rpdos facts_of rpdo_of mapped_from fits_from brought_from taken_from no_writes nothing_written process_received is_sure is_settled unmapped_from
+unfolding booted_receptions other_ids_of has_few_rpdos facts_of rpdo_of mapped_from fits_from brought_from taken_from no_writes nothing_written process_received is_sure is_settled unmapped_from
 other_states = refl
 
 -- no PDO may have the entry, by the sheet
 unfit : (number_in (process_received subject (row 0x2000 0 Unsigned16 Rw absent ∷ []) booted (record operational { written = booted.writes.written }) 20000 (rpdo (2 ∷ 1 ∷ [])))) ≡ None
-unfolding booted_receptions has_few_rpdos facts_of rpdo_of mapped_from fits_from brought_from taken_from no_writes nothing_written process_received is_sure is_settled unmapped_from
+unfolding booted_receptions other_ids_of has_few_rpdos facts_of rpdo_of mapped_from fits_from brought_from taken_from no_writes nothing_written process_received is_sure is_settled unmapped_from
 unfit = refl
 
--- a TPDO of the device has its identifier
-own_tpdo : doubts booted (record operational { pdos = record unknown_pdos { third = booted_tpdo (record nothing_known { id = Some 0x205 }) } }) ≡ (None, None, true)
-unfolding booted_receptions has_few_rpdos facts_of rpdo_of mapped_from fits_from brought_from taken_from no_writes nothing_written process_received is_sure is_settled unmapped_from
-own_tpdo = refl
+-- what else has its identifier, or may have it
+abbrev beside : OtherIds → (Option ℕ × Option RpdoValue × Bool)
+beside others = doubts (record booted { others = others }) operational
 
--- SYNC has its identifier
-own_sync : doubts booted (record operational { pdos = record unknown_pdos { sync = Some 0x205 } }) ≡ (None, None, true)
-unfolding booted_receptions has_few_rpdos facts_of rpdo_of mapped_from fits_from brought_from taken_from no_writes nothing_written process_received is_sure is_settled unmapped_from
-own_sync = refl
+shared_id : map (λ id. beside (record booted.others { third = id })) (Some 0x205 ∷ None ∷ []) ≡ (None, None, true) ∷ (None, None, true) ∷ []
+unfolding booted_receptions other_ids_of has_few_rpdos facts_of rpdo_of mapped_from fits_from brought_from taken_from no_writes nothing_written process_received is_sure is_settled unmapped_from
+shared_id = refl
+
+other_id : map (λ id. beside (record booted.others { sync = id })) (Some 0x206 ∷ Some 0 ∷ []) ≡ (None, Some (record { number = 0x102; since = 20000 }), true) ∷ (None, Some (record { number = 0x102; since = 20000 }), true) ∷ []
+unfolding booted_receptions other_ids_of has_few_rpdos facts_of rpdo_of mapped_from fits_from brought_from taken_from no_writes nothing_written process_received is_sure is_settled unmapped_from
+other_id = refl
 
 -- ---- heartbeats, commands and requests
 
@@ -246,29 +256,29 @@ requested r frame = exchanged_by subject r (shows Operational 50000) 50000 Clien
 
 -- the heartbeat is to come later than the tolerance after the RPDO
 confirmed : map (λ micros. number_in (requested (with taken micros (Control 5)) (asks_for 0x40 0 0x20))) (30000 ∷ 30001 ∷ []) ≡ None ∷ Some 0x102 ∷ []
-unfolding booted_receptions has_few_rpdos facts_of rpdo_of mapped_from fits_from brought_from taken_from no_writes nothing_written process_received is_sure is_settled unmapped_from receptions_with exchanged_by settled_from initial_entries sheet_entries
+unfolding booted_receptions other_ids_of has_few_rpdos facts_of rpdo_of mapped_from fits_from brought_from taken_from no_writes nothing_written process_received is_sure is_settled unmapped_from receptions_with exchanged_by settled_from initial_entries sheet_entries
 confirmed = refl
 
 -- another state, error control of two bytes, a command
 unconfirmed : map (λ kind. number_in (requested (with (with taken 30001 kind) 30002 (Control 5)) (asks_for 0x40 0 0x20))) (Control 127 ∷ OddControl 2 ∷ Command Start ∷ Polled 0x205 ∷ []) ≡ None ∷ None ∷ None ∷ Some 0x102 ∷ []
-unfolding booted_receptions has_few_rpdos facts_of rpdo_of mapped_from fits_from brought_from taken_from no_writes nothing_written process_received is_sure is_settled unmapped_from receptions_with exchanged_by settled_from initial_entries sheet_entries
+unfolding booted_receptions other_ids_of has_few_rpdos facts_of rpdo_of mapped_from fits_from brought_from taken_from no_writes nothing_written process_received is_sure is_settled unmapped_from receptions_with exchanged_by settled_from initial_entries sheet_entries
 unconfirmed = refl
 
 -- a request to write the entry, another one, one of the communication profile
 written_since : map (λ at. number_in (requested (with taken 30001 (Control 5)) at)) (asks_for 0x2B 0 0x20 ∷ asks_for 0x2B 1 0x20 ∷ asks_for 0x2B 0 0x14 ∷ []) ≡ None ∷ Some 0x102 ∷ None ∷ []
-unfolding booted_receptions has_few_rpdos facts_of rpdo_of mapped_from fits_from brought_from taken_from no_writes nothing_written process_received is_sure is_settled unmapped_from receptions_with exchanged_by settled_from initial_entries sheet_entries
+unfolding booted_receptions other_ids_of has_few_rpdos facts_of rpdo_of mapped_from fits_from brought_from taken_from no_writes nothing_written process_received is_sure is_settled unmapped_from receptions_with exchanged_by settled_from initial_entries sheet_entries
 written_since = refl
 
 -- a reset, a boot-up
 resets : map (λ kind. (with taken 30001 kind).followed) (Command ResetNode ∷ Control 0 ∷ []) ≡ false ∷ true ∷ []
-unfolding booted_receptions has_few_rpdos facts_of no_receptions receptions_with initial_entries sheet_entries rpdo_of mapped_from fits_from brought_from taken_from no_writes nothing_written process_received is_sure is_settled
+unfolding booted_receptions other_ids_of has_few_rpdos facts_of no_receptions receptions_with initial_entries sheet_entries rpdo_of mapped_from fits_from brought_from taken_from no_writes nothing_written process_received is_sure is_settled
 resets = refl
 
 -- a request to write 1010h, 1011h or 1F00h to 1FFFh: all RPDOs may be others
 changes_all : map (λ at. (requested booted at).rpdos.first.cob_id)
     (asks_for 0x2B 0x0F 0x10 ∷ asks_for 0x2B 0x10 0x10 ∷ asks_for 0x2B 0x11 0x10 ∷ asks_for 0x2B 0x12 0x10 ∷ asks_for 0x2B 0xFF 0x1E ∷ asks_for 0x2B 0 0x1F ∷ asks_for 0x2B 0xFF 0x1F ∷ asks_for 0x2B 0 0x20 ∷ [])
     ≡ Some 0x205 ∷ None ∷ None ∷ Some 0x205 ∷ Some 0x205 ∷ None ∷ None ∷ Some 0x205 ∷ []
-unfolding booted_receptions has_few_rpdos facts_of no_writes nothing_written exchanged_by settled_from rpdo_of
+unfolding booted_receptions other_ids_of has_few_rpdos facts_of no_writes nothing_written exchanged_by settled_from rpdo_of
 changes_all = refl
 
 -- ---- downloads
@@ -293,22 +303,22 @@ answered r direction begun =
 
 -- an RPDO came at 20 ms: within the tolerance before the request of the download
 later : map (λ begun. number_in (answered taken Download begun)) (30000 ∷ 30001 ∷ []) ≡ None ∷ Some 5 ∷ []
-unfolding booted_receptions has_few_rpdos facts_of rpdo_of mapped_from fits_from brought_from taken_from no_writes nothing_written process_received is_sure is_settled exchanged_by
+unfolding booted_receptions other_ids_of has_few_rpdos facts_of rpdo_of mapped_from fits_from brought_from taken_from no_writes nothing_written process_received is_sure is_settled exchanged_by
 later = refl
 
 -- after the request, and none
 touched_when : map (λ touched. number_in (answered (record taken { touched = touched }) Download 30000)) (Some 40000 ∷ Some 19999 ∷ None ∷ []) ≡ None ∷ Some 5 ∷ Some 5 ∷ []
-unfolding booted_receptions has_few_rpdos facts_of rpdo_of mapped_from fits_from brought_from taken_from no_writes nothing_written process_received is_sure is_settled exchanged_by
+unfolding booted_receptions other_ids_of has_few_rpdos facts_of rpdo_of mapped_from fits_from brought_from taken_from no_writes nothing_written process_received is_sure is_settled exchanged_by
 touched_when = refl
 
 uploads : number_in (answered taken Upload 30000) ≡ Some 5
-unfolding booted_receptions has_few_rpdos facts_of rpdo_of mapped_from fits_from brought_from taken_from no_writes nothing_written process_received is_sure is_settled exchanged_by
+unfolding booted_receptions other_ids_of has_few_rpdos facts_of rpdo_of mapped_from fits_from brought_from taken_from no_writes nothing_written process_received is_sure is_settled exchanged_by
 uploads = refl
 
 -- a download is open until the device ends it
 opens : map (λ r. r.writing) (requested booted (asks_for 0x2B 1 0x20) ∷ requested booted (asks_for 0x40 1 0x20) ∷ answered (record booted { writing = true }) Download 30001 ∷ answered (record booted { writing = true }) Upload 30001 ∷ [])
     ≡ true ∷ false ∷ false ∷ true ∷ []
-unfolding booted_receptions has_few_rpdos facts_of no_writes nothing_written exchanged_by settled_from rpdo_of
+unfolding booted_receptions other_ids_of has_few_rpdos facts_of no_writes nothing_written exchanged_by settled_from rpdo_of
 opens = refl
 
 -- not where an earlier request may have been answered, nor by the client
@@ -317,17 +327,31 @@ closed_by certain side =
     (exchanged_by subject (record booted { writing = true }) (shows Operational 50000) 50000 side (asks_for 0x60 0 0x20) (record (exchange_of Part (ended Download 30001)) { certain = certain })).writing
 
 closes_surely : (closed_by true Server ≡ false) × (closed_by false Server ≡ true) × (closed_by true Client ≡ true)
-unfolding booted_receptions has_few_rpdos facts_of no_writes nothing_written exchanged_by settled_from rpdo_of
+unfolding booted_receptions other_ids_of has_few_rpdos facts_of no_writes nothing_written exchanged_by settled_from rpdo_of
 closes_surely = (refl, refl, refl)
 
 -- nor is a parameter known then
 abbrev cob_id_after : Bool → Option ℕ
 cob_id_after certain =
-    let download : Option Ended = option_map (λ e. record e { key = key 0x1400 1; first = record { items = 5 ∷ 3 ∷ 0 ∷ 0 ∷ [] } }) (ended Download 30001) in
+    let download : Option Ended = option_map {T = Ended} (λ e. record e { key = key 0x1400 1; first = record { items = 5 ∷ 3 ∷ 0 ∷ 0 ∷ [] } }) (ended Download 30001) in
     (exchanged_by subject booted (shows Operational 50000) 50000 Server (asks_for 0x60 0 0x14) (record (exchange_of Part download) { certain = certain })).rpdos.first.cob_id
 
+abbrev sync_after : Bool → Option ℕ
+sync_after certain =
+    let download : Option Ended = option_map {T = Ended} (λ e. record e { key = key 0x1005 0; first = record { items = 5 ∷ 2 ∷ 0 ∷ 0x40 ∷ [] } }) (ended Download 30001) in
+    (exchanged_by subject booted (shows Operational 50000) 50000 Server (asks_for 0x60 5 0x10) (record (exchange_of Part download) { certain = certain })).others.sync
+
+shows_sync : map sync_after (true ∷ false ∷ []) ≡ Some 0x205 ∷ Some 0 ∷ []
+unfolding booted_receptions other_ids_of has_few_rpdos facts_of no_writes nothing_written exchanged_by settled_from rpdo_of
+shows_sync = refl
+
+-- a request to write it, another entry, and what may change all of them
+asks_sync : map (λ at. (requested booted at).others.sync) (asks_for 0x23 5 0x10 ∷ asks_for 0x23 6 0x10 ∷ asks_for 0x23 0x11 0x10 ∷ asks_for 0x40 5 0x10 ∷ []) ≡ None ∷ Some 0 ∷ None ∷ Some 0 ∷ []
+unfolding booted_receptions other_ids_of has_few_rpdos facts_of no_writes nothing_written exchanged_by settled_from rpdo_of
+asks_sync = refl
+
 shows_surely : map cob_id_after (true ∷ false ∷ []) ≡ Some 0x305 ∷ Some 0x205 ∷ []
-unfolding booted_receptions has_few_rpdos facts_of no_writes nothing_written exchanged_by settled_from rpdo_of
+unfolding booted_receptions other_ids_of has_few_rpdos facts_of no_writes nothing_written exchanged_by settled_from rpdo_of
 shows_surely = refl
 
 -- ---- other frames
@@ -337,7 +361,7 @@ seen kind id = receptions_with subject rows booted (record (shows Operational 20
 
 -- EMCY may have the identifier of an RPDO; a command to another node writes nothing
 shared : map number_in (seen (Emergency 0 0) (Base 0x85) ∷ seen (Process 0x206 2) (Base 0x206) ∷ seen Other (Base 0) ∷ seen Other (Extended 0x205) ∷ []) ≡ Some 5 ∷ Some 5 ∷ Some 5 ∷ None ∷ []
-unfolding booted_receptions has_few_rpdos facts_of rpdo_of no_writes nothing_written receptions_with process_received initial_entries sheet_entries
+unfolding booted_receptions other_ids_of has_few_rpdos facts_of rpdo_of no_writes nothing_written receptions_with process_received initial_entries sheet_entries
 shared = refl
 
 -- where an RPDO has it, and where RPDOs aren't followed
@@ -345,14 +369,14 @@ abbrev emergency_after : Receptions → Receptions
 emergency_after r = receptions_with subject rows r (record (shows Operational 20000) { written = booted.writes.written }) 20000 (Emergency 0 0) (Base 0x85) (Data (2 ∷ 1 ∷ []))
 
 emergency_id : map (λ r. value_in (emergency_after r)) (first (record own { cob_id = Some 0x85 }) ∷ booted ∷ []) ≡ Some (record { number = 0x102; since = 20000 }) ∷ None ∷ []
-unfolding booted_receptions has_few_rpdos facts_of rpdo_of mapped_from fits_from brought_from taken_from no_writes nothing_written receptions_with process_received is_sure is_settled initial_entries sheet_entries
+unfolding booted_receptions other_ids_of has_few_rpdos facts_of rpdo_of mapped_from fits_from brought_from taken_from no_writes nothing_written receptions_with process_received is_sure is_settled initial_entries sheet_entries
 emergency_id = refl
 
 abbrev emergency_unfollowed : Receptions
 emergency_unfollowed = emergency_after (record booted { followed = false })
 
 emergency_not_followed : (number_in emergency_unfollowed ≡ None) × (emergency_unfollowed.touched ≡ Some 20000)
-unfolding booted_receptions has_few_rpdos facts_of rpdo_of no_writes nothing_written receptions_with process_received initial_entries sheet_entries unmapped_from
+unfolding booted_receptions other_ids_of has_few_rpdos facts_of rpdo_of no_writes nothing_written receptions_with process_received initial_entries sheet_entries unmapped_from
 emergency_not_followed = (refl, refl)
 
 -- of CAN FD, with 11 bits
@@ -360,16 +384,16 @@ abbrev fd_seen : Receptions
 fd_seen = receptions_with subject rows booted (shows Operational 20000) 20000 Other (Base 0x206) (Fd 0 [])
 
 fd : (fd_seen.followed ≡ false) × (fd_seen.touched ≡ Some 20000)
-unfolding booted_receptions has_few_rpdos facts_of rpdo_of no_writes nothing_written receptions_with process_received initial_entries sheet_entries
+unfolding booted_receptions other_ids_of has_few_rpdos facts_of rpdo_of no_writes nothing_written receptions_with process_received initial_entries sheet_entries
 fd = (refl, refl)
 
 extended : (seen Other (Extended 0x205)).followed ≡ false
-unfolding booted_receptions has_few_rpdos facts_of rpdo_of no_writes nothing_written receptions_with process_received initial_entries sheet_entries
+unfolding booted_receptions other_ids_of has_few_rpdos facts_of rpdo_of no_writes nothing_written receptions_with process_received initial_entries sheet_entries
 extended = refl
 
 -- where the recording begins anew, nothing is known; where no entry is held, nothing changes
 begins : (number_in (receptions_with subject rows booted (record (shows Operational 20000) { started = 20000 }) 20000 (Polled 0x205) (Base 0x205) (Data [])) ≡ None)
     × ((with_receptions (record subject { held = record { entries = record { items = [] } } }) operational booted).written ≡ nothing_written)
     × (number_at (with_receptions subject operational booted).written (Some 0) ≡ Some 5)
-unfolding booted_receptions no_receptions no_writes nothing_written receptions_with with_receptions facts_of initial_entries sheet_entries
+unfolding booted_receptions other_ids_of no_receptions no_writes nothing_written receptions_with with_receptions facts_of initial_entries sheet_entries
 begins = (refl, refl, refl)

@@ -1,2 +1,3 @@
+pub mod OtherIds
 pub mod Receptions
 pub mod AllFrames

@@ -1,4 +1,4 @@
--- What RPDOs write to the entries that are held to what was written (CiA 301, 7.2.2 and 7.3.2.2.4):
+-- What RPDOs write to the entries that are held to what was written (CiA 301, 7.2.2 and 7.3.2.2.3):
 -- beside what a recording shows of the device.
 use Rattle.std.specs.Prelude.{ℕ, ◌==◌, nat_lt, Bool, true, false, not, ◌&&◌, ◌||◌, if◌then◌else◌, List, length, Option, Some, None, is_some}
 use Rattle.std.specs.Option.{option_map_or}
@@ -33,23 +33,26 @@ use Rattle.conode_compare_rules.specs.declared.kind.FrameKind.{FrameKind}
 use Rattle.conode_compare_rules.specs.declared.kind.FrameKind.TheVariants.{Command, CommandToAll, Guarding, Control, OddControl, Emergency, OddEmergency, Sdo, Process, Polled, Fault, Other}
 use Rattle.conode_compare_rules.specs.declared.limits.Subject.{Subject}
 use Rattle.conode_compare_rules.specs.declared.progress.Progress.{Progress}
+use Rattle.conode_compare_receptions.specs.declared.other_ids.OtherIds.{OtherIds}
 use Rattle.conode_compare_receptions.specs.declared.receptions.Receptions.{Receptions}
+use Rattle.conode_compare_receptions.specs.OtherIds.{has_further_ids, ids_asked, ids_ended, may_use, other_ids_of, unknown_ids}
 use Rattle.conode_compare_rules.specs.Progresses.{is_begun, takes_rpdos}
 use Rattle.conode_compare_rules.specs.States.{is_reset}
 
 -- ---- boot-ups, commands and heartbeats
 
 unfoldable pub no_receptions : Receptions
-no_receptions = record { rpdos = unknown_rpdos; writes = no_writes; followed = false; writing = true; touched = None; operational = None }
+no_receptions = record { rpdos = unknown_rpdos; others = unknown_ids; writes = no_writes; followed = false; writing = true; touched = None; operational = None }
 
 -- After a boot-up no RPDO that came before takes effect. RPDOs are followed where there are none but
--- the first four. A device with 1F80h may become operational by itself; which RPDOs a modular one has,
+-- the first four, and neither TPDOs after those nor further SDO channels. A device with 1F80h may become operational by itself; which RPDOs a modular one has,
 -- its modules decide.
 unfoldable pub booted_receptions : Subject → List Row → Receptions
 booted_receptions subject rows = record {
   rpdos = rpdos_of rows subject.node subject.facts.as_sheet;
+  others = other_ids_of rows subject.node subject.facts.as_sheet;
   writes = no_writes;
-  followed = (not subject.facts.starts_itself && not subject.facts.modular) && has_few_rpdos rows;
+  followed = (not subject.facts.starts_itself && not subject.facts.modular) && (has_few_rpdos rows && not (has_further_ids rows));
   writing = false;
   touched = None;
   operational = None;
@@ -85,9 +88,16 @@ abbrev pub rpdos_ended : Rpdos → Bool → Option Ended → ℕ → Rpdos
 rpdos_ended rpdos certain None micros = rpdos
 rpdos_ended rpdos certain (Some ended) micros = if certain then rpdos_transferred rpdos ended micros else rpdos
 
+abbrev pub others_ended : OtherIds → Bool → Option Ended → OtherIds
+others_ended ids certain None = ids
+others_ended ids certain (Some ended) = if certain then ids_ended ids ended else ids
+
 -- what restores parameters, or loads a program, may change all of them
 abbrev pub rpdos_asked : Rpdos → Key → ℕ → Rpdos
 rpdos_asked rpdos key micros = if is_timed key then rpdos_requested rpdos key micros else unknown_rpdos
+
+abbrev pub others_asked : OtherIds → Key → OtherIds
+others_asked ids key = if is_timed key then ids_asked ids key else unknown_ids
 
 -- the device ends a download, and no earlier request can be answered
 abbrev pub closes : Side → Bool → Option Ended → Bool
@@ -117,6 +127,7 @@ writes_asked subject writes key = if nat_lt key.index 0x2000 then without_values
 abbrev pub with_asked : Subject → Receptions → FrameContent → ℕ → Receptions
 with_asked subject r frame micros = record r {
   rpdos = rpdos_asked r.rpdos (key_in frame) micros;
+  others = others_asked r.others (key_in frame);
   writes = writes_asked subject r.writes (key_in frame);
   writing = true;
 }
@@ -124,6 +135,7 @@ with_asked subject r frame micros = record r {
 abbrev pub with_ended : Subject → Receptions → Progress → Side → Exchange → ℕ → Receptions
 with_ended subject r progress side exchange micros = record r {
   rpdos = rpdos_ended r.rpdos exchange.certain exchange.heard.ended micros;
+  others = others_ended r.others exchange.certain exchange.heard.ended;
   writes = record r.writes { written = written_ended subject progress.written r.touched exchange.heard.ended };
   writing = r.writing && not (closes side exchange.certain exchange.heard.ended);
 }
@@ -155,10 +167,6 @@ is_tpdo pdos id =
     is_id pdos.first.parameters.id id
     || (is_id pdos.second.parameters.id id || (is_id pdos.third.parameters.id id || is_id pdos.fourth.parameters.id id))
 
--- SYNC has it, or one of these
-abbrev pub is_used : Pdos → ℕ → Bool
-is_used pdos id = is_id pdos.sync id || is_tpdo pdos id
-
 -- the tolerance is over since one of its parameters was written or read
 abbrev pub is_rpdo_settled : ℕ → Option ℕ → ℕ → Bool
 is_rpdo_settled tolerance changed free = option_map_or (λ c. is_past c tolerance free) changed true
@@ -179,12 +187,12 @@ all_prompt tolerance rpdos free =
     && (is_prompt tolerance free rpdos.third && is_prompt tolerance free rpdos.fourth))
 
 -- what an RPDO writes with a frame, at once, is known: the parameters of all are, no download is open,
--- and nothing else has its identifier
+-- and nothing else may have its identifier
 unfoldable pub is_sure : Subject → Receptions → Progress → ℕ → Rpdo → Bool
 is_sure subject r progress id rpdo =
     ((r.followed && not r.writing) && (is_some rpdo.cob_id && is_immediate rpdo))
     && (all_settled subject.limits.tolerance r.rpdos progress.free
-    && (takes_rpdos subject progress && not (is_used progress.pdos id)))
+    && (takes_rpdos subject progress && not (may_use id r.others)))
 
 -- A frame that may be an RPDO: what the entries have that a PDO may have is unknown. Where what it
 -- writes may wait for a SYNC, that is unknown until the next boot-up.

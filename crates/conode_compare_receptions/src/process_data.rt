@@ -16,7 +16,6 @@ ghost use Rattle.conode_compare_receptions.specs.Receptions.{
   is_rpdo_settled,
   is_sure,
   is_tpdo,
-  is_used,
   other_received,
   process_received,
   received_by,
@@ -32,13 +31,6 @@ use conode_compare_pdos::{Pdos, Rpdo, Rpdos, is_id};
 use conode_compare_rules::{Progress, Subject};
 use conode_compare_transfers::is_past;
 use conode_record::{Content, Identifier};
-
-// whether SYNC has an identifier, or a TPDO of the device
-fn is_used(pdos: &Pdos, id: u16) -> bool
-    ensures { result ≡ is_used pdos.now id }
-{
-    is_id(pdos.sync, id) || is_tpdo(pdos, id)
-}
 
 // whether a TPDO of the device has an identifier
 fn is_tpdo(pdos: &Pdos, id: u16) -> bool
@@ -99,7 +91,7 @@ impl Receptions {
             && rpdo.is_immediate()
             && all_settled(subject.limits.tolerance, &self.rpdos, progress.free)
             && progress.takes_rpdos(subject)
-            && !is_used(progress.pdos(), id)
+            && !self.others.may_use(id)
     }
 
     // A frame came that may be an RPDO.

@@ -1,4 +1,4 @@
-//! What RPDOs write to the entries that are held to what was written (CiA 301, 7.2.2 and 7.3.2.2.4).
+//! What RPDOs write to the entries that are held to what was written (CiA 301, 7.2.2 and 7.3.2.2.3).
 
 ghost use Rattle.std.specs.Prelude.{◌≡◌, true, map};
 ghost use Rattle.std.specs.List.{AllPairs};
@@ -19,6 +19,7 @@ ghost use Rattle.conode_compare_receptions.specs.Receptions.{
   without_brought,
 };
 
+use crate::other_ids::{OtherIds, has_further_ids};
 use co_frame::NmtService;
 use co_sheet::EntryRow;
 use conode_compare_held::{RpdoWrites, Written};
@@ -31,10 +32,12 @@ use conode_record::{Content, Identifier};
 pub struct Receptions {
     /// What is known of the RPDOs.
     pub rpdos: Rpdos,
+    /// What is known of the other identifiers of the device.
+    pub others: OtherIds,
     /// What is known of the entries.
     pub writes: RpdoWrites,
-    /// Whether RPDOs are followed: there are none but the first four, and nothing that they received
-    /// may still take effect.
+    /// Whether RPDOs are followed: there are none but the first four, nor other TPDOs or SDO channels,
+    /// and nothing that they received may still take effect.
     pub followed: bool,
     /// Whether a download may be open.
     pub writing: bool,
@@ -58,6 +61,7 @@ impl Receptions {
     {
         Receptions {
             rpdos: Rpdos::unknown(),
+            others: OtherIds::unknown(),
             writes: RpdoWrites::none(),
             followed: false,
             writing: true,
@@ -74,10 +78,12 @@ impl Receptions {
     {
         Receptions {
             rpdos: Rpdos::of(rows, subject.node, subject.facts.as_sheet),
+            others: OtherIds::of(rows, subject.node, subject.facts.as_sheet),
             writes: RpdoWrites::none(),
             followed: !subject.facts.starts_itself
                 && !subject.facts.modular
-                && has_few_rpdos(rows),
+                && has_few_rpdos(rows)
+                && !has_further_ids(rows),
             writing: false,
             touched: None,
             operational: None,

@@ -7,6 +7,8 @@ ghost use Rattle.conode_compare_receptions.specs.Receptions.{
   exchanged,
   exchanged_by,
   may_be_later,
+  others_asked,
+  others_ended,
   requests,
   rpdos_asked,
   rpdos_ended,
@@ -17,6 +19,7 @@ ghost use Rattle.conode_compare_receptions.specs.Receptions.{
   written_ended,
 };
 
+use crate::other_ids::OtherIds;
 use crate::receptions::Receptions;
 use co_frame::Frame;
 use co_value::Key;
@@ -94,6 +97,27 @@ fn end_rpdos(rpdos: &mut Rpdos, certain: bool, ended: &Option<Ended>, micros: u6
     }
 }
 
+// what is known of the other identifiers once a transfer ended
+fn end_others(others: &mut OtherIds, certain: bool, ended: &Option<Ended>)
+    ensures { others.new ≡ others_ended others.old certain ended.now }
+{
+    match ended {
+        Some(ended) if certain => others.transfer(ended),
+        _ => {}
+    }
+}
+
+// what is known of them once a client asks to write
+fn ask_others(others: &mut OtherIds, key: Key)
+    ensures { others.new ≡ others_asked others.old key }
+{
+    if is_timed(key) {
+        others.request(key);
+    } else {
+        *others = OtherIds::unknown();
+    }
+}
+
 // what is known of the RPDOs once a client asks to write
 fn ask_rpdos(rpdos: &mut Rpdos, key: Key, micros: u64)
     ensures { rpdos.new ≡ rpdos_asked rpdos.old key micros }
@@ -123,6 +147,7 @@ impl Receptions {
     {
         let key = key_in(frame);
         ask_rpdos(&mut self.rpdos, key, micros);
+        ask_others(&mut self.others, key);
         ask_writes(subject, &mut self.writes, key);
         self.writing = true;
     }
@@ -141,6 +166,7 @@ impl Receptions {
     {
         let ended = &exchange.heard.ended;
         end_rpdos(&mut self.rpdos, exchange.certain, ended, micros);
+        end_others(&mut self.others, exchange.certain, ended);
         self.writes.written = written_ended(subject, progress.written, self.touched, ended);
         self.writing = self.writing && !closes(side, exchange.certain, ended);
     }
