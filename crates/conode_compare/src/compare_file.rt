@@ -17,11 +17,10 @@ use crate::nodes_seen::NodesSeen;
 use crate::writes::Settings;
 use co_sheet::{EntryRow, Sheet, read};
 use co_sheet_changes::Originals;
-use conode_compare_held::{HeldEntries, HeldFault};
 use conode_compare_report::SheetNames;
 use conode_compare_rules::{Limits, Subject, facts_of};
 use conode_compare_text::Tally;
-use conode_compare_values::Rooms;
+use conode_compare_values::{HeldEntries, HeldFault, Rooms};
 use conode_io::{
     CmdFault, bad_word, cannot_read, faulty_sheet, file_text, flushed, no_node_id, no_text,
     out_of_memory, stopped,

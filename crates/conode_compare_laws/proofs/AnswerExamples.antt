@@ -6,7 +6,7 @@ use Rattle.co_profile.specs.declared.access.Access.TheVariants.{Rw}
 use Rattle.co_node_model.specs.Inputs.{InputView, Ticked}
 use Rattle.co_node_model.proofs.ExampleNode.{device_with, frame, request, searches, u16}
 use Rattle.conode_compare_pdos.specs.Followed.{unknown_pdos}
-use Rattle.conode_compare_held.specs.HeldNumbers.{held_mismatch}
+use Rattle.conode_compare_values.specs.HeldNumbers.{held_mismatch}
 use Rattle.conode_compare_values.specs.SheetValues.{mismatch_at}
 use Rattle.conode_compare_transfers.specs.Breaches.{breach_at}
 use Rattle.conode_compare_transfers.specs.Dialogues.{dialogue_heard, exchange_in, is_certain}

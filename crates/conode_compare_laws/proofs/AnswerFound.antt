@@ -9,9 +9,9 @@ use Rattle.co_sheet.specs.Content.{Row}
 use Rattle.conode_explain_transfers.specs.declared.ended.Ended.{Ended}
 use Rattle.conode_explain_transfers.specs.declared.kinds.What.{What}
 use Rattle.conode_explain_transfers.specs.declared.kinds.What.TheVariants as what
-use Rattle.conode_compare_held.specs.declared.written.HeldMismatch.{HeldMismatch}
-use Rattle.conode_compare_held.specs.declared.written.Written.{Written}
-use Rattle.conode_compare_held.specs.HeldNumbers.{held_mismatch}
+use Rattle.conode_compare_values.specs.declared.written.HeldMismatch.{HeldMismatch}
+use Rattle.conode_compare_values.specs.declared.written.Written.{Written}
+use Rattle.conode_compare_values.specs.HeldNumbers.{held_mismatch}
 use Rattle.conode_compare_values.specs.declared.mismatch.Mismatch.{Mismatch}
 use Rattle.conode_compare_values.specs.SheetValues.{mismatch_at}
 use Rattle.conode_compare_transfers.specs.declared.breach.Breach.{Breach}

@@ -12,8 +12,8 @@ use Rattle.conode_record.specs.declared.fields.Identifier.{Identifier}
 use Rattle.conode_record.specs.declared.fields.Identifier.TheVariants.{Base}
 use Rattle.conode_record.specs.declared.line.Record.{Record}
 use Rattle.conode_compare_transfers.specs.declared.dialogue.Exchange.{Exchange}
-use Rattle.conode_compare_held.specs.declared.written.HeldMismatch.{HeldMismatch}
-use Rattle.conode_compare_held.specs.HeldNumbers.{held_mismatch, nothing_written}
+use Rattle.conode_compare_values.specs.declared.written.HeldMismatch.{HeldMismatch}
+use Rattle.conode_compare_values.specs.HeldNumbers.{held_mismatch, nothing_written}
 use Rattle.conode_compare_rules.specs.declared.finding.Finding.{Finding}
 use Rattle.conode_compare_rules.specs.declared.finding.Finding.TheVariants.{Held}
 use Rattle.conode_compare_rules.specs.declared.kind.FrameKind.{FrameKind}

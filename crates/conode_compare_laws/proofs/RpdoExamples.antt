@@ -12,8 +12,8 @@ use Rattle.co_value.specs.declared.data_type.DataType.TheVariants.{Unsigned8, Un
 use Rattle.co_node_model.proofs.ExampleNode.{frame}
 use Rattle.conode_compare_pdos.specs.Followed.{framed, sighting, unknown_pdos}
 use Rattle.conode_compare_pdos.specs.Rpdos.{has_few_rpdos, mapped_from, rpdo_of}
-use Rattle.conode_compare_held.specs.HeldNumbers.{held_mismatch, nothing_written, unmapped_from, written_heard}
-use Rattle.conode_compare_held.specs.RpdoWrites.{brought_from, fits_from, no_writes, settled_from, taken_from}
+use Rattle.conode_compare_values.specs.HeldNumbers.{held_mismatch, nothing_written, unmapped_from, written_heard}
+use Rattle.conode_compare_values.specs.RpdoWrites.{brought_from, fits_from, no_writes, settled_from, taken_from}
 use Rattle.conode_compare_values.specs.SheetValues.{mismatch_at, row_mismatch, value_mismatch}
 use Rattle.conode_compare_transfers.specs.Breaches.{breach_at}
 use Rattle.conode_compare_transfers.specs.Dialogues.{dialogue_heard, exchange_in, is_certain}

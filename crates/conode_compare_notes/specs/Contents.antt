@@ -7,8 +7,8 @@ use Rattle.conode_explain_transfers.specs.declared.ended.Ended.{Ended}
 use Rattle.conode_explain_transfers.specs.declared.kinds.Protocol.{Protocol}
 use Rattle.conode_explain_transfers.specs.declared.kinds.Protocol.TheVariants.{Segmented, Block}
 use Rattle.conode_compare_values.specs.SheetValues.{shown_number}
-use Rattle.conode_compare_held.specs.HeldNumbers.{number_written}
-use Rattle.conode_compare_held.specs.HeldWords.{held_width}
+use Rattle.conode_compare_values.specs.HeldNumbers.{number_written}
+use Rattle.conode_compare_values.specs.HeldWords.{held_width}
 use Rattle.conode_compare_notes.specs.declared.contents.Content.{Content}
 use Rattle.conode_compare_notes.specs.declared.contents.Content.TheVariants.{Number, Bytes}
 use Rattle.conode_compare_notes.specs.declared.warning.Warning.{Warning}

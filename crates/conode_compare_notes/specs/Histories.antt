@@ -15,7 +15,7 @@ use Rattle.conode_compare_transfers.specs.Breaches.{key_in}
 use Rattle.conode_compare_transfers.specs.Dialogues.{asks_to_write, is_timed}
 use Rattle.conode_compare_transfers.specs.Times.{is_past}
 use Rattle.conode_compare_values.specs.SheetValues.{shown_number}
-use Rattle.conode_compare_held.specs.HeldNumbers.{is_done}
+use Rattle.conode_compare_values.specs.HeldNumbers.{is_done}
 use Rattle.conode_compare_rules.specs.declared.entries.Entries.{Entries}
 use Rattle.conode_compare_rules.specs.declared.kind.FrameKind.{FrameKind}
 use Rattle.conode_compare_rules.specs.declared.kind.FrameKind.TheVariants.{Command, CommandToAll, Control, Emergency, OddEmergency, Sdo}

@@ -8,7 +8,7 @@ use Rattle.co_sheet_changes.specs.Names.{row_at}
 use Rattle.conode_explain_transfers.specs.declared.ended.Ended.{Ended}
 use Rattle.conode_explain_transfers.specs.declared.kinds.Direction.{Direction}
 use Rattle.conode_explain_transfers.specs.declared.kinds.Direction.TheVariants.{Upload, Download}
-use Rattle.conode_compare_held.specs.HeldNumbers.{is_done}
+use Rattle.conode_compare_values.specs.HeldNumbers.{is_done}
 use Rattle.conode_compare_transfers.specs.declared.dialogue.Exchange.{Exchange}
 use Rattle.conode_compare_values.specs.SheetValues.{shown_number}
 use Rattle.conode_compare_notes.specs.declared.learned.Shown.{Shown}

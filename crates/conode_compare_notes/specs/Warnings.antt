@@ -19,8 +19,8 @@ use Rattle.conode_compare_transfers.specs.declared.dialogue.Exchange.{Exchange}
 use Rattle.conode_compare_transfers.specs.Breaches.{key_in}
 use Rattle.conode_compare_transfers.specs.Dialogues.{asks_to_write, is_timed}
 use Rattle.conode_compare_values.specs.SheetValues.{is_read_only}
-use Rattle.conode_compare_held.specs.HeldNumbers.{is_done}
-use Rattle.conode_compare_held.specs.HeldWords.{entry_of}
+use Rattle.conode_compare_values.specs.HeldNumbers.{is_done}
+use Rattle.conode_compare_values.specs.HeldWords.{entry_of}
 use Rattle.conode_compare_rules.specs.declared.finding.Remark.{Remark}
 use Rattle.conode_compare_rules.specs.declared.finding.Remark.TheVariants.{Restarted as RestartedRemark, EarlyHeartbeat}
 use Rattle.conode_compare_rules.specs.declared.kind.FrameKind.{FrameKind}

@@ -17,8 +17,7 @@ ghost use Rattle.conode_compare_notes.specs.Contents.{
 use crate::warning::Warning;
 use co_sheet::EntryRow;
 use co_value::Key;
-use conode_compare_held::{HeldMismatch, held_width, number_written};
-use conode_compare_values::shown_number;
+use conode_compare_values::{HeldMismatch, held_width, number_written, shown_number};
 use conode_explain_transfers::{Ended, Protocol};
 
 /// What a transfer shows of an entry.

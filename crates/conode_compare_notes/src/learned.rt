@@ -18,9 +18,8 @@ ghost use Rattle.conode_compare_notes.specs.LearnedValues.{
 use co_sheet::EntryRow;
 use co_sheet_changes::row_at;
 use co_value::Key;
-use conode_compare_held::is_done;
 use conode_compare_transfers::Exchange;
-use conode_compare_values::shown_number;
+use conode_compare_values::{is_done, shown_number};
 use conode_explain_transfers::{Direction, Ended};
 use std::alloc::{AllocError, Global};
 use std::marker::Model;

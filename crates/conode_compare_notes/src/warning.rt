@@ -1,7 +1,7 @@
 //! The kinds of warnings.
 
 use co_value::Key;
-use conode_compare_held::HeldMismatch;
+use conode_compare_values::HeldMismatch;
 
 /// What a user may want to know of a device or a recording, though it is no difference.
 #[derive(Clone, Copy)]

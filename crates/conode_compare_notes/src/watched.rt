@@ -44,11 +44,10 @@ use co_profile::{RESTORE_PARAMETERS, STORE_PARAMETERS};
 use co_sheet::EntryRow;
 use co_sheet_changes::row_at;
 use co_value::Key;
-use conode_compare_held::is_done;
 use conode_compare_pdos::number_of;
 use conode_compare_rules::{FrameKind, Progress, Remark, Subject, is_reset};
 use conode_compare_transfers::{Exchange, asks_to_write, is_timed, key_in};
-use conode_compare_values::is_read_only;
+use conode_compare_values::{is_done, is_read_only};
 use conode_explain_transfers::{Direction, Ended, Side, What};
 use std::alloc::{AllocError, Global};
 

@@ -28,9 +28,9 @@ use Rattle.conode_compare_pdos.specs.PdoParameters.{nothing_known}
 use Rattle.conode_compare_pdos.specs.Rpdos.{has_few_rpdos, mapped_from, rpdo_of}
 use Rattle.conode_compare_pdos.specs.Tpdos.{booted_tpdo}
 use Rattle.conode_compare_transfers.specs.declared.dialogue.Exchange.{Exchange}
-use Rattle.conode_compare_held.specs.declared.rpdo_writes.RpdoValue.{RpdoValue}
-use Rattle.conode_compare_held.specs.HeldNumbers.{nothing_written, number_at, unmapped_from, with_number}
-use Rattle.conode_compare_held.specs.RpdoWrites.{brought_from, fits_from, no_writes, settled_from, taken_from}
+use Rattle.conode_compare_values.specs.declared.rpdo_writes.RpdoValue.{RpdoValue}
+use Rattle.conode_compare_values.specs.HeldNumbers.{nothing_written, number_at, unmapped_from, with_number}
+use Rattle.conode_compare_values.specs.RpdoWrites.{brought_from, fits_from, no_writes, settled_from, taken_from}
 use Rattle.conode_compare_rules.specs.declared.finding.NmtState.{NmtState}
 use Rattle.conode_compare_rules.specs.declared.finding.NmtState.TheVariants.{Operational, PreOperational, Unknown}
 use Rattle.conode_compare_rules.specs.declared.kind.FrameKind.{FrameKind}

@@ -25,10 +25,10 @@ use Rattle.conode_compare_transfers.specs.declared.dialogue.Exchange.{Exchange}
 use Rattle.conode_compare_transfers.specs.Breaches.{key_in}
 use Rattle.conode_compare_transfers.specs.Dialogues.{asks_to_write, is_download, is_initiate, is_timed}
 use Rattle.conode_compare_transfers.specs.Times.{is_past}
-use Rattle.conode_compare_held.specs.declared.rpdo_writes.RpdoWrites.{RpdoWrites}
-use Rattle.conode_compare_held.specs.declared.written.Written.{Written}
-use Rattle.conode_compare_held.specs.HeldNumbers.{is_restricted, unmapped, unmapped_at}
-use Rattle.conode_compare_held.specs.RpdoWrites.{all_fit, forgotten, no_writes, received, settled, without_values}
+use Rattle.conode_compare_values.specs.declared.rpdo_writes.RpdoWrites.{RpdoWrites}
+use Rattle.conode_compare_values.specs.declared.written.Written.{Written}
+use Rattle.conode_compare_values.specs.HeldNumbers.{is_restricted, unmapped, unmapped_at}
+use Rattle.conode_compare_values.specs.RpdoWrites.{all_fit, forgotten, no_writes, received, settled, without_values}
 use Rattle.conode_compare_rules.specs.declared.kind.FrameKind.{FrameKind}
 use Rattle.conode_compare_rules.specs.declared.kind.FrameKind.TheVariants.{Command, CommandToAll, Guarding, Control, OddControl, Emergency, OddEmergency, Sdo, Process, Polled, Fault, Other}
 use Rattle.conode_compare_rules.specs.declared.limits.Subject.{Subject}

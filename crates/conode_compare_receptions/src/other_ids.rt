@@ -130,11 +130,7 @@ pub(crate) fn has_further_ids(rows: &[EntryRow<'_>]) -> bool
 fn id_asked(key: Key, own: Key, id: Option<u16>) -> Option<u16>
     ensures { result ≡ id_asked key own id }
 {
-    if key == own {
-        None
-    } else {
-        id
-    }
+    if key == own { None } else { id }
 }
 
 // the identifier that bytes are

@@ -23,10 +23,10 @@ use crate::other_ids::OtherIds;
 use crate::receptions::Receptions;
 use co_frame::Frame;
 use co_value::Key;
-use conode_compare_held::{RpdoWrites, Written};
 use conode_compare_pdos::Rpdos;
 use conode_compare_rules::{Progress, Subject};
 use conode_compare_transfers::{Exchange, asks_to_write, is_past, is_timed, key_in};
+use conode_compare_values::{RpdoWrites, Written};
 use conode_explain_transfers::{Direction, Ended, Side, What};
 
 // whether a client asks to write

@@ -16,7 +16,7 @@ use Rattle.conode_compare_transfers.specs.declared.breach.Breach.TheVariants.{Ea
 use Rattle.conode_compare_transfers.specs.declared.dialogue.Exchange.{Exchange}
 use Rattle.conode_compare_values.specs.declared.mismatch.Mismatch.TheVariants.{BeyondRoom, ValueConst, ValueLength}
 use Rattle.conode_compare_values.specs.SheetValues.{mismatch_at, row_mismatch, value_mismatch}
-use Rattle.conode_compare_held.specs.HeldNumbers.{held_mismatch, nothing_written}
+use Rattle.conode_compare_values.specs.HeldNumbers.{held_mismatch, nothing_written}
 use Rattle.conode_compare_rules.specs.declared.finding.Finding.{Finding}
 use Rattle.conode_compare_rules.specs.declared.finding.Finding.TheVariants.{AnswerStopped, Transfer, Value}
 use Rattle.conode_compare_rules.specs.declared.finding.NmtState.TheVariants.{Operational, Stopped}

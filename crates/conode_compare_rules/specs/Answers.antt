@@ -11,8 +11,8 @@ use Rattle.conode_explain_transfers.specs.declared.kinds.What.{What}
 use Rattle.conode_explain_transfers.specs.declared.kinds.What.TheVariants.{Part, Overtaken, Unexpected, Stray}
 use Rattle.conode_compare_transfers.specs.declared.breach.Breach.{Breach}
 use Rattle.conode_compare_transfers.specs.Breaches.{byte_at, key_in}
-use Rattle.conode_compare_held.specs.declared.written.Written.{Written}
-use Rattle.conode_compare_held.specs.HeldNumbers.{held_mismatch}
+use Rattle.conode_compare_values.specs.declared.written.Written.{Written}
+use Rattle.conode_compare_values.specs.HeldNumbers.{held_mismatch}
 use Rattle.conode_compare_values.specs.declared.mismatch.Mismatch.{Mismatch}
 use Rattle.conode_compare_values.specs.SheetValues.{mismatch_at}
 use Rattle.conode_compare_transfers.specs.declared.dialogue.Asked.{Asked}

@@ -15,7 +15,7 @@ use Rattle.conode_compare_pdos.specs.declared.pdos.Sighting.{Sighting}
 use Rattle.conode_compare_pdos.specs.Followed as tpdos
 use Rattle.conode_compare_rules.specs.declared.progress.Progress.{Progress}
 use Rattle.conode_compare_transfers.specs.declared.dialogue.Asked.{Asked}
-use Rattle.conode_compare_held.specs.declared.written.Written.{Written}
+use Rattle.conode_compare_values.specs.declared.written.Written.{Written}
 use Rattle.conode_compare_transfers.specs.declared.dialogue.Exchange.{Exchange}
 use Rattle.conode_compare_rules.specs.declared.entries.Entries.{Entries}
 use Rattle.conode_compare_rules.specs.declared.finding.Finding.{Finding}
@@ -30,7 +30,7 @@ use Rattle.conode_compare_rules.specs.declared.kind.FrameKind.TheVariants.{Comma
 use Rattle.conode_compare_rules.specs.declared.verdict.Findings.{Findings}
 use Rattle.conode_compare_rules.specs.Answers.{answer_finding, confirmed_finding, held_finding, silence_finding, stopped_finding}
 use Rattle.conode_compare_transfers.specs.Dialogues.{dialogue_heard, given_up, interrupted, nothing_asked, nothing_left, exchange_in}
-use Rattle.conode_compare_held.specs.HeldNumbers.{is_kept, nothing_written, unmapped, with_process, written_heard}
+use Rattle.conode_compare_values.specs.HeldNumbers.{is_kept, nothing_written, unmapped, with_process, written_heard}
 use Rattle.conode_compare_rules.specs.EmergencyRules.{emergency_finding, length_finding}
 use Rattle.conode_compare_rules.specs.EntriesInForce.{asked_to_write, ended_entries, reset_entries, shares_id, with_sharing}
 use Rattle.conode_compare_rules.specs.Heartbeats.{after_byte, after_transfer, early_remark, follows_closely, late_finding, no_heartbeat, is_gap}

@@ -26,11 +26,10 @@ use crate::limits::{Limits, Subject};
 use crate::nmt::Nmt;
 use co_frame::Frame;
 use co_sheet::EntryRow;
-use conode_compare_held::Written;
 use conode_compare_transfers::{
     Asked, Breach, Dialogue, Exchange, byte_at, early_abort, is_past, is_timed, key_in,
 };
-use conode_compare_values::mismatch_at;
+use conode_compare_values::{Written, mismatch_at};
 use conode_explain_transfers::{Ended, Protocol, What};
 
 // an abort (CiA 301, 7.2.4.3.17)

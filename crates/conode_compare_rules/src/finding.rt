@@ -4,10 +4,9 @@ ghost use Rattle.std.specs.Prelude.{◌≡◌};
 ghost use Rattle.conode_compare_rules.specs.States.{is_operational};
 
 use co_value::Key;
-use conode_compare_held::HeldMismatch;
 use conode_compare_pdos::Deviation;
 use conode_compare_transfers::Breach;
-use conode_compare_values::Mismatch;
+use conode_compare_values::{HeldMismatch, Mismatch};
 
 /// The NMT state that a device is in, as commands and its own frames have it (CiA 301, 7.3.2.2).
 #[derive(Clone, Copy)]

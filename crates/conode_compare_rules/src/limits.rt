@@ -4,8 +4,7 @@ ghost use Rattle.std.specs.Prelude.{◌≡◌};
 ghost use Rattle.conode_compare_rules.specs.Times.{drift_of};
 
 use crate::entries::Facts;
-use conode_compare_held::HeldEntries;
-use conode_compare_values::Rooms;
+use conode_compare_values::{HeldEntries, Rooms};
 
 /// How exactly a device is judged.
 #[derive(Clone, Copy)]

@@ -56,9 +56,9 @@ use crate::nmt::{Nmt, is_reset};
 use crate::verdict::Findings;
 use co_frame::{Frame, NmtService};
 use co_sheet::EntryRow;
-use conode_compare_held::Written;
 use conode_compare_pdos::Pdos;
 use conode_compare_transfers::{Asked, Dialogue, Exchange, Left, is_past};
+use conode_compare_values::Written;
 use conode_explain_transfers::{Ended, Side, What};
 
 /// What a recording shows of a device.

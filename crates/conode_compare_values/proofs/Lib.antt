@@ -1,1 +1,5 @@
 mod Examples
+mod HeldExamples
+mod RpdoExamples
+pub mod Objects
+pub mod Readings

@@ -1,1 +1,4 @@
+pub mod HeldNumbers
+pub mod HeldWords
+pub mod RpdoWrites
 pub mod SheetValues

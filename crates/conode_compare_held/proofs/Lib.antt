@@ -1,4 +1,0 @@
-mod Examples
-mod RpdoExamples
-pub mod Objects
-pub mod Readings

@@ -1,7 +1,0 @@
-use Rattle.std.proofs.Common.{◌≡◌, drop}
-use Rattle.conode_compare_held.specs.HeldWords.{entry_of}
-use Rattle.conode_compare_held.proofs.entries.HeldEntries.entry.Given as goal
-
--- it is none of those so far
-abbrev pub invariant-loop-entry : goal.invariant-loop-entry
-invariant-loop-entry l = entry_of (drop l.entry-index l.entries) l.key ≡ entry_of l.entries l.key

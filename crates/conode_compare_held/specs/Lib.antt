@@ -1,3 +1,0 @@
-pub mod HeldNumbers
-pub mod HeldWords
-pub mod RpdoWrites
