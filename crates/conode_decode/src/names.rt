@@ -4,14 +4,14 @@ ghost use Rattle.std.specs.Prelude.{◌≡◌, ◌++◌, OnOk, string_bytes};
 ghost use Rattle.co_sheet_changes.specs.Names.{names_view};
 ghost use Rattle.conode_decode.specs.Names.{name_text};
 
+use crate::numbers::push_words;
 use co_sheet_changes::Names;
 use co_value::Key;
-use conode_text::{Value, push_filled};
 use std::alloc::AllocError;
 
 /// Appends what follows a text with a key: a space and the name in double quotes, if there is
 /// one. `Err`: out of memory; a part of it may be there.
-#[tactic(auto, unfolding(crate::specs::Names::name_text, conode_text::specs::Filled::filled))]
+#[tactic(auto, unfolding(crate::specs::Names::name_text))]
 pub(crate) fn push_name(
     text: &mut String,
     names: Names<'_, '_>,
@@ -27,5 +27,7 @@ pub(crate) fn push_name(
     let Some(name) = names.name(node, key) else {
         return Ok(());
     };
-    push_filled(text, " \"%\"", &[Value::Words(name)])
+    attempt!(push_words(text, " \""));
+    attempt!(push_words(text, name));
+    push_words(text, "\"")
 }

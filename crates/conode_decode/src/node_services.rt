@@ -28,7 +28,7 @@ use co_frame::{
     Emergency, Frame, Heartbeat, NmtCommand, NmtService, SdoRequest, SdoResponse, Sync,
 };
 use co_sheet_changes::Names;
-use conode_text::{Value, push_filled};
+use co_text::{push_byte, push_decimal, push_u16};
 use std::alloc::AllocError;
 
 fn nmt_service_text(service: NmtService) -> &'static str
@@ -43,72 +43,59 @@ fn nmt_service_text(service: NmtService) -> &'static str
     }
 }
 
-#[tactic(auto, unfolding(crate::specs::Texts::nmt_text, conode_text::specs::Filled::filled))]
+#[tactic(auto, unfolding(crate::specs::Texts::nmt_text))]
 fn push_nmt(text: &mut String, command: NmtCommand) -> Result<(), AllocError>
     ensures { OnOk result (string_bytes text.new ≡ string_bytes text.old ++ nmt_text command) }
 {
-    push_filled(
-        text,
-        "NMT % %",
-        &[
-            Value::Words(nmt_service_text(command.service)),
-            Value::Number(command.node as u64),
-        ],
-    )
+    attempt!(push_words(text, "NMT "));
+    attempt!(push_words(text, nmt_service_text(command.service)));
+    attempt!(push_words(text, " "));
+    push_decimal(text, command.node as u64)
 }
 
-#[tactic(auto, unfolding(crate::specs::Texts::sync_text, conode_text::specs::Filled::filled))]
+#[tactic(auto, unfolding(crate::specs::Texts::sync_text))]
 fn push_sync(text: &mut String, sync: Sync) -> Result<(), AllocError>
     ensures { OnOk result (string_bytes text.new ≡ string_bytes text.old ++ sync_text sync) }
 {
-    match sync.counter {
-        Some(counter) => push_filled(text, "SYNC %", &[Value::Number(counter as u64)]),
-        None => push_words(text, "SYNC"),
-    }
+    attempt!(push_words(text, "SYNC"));
+    let Some(counter) = sync.counter else {
+        return Ok(());
+    };
+    attempt!(push_words(text, " "));
+    push_decimal(text, counter as u64)
 }
 
-#[tactic(auto, unfolding(crate::specs::Texts::of_node, conode_text::specs::Filled::filled))]
+#[tactic(auto, unfolding(crate::specs::Texts::of_node))]
 fn push_of_node(text: &mut String, service: &str, node: u8) -> Result<(), AllocError>
     ensures { OnOk result
         (string_bytes text.new ≡ string_bytes text.old ++ of_node service.now node) }
 {
-    push_filled(
-        text,
-        "% node %",
-        &[Value::Words(service), Value::Number(node as u64)],
-    )
+    attempt!(push_words(text, service));
+    attempt!(push_words(text, " node "));
+    push_decimal(text, node as u64)
 }
 
-#[tactic(auto, unfolding(crate::specs::Texts::emergency_text, crate::specs::Texts::of_node, conode_text::specs::Filled::filled))]
+#[tactic(auto, unfolding(crate::specs::Texts::emergency_text))]
 fn push_emergency(text: &mut String, node: u8, emergency: Emergency) -> Result<(), AllocError>
     ensures { OnOk result
         (string_bytes text.new ≡ string_bytes text.old ++ emergency_text node emergency) }
 {
-    push_filled(
-        text,
-        "EMCY node % code % register %",
-        &[
-            Value::Number(node as u64),
-            Value::Short(emergency.code),
-            Value::Byte(emergency.register),
-        ],
-    )
+    attempt!(push_of_node(text, "EMCY", node));
+    attempt!(push_words(text, " code "));
+    attempt!(push_u16(text, emergency.code));
+    attempt!(push_words(text, " register "));
+    push_byte(text, emergency.register)
 }
 
-#[tactic(auto, unfolding(crate::specs::Texts::pdo_text, crate::specs::Texts::of_node, conode_text::specs::Filled::filled))]
+#[tactic(auto, unfolding(crate::specs::Texts::pdo_text, crate::specs::Texts::of_node))]
 fn push_pdo(text: &mut String, service: &str, number: u8, node: u8) -> Result<(), AllocError>
     ensures { OnOk result
         (string_bytes text.new ≡ string_bytes text.old ++ pdo_text service.now number node) }
 {
-    push_filled(
-        text,
-        "%% node %",
-        &[
-            Value::Words(service),
-            Value::Number(number as u64),
-            Value::Number(node as u64),
-        ],
-    )
+    attempt!(push_words(text, service));
+    attempt!(push_decimal(text, number as u64));
+    attempt!(push_words(text, " node "));
+    push_decimal(text, node as u64)
 }
 
 fn push_heartbeat(text: &mut String, node: u8, heartbeat: Heartbeat) -> Result<(), AllocError>

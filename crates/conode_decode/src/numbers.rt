@@ -2,16 +2,23 @@
 //! may be there.
 
 ghost use Rattle.std.specs.Prelude.{◌≡◌, ◌++◌, OnOk, string_bytes};
+ghost use Rattle.co_value.specs.KeyTexts.{key_text};
 ghost use Rattle.conode_decode.specs.Numbers.{hex_text, toggle_text, size_text};
 
-use co_text::push_bytes;
-use conode_text::{Value, push_filled};
+use co_text::{push_bytes, push_decimal};
+use co_value::Key;
 use std::alloc::AllocError;
 
 pub(crate) fn push_words(text: &mut String, words: &str) -> Result<(), AllocError>
     ensures { OnOk result (string_bytes text.new ≡ string_bytes text.old ++ words.now) }
 {
     text.push_str(words)
+}
+
+pub(crate) fn push_key(text: &mut String, key: Key) -> Result<(), AllocError>
+    ensures { OnOk result (string_bytes text.new ≡ string_bytes text.old ++ key_text key) }
+{
+    text.push_str(key.text().as_str())
 }
 
 pub(crate) fn push_hex(text: &mut String, bytes: &[u8]) -> Result<(), AllocError>
@@ -23,19 +30,18 @@ pub(crate) fn push_hex(text: &mut String, bytes: &[u8]) -> Result<(), AllocError
     push_bytes(text, bytes)
 }
 
-/// A toggle bit.
-pub(crate) fn toggle_text(toggle: bool) -> &'static str
-    ensures { result.now ≡ toggle_text toggle }
+pub(crate) fn push_toggle(text: &mut String, toggle: bool) -> Result<(), AllocError>
+    ensures { OnOk result (string_bytes text.new ≡ string_bytes text.old ++ toggle_text toggle) }
 {
-    if toggle { "1" } else { "0" }
+    text.push(if toggle { '1' } else { '0' })
 }
 
-#[tactic(auto, unfolding(conode_text::specs::Filled::filled))]
 pub(crate) fn push_size(text: &mut String, size: Option<u32>) -> Result<(), AllocError>
     ensures { OnOk result (string_bytes text.new ≡ string_bytes text.old ++ size_text size) }
 {
     let Some(size) = size else {
         return Ok(());
     };
-    push_filled(text, " size %", &[Value::Number(size as u64)])
+    attempt!(push_words(text, " size "));
+    push_decimal(text, size as u64)
 }

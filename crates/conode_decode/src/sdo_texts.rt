@@ -18,10 +18,10 @@ ghost use Rattle.conode_decode.specs.SdoTexts.{
   answer_key,
 };
 
-use crate::numbers::{push_hex, push_size, push_words, toggle_text};
+use crate::numbers::{push_hex, push_key, push_size, push_toggle, push_words};
 use co_frame::{AbortCode, ExpeditedData, SdoRequest, SdoResponse};
+use co_text::{push_decimal, push_u32};
 use co_value::Key;
-use conode_text::{Value, push_filled};
 use std::alloc::AllocError;
 
 fn expedited_part(part: &ExpeditedData) -> &[u8]
@@ -33,7 +33,7 @@ fn expedited_part(part: &ExpeditedData) -> &[u8]
     }
 }
 
-#[tactic(auto, unfolding(crate::specs::SdoTexts::expedited_text, conode_text::specs::Filled::filled))]
+#[tactic(auto, unfolding(crate::specs::SdoTexts::expedited_text))]
 fn push_expedited(
     text: &mut String,
     service: &str,
@@ -43,11 +43,9 @@ fn push_expedited(
     ensures { OnOk result (string_bytes text.new
         ≡ string_bytes text.old ++ expedited_text service.now key part.now) }
 {
-    attempt!(push_filled(
-        text,
-        "%% expedited ",
-        &[Value::Words(service), Value::Key(key)],
-    ));
+    attempt!(push_words(text, service));
+    attempt!(push_key(text, key));
+    attempt!(push_words(text, " expedited "));
     push_hex(text, expedited_part(part))
 }
 
@@ -61,7 +59,8 @@ fn push_initiate(
     ensures { OnOk result (string_bytes text.new
         ≡ string_bytes text.old ++ initiate_text service.now key size) }
 {
-    attempt!(push_with_key(text, service, key));
+    attempt!(push_words(text, service));
+    attempt!(push_key(text, key));
     push_size(text, size)
 }
 
@@ -77,68 +76,63 @@ fn push_block_initiate(
     push_initiate(text, service, key, Some(block_size as u32))
 }
 
-#[tactic(auto, unfolding(conode_text::specs::Filled::filled))]
 fn push_with_key(text: &mut String, service: &str, key: Key) -> Result<(), AllocError>
     ensures { OnOk result
         (string_bytes text.new ≡ string_bytes text.old ++ (service.now ++ key_text key)) }
 {
-    push_filled(text, "%%", &[Value::Words(service), Value::Key(key)])
+    attempt!(push_words(text, service));
+    push_key(text, key)
 }
 
-#[tactic(auto, unfolding(conode_text::specs::Filled::filled))]
 fn push_with_toggle(text: &mut String, service: &str, toggle: bool) -> Result<(), AllocError>
     ensures { OnOk result
         (string_bytes text.new ≡ string_bytes text.old ++ (service.now ++ toggle_text toggle)) }
 {
-    push_filled(
-        text,
-        "%%",
-        &[Value::Words(service), Value::Words(toggle_text(toggle))],
-    )
+    attempt!(push_words(text, service));
+    push_toggle(text, toggle)
 }
 
-#[tactic(auto, unfolding(crate::specs::SdoTexts::segment_text, conode_text::specs::Filled::filled))]
+#[tactic(auto, unfolding(crate::specs::SdoTexts::segment_text))]
 fn push_segment(text: &mut String, toggle: bool, part: &[u8], last: bool) -> Result<(), AllocError>
     ensures { OnOk result (string_bytes text.new
         ≡ string_bytes text.old ++ segment_text toggle part.now last) }
 {
-    attempt!(push_filled(text, "segment % ", &[Value::Words(toggle_text(toggle))]));
+    attempt!(push_words(text, "segment "));
+    attempt!(push_toggle(text, toggle));
+    attempt!(push_words(text, " "));
     attempt!(push_hex(text, part));
     push_words(text, if last { " last" } else { "" })
 }
 
-#[tactic(auto, unfolding(crate::specs::SdoTexts::abort_text, conode_text::specs::Filled::filled))]
+#[tactic(auto, unfolding(crate::specs::SdoTexts::abort_text))]
 fn push_abort(text: &mut String, key: Key, code: AbortCode) -> Result<(), AllocError>
     ensures { OnOk result (string_bytes text.new ≡ string_bytes text.old ++ abort_text key code) }
 {
-    push_filled(text, "abort % %", &[Value::Key(key), Value::Long(code.0)])
+    attempt!(push_words(text, "abort "));
+    attempt!(push_key(text, key));
+    attempt!(push_words(text, " "));
+    push_u32(text, code.0)
 }
 
-#[tactic(auto, unfolding(crate::specs::SdoTexts::acknowledge_text, conode_text::specs::Filled::filled))]
+#[tactic(auto, unfolding(crate::specs::SdoTexts::acknowledge_text))]
 fn push_acknowledge(text: &mut String, sequence: u8, block_size: u8) -> Result<(), AllocError>
     ensures { OnOk result (string_bytes text.new
         ≡ string_bytes text.old ++ acknowledge_text sequence block_size) }
 {
-    push_filled(
-        text,
-        "block ack % size %",
-        &[
-            Value::Number(sequence as u64),
-            Value::Number(block_size as u64),
-        ],
-    )
+    attempt!(push_words(text, "block ack "));
+    attempt!(push_decimal(text, sequence as u64));
+    attempt!(push_words(text, " size "));
+    push_decimal(text, block_size as u64)
 }
 
-#[tactic(auto, unfolding(crate::specs::SdoTexts::block_end_text, conode_text::specs::Filled::filled))]
+#[tactic(auto, unfolding(crate::specs::SdoTexts::block_end_text))]
 fn push_block_end(text: &mut String, service: &str, unused: u8) -> Result<(), AllocError>
     ensures { OnOk result (string_bytes text.new
         ≡ string_bytes text.old ++ block_end_text service.now unused) }
 {
-    push_filled(
-        text,
-        "%end unused %",
-        &[Value::Words(service), Value::Number(unused as u64)],
-    )
+    attempt!(push_words(text, service));
+    attempt!(push_words(text, "end unused "));
+    push_decimal(text, unused as u64)
 }
 
 /// Appends the text of a request, without the name of the entry.
