@@ -53,17 +53,17 @@ fn event_of_one<'a>(name: &[u8], word: &'a [u8]) -> Option<EventLine<'a>>
     ensures { result ≡ event_of_one name.now word.now }
 {
     if is_word(name, b"!tick") {
-        return Some(EventLine::Ticks(decimal_in(word, 1, 86_400_000)?));
+        return Some(EventLine::Ticks(given!(decimal_in(word, 1, 86_400_000))));
     }
     if is_word(name, b"!event") {
-        let number = decimal_in(word, 0, 65_535)?;
+        let number = given!(decimal_in(word, 0, 65_535));
         return Some(EventLine::App(AppLine::Event(number as u16)));
     }
     if is_word(name, b"!changed") {
-        return Some(EventLine::App(AppLine::Changed(Key::parse(word)?)));
+        return Some(EventLine::App(AppLine::Changed(given!(Key::parse(word)))));
     }
     if is_word(name, b"!clear") {
-        return Some(EventLine::App(AppLine::Clear(byte_in(word)?)));
+        return Some(EventLine::App(AppLine::Clear(given!(byte_in(word)))));
     }
     None
 }
@@ -75,8 +75,8 @@ fn event_of_two<'a>(name: &[u8], first: &[u8], second: &'a [u8]) -> Option<Event
     if !is_word(name, b"!write") {
         return None;
     }
-    let key = Key::parse(first)?;
-    let bytes = HexPairs::read(second)?;
+    let key = given!(Key::parse(first));
+    let bytes = given!(HexPairs::read(second));
     Some(EventLine::App(AppLine::Write(key, bytes)))
 }
 
@@ -92,9 +92,9 @@ fn event_of_three<'a>(
     if !is_word(name, b"!raise") {
         return None;
     }
-    let code = word_in(first)?;
-    let bits = byte_in(second)?;
-    let extra = five_bytes_in(third)?;
+    let code = given!(word_in(first));
+    let bits = given!(byte_in(second));
+    let extra = given!(five_bytes_in(third));
     Some(EventLine::App(AppLine::Raise(code, bits, extra)))
 }
 
@@ -104,7 +104,7 @@ pub(crate) fn event_line(line: &[u8]) -> Option<EventLine<'_>>
     ensures { result ≡ event_in (words line.now) }
 {
     let (name, rest) = first_word(line);
-    let (first, rest) = first_word(rest?);
+    let (first, rest) = first_word(given!(rest));
     let Some(rest) = rest else {
         return event_of_one(name, first);
     };

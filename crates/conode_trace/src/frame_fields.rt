@@ -85,11 +85,11 @@ fn number_at(text: &[u8], least: usize, most: usize) -> Option<(u64, &[u8])>
 pub(crate) fn stamp_at(text: &[u8]) -> Option<(u64, &[u8])>
     ensures { option_map (λ found. (found.0, found.1.now)) result ≡ stamp_at text.now }
 {
-    let text = past_byte(text, b'(')?;
-    let (seconds, text) = number_at(text, 1, 12)?;
-    let text = past_byte(text, b'.')?;
-    let (micros, text) = number_at(text, 6, 6)?;
-    let text = past_byte(text, b')')?;
+    let text = given!(past_byte(text, b'('));
+    let (seconds, text) = given!(number_at(text, 1, 12));
+    let text = given!(past_byte(text, b'.'));
+    let (micros, text) = given!(number_at(text, 6, 6));
+    let text = given!(past_byte(text, b')'));
     Some((1000 * seconds + micros / 1000, text))
 }
 
@@ -148,9 +148,9 @@ fn three_digits(text: &[u8]) -> Option<u16>
     requires { 3 ≤ length text.now }
     ensures value { result ≡ three_digits text.now }
 {
-    let high = u16::from(hex_digit(text[0])?);
-    let middle = u16::from(hex_digit(text[1])?);
-    let low = u16::from(hex_digit(text[2])?);
+    let high = given!(hex_digit(text[0])) as u16;
+    let middle = given!(hex_digit(text[1])) as u16;
+    let low = given!(hex_digit(text[2])) as u16;
     Some(256 * high + 16 * middle + low)
 }
 
@@ -177,7 +177,7 @@ pub(crate) fn identifier_at(text: &[u8]) -> Option<(Identifier, &[u8])>
     ensures small { IfSome result (λ found. IsIdentifier found.0) }
 {
     if has_sign(text, 3) {
-        let id = three_digits(text)?;
+        let id = given!(three_digits(text));
         return if id <= 0x7FF {
             Some((Identifier::Base(id), &text[4..]))
         } else {
@@ -249,7 +249,7 @@ pub(crate) fn body_in(text: &[u8]) -> Option<Body>
         [b'#', ..] => Some(Body::Other),
         [b'R', rest @ ..] => is_ending(past_digit(rest)).then_some(Body::Other),
         _ => {
-            let (bytes, rest) = few_pairs_at(text)?;
+            let (bytes, rest) = given!(few_pairs_at(text));
             is_ending(rest).then_some(Body::Bytes(bytes))
         }
     }

@@ -2,6 +2,16 @@
 //! says, the clock that they set, the inputs that they give, and the line of a frame that is sent.
 #![tactic(auto)]
 
+// As `?` of an `Option`: a `match` is one step of a proof where `?` is three.
+macro_rules! given {
+    ($option:expr) => {
+        match $option {
+            Some(value) => value,
+            None => return None,
+        }
+    };
+}
+
 mod clock;
 mod event_line;
 mod frame_fields;

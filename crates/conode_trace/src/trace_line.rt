@@ -68,7 +68,7 @@ impl<'a> TraceLine<'a> {
             return Some(TraceLine::Skipped);
         }
         if line[0] == b'!' {
-            return Some(TraceLine::Event(event_line(line)?));
+            return Some(TraceLine::Event(given!(event_line(line))));
         }
         frame_line(line)
     }
@@ -86,10 +86,10 @@ fn is_skipped(line: &[u8]) -> bool
 fn frame_line(line: &[u8]) -> Option<TraceLine<'static>>
     ensures { result ≡ frame_line_in line.now }
 {
-    let (stamp, rest) = stamp_at(line)?;
-    let name = past_blanks(rest)?;
-    let blanks = past_name(name)?;
-    let frame = past_blanks(blanks)?;
+    let (stamp, rest) = given!(stamp_at(line));
+    let name = given!(past_blanks(rest));
+    let blanks = given!(past_name(name));
+    let frame = given!(past_blanks(blanks));
     frame_at(stamp, frame)
 }
 
@@ -98,8 +98,8 @@ fn frame_line(line: &[u8]) -> Option<TraceLine<'static>>
 fn frame_at(stamp: u64, text: &[u8]) -> Option<TraceLine<'static>>
     ensures { result ≡ frame_at stamp text.now }
 {
-    let (id, text) = identifier_at(text)?;
-    let body = body_in(text)?;
+    let (id, text) = given!(identifier_at(text));
+    let body = given!(body_in(text));
     Some(line_of(stamp, id, &body))
 }
 
