@@ -23,6 +23,7 @@ use Rattle.co_sdo_laws.proofs.Frames.{done_read, expedited_sent_read}
 use Rattle.conode_explain_transfers.specs.declared.ended.Ended.{Ended}
 use Rattle.conode_explain_transfers.specs.declared.kinds.Direction.{Direction}
 use Rattle.conode_explain_transfers.specs.declared.kinds.Direction.TheVariants.{Download, Upload}
+use Rattle.conode_explain_transfers.specs.declared.kinds.Protocol.{Protocol}
 use Rattle.conode_explain_transfers.specs.declared.kinds.Protocol.TheVariants.{Block, Expedited, Segmented, Undecided}
 use Rattle.conode_explain_transfers.specs.declared.kinds.Side.{Side}
 use Rattle.conode_explain_transfers.specs.declared.kinds.Side.TheVariants.{Client, Server}
@@ -34,7 +35,7 @@ use Rattle.conode_explain_transfers.specs.declared.transfer.Transfer.{Transfer}
 use Rattle.conode_explain_transfers.specs.BlockTurns.{is_block}
 use Rattle.conode_explain_transfers.specs.Endings.{ended, verdict}
 use Rattle.conode_explain_transfers.specs.Followed.{Followed, Following, followed, one_more, turns_at, with_frame}
-use Rattle.conode_explain_transfers.specs.Readings.{awaits_segment, is_in_sub_block, is_sender}
+use Rattle.conode_explain_transfers.specs.Readings.{awaits_segment, is_sender, may_have_segment}
 use Rattle.conode_explain_transfers.specs.Stages.{confirmed_with}
 use Rattle.conode_explain_transfers.specs.Initiates.{initiate_of}
 use Rattle.conode_explain_transfers.specs.Transfers.{Turn, after, begun}
@@ -199,16 +200,15 @@ server_lasts heard t micros frame l =
 
 -- ---- the client's frames
 
-inside_in_blocks : (stage : Stage) → is_in_sub_block stage ≡ true → in_blocks stage ≡ true
-inside_in_blocks (SubBlock last) h = refl
-inside_in_blocks _ h = absurd (false≢true h)
+none_sent : (stage : Stage) (direction : Direction) (protocol : Protocol) → (in_blocks stage ≡ true → direction ≡ Upload) → (direction ≡ Download → is_block protocol ≡ false)
+    → (if may_have_segment stage direction protocol then is_sender direction Client else false) ≡ false
+none_sent (SubBlock last) direction protocol up plain = ap (λ x. is_sender x Client) (up refl)
+none_sent Initiated Download protocol up plain = ap (λ b. if b then true else false) (plain refl)
+none_sent Initiated Upload protocol up plain = refl
+none_sent _ direction protocol up plain = refl
 
 no_segment : (t : Transfer) → Sound t → awaits_segment t Client ≡ false
-no_segment t s = by (is_in_sub_block t.stage) refl
-  where
-    by : (b : Bool) → is_in_sub_block t.stage ≡ b → (if b then is_sender t.direction Client else false) ≡ false
-    by true e = ap (λ x. is_sender x Client) (s.blocks (inside_in_blocks t.stage e)).direction
-    by false e = refl
+no_segment t s = none_sent t.stage t.direction t.protocol (λ h. (s.blocks h).direction) s.plain
 
 -- it is read as a request
 pub client_reading : (current : Option Transfer) (micros : ℕ) (bytes : List ℕ) → IfSome current Sound → reading_of current Client micros bytes ≡ request_reading (request_in bytes) micros bytes

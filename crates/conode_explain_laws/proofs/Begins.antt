@@ -36,7 +36,7 @@ use Rattle.conode_explain_transfers.specs.declared.kinds.Side.TheVariants.{Serve
 use Rattle.conode_explain_transfers.specs.declared.stage.Stage.TheVariants.{Initiated}
 use Rattle.conode_explain_transfers.specs.declared.transfer.Transfer.{Transfer}
 use Rattle.conode_explain_transfers.specs.BlockTurns.{acknowledged}
-use Rattle.conode_explain_transfers.specs.Initiates.{has_crc, data_of, initiate_of}
+use Rattle.conode_explain_transfers.specs.Initiates.{has_crc, data_of, initiate_of, first_segment}
 use Rattle.conode_explain_transfers.specs.Transfers.{begun, is_download}
 use Rattle.conode_explain_laws.specs.Downloads.{Complete, entry_bytes, if_done}
 use Rattle.conode_explain_laws.proofs.Readings.{Reading, Response, begun_with, response_reading, reading_of}
@@ -214,7 +214,7 @@ segmented_begins rows stamp key size micros frame done count q k =
 
 -- a download in blocks
 abbrev pub in_blocks : Key → Option ℕ → ℕ → List ℕ → Transfer
-in_blocks key size micros frame = begun (record (initiate_of key Download Block) { size = size; crc = has_crc frame }) micros frame
+in_blocks key size micros frame = begun (record (initiate_of key Download Block) { size = size; crc = has_crc frame; block_size = first_segment }) micros frame
 
 blocks_begin : (rows : Rows) (stamp : ℕ → ℕ) (key : Key) (size : Option ℕ) (micros : ℕ) (frame : List ℕ) (done : List Complete) (count : ℕ)
     → request_in frame ≡ Some (BlockDownloadInitiate key size) → key.index < 65536

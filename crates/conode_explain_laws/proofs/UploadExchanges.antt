@@ -36,7 +36,7 @@ use Rattle.conode_explain_transfers.specs.BlockTurns.{acknowledged, acknowledged
 use Rattle.conode_explain_transfers.specs.Digests.{counted, digest_of}
 use Rattle.conode_explain_transfers.specs.Endings.{size_fault, verdict}
 use Rattle.conode_explain_transfers.specs.Followed.{with_frame}
-use Rattle.conode_explain_transfers.specs.Readings.{is_in_sub_block as is_inside, is_sender}
+use Rattle.conode_explain_transfers.specs.Readings.{may_have_segment, is_sender}
 use Rattle.conode_explain_transfers.specs.Stages.{confirmed_with}
 use Rattle.conode_explain_transfers.specs.Transfers.{after, is_download, goes_on as part, takes_pending, unexpected}
 use Rattle.conode_explain_transfers.proofs.DataLemmas.{taking}
@@ -452,7 +452,7 @@ outside_or Loose (Some t) got current ended (at_end crc bytes a g (inr c) e) = i
 
 -- the client's frames in an upload are read as requests
 upload_plain : (t : Transfer) (micros : ℕ) (frame : List ℕ) → t.direction ≡ Upload → reading_of (Some t) Client micros frame ≡ request_reading (request_in frame) micros frame
-upload_plain t micros frame e = by (is_inside t.stage) t.direction e
+upload_plain t micros frame e = by (may_have_segment t.stage t.direction t.protocol) t.direction e
   where
     by : (inside : Bool) (x : Direction) → x ≡ Upload
         → (if (if inside then is_sender x Client else false) then sub_block_reading t.block_size Client micros frame else plain_reading Client micros frame) ≡ request_reading (request_in frame) micros frame

@@ -101,7 +101,8 @@ block_segment_at (SubBlock false) transfer segment =
     if nat_lt segment.sequence transfer.next_number then segment_again transfer segment
     else (if segment.sequence == awaited_number transfer then segment_added transfer segment
     else segment_ahead transfer segment)
-block_segment_at Initiated transfer segment = segment_first transfer segment
+block_segment_at Initiated transfer segment =
+    if is_download transfer.direction && is_block transfer.protocol then segment_first transfer segment else unexpected transfer
 block_segment_at _ transfer segment = unexpected transfer
 
 abbrev pub block_segment : Transfer → BlockSegment → Turn

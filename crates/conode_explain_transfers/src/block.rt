@@ -182,7 +182,9 @@ impl Transfer {
                     self.segment_ahead(segment)
                 }
             }
-            Stage::Initiated => self.segment_first(segment),
+            Stage::Initiated if self.is_download() && self.is_block() => {
+                self.segment_first(segment)
+            }
             _ => self.unexpected(),
         }
     }
