@@ -22,7 +22,7 @@ use Rattle.conode_explain_transfers.specs.declared.kinds.What.TheVariants as wha
 use Rattle.conode_explain_transfers.specs.declared.transfer.Transfer.{Transfer}
 use Rattle.conode_explain_transfers.specs.BlockTurns.{is_block}
 use Rattle.conode_explain_transfers.specs.Endings.{ended}
-use Rattle.conode_explain_transfers.specs.Followed.{Followed, Following, end_unless, followed, key_for, left, left_by, left_ending, one_more, segment_follows, turns_at, was_segment}
+use Rattle.conode_explain_transfers.specs.Followed.{Followed, Following, followed, key_for, left, left_by, one_more, turns_at}
 use Rattle.conode_explain_transfers.specs.Readings.{reading_of as their_reading_of}
 use Rattle.conode_explain_transfers.specs.Stages.{confirmed_with}
 use Rattle.conode_explain_transfers.specs.Transfers.{Turn, after, is_same_request}
@@ -91,7 +91,7 @@ server_none subject rows p micros frame h =
 -- how the transfer ends that another one follows, or the client's abort
 left_end : (frame : FrameContent) (current : Option Transfer) (micros : ℕ) (bytes : List ℕ) → FineEnd frame (left current micros bytes)
 left_end frame None micros bytes = tt
-left_end frame (Some t) micros bytes = unless (was_segment t || segment_follows t bytes)
+left_end frame (Some t) micros bytes = by t.direction (is_same_request t bytes) t.by
   where
     by : (direction : Direction) (same : Bool) (side : Side)
         → of_transfers (breach_finding (ending_breach frame (ended t micros (if same then Repeated else left_by side)) direction (if same then Repeated else left_by side))) ≡ []
@@ -101,10 +101,6 @@ left_end frame (Some t) micros bytes = unless (was_segment t || segment_follows 
     by Upload false Client = refl
     by Download false Server = refl
     by Upload false Server = refl
-
-    unless : (segment : Bool) → FineEnd frame (end_unless segment (ended t micros (left_ending t bytes)))
-    unless true = tt
-    unless false = by t.direction (is_same_request t bytes) t.by
 
 abort_end : (frame : FrameContent) (t : Transfer) (code : AbortCode) (micros : ℕ) (direction : Direction) → of_transfers (breach_finding (ending_breach frame (ended (one_more t) micros (Aborted Client code)) direction (Aborted Client code))) ≡ []
 abort_end frame t code micros Download = refl

@@ -1,7 +1,7 @@
 -- A request with its answers, as explain follows them: no upload ends in it with another size or CRC than was indicated; and what is kept
 -- of the data.
 use Rattle.std.proofs.Common.{◌≡◌, ℕ, suc, ◌+◌, ◌*◌, Bool, true, false, not, List, [], ◌∷◌, ◌++◌, length, take, Option, Some, None, refl, sym, ap, ◌∙◌, ◌⊎◌, inl, inr, subst}
-use Rattle.std.specs.Prelude.{◌&&◌, ◌==◌, nat_lt, if◌then◌else◌, is_some, IfSome, ◌||◌}
+use Rattle.std.specs.Prelude.{◌&&◌, ◌==◌, nat_lt, if◌then◌else◌, is_some, IfSome}
 use Rattle.std.proofs.lemmas.Bool.{false≢true}
 use Rattle.arrayvec.specs.ArrayVec.{ArrayVec}
 use Rattle.co_value.specs.declared.key.Key.{Key}
@@ -36,8 +36,8 @@ use Rattle.conode_explain_transfers.specs.declared.transfer.Transfer.{Transfer}
 use Rattle.conode_explain_transfers.specs.BlockTurns.{acknowledged, acknowledged_at, block_ended, block_segment_at, crc_in, end_confirmed, end_confirmed_at, is_block, next_sub_block as after_sub_block, upload_started_at}
 use Rattle.conode_explain_transfers.specs.Data.{data_with}
 use Rattle.conode_explain_transfers.specs.Digests.{counted, digest_of}
-use Rattle.conode_explain_transfers.specs.Endings.{size_fault, verdict, ended}
-use Rattle.conode_explain_transfers.specs.Followed.{Followed, end_unless, left, left_by, left_ending, segment_follows, turns_at, was_segment, with_frame}
+use Rattle.conode_explain_transfers.specs.Endings.{size_fault, verdict}
+use Rattle.conode_explain_transfers.specs.Followed.{Followed, left, left_by, turns_at, with_frame}
 use Rattle.conode_explain_transfers.specs.Readings.{may_have_segment, is_sender}
 use Rattle.conode_explain_transfers.specs.SegmentedTurns.{download_segment_at, upload_request_at}
 use Rattle.conode_explain_transfers.specs.Stages.{confirmed_with}
@@ -137,16 +137,12 @@ late_turn heard t turn micros side late = late_whole (confirmed_with turn.transf
 -- a transfer that another one follows
 pub left_whole : (current : Option Transfer) (micros : ℕ) (bytes : List ℕ) → IsWhole (left current micros bytes)
 left_whole None micros bytes = tt
-left_whole (Some t) micros bytes = unless (was_segment t || segment_follows t bytes)
+left_whole (Some t) micros bytes = other_whole t.direction _ (by (is_same_request t bytes) t.by)
   where
     by : (same : Bool) (side : Side) → differs (if same then Repeated else left_by side) ≡ false
     by true side = refl
     by false Client = refl
     by false Server = refl
-
-    unless : (segment : Bool) → IsWhole (end_unless segment (ended t micros (left_ending t bytes)))
-    unless true = tt
-    unless false = other_whole t.direction _ (by (is_same_request t bytes) t.by)
 
 begun_rests : (request : SdoRequest) (micros : ℕ) (bytes : List ℕ) → IfSome (begun_with request micros bytes) Rests
 begun_rests (DownloadExpedited key value) micros bytes = download refl

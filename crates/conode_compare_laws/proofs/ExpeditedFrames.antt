@@ -1,7 +1,7 @@
 -- One frame of the channel: what a transfer of an entry shows that ends with it, where no client asks to write that at once, and each answer
 -- with its data has this number.
 use Rattle.std.proofs.Common.{◌≡◌, ℕ, Bool, true, false, List, take, Option, Some, None, refl, sym, ap, ◌∙◌, ◌⊎◌, inl, inr, subst}
-use Rattle.std.specs.Prelude.{if◌then◌else◌, nat_le, IfSome, ◌||◌}
+use Rattle.std.specs.Prelude.{if◌then◌else◌, nat_le, IfSome}
 use Rattle.std.proofs.lemmas.Bool.{false≢true}
 use Rattle.co_value.specs.declared.key.Key.{Key}
 use Rattle.co_value.specs.Keys.{same_key, same_key-is}
@@ -26,7 +26,7 @@ use Rattle.conode_explain_transfers.specs.declared.kinds.What.TheVariants as wha
 use Rattle.conode_explain_transfers.specs.declared.transfer.Transfer.{Transfer}
 use Rattle.conode_explain_transfers.specs.Digests.{digest_taking, no_bytes}
 use Rattle.conode_explain_transfers.specs.Endings.{ended, size_fault, size_verdict, verdict}
-use Rattle.conode_explain_transfers.specs.Followed.{Followed, Following, end_unless, left, left_by, left_ending, one_more, segment_follows, turns_at, was_segment, with_frame}
+use Rattle.conode_explain_transfers.specs.Followed.{Followed, Following, left, left_by, left_ending, one_more, turns_at, with_frame}
 use Rattle.conode_explain_transfers.specs.Initiates.{data_of}
 use Rattle.conode_explain_transfers.specs.Readings.{awaits_segment}
 use Rattle.conode_explain_transfers.specs.SegmentedTurns.{confirmed}
@@ -278,11 +278,7 @@ module _ (key : Key) (word : ℕ) where
 
   pub left_after : (o : Option Transfer) (micros : ℕ) (bytes : List ℕ) → IfSome (left o micros bytes) (Shown key word)
   left_after None micros bytes = tt
-  left_after (Some t) micros bytes = by (was_segment t || segment_follows t bytes)
-    where
-      by : (segment : Bool) → IfSome (end_unless segment (ended t micros (left_ending t bytes))) (Shown key word)
-      by true = tt
-      by false = shown_none key word (ended t micros (left_ending t bytes)) (not_done t.protocol (left_ending t bytes) _ (left_off t bytes))
+  left_after (Some t) micros bytes = shown_none key word (ended t micros (left_ending t bytes)) (not_done t.protocol (left_ending t bytes) _ (left_off t bytes))
 
   -- which begins no transfer: one that awaits the answer to its request is spoilt
   pub client_turn : (heard : Bool) (t : Transfer) (reading : Reading) (micros : ℕ) (bytes : List ℕ) → Suits key false t → is_response reading ≡ false

@@ -1,6 +1,6 @@
 -- What explain knows of a channel after each frame, for its uploads, and which frames are nothing to them.
 use Rattle.std.proofs.Common.{◌≡◌, ℕ, suc, Bool, true, false, List, [], ◌∷◌, ◌++◌, length, Option, Some, None, refl, sym, ap, ◌∙◌, ◌⊎◌, inl, inr}
-use Rattle.std.specs.Prelude.{if◌then◌else◌, ◌||◌, IfSome}
+use Rattle.std.specs.Prelude.{if◌then◌else◌, IfSome}
 use Rattle.std.proofs.lemmas.Bool.{false≢true}
 use Rattle.co_value.specs.declared.key.Key.{Key}
 use Rattle.co_frame.specs.declared.sdo_response.SdoResponse.TheVariants.{Abort as Refuse}
@@ -13,8 +13,8 @@ use Rattle.conode_explain_transfers.specs.declared.kinds.What.{What}
 use Rattle.conode_explain_transfers.specs.declared.kinds.What.TheVariants.{Overtaken}
 use Rattle.conode_explain_transfers.specs.declared.transfer.Transfer.{Transfer}
 use Rattle.conode_explain_transfers.specs.Data.{data_with, data_after}
-use Rattle.conode_explain_transfers.specs.Endings.{verdict, ended}
-use Rattle.conode_explain_transfers.specs.Followed.{Event, Followed, end_unless, following_after, left_ending, segment_follows, was_segment, with_frame, turns, turns_at}
+use Rattle.conode_explain_transfers.specs.Endings.{verdict}
+use Rattle.conode_explain_transfers.specs.Followed.{Event, Followed, following_after, with_frame, turns, turns_at}
 use Rattle.conode_explain_transfers.specs.Stages.{confirmed_with}
 use Rattle.conode_explain_transfers.specs.Transfers.{Turn, after, is_same_request}
 use Rattle.conode_explain_laws.specs.Recordings.{and_frame, and_answers}
@@ -85,11 +85,7 @@ pub begin_writes : (micros : ℕ) (frame : List ℕ) (heard : Bool) (current : O
     → (read_as micros Client frame (holds heard current got done count) (Begin new)).done ≡ done
 begin_writes micros frame heard None got done count new = refl
 begin_writes micros frame heard (Some t) got done count new =
-    ap (λ w. w ++ done) (by (was_segment t || segment_follows t frame) _ _)
-  where
-    by : (segment : Bool) (got : List ℕ) (count : ℕ) → read_said (end_unless segment (ended t micros (left_ending t frame))) got count ≡ []
-    by true got count = refl
-    by false got count = no_write (is_upload t.direction) _ (left_no_write (is_same_request t frame) t.by _)
+    ap (λ w. w ++ done) (no_write (is_upload t.direction) _ (left_no_write (is_same_request t frame) t.by _))
 
 -- ---- aborts
 

@@ -1,6 +1,6 @@
 -- What explain knows of a channel after each frame, and which frames are nothing to it.
 use Rattle.std.proofs.Common.{◌≡◌, ℕ, suc, Bool, true, false, List, [], ◌∷◌, ◌++◌, length, Option, Some, None, refl, sym, ap, ◌∙◌, ◌⊎◌, inl, inr}
-use Rattle.std.specs.Prelude.{if◌then◌else◌, ◌||◌, IfSome, nat_le}
+use Rattle.std.specs.Prelude.{if◌then◌else◌, IfSome, nat_le}
 use Rattle.std.proofs.lemmas.Bool.{false≢true}
 use Rattle.co_value.specs.declared.key.Key.{Key}
 use Rattle.co_frame.specs.BlockSegments.{block_segment_in, is_abort_in_sub_block}
@@ -20,8 +20,8 @@ use Rattle.conode_explain_transfers.specs.declared.kinds.What.{What}
 use Rattle.conode_explain_transfers.specs.declared.kinds.What.TheVariants.{Overtaken}
 use Rattle.conode_explain_transfers.specs.declared.transfer.Transfer.{Transfer}
 use Rattle.conode_explain_transfers.specs.Data.{data_with, data_after}
-use Rattle.conode_explain_transfers.specs.Endings.{verdict, ended}
-use Rattle.conode_explain_transfers.specs.Followed.{Event, Following, Followed, end_unless, following_after, left_by, left_ending, segment_follows, was_segment, with_frame, turns, turns_at}
+use Rattle.conode_explain_transfers.specs.Endings.{verdict}
+use Rattle.conode_explain_transfers.specs.Followed.{Event, Following, Followed, following_after, left_by, with_frame, turns, turns_at}
 use Rattle.conode_explain_transfers.specs.Readings.{awaits_segment}
 use Rattle.conode_explain_transfers.specs.Stages.{confirmed_with}
 use Rattle.conode_explain_transfers.specs.Transfers.{after, is_download, is_same_request}
@@ -109,11 +109,7 @@ pub begin_writes : (rows : Rows) (micros : ℕ) (frame : List ℕ) (heard : Bool
     → (read_as rows micros Client frame (record { following = record { heard = heard; transfer = current }; got = got; done = done; count = count }) (Begin new)).done ≡ done
 begin_writes rows micros frame heard None got done count new = refl
 begin_writes rows micros frame heard (Some t) got done count new =
-    ap (λ w. w ++ done) (by (was_segment t || segment_follows t frame) _ _ _)
-  where
-    by : (segment : Bool) (initiate : Option SdoRequest) (got : List ℕ) (count : ℕ) → write_said rows initiate (end_unless segment (ended t micros (left_ending t frame))) got count ≡ []
-    by true initiate got count = refl
-    by false initiate got count = no_write (is_download t.direction) _ (left_no_write (is_same_request t frame) t.by _)
+    ap (λ w. w ++ done) (no_write (is_download t.direction) _ (left_no_write (is_same_request t frame) t.by _))
 
 -- ---- aborts
 

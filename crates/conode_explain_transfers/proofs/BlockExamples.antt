@@ -2,7 +2,7 @@
 use Rattle.std.proofs.Common.{◌≡◌, true, false, [], ◌∷◌, refl, codes}
 use Rattle.co_frame.specs.SdoRequests.{request_row_in}
 use Rattle.co_frame.specs.SdoResponses.{response_row_in}
-use Rattle.conode_explain_transfers.specs.declared.ended.Ending.TheVariants.{Done, Aborted, Interrupted, Irregular, SizeDiffers, CrcDiffers}
+use Rattle.conode_explain_transfers.specs.declared.ended.Ending.TheVariants.{Done, Aborted, Unanswered, Interrupted, Irregular, SizeDiffers, CrcDiffers}
 use Rattle.conode_explain_transfers.specs.declared.kinds.Protocol.TheVariants.{Expedited, Segmented, Block}
 use Rattle.conode_explain_transfers.specs.declared.kinds.Side.TheVariants.{Client}
 use Rattle.conode_explain_transfers.specs.declared.kinds.What.TheVariants.{Initiate, Part, Segment, OutOfSequence, Unexpected}
@@ -135,16 +135,17 @@ long_sub_block : told (c (codes "C000210000000000") ∷ c (codes "01313233343536
 unfolding request_row_in response_row_in shifted crc_with
 long_sub_block = refl
 
--- segment 2 is no first segment: C2h isn't followed by it, and 40h begins an upload, as before
+-- segment 2 is no first segment: what comes after it is read as before, and 40h begins an upload
 no_first_segment : told (c (codes "C200210009000000") ∷ c (codes "0238390000000000") ∷ c (codes "4000210000000000") ∷ s (codes "4F002100AA000000") ∷ [])
     ≡ record {
       whats = Initiate ∷ Unexpected ∷ Initiate ∷ Part ∷ [];
-      ends = record { protocol = Expedited; bytes = 1; first = 0xAA ∷ []; frames = 2; ending = Done false } ∷ [];
+      ends = record { protocol = Block; bytes = 0; first = []; frames = 2; ending = Unanswered }
+          ∷ record { protocol = Expedited; bytes = 1; first = 0xAA ∷ []; frames = 2; ending = Done false } ∷ [];
     }
 unfolding request_row_in response_row_in shifted crc_with
 no_first_segment = refl
 
--- a block upload whose request is lost isn't begun by segment 1 of the client, nor is another download
+-- in an upload, and in a download in segments, 01h before the answer is no segment of a sub-block
 other_protocols : told (c (codes "A400210004000000") ∷ c (codes "0131323334353637") ∷ s (codes "C000210000000000") ∷ c (codes "2100210009000000") ∷ c (codes "0131323334353637") ∷ s (codes "6000210000000000") ∷ [])
     ≡ record {
       whats = Initiate ∷ Unexpected ∷ Part ∷ Initiate ∷ Unexpected ∷ Part ∷ [];

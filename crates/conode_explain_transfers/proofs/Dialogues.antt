@@ -4,12 +4,11 @@ use Rattle.std.specs.Prelude.{◌+◌, ◌-◌, ◌*◌, nat_lt, if◌then◌els
 use Rattle.conode_explain_transfers.specs.declared.channel.Heard.{Heard}
 use Rattle.conode_explain_transfers.specs.declared.ended.Ended.{Ended}
 use Rattle.conode_explain_transfers.specs.declared.ended.Ending.{Ending}
-use Rattle.conode_explain_transfers.specs.declared.ended.Ending.TheVariants.{Unfinished}
 use Rattle.conode_explain_transfers.specs.declared.kinds.Protocol.{Protocol}
 use Rattle.conode_explain_transfers.specs.declared.kinds.Side.{Side}
 use Rattle.conode_explain_transfers.specs.declared.kinds.Side.TheVariants.{Client, Server}
 use Rattle.conode_explain_transfers.specs.declared.kinds.What.{What}
-use Rattle.conode_explain_transfers.specs.Followed.{Following, nothing_heard, closed, followed}
+use Rattle.conode_explain_transfers.specs.Followed.{Following, nothing_heard, followed}
 
 -- the digits of a frame
 abbrev pub digit : ℕ → ℕ
@@ -63,12 +62,3 @@ told_from following (sent ∷ later) =
 
 abbrev pub told : List Sent → Told
 told frames = told_from nothing_heard frames
-
--- the channel after frames
-abbrev pub after_all : Following → List Sent → Following
-after_all following [] = following
-after_all following (sent ∷ later) = after_all (followed following 0 sent.side sent.bytes).next later
-
--- what is told of the open transfer after frames, where the recording ends
-abbrev pub left_open : List Sent → List End
-left_open frames = ends_with (closed (after_all nothing_heard frames).transfer 0 Unfinished) []

@@ -1,7 +1,7 @@
 -- What is done is done: after every log.
 use Rattle.std.proofs.Common.{◌≡◌, ℕ, List, length, refl, ap, ◌∙◌, arith}
 use Rattle.std.proofs.lemmas.Bool.Decides.{nat_tests}
-use Rattle.std.specs.Prelude.{Bool, true, false, ◌==◌, ◌||◌, if◌then◌else◌, Option, Some, None, IfSome}
+use Rattle.std.specs.Prelude.{Bool, true, false, ◌==◌, if◌then◌else◌, Option, Some, None, IfSome}
 use Rattle.conode_explain_transfers.specs.declared.ended.Ending.TheVariants.{Done, Repeated, Irregular, CrcDiffers}
 use Rattle.conode_explain_transfers.specs.declared.kinds.Side.{Side}
 use Rattle.conode_explain_transfers.specs.declared.kinds.Side.TheVariants.{Client, Server}
@@ -10,8 +10,8 @@ use Rattle.conode_explain_transfers.specs.declared.reading.Reading.TheVariants.{
 use Rattle.conode_explain_transfers.specs.declared.transfer.Transfer.{Transfer}
 use Rattle.conode_explain_transfers.specs.Data.{data_with, data_by, data_after, IsDoneWith, IfDone, IsDoneAfter}
 use Rattle.conode_explain_transfers.specs.Digests.{counted, digest_of}
-use Rattle.conode_explain_transfers.specs.Endings.{size_fault, crc_verdict, size_verdict, ended}
-use Rattle.conode_explain_transfers.specs.Followed.{Event, following_after, followed_by, end_unless, left_by, left_ending, said, segment_follows, turns, turns_at, was_segment}
+use Rattle.conode_explain_transfers.specs.Endings.{size_fault, crc_verdict, size_verdict}
+use Rattle.conode_explain_transfers.specs.Followed.{Event, following_after, followed_by, left_by, said, turns, turns_at}
 use Rattle.conode_explain_transfers.specs.Readings.{reading_of}
 use Rattle.conode_explain_transfers.specs.Stages.{confirmed_with}
 use Rattle.conode_explain_transfers.specs.Transfers.{after, is_same_request}
@@ -102,11 +102,8 @@ frame_done heard None (Abort code) micros side frame bytes h = tt
 frame_done heard None (Request request) micros side frame bytes h = tt
 frame_done heard None (Response response) micros side frame bytes h = tt
 frame_done heard None Nothing micros side frame bytes h = tt
-frame_done heard (Some transfer) (Begin request) micros side frame bytes h = by (was_segment transfer || segment_follows transfer frame)
-  where
-    by : (segment : Bool) → IfSome (end_unless segment (ended transfer micros (left_ending transfer frame))) (λ e. IfDone e.ending (DoneBy (Some transfer) (Begin request) frame bytes))
-    by true = tt
-    by false = left_not_done (is_same_request transfer frame) transfer.by (DoneBy (Some transfer) (Begin request) frame bytes)
+frame_done heard (Some transfer) (Begin request) micros side frame bytes h =
+    left_not_done (is_same_request transfer frame) transfer.by (DoneBy (Some transfer) (Begin request) frame bytes)
 frame_done heard (Some transfer) (Abort code) micros side frame bytes h = tt
 frame_done heard (Some transfer) (Segment segment) micros side frame bytes h = turn_done heard transfer (Segment segment) frame micros side bytes h
 frame_done heard (Some transfer) (Request request) micros side frame bytes h = turn_done heard transfer (Request request) frame micros side bytes h

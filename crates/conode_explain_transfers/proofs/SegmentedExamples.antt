@@ -2,12 +2,12 @@
 use Rattle.std.proofs.Common.{◌≡◌, false, [], ◌∷◌, refl, codes}
 use Rattle.co_frame.specs.SdoRequests.{request_row_in}
 use Rattle.co_frame.specs.SdoResponses.{response_row_in}
-use Rattle.conode_explain_transfers.specs.declared.ended.Ending.TheVariants.{Done, Aborted, Unanswered, Repeated as AskedAgain, Interrupted, Unfinished, Irregular, SizeDiffers}
-use Rattle.conode_explain_transfers.specs.declared.kinds.Protocol.TheVariants.{Undecided, Expedited, Segmented, Block}
+use Rattle.conode_explain_transfers.specs.declared.ended.Ending.TheVariants.{Done, Aborted, Unanswered, Repeated as AskedAgain, Interrupted, Irregular, SizeDiffers}
+use Rattle.conode_explain_transfers.specs.declared.kinds.Protocol.TheVariants.{Undecided, Expedited, Segmented}
 use Rattle.conode_explain_transfers.specs.declared.kinds.Side.TheVariants.{Client, Server}
 use Rattle.conode_explain_transfers.specs.declared.kinds.What.TheVariants.{Initiate, Part, Repeated, Overtaken, Unexpected, Stray, BegunBefore}
 use Rattle.conode_explain_transfers.specs.Crc.{shifted, crc_with}
-use Rattle.conode_explain_transfers.proofs.Dialogues.{hex, c, s, told, left_open}
+use Rattle.conode_explain_transfers.proofs.Dialogues.{hex, c, s, told}
 
 -- ---- expedited
 
@@ -183,69 +183,3 @@ begun_before : told (c (codes "0030313233343536") ∷ s (codes "2000000000000000
     }
 unfolding request_row_in response_row_in shifted crc_with
 begun_before = refl
-
--- ---- a recording that begins inside a sub-block of a download
-
--- segments 1Eh to 22h, the acknowledge, and segments 01h and 20h of the next sub-block: those that look like initiate requests are no
--- transfers
-begun_inside : told (c (codes "1E41424344454647") ∷ c (codes "1F41424344454647") ∷ c (codes "2041424344454647") ∷ c (codes "2141424344454647") ∷ c (codes "2241424344454647") ∷ s (codes "A2227F0000000000") ∷ c (codes "0141424344454647") ∷ c (codes "2041424344454647") ∷ [])
-    ≡ record { whats = BegunBefore ∷ BegunBefore ∷ Initiate ∷ Initiate ∷ Initiate ∷ Unexpected ∷ Unexpected ∷ Initiate ∷ []; ends = [] }
-unfolding request_row_in response_row_in shifted crc_with
-begun_inside = refl
-
--- the last segment has bit 7: 3Fh is followed by C0h, with number 64
-last_inside : told (c (codes "3F41424344454647") ∷ c (codes "C041424344454647") ∷ [])
-    ≡ record { whats = Initiate ∷ Initiate ∷ []; ends = [] }
-unfolding request_row_in response_row_in shifted crc_with
-last_inside = refl
-
--- nothing follows the last: A0h has number 32, and is no segment before 21h
-none_after_last : told (c (codes "A000210004000000") ∷ c (codes "2100210009000000") ∷ [])
-    ≡ record {
-      whats = Initiate ∷ Initiate ∷ [];
-      ends = record { protocol = Block; bytes = 0; first = []; frames = 1; ending = Unanswered } ∷ [];
-    }
-unfolding request_row_in response_row_in shifted crc_with
-none_after_last = refl
-
--- where the recording ends inside a sub-block nothing is told; but of a request that is the last frame
-open_inside : left_open (c (codes "5F41424344454647") ∷ c (codes "6041424344454647") ∷ []) ≡ []
-unfolding request_row_in response_row_in shifted crc_with
-open_inside = refl
-
-open_request : left_open (c (codes "4000210000000000") ∷ []) ≡ record { protocol = Undecided; bytes = 0; first = []; frames = 1; ending = Unfinished } ∷ []
-unfolding request_row_in response_row_in shifted crc_with
-open_request = refl
-
--- two requests in a row without an answer
-two_unanswered : told (c (codes "4000210000000000") ∷ c (codes "2F012100AA000000") ∷ c (codes "4002210000000000") ∷ [])
-    ≡ record {
-      whats = Initiate ∷ Initiate ∷ Initiate ∷ [];
-      ends = record { protocol = Undecided; bytes = 0; first = []; frames = 1; ending = Unanswered }
-          ∷ record { protocol = Expedited; bytes = 0; first = []; frames = 1; ending = Unanswered } ∷ [];
-    }
-unfolding request_row_in response_row_in shifted crc_with
-two_unanswered = refl
-
--- after a wrong answer the client begins another one
-wrongly_answered : told (c (codes "2200210001000000") ∷ s (codes "3000000000000000") ∷ c (codes "2300210001000000") ∷ [])
-    ≡ record {
-      whats = Initiate ∷ Unexpected ∷ Initiate ∷ [];
-      ends = record { protocol = Expedited; bytes = 0; first = []; frames = 2; ending = Interrupted } ∷ [];
-    }
-unfolding request_row_in response_row_in shifted crc_with
-wrongly_answered = refl
-
--- two requests without an answer, of which the second has a first byte greater by one, look like segments, and no end is told of the
--- first one; where it is greater by two, it is
-by_one : told (c (codes "2200210001000000") ∷ c (codes "2300210001000000") ∷ []) ≡ record { whats = Initiate ∷ Initiate ∷ []; ends = [] }
-unfolding request_row_in response_row_in shifted crc_with
-by_one = refl
-
-by_two : told (c (codes "2100210001000000") ∷ c (codes "2300210001000000") ∷ [])
-    ≡ record {
-      whats = Initiate ∷ Initiate ∷ [];
-      ends = record { protocol = Segmented; bytes = 0; first = []; frames = 1; ending = Unanswered } ∷ [];
-    }
-unfolding request_row_in response_row_in shifted crc_with
-by_two = refl

@@ -1,5 +1,5 @@
 -- A channel that is followed through a recording, frame by frame.
-use Rattle.std.specs.Prelude.{ℕ, ◌+◌, ◌%◌, ◌==◌, ◌&&◌, ◌||◌, Bool, true, false, if◌then◌else◌, List, [], ◌∷◌, slice_index, Option, Some, None}
+use Rattle.std.specs.Prelude.{ℕ, ◌+◌, Bool, true, false, if◌then◌else◌, List, [], ◌∷◌, Option, Some, None}
 use Rattle.co_value.specs.declared.key.Key.{Key}
 use Rattle.co_frame.specs.declared.abort_code.AbortCode.{AbortCode}
 use Rattle.conode_explain_transfers.specs.declared.channel.Heard.{Heard}
@@ -17,7 +17,7 @@ use Rattle.conode_explain_transfers.specs.declared.transfer.Transfer.{Transfer}
 use Rattle.conode_explain_transfers.specs.Digests.{counted}
 use Rattle.conode_explain_transfers.specs.Endings.{verdict, ended}
 use Rattle.conode_explain_transfers.specs.Readings.{reading_of, has_key}
-use Rattle.conode_explain_transfers.specs.Stages.{is_initiated, confirmed_with}
+use Rattle.conode_explain_transfers.specs.Stages.{confirmed_with}
 use Rattle.conode_explain_transfers.specs.Transfers.{Turn, begun, is_same_request, after}
 use Rattle.conode_explain_transfers.specs.Turns.{turn_of}
 
@@ -37,10 +37,6 @@ pub record Followed : Type 0 where
 
 -- ---- transfers that are left
 
-abbrev pub is_client : Side → Bool
-is_client Client = true
-is_client Server = false
-
 -- the client begins another one: it didn't get the answer that it awaited, or it was its turn in
 -- this one
 abbrev pub left_by : Side → Ending
@@ -50,37 +46,14 @@ left_by Server = Interrupted
 abbrev pub left_ending : Transfer → List ℕ → Ending
 left_ending transfer bytes = if is_same_request transfer bytes then Repeated else left_by transfer.by
 
--- What looks like an initiate request may be a segment of a sub-block whose begin isn't in the
--- recording. It is taken for one where the client went on as inside a sub-block, before any answer:
--- with a frame that begins nothing, or with the segment that has the next number.
-
--- the newest frame is of the client, and the answer to initiate is awaited
-abbrev pub is_unanswered : Transfer → Bool
-is_unanswered transfer = is_initiated transfer.stage && is_client transfer.by
-
--- the client went on with a frame that begins nothing
-abbrev pub was_segment : Transfer → Bool
-was_segment transfer = is_unanswered transfer && transfer.irregular
-
--- it goes on with the segment that has the next number
-abbrev pub segment_follows : Transfer → List ℕ → Bool
-segment_follows transfer bytes =
-    is_unanswered transfer && (slice_index transfer.request.items 0 + 1 == slice_index bytes 0 % 128)
-
--- no end is told of a segment
-abbrev pub end_unless : Bool → Ended → Option Ended
-end_unless true e = None
-end_unless false e = Some e
-
 abbrev pub left : Option Transfer → ℕ → List ℕ → Option Ended
 left None micros bytes = None
-left (Some transfer) micros bytes =
-    end_unless (was_segment transfer || segment_follows transfer bytes) (ended transfer micros (left_ending transfer bytes))
+left (Some transfer) micros bytes = Some (ended transfer micros (left_ending transfer bytes))
 
 -- the open transfer ends for another reason
 abbrev pub closed : Option Transfer → ℕ → Ending → Option Ended
 closed None micros ending = None
-closed (Some transfer) micros ending = end_unless (was_segment transfer) (ended transfer micros ending)
+closed (Some transfer) micros ending = Some (ended transfer micros ending)
 
 -- ---- one frame
 

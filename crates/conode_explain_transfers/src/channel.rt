@@ -1,16 +1,11 @@
 //! A channel that is followed through a recording.
 
-ghost use Rattle.std.specs.Prelude.{◌≡◌, ◌+◌, [], ◌∷◌, List, slice_index, Some, IsSome, IfSome};
+ghost use Rattle.std.specs.Prelude.{◌≡◌, ◌+◌, [], ◌∷◌, List, IsSome, IfSome};
 ghost use Rattle.conode_explain_transfers.specs.declared.ended.Ending.TheVariants.{Interrupted, Unfinished};
 ghost use Rattle.conode_explain_transfers.specs.Followed.{
   nothing_heard,
   closed,
-  left,
   left_ending,
-  is_client,
-  is_unanswered,
-  was_segment,
-  segment_follows,
   one_more,
   begins,
   stray,
@@ -68,21 +63,6 @@ impl Model for Channel {
     ghost view = { λ channel. record { heard = channel.heard; transfer = channel.transfer } };
 }
 
-fn first_byte(bytes: &[u8]) -> u8
-    ensures { result ≡ slice_index bytes.now 0 }
-{
-    if bytes.is_empty() { 0 } else { bytes[0] }
-}
-
-fn is_client(side: Side) -> bool
-    ensures { result ≡ is_client side }
-{
-    match side {
-        Side::Client => true,
-        Side::Server => false,
-    }
-}
-
 impl Transfer {
     // How the open transfer ends when the client begins another one with this request.
     fn left_ending(&self, frame: &Frame) -> Ending
@@ -94,41 +74,6 @@ impl Transfer {
         match self.by {
             Side::Client => Ending::Unanswered,
             Side::Server => Ending::Interrupted,
-        }
-    }
-
-    // Whether the newest frame is of the client, and the answer to initiate is awaited.
-    fn is_unanswered(&self) -> bool
-        ensures { result ≡ is_unanswered self.now }
-    {
-        self.stage.is_initiated() && is_client(self.by)
-    }
-
-    // Whether what looked like its initiate request was a segment: the client went on with a frame
-    // that begins nothing.
-    fn was_segment(&self) -> bool
-        ensures { result ≡ was_segment self.now }
-    {
-        self.is_unanswered() && self.irregular
-    }
-
-    // Whether what looked like its initiate request is followed by the segment with the next
-    // number.
-    fn segment_follows(&self, frame: &Frame) -> bool
-        ensures { result ≡ segment_follows self.now frame.now.bytes }
-    {
-        let number = u16::from(first_byte(self.request.as_slice()));
-        self.is_unanswered() && number + 1 == u16::from(first_byte(frame.bytes()) % 128)
-    }
-
-    // How it ends when the client begins another one with this request; `None` if it was a segment.
-    fn left(&self, micros: u64, frame: &Frame) -> Option<Ended>
-        ensures { result ≡ left (Some self.now) micros frame.now.bytes }
-    {
-        if self.was_segment() || self.segment_follows(frame) {
-            None
-        } else {
-            Some(self.ended(micros, self.left_ending(frame)))
         }
     }
 
@@ -185,7 +130,7 @@ impl Channel {
         ensures next { self.new ≡ (begins self.old.transfer initiate.now micros frame.now.bytes).next }
     {
         let ended = match &self.transfer {
-            Some(transfer) => transfer.left(micros, frame),
+            Some(transfer) => Some(transfer.ended(micros, transfer.left_ending(frame))),
             None => None,
         };
         self.heard = true;
@@ -223,15 +168,17 @@ impl Channel {
         }
     }
 
-    // The open transfer, which ends so; `None` if what looked like its initiate request was a
-    // segment.
-    fn closed(&self, micros: u64, ending: Ending) -> Option<Ended>
-        ensures { result ≡ closed self.now.transfer micros ending }
+    // The open transfer ends.
+    fn close(&mut self, micros: u64, ending: Ending) -> Option<Ended>
+        ensures ended { result ≡ closed self.old.transfer micros ending }
+        ensures next { self.new ≡ after_boot self.old }
     {
-        match &self.transfer {
-            Some(transfer) if !transfer.was_segment() => Some(transfer.ended(micros, ending)),
-            _ => None,
-        }
+        let ended = match &self.transfer {
+            Some(transfer) => Some(transfer.ended(micros, ending)),
+            None => None,
+        };
+        self.transfer = None;
+        ended
     }
 
     // A frame that goes on with the open transfer.
@@ -251,12 +198,11 @@ impl Channel {
             Some(crc) => {
                 let ending = transfer.verdict(crc);
                 transfer.count_frame();
-                let ended = transfer.ended(micros, ending);
-                self.transfer = None;
+                let ended = self.close(micros, ending);
                 Heard {
                     what,
                     of: None,
-                    ended: Some(ended),
+                    ended,
                 }
             }
             None => {
@@ -291,12 +237,11 @@ impl Channel {
                     by: side,
                     code: *code,
                 };
-                let ended = transfer.ended(micros, ending);
-                self.transfer = None;
+                let ended = self.close(micros, ending);
                 Heard {
                     what: What::Part,
                     of: None,
-                    ended: Some(ended),
+                    ended,
                 }
             }
             _ => self.go_on(reading, micros, side, frame),
@@ -332,9 +277,7 @@ impl Channel {
         ensures stands { (log : List Event) → self.old ≡ following_after log →
             self.new ≡ following_after (BootedUp micros ∷ log) }
     {
-        let ended = self.closed(micros, Ending::Interrupted);
-        self.transfer = None;
-        ended
+        self.close(micros, Ending::Interrupted)
     }
 
     /// The transfer that is open where the recording ends, as unfinished; `micros` is the stamp of
@@ -342,6 +285,9 @@ impl Channel {
     pub fn unfinished(&self, micros: u64) -> Option<Ended>
         ensures { result ≡ closed self.now.transfer micros Unfinished }
     {
-        self.closed(micros, Ending::Unfinished)
+        match &self.transfer {
+            Some(transfer) => Some(transfer.ended(micros, Ending::Unfinished)),
+            None => None,
+        }
     }
 }
