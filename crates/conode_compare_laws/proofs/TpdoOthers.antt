@@ -25,7 +25,7 @@ use Rattle.conode_compare_pdos.specs.declared.pdos.Pdos.{Pdos}
 use Rattle.conode_compare_pdos.specs.declared.pdos.Sighting.{Sighting}
 use Rattle.conode_compare_pdos.specs.declared.tpdo.Tpdo.{Tpdo}
 use Rattle.conode_compare_pdos.specs.Deviations.{deviation_at, is_judged}
-use Rattle.conode_compare_pdos.specs.Followed.{commanded, framed, interrupted, or_else, seen, sighting, unknown_pdos}
+use Rattle.conode_compare_pdos.specs.Followed.{commanded, first_seen, framed, interrupted, is_shared, or_else, seen, sighting, unjudged, unknown_pdos}
 use Rattle.conode_compare_pdos.specs.PdoParameters.{nothing_known}
 use Rattle.conode_compare_pdos.specs.Tpdos.{after_frame as after_tpdo, is_id}
 use Rattle.conode_compare_rules.specs.declared.finding.Finding.TheVariants.{Pdo}
@@ -186,12 +186,23 @@ pub record AreFine (is : Deviation → Bool) (moment : Moment) (pdos : Pdos) (id
   pub third : is_id pdos.third.parameters.id id ≡ true → is_of is (deviation_at moment (is_some pdos.sync) pdos.third length) ≡ false
   pub fourth : is_id pdos.fourth.parameters.id id ≡ true → is_of is (deviation_at moment (is_some pdos.sync) pdos.fourth length) ≡ false
 
+unjudged_fine : (is : Deviation → Bool) (seen : Option Sighting) → IsFine is (unjudged seen)
+unjudged_fine is None = tt
+unjudged_fine is (Some seen) = refl
+
 pub all_fine : (is : Deviation → Bool) (moment : Moment) (pdos : Pdos) (id length : ℕ) → AreFine is moment pdos id length → IsFine is (sighting moment pdos id length)
 unfolding sighting
-all_fine is moment pdos id length h =
-    or_fine is _ _ (seen_fine is moment (is_some pdos.sync) 1 pdos.first id length h.first)
-    (or_fine is _ _ (seen_fine is moment (is_some pdos.sync) 2 pdos.second id length h.second)
-    (or_fine is _ _ (seen_fine is moment (is_some pdos.sync) 3 pdos.third id length h.third) (seen_fine is moment (is_some pdos.sync) 4 pdos.fourth id length h.fourth)))
+all_fine is moment pdos id length h = by (is_shared pdos id)
+  where
+    first : IsFine is (first_seen moment pdos id length)
+    first =
+        or_fine is _ _ (seen_fine is moment (is_some pdos.sync) 1 pdos.first id length h.first)
+        (or_fine is _ _ (seen_fine is moment (is_some pdos.sync) 2 pdos.second id length h.second)
+        (or_fine is _ _ (seen_fine is moment (is_some pdos.sync) 3 pdos.third id length h.third) (seen_fine is moment (is_some pdos.sync) 4 pdos.fourth id length h.fourth)))
+
+    by : (b : Bool) → IsFine is (if b then unjudged (first_seen moment pdos id length) else first_seen moment pdos id length)
+    by true = unjudged_fine is (first_seen moment pdos id length)
+    by false = first
 
 pub unseen : (is : Deviation → Bool) (moment : Moment) (facts pdos : Pdos) (id length : ℕ) → Knows facts pdos → is_followed facts id ≡ false → AreFine is moment pdos id length
 unseen is moment facts pdos id length knows off =
