@@ -21,7 +21,7 @@ use Rattle.conode_compare_transfers.specs.Times.{is_past}
 use Rattle.conode_compare_rules.specs.declared.finding.NmtState.{NmtState}
 use Rattle.conode_compare_rules.specs.declared.finding.NmtState.TheVariants.{Operational, PreOperational}
 use Rattle.conode_compare_rules.specs.declared.kind.FrameKind.{FrameKind}
-use Rattle.conode_compare_rules.specs.declared.kind.FrameKind.TheVariants.{Command, CommandToAll, Control, Emergency, Process, Sdo}
+use Rattle.conode_compare_rules.specs.declared.kind.FrameKind.TheVariants.{Command, CommandToAll, LongCommand, Control, Emergency, Process, Sdo}
 use Rattle.conode_compare_rules.specs.declared.limits.Limits.{Limits}
 use Rattle.conode_compare_rules.specs.declared.limits.Subject.{Subject}
 use Rattle.conode_compare_rules.specs.declared.progress.Progress.{Progress}
@@ -195,6 +195,7 @@ abbrev pub after_kind : Subject → List Row → ℕ → FrameKind → Progress 
 after_kind subject rows micros (Control byte) progress errors = after_control subject rows byte micros progress errors
 after_kind subject rows micros (Command service) progress errors = record errors { settled = Some micros }
 after_kind subject rows micros (CommandToAll service) progress errors = record errors { settled = Some micros }
+after_kind subject rows micros (LongCommand service) progress errors = record errors { settled = Some micros }
 after_kind subject rows micros (Process id length) progress errors = after_data subject.limits progress id length micros errors
 after_kind subject rows micros (Emergency code register) progress errors = record errors { awaited = awaited_after code micros errors.awaited }
 after_kind subject rows micros (Sdo Client frame) progress errors = after_exchange frame progress.exchange errors

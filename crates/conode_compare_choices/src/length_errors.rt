@@ -486,6 +486,7 @@ impl LengthErrors {
             FrameKind::Control(byte) => self.take_control(subject, rows, *byte, micros, progress),
             FrameKind::Command(_) => self.settled = Some(micros),
             FrameKind::CommandToAll(_) => self.settled = Some(micros),
+            FrameKind::LongCommand(_) => self.settled = Some(micros),
             FrameKind::Process(id, length) => {
                 self.take_data(&subject.limits, progress, *id, *length, micros)
             }

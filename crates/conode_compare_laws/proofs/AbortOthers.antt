@@ -12,7 +12,7 @@ use Rattle.co_sheet.specs.Content.{Row}
 use Rattle.conode_compare_transfers.specs.declared.dialogue.Dialogue.{Dialogue}
 use Rattle.conode_compare_transfers.specs.Dialogues.{given_up, interrupted}
 use Rattle.conode_compare_rules.specs.declared.kind.FrameKind.{FrameKind}
-use Rattle.conode_compare_rules.specs.declared.kind.FrameKind.TheVariants.{Command, CommandToAll, Control, Emergency as Emcy, Fault, Guarding, OddControl, OddEmergency, Other, Polled, Process, Sdo}
+use Rattle.conode_compare_rules.specs.declared.kind.FrameKind.TheVariants.{Command, CommandToAll, LongCommand, Control, Emergency as Emcy, Fault, Guarding, OddControl, OddEmergency, Other, Polled, Process, Sdo}
 use Rattle.conode_compare_rules.specs.declared.limits.Subject.{Subject}
 use Rattle.conode_compare_rules.specs.declared.finding.Finding.{Finding}
 use Rattle.conode_compare_rules.specs.declared.progress.Progress.{Progress}
@@ -83,6 +83,7 @@ module _ (P : Dialogue → Type 0) (none : (d : Dialogue) → d.newest ≡ None 
   kind_has subject p micros (Sdo side frame) off h = absurd (false≢true (sym off))
   kind_has subject p micros (Command service) off h = command_has p service false micros h
   kind_has subject p micros (CommandToAll service) off h = command_has p service subject.facts.starts_itself micros h
+  kind_has subject p micros (LongCommand service) off h = command_has p service true micros h
   kind_has subject p micros (Process id length) off h = process_has subject p micros id length h
   kind_has subject p micros (Polled id) off h = h
   kind_has subject p micros Guarding off h = h

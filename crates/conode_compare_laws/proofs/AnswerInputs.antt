@@ -56,7 +56,7 @@ use Rattle.conode_compare_rules.specs.declared.limits.Subject.{Subject}
 use Rattle.conode_compare_rules.specs.declared.nmt.Commanded.{Commanded}
 use Rattle.conode_compare_rules.specs.declared.progress.Progress.{Progress}
 use Rattle.conode_compare_rules.specs.declared.verdict.Findings.{Findings}
-use Rattle.conode_compare_rules.specs.FrameKinds.{command_to, data_kind}
+use Rattle.conode_compare_rules.specs.FrameKinds.{command_kind, data_kind, long_command_in}
 use Rattle.conode_compare_rules.specs.Progresses.{answer_noted, before_recording, begun, progress_with}
 use Rattle.conode_compare_laws.specs.AnswerFindings.{answer_differences}
 use Rattle.conode_compare_laws.specs.AnswerSenders.{AllSendOther, BeginNoBlocks, BeginsNoBlocks, HasBytes, HaveBytes, HaveOtherChannels, SendsOther}
@@ -235,8 +235,8 @@ module _ (k : Constants) (subject : Subject) (rows : List Row) (micros : ℕ) (b
       record {
         runs_on = silent_after (of_device k subject) rows micros p (frame ∷ []) (moment k (moments k before) (Framed frame)).exchange _ none
             (subst (λ b. AllRun answer_differences (of_device k subject) rows micros p (frame ∷ []) (Holds (IsIdle k before) (stage_after (if b then service_for k.description.node (nmt_command_in frame) else None) (state_of k before)))) (sym is)
-            (frame_runs (of_device k subject) rows micros p frame (command_to k.description.node (nmt_command_in frame)) _ (nmt_kind k.description.node frame is)
-            (command_quiet (IsIdle k before) (of_device k subject) rows (begun (of_device k subject) p micros) micros (nmt_command_in frame) (state_of k before) (begun_newest (of_device k subject) p micros)
+            (frame_runs (of_device k subject) rows micros p frame (command_kind k.description.node frame) _ (nmt_kind k.description.node frame is)
+            (command_quiet (IsIdle k before) (of_device k subject) rows (begun (of_device k subject) p micros) micros (long_command_in frame) (nmt_command_in frame) (state_of k before) (begun_newest (of_device k subject) p micros)
             (begun_holds (IsIdle k before) (of_device k subject) p micros (runs (state_of k before)) h))));
         another = λ e. none_another _ none;
       }

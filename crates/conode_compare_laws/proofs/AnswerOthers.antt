@@ -18,15 +18,16 @@ use Rattle.conode_explain_transfers.specs.declared.transfer.Transfer.{Transfer}
 use Rattle.conode_compare_transfers.specs.declared.dialogue.Dialogue.{Dialogue}
 use Rattle.conode_compare_transfers.specs.Dialogues.{given_up, interrupted}
 use Rattle.conode_compare_rules.specs.declared.kind.FrameKind.{FrameKind}
-use Rattle.conode_compare_rules.specs.declared.kind.FrameKind.TheVariants.{Command, CommandToAll, Control, Emergency as Emcy, Fault, Guarding, OddControl, OddEmergency, Other, Polled, Process, Sdo}
+use Rattle.conode_compare_rules.specs.declared.kind.FrameKind.TheVariants.{Command, CommandToAll, LongCommand, Control, Emergency as Emcy, Fault, Guarding, OddControl, OddEmergency, Other, Polled, Process, Sdo}
 use Rattle.conode_compare_rules.specs.declared.limits.Subject.{Subject}
 use Rattle.conode_compare_rules.specs.declared.finding.Finding.{Finding}
 use Rattle.conode_compare_rules.specs.declared.progress.Progress.{Progress}
 use Rattle.conode_compare_rules.specs.declared.verdict.Findings.{Findings}
-use Rattle.conode_compare_rules.specs.FrameKinds.{command_kind, command_to, control_kind, data_kind, emergency_kind, emergency_with, length_of}
+use Rattle.conode_compare_rules.specs.FrameKinds.{command_kind, command_to, control_kind, data_kind, emergency_kind, emergency_with, length_of, long_command_in}
 use Rattle.conode_compare_rules.specs.Progresses as progresses
 use Rattle.conode_compare_rules.specs.Progresses.{after_command, after_emergency, after_fault, after_frame, after_odd_control, after_process, begins_anew, begun, booted, findings_at, findings_in, progress_with, silence_at, was_quiet, with_gap}
 use Rattle.conode_compare_laws.specs.AnswerSenders.{AreOther, IsOther}
+use Rattle.conode_compare_laws.proofs.LongCommands.{long_such}
 use Rattle.conode_compare_laws.proofs.Frames.{life_kind}
 use Rattle.conode_compare_laws.proofs.Runs.{AllRun}
 
@@ -92,6 +93,7 @@ module _ (P : Option Transfer → Type 0) (none : P None) where
   kind_has subject p micros (Sdo side frame) off h = absurd (false≢true (sym off))
   kind_has subject p micros (Command service) off h = command_has p service false micros h
   kind_has subject p micros (CommandToAll service) off h = command_has p service subject.facts.starts_itself micros h
+  kind_has subject p micros (LongCommand service) off h = command_has p service true micros h
   kind_has subject p micros (Process id length) off h = process_has subject p micros id length h
   kind_has subject p micros (Polled id) off h = h
   kind_has subject p micros Guarding off h = h
@@ -100,9 +102,9 @@ module _ (P : Option Transfer → Type 0) (none : P None) where
 
 -- ---- which frames these are
 
-command_other : (node : ℕ) (command : Option NmtCommand) → is_sdo (command_to node command) ≡ false
-command_other node None = refl
-command_other node (Some command) = by (command.node == 0) (command.node == node)
+command_other : (node : ℕ) (long command : Option NmtCommand) → is_sdo (command_to node long command) ≡ false
+command_other node long None = long_such (λ kind. is_sdo kind ≡ false) node long (λ service. refl) refl
+command_other node long (Some command) = by (command.node == 0) (command.node == node)
   where
     by : (all this : Bool) → is_sdo (if all then CommandToAll command.service else (if this then Command command.service else Other)) ≡ false
     by true this = refl
@@ -129,7 +131,7 @@ other_kind node frame other = by (frame.id == 0) (frame.id == 0x80 + node) (fram
         else (if c then Sdo Server frame
         else (if d then Sdo Client frame
         else (if e then control_kind frame else Process frame.id (length_of frame)))))) ≡ false
-    by true b c d e p q = command_other node (nmt_command_in frame)
+    by true b c d e p q = command_other node (long_command_in frame) (nmt_command_in frame)
     by false true c d e p q = emergency_other (length_of frame) (emergency_in frame.bytes)
     by false false true d e p q = absurd (false≢true (sym p))
     by false false false true e p q = absurd (false≢true (sym q))

@@ -22,7 +22,7 @@ use Rattle.conode_compare_transfers.specs.Dialogues.{dialogue_heard, exchange_in
 use Rattle.conode_compare_transfers.specs.Times.{is_past, micros_of}
 use Rattle.conode_compare_rules.specs.declared.finding.Finding.{Finding}
 use Rattle.conode_compare_rules.specs.declared.kind.FrameKind.{FrameKind}
-use Rattle.conode_compare_rules.specs.declared.kind.FrameKind.TheVariants.{Command, CommandToAll, Control, Emergency as Emcy, OddEmergency, Process, Sdo, Other}
+use Rattle.conode_compare_rules.specs.declared.kind.FrameKind.TheVariants.{Command, CommandToAll, LongCommand, Control, Emergency as Emcy, OddEmergency, Process, Sdo, Other}
 use Rattle.conode_compare_rules.specs.declared.limits.Limits.{Limits}
 use Rattle.conode_compare_rules.specs.declared.limits.Subject.{Subject}
 use Rattle.conode_compare_rules.specs.declared.nmt.Commanded.{Commanded}
@@ -67,6 +67,7 @@ use Rattle.conode_compare_rules.specs.States as states
 use Rattle.conode_compare_rules.specs.States.{after_other, shows_state}
 use Rattle.conode_compare_rules.specs.Verdicts.{found}
 use Rattle.conode_compare_laws.specs.AnswerFindings.{answer_differences, of_answers}
+use Rattle.conode_compare_laws.proofs.LongCommands.{long_such}
 use Rattle.conode_compare_laws.proofs.AnswerTurns.{Sound}
 use Rattle.conode_compare_laws.proofs.AnswerFound.{commanded_since, held_none, never_past, no_end, none_awaited, none_confirmed, only_or, silent}
 use Rattle.conode_compare_laws.proofs.Runs.{AllRun}
@@ -222,10 +223,22 @@ service_holds Idle p micros EnterPreOperational own actual now h = commanded_hol
 service_holds Idle p micros ResetNode own actual now h = record { sound = tt; asked = tt }
 service_holds Idle p micros ResetCommunication own actual now h = record { sound = tt; asked = tt }
 
-pub command_quiet : (Idle : Type 0) (subject : Subject) (rows : List Row) (p : Progress) (micros : ℕ) (command : Option NmtCommand) (actual : NodeState) → p.newest ≡ Some micros → Holds Idle (runs actual) p
-    → Quiet subject rows p micros (command_to subject.node command) (Holds Idle (stage_after (service_for subject.node command) actual))
-command_quiet Idle subject rows p micros None actual now h = record { none = refl; next = h }
-command_quiet Idle subject rows p micros (Some command) actual now h = by (command.node == 0) (command.node == subject.node)
+-- with more than two bytes: the device doesn't take it
+long_holds : (Idle : Type 0) (p : Progress) (micros : ℕ) (service : NmtService) (actual : NodeState) → p.newest ≡ Some micros → Holds Idle (runs actual) p → Holds Idle (runs actual) (after_command p service true micros)
+unfolding after_command states.after_command with_gap
+long_holds Idle p micros Start actual now h = commanded_holds Idle actual (runs actual) micros p.newest p.nmt.commanded Start p.dialogue now h
+long_holds Idle p micros Stop actual now h = commanded_holds Idle actual (runs actual) micros p.newest p.nmt.commanded Stop p.dialogue now h
+long_holds Idle p micros EnterPreOperational actual now h = commanded_holds Idle actual (runs actual) micros p.newest p.nmt.commanded EnterPreOperational p.dialogue now h
+long_holds Idle p micros ResetNode actual now h = record { sound = tt; asked = tt }
+long_holds Idle p micros ResetCommunication actual now h = record { sound = tt; asked = tt }
+
+pub command_quiet : (Idle : Type 0) (subject : Subject) (rows : List Row) (p : Progress) (micros : ℕ) (long command : Option NmtCommand) (actual : NodeState) → p.newest ≡ Some micros → Holds Idle (runs actual) p
+    → Quiet subject rows p micros (command_to subject.node long command) (Holds Idle (stage_after (service_for subject.node command) actual))
+command_quiet Idle subject rows p micros long None actual now h =
+    long_such (λ kind. Quiet subject rows p micros kind (Holds Idle (runs actual))) subject.node long
+    (λ service. record { none = refl; next = long_holds Idle p micros service actual now h })
+    (record { none = refl; next = h })
+command_quiet Idle subject rows p micros long (Some command) actual now h = by (command.node == 0) (command.node == subject.node)
   where
     by : (all this : Bool)
         → Quiet subject rows p micros (if all then CommandToAll command.service else (if this then Command command.service else Other))
@@ -271,19 +284,19 @@ pub boot_quiet : (Idle : Type 0) (subject : Subject) (rows : List Row) (p : Prog
 unfolding found booted
 boot_quiet Idle subject rows p micros stage = record { none = refl; next = record { sound = tt; asked = tt } }
 
-same_command : (limits : Limits) (started : ℕ) (nmt : Nmt) (micros : ℕ) (final : NodeState) → (states.after_control limits started nmt micros (state_byte (heartbeat_of final))).commanded ≡ nmt.commanded
+same_command : (limits : Limits) (started : ℕ) (nmt : Nmt) (free micros : ℕ) (final : NodeState) → (states.after_control limits started nmt free micros (state_byte (heartbeat_of final))).commanded ≡ nmt.commanded
 unfolding states.after_control after_other
-same_command limits started nmt micros node.PreOperational = by (shows_state limits started nmt micros 127)
+same_command limits started nmt free micros node.PreOperational = by (shows_state limits started nmt free 127)
   where
     by : (b : Bool) → (if b then record (after_other limits nmt micros) { state = states.state_of 127 } else after_other limits nmt micros).commanded ≡ nmt.commanded
     by true = refl
     by false = refl
-same_command limits started nmt micros node.Operational = by (shows_state limits started nmt micros 5)
+same_command limits started nmt free micros node.Operational = by (shows_state limits started nmt free 5)
   where
     by : (b : Bool) → (if b then record (after_other limits nmt micros) { state = states.state_of 5 } else after_other limits nmt micros).commanded ≡ nmt.commanded
     by true = refl
     by false = refl
-same_command limits started nmt micros node.Stopped = by (shows_state limits started nmt micros 4)
+same_command limits started nmt free micros node.Stopped = by (shows_state limits started nmt free 4)
   where
     by : (b : Bool) → (if b then record (after_other limits nmt micros) { state = states.state_of 4 } else after_other limits nmt micros).commanded ≡ nmt.commanded
     by true = refl
@@ -323,7 +336,7 @@ life_holds : (Idle : Type 0) (subject : Subject) (p : Progress) (micros : ℕ) (
 unfolding progresses.after_control
 life_holds Idle subject p micros final h =
     subst (λ c. HoldsOf Idle (runs final) p.newest c (if is_some (silence_at subject p micros (state_byte (heartbeat_of final))) then given_up p.dialogue micros else p.dialogue))
-    (sym (same_command subject.limits p.started p.nmt micros final))
+    (sym (same_command subject.limits p.started p.nmt p.free micros final))
     (given_up_holds Idle (runs final) p.newest p.nmt.commanded p.dialogue micros (is_some (silence_at subject p micros (state_byte (heartbeat_of final)))) h)
 
 pub life_quiet : (Idle : Type 0) (subject : Subject) (rows : List Row) (p : Progress) (micros : ℕ) (final : NodeState) → Holds Idle (runs final) p

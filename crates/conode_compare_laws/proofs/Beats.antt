@@ -28,11 +28,11 @@ use Rattle.conode_compare_rules.specs.declared.finding.Finding.{Finding}
 use Rattle.conode_compare_rules.specs.declared.finding.Finding.TheVariants.{HeartbeatLate}
 use Rattle.conode_compare_rules.specs.declared.heartbeats.Heartbeats.{Heartbeats}
 use Rattle.conode_compare_rules.specs.declared.kind.FrameKind.{FrameKind}
-use Rattle.conode_compare_rules.specs.declared.kind.FrameKind.TheVariants.{Command, CommandToAll, Control, Emergency as Emcy, OddEmergency, Other, Process, Sdo}
+use Rattle.conode_compare_rules.specs.declared.kind.FrameKind.TheVariants.{Command, CommandToAll, LongCommand, Control, Emergency as Emcy, OddEmergency, Other, Process, Sdo}
 use Rattle.conode_compare_rules.specs.declared.limits.Limits.{Limits}
 use Rattle.conode_compare_rules.specs.declared.limits.Subject.{Subject}
 use Rattle.conode_compare_rules.specs.declared.progress.Progress.{Progress}
-use Rattle.conode_compare_rules.specs.FrameKinds.{command_kind, command_to, control_kind, data_kind, emergency_kind, emergency_with, length_of}
+use Rattle.conode_compare_rules.specs.FrameKinds.{command_kind, command_to, control_kind, data_kind, emergency_kind, emergency_with, length_of, long_command_in}
 use Rattle.conode_compare_rules.specs.Answers.{confirmed_finding}
 use Rattle.conode_compare_rules.specs.EntriesInForce.{asked_to_write, done_word, shown_inhibit, shown_period, with_inhibit, with_period}
 use Rattle.conode_compare_rules.specs.Heartbeats.{after_transfer, allowance, follows_closely, is_gap, late_finding, overdue_by, overdue_for, overdue_since, overdue_with, sent_after}
@@ -78,6 +78,7 @@ use Rattle.conode_compare_rules.specs.Verdicts.{found}
 use Rattle.conode_compare_laws.specs.Differences.{late_differences}
 use Rattle.conode_compare_laws.specs.Identifiers.{AreWithout}
 use Rattle.conode_compare_laws.specs.Periods.{KnowsPeriod}
+use Rattle.conode_compare_laws.proofs.LongCommands.{long_such}
 use Rattle.conode_compare_laws.proofs.Frames.{life_kind}
 use Rattle.conode_compare_laws.proofs.Runs.{AllRun}
 use Rattle.conode_compare_laws.proofs.ShowsWord.{AllShow, Shown, ShowsAt}
@@ -273,6 +274,7 @@ request_passes subject rows p micros frame period ago shows h = record {
 abbrev is_other : FrameKind → Bool
 is_other (Command service) = true
 is_other (CommandToAll service) = true
+is_other (LongCommand service) = true
 is_other (Emcy code register) = true
 is_other (OddEmergency length) = true
 is_other (Sdo side frame) = true
@@ -297,6 +299,7 @@ other_passes : (subject : Subject) (rows : List Row) (p : Progress) (micros : �
 unfolding emergency_findings found after_emergency process_findings after_process
 other_passes subject rows p micros (Command service) period ago few is shows h = record { none = refl; beats = command_beats p micros period ago service false h }
 other_passes subject rows p micros (CommandToAll service) period ago few is shows h = record { none = refl; beats = command_beats p micros period ago service subject.facts.starts_itself h }
+other_passes subject rows p micros (LongCommand service) period ago few is shows h = record { none = refl; beats = command_beats p micros period ago service true h }
 other_passes subject rows p micros (Emcy code register) period ago few is shows h =
     (let e : Beats period micros ago p = ended period micros ago p h in record { none = refl; beats = record { fresh = e.fresh; known = e.known; since = e.since } })
 other_passes subject rows p micros (OddEmergency length) period ago few is shows h =
@@ -334,9 +337,9 @@ one subject rows micros p frame kind period after is h =
     let pass : Passes subject rows (begun subject p micros) micros (data_kind subject.node frame) period after = subst (λ other. Passes subject rows (begun subject p micros) micros other period after) (sym is) h in
     (pass.none, pass.beats)
 
-other_command : (node : ℕ) (command : Option NmtCommand) → is_other (command_to node command) ≡ true
-other_command node None = refl
-other_command node (Some command) = by (command.node == 0) (command.node == node)
+other_command : (node : ℕ) (long command : Option NmtCommand) → is_other (command_to node long command) ≡ true
+other_command node long None = long_such (λ kind. is_other kind ≡ true) node long (λ service. refl) refl
+other_command node long (Some command) = by (command.node == 0) (command.node == node)
   where
     by : (a b : Bool) → is_other (if a then CommandToAll command.service else (if b then Command command.service else Other)) ≡ true
     by true b = refl
@@ -357,7 +360,7 @@ other_kind node frame h =
         else (if c then Sdo Server frame
         else (if d then Sdo Client frame
         else (if e then control_kind frame else Process frame.id (length_of frame)))))) ≡ true
-    by true b c d e r = other_command node (nmt_command_in frame)
+    by true b c d e r = other_command node (long_command_in frame) (nmt_command_in frame)
     by false true c d e r = other_emergency (length_of frame) (emergency_in frame.bytes)
     by false false true d e r = refl
     by false false false true e r = refl

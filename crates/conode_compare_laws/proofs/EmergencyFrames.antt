@@ -41,13 +41,14 @@ use Rattle.conode_compare_rules.specs.declared.limits.Subject.{Subject}
 use Rattle.conode_compare_rules.specs.declared.progress.Progress.{Progress}
 use Rattle.conode_compare_rules.specs.declared.verdict.Findings.{Findings}
 use Rattle.conode_compare_rules.specs.EmergencyRules.{emergency_finding, gap_finding, has_register, inhibit_finding, inhibit_with, is_in_force, is_stopped, least_gap}
-use Rattle.conode_compare_rules.specs.FrameKinds.{command_kind, command_to, control_kind, data_kind, emergency_kind, length_of}
+use Rattle.conode_compare_rules.specs.FrameKinds.{command_kind, command_to, control_kind, data_kind, emergency_kind, length_of, long_command_in}
 use Rattle.conode_compare_rules.specs.Progresses.{before_recording, begun, emergency_findings, findings_at, findings_in, progress_with}
 use Rattle.conode_compare_rules.specs.States.{is_initialising, is_settled}
 use Rattle.conode_compare_rules.specs.Verdicts.{found}
 use Rattle.conode_compare_laws.specs.Differences.{besides_inhibit, differences_from, differences_in, emergency_differences, state_differences}
 use Rattle.conode_compare_laws.specs.Identifiers.{AllSendAside, AllSendWithout, AreElsewhere, AreNoEvents, AreWithout, IsAside, IsElsewhere, IsNoEvent, SendsAside, SendsWithout}
 use Rattle.conode_compare_laws.specs.Recordings.{Stamped, frame_of, heard_from, recording}
+use Rattle.conode_compare_laws.proofs.LongCommands.{long_such}
 use Rattle.conode_compare_laws.proofs.Shown.{Fits, Stage, boots, runs, fits_nothing, is_shown, stage_after}
 use Rattle.conode_compare_laws.proofs.Frames.{FitsAt, begun_fits}
 use Rattle.conode_compare_laws.proofs.Along.{AllGo, Goes, joined, one, then_none}
@@ -67,9 +68,9 @@ none_of (Emcy code register) f h = absurd (cc)
 none_of (OddEmergency length) f h = absurd (cc)
 none_of _ f h = refl
 
-command_no : (n : ℕ) (command : Option NmtCommand) → is_emergency (command_to n command) ≡ false
-command_no n None = refl
-command_no n (Some command) = by (command.node == 0) (command.node == n)
+command_no : (n : ℕ) (long command : Option NmtCommand) → is_emergency (command_to n long command) ≡ false
+command_no n long None = long_such (λ kind. is_emergency kind ≡ false) n long (λ service. refl) refl
+command_no n long (Some command) = by (command.node == 0) (command.node == n)
   where
     by : (a b : Bool) → is_emergency (if a then CommandToAll command.service else (if b then Command command.service else Other)) ≡ false
     by true b = refl
@@ -89,7 +90,7 @@ no_emergency n frame other = by (frame.id == 0) (frame.id == 0x80 + n) (frame.id
         else (if c then Sdo Server frame
         else (if d then Sdo Client frame
         else (if e then control_kind frame else Process frame.id (length_of frame)))))) ≡ false
-    by true b c d e p = command_no n (nmt_command_in frame)
+    by true b c d e p = command_no n (long_command_in frame) (nmt_command_in frame)
     by false true c d e p = absurd (cc)
     by false false true d e p = refl
     by false false false true e p = refl
@@ -153,7 +154,7 @@ judged_none : (subject : Subject) (rows : List Row) (p : Progress) (micros code 
     → emergency_differences (Emcy code register) (findings_in subject rows p micros (Emcy code register)) ≡ []
 unfolding emergency_findings found
 judged_none subject rows p micros code register up odd =
-    finding_none subject.limits p.entries p.nmt.state (is_settled subject.limits p.started p.nmt.commanded micros) p.emergency micros code register up odd
+    finding_none subject.limits p.entries p.nmt.state (is_settled subject.limits p.started p.nmt.commanded p.free) p.emergency micros code register up odd
 
 -- its bytes are read as it is
 whole : (e : Emergency) → e.manufacturer ≡ no_manufacturer → e ≡ record { code = e.code; register = e.register; manufacturer = no_manufacturer }

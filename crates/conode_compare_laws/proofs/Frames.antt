@@ -23,7 +23,7 @@ use Rattle.conode_compare_rules.specs.declared.finding.Finding.{Finding}
 use Rattle.conode_compare_rules.specs.declared.finding.Finding.TheVariants.{BootMissing}
 use Rattle.conode_compare_rules.specs.declared.finding.NmtState.TheVariants.{Unknown, PreOperational}
 use Rattle.conode_compare_rules.specs.declared.kind.FrameKind.{FrameKind}
-use Rattle.conode_compare_rules.specs.declared.kind.FrameKind.TheVariants.{Command, CommandToAll, Control, Emergency as Emcy, OddEmergency, Sdo, Process, Other}
+use Rattle.conode_compare_rules.specs.declared.kind.FrameKind.TheVariants.{Command, CommandToAll, LongCommand, Control, Emergency as Emcy, OddEmergency, Sdo, Process, Other}
 use Rattle.conode_compare_rules.specs.declared.limits.Limits.{Limits}
 use Rattle.conode_compare_rules.specs.declared.limits.Subject.{Subject}
 use Rattle.conode_compare_rules.specs.declared.progress.Progress.{Progress}
@@ -57,11 +57,12 @@ use Rattle.conode_compare_rules.specs.Progresses.{
   with_gap,
 }
 use Rattle.conode_compare_rules.specs.States as states
-use Rattle.conode_compare_rules.specs.States.{after_boot_up, after_other, awaits_boot_up, boot_finding, boots_known, control_finding, is_guarded_state, is_settled, second_boot_up, shows_state, state_finding}
+use Rattle.conode_compare_rules.specs.States.{after_boot_up, after_other, awaits_boot_up, boot_finding, boots_known, control_finding, is_guarded_state, is_settled, second_boot_up, shows_state, state_commanded, state_finding}
 use Rattle.conode_compare_rules.specs.Verdicts.{found}
 use Rattle.conode_compare_pdos.specs.Followed as tpdos
 use Rattle.conode_compare_laws.specs.Differences.{state_differences}
-use Rattle.conode_compare_laws.proofs.Shown.{Stage, boots, runs, Fits, fits_nothing, unbooted, or_unknown, none_overdue, none_wrong, is_shown, stage_after, command_fits}
+use Rattle.conode_compare_laws.proofs.LongCommands.{long_such}
+use Rattle.conode_compare_laws.proofs.Shown.{Stage, boots, runs, Fits, fits_nothing, unbooted, or_unknown, none_overdue, none_wrong, is_shown, stage_after, command_fits, either_shown}
 
 -- what compare knows of the NMT state fits
 abbrev pub FitsAt : ℕ → Stage → Progress → Type 0
@@ -175,7 +176,7 @@ aside_passes subject rows p micros _ stage is h = absurd (cc)
 
 -- ---- commands
 
-pub nmt_kind : (node : ℕ) (frame : FrameContent) → (frame.id == 0) ≡ true → data_kind node frame ≡ command_to node (nmt_command_in frame)
+pub nmt_kind : (node : ℕ) (frame : FrameContent) → (frame.id == 0) ≡ true → data_kind node frame ≡ command_kind node frame
 nmt_kind node frame is = rw is refl
 
 service_passes : (subject : Subject) (p : Progress) (micros : ℕ) (service : NmtService) (own : Bool) (actual : NodeState) → FitsAt micros (runs actual) p
@@ -187,10 +188,22 @@ service_passes subject p micros EnterPreOperational own actual h = command_fits 
 service_passes subject p micros ResetNode own actual h = command_fits micros ResetNode own p.nmt.state actual p.nmt.reset p.nmt.booted h
 service_passes subject p micros ResetCommunication own actual h = command_fits micros ResetCommunication own p.nmt.state actual p.nmt.reset p.nmt.booted h
 
-pub command_passes : (subject : Subject) (rows : List Row) (p : Progress) (micros : ℕ) (command : Option NmtCommand) (actual : NodeState) → FitsAt micros (runs actual) p
-    → Passes subject rows p micros (command_to subject.node command) (stage_after (service_for subject.node command) actual)
-command_passes subject rows p micros None actual h = record { none = refl; fits = h }
-command_passes subject rows p micros (Some command) actual h = by (command.node == 0) (command.node == subject.node)
+-- with more than two bytes: the device doesn't take it
+long_passes : (p : Progress) (micros : ℕ) (service : NmtService) (actual : NodeState) → FitsAt micros (runs actual) p → FitsAt micros (runs actual) (after_command p service true micros)
+unfolding after_command states.after_command with_gap
+long_passes p micros Start actual h = either_shown p.nmt.state (state_commanded Start p.nmt.state) actual h
+long_passes p micros Stop actual h = either_shown p.nmt.state (state_commanded Stop p.nmt.state) actual h
+long_passes p micros EnterPreOperational actual h = either_shown p.nmt.state (state_commanded EnterPreOperational p.nmt.state) actual h
+long_passes p micros ResetNode actual h = either_shown p.nmt.state (state_commanded ResetNode p.nmt.state) actual h
+long_passes p micros ResetCommunication actual h = either_shown p.nmt.state (state_commanded ResetCommunication p.nmt.state) actual h
+
+pub command_passes : (subject : Subject) (rows : List Row) (p : Progress) (micros : ℕ) (long command : Option NmtCommand) (actual : NodeState) → FitsAt micros (runs actual) p
+    → Passes subject rows p micros (command_to subject.node long command) (stage_after (service_for subject.node command) actual)
+command_passes subject rows p micros long None actual h =
+    long_such (λ kind. Passes subject rows p micros kind (runs actual)) subject.node long
+    (λ service. record { none = refl; fits = long_passes p micros service actual h })
+    (record { none = refl; fits = h })
+command_passes subject rows p micros long (Some command) actual h = by (command.node == 0) (command.node == subject.node)
   where
     by : (all this : Bool)
         → Passes subject rows p micros (if all then CommandToAll command.service else (if this then Command command.service else Other))
@@ -233,19 +246,19 @@ boot_passes subject rows p micros h = record {
 }
 
 none_controlled : (subject : Subject) (p : Progress) (micros : ℕ) (actual : NodeState) → FitsAt micros (runs actual) p
-    → control_finding subject p.started p.heartbeats.guarded p.nmt micros (state_byte (heartbeat_of actual)) ≡ None
+    → control_finding subject p.started p.heartbeats.guarded p.nmt p.free micros (state_byte (heartbeat_of actual)) ≡ None
 unfolding control_finding
-none_controlled subject p micros node.PreOperational h = by (p.heartbeats.guarded || (is_guarded_state 127 || not (is_settled subject.limits p.started p.nmt.commanded micros)))
+none_controlled subject p micros node.PreOperational h = by (p.heartbeats.guarded || (is_guarded_state 127 || not (is_settled subject.limits p.started p.nmt.commanded p.free)))
   where
     by : (b : Bool) → (if b then None else state_finding subject.facts.starts_itself p.nmt.state 127) ≡ None
     by true = refl
     by false = none_wrong subject.facts.starts_itself p.nmt.state node.PreOperational h
-none_controlled subject p micros node.Operational h = by (p.heartbeats.guarded || (is_guarded_state 5 || not (is_settled subject.limits p.started p.nmt.commanded micros)))
+none_controlled subject p micros node.Operational h = by (p.heartbeats.guarded || (is_guarded_state 5 || not (is_settled subject.limits p.started p.nmt.commanded p.free)))
   where
     by : (b : Bool) → (if b then None else state_finding subject.facts.starts_itself p.nmt.state 5) ≡ None
     by true = refl
     by false = none_wrong subject.facts.starts_itself p.nmt.state node.Operational h
-none_controlled subject p micros node.Stopped h = by (p.heartbeats.guarded || (is_guarded_state 4 || not (is_settled subject.limits p.started p.nmt.commanded micros)))
+none_controlled subject p micros node.Stopped h = by (p.heartbeats.guarded || (is_guarded_state 4 || not (is_settled subject.limits p.started p.nmt.commanded p.free)))
   where
     by : (b : Bool) → (if b then None else state_finding subject.facts.starts_itself p.nmt.state 4) ≡ None
     by true = refl
@@ -253,9 +266,9 @@ none_controlled subject p micros node.Stopped h = by (p.heartbeats.guarded || (i
 
 heartbeat_none : (subject : Subject) (rows : List Row) (p : Progress) (micros : ℕ) (actual : NodeState) → FitsAt micros (runs actual) p
     → option_to_list (boot_finding subject.limits p.nmt micros)
-    ++ option_to_list (control_finding subject p.started p.heartbeats.guarded p.nmt micros (state_byte (heartbeat_of actual))) ≡ []
+    ++ option_to_list (control_finding subject p.started p.heartbeats.guarded p.nmt p.free micros (state_byte (heartbeat_of actual))) ≡ []
 heartbeat_none subject rows p micros actual h =
-    ap (λ o. option_to_list o ++ option_to_list (control_finding subject p.started p.heartbeats.guarded p.nmt micros (state_byte (heartbeat_of actual)))) (none_missing subject.limits p micros (runs actual) h)
+    ap (λ o. option_to_list o ++ option_to_list (control_finding subject p.started p.heartbeats.guarded p.nmt p.free micros (state_byte (heartbeat_of actual)))) (none_missing subject.limits p micros (runs actual) h)
     ∙ ap (λ o. [] ++ option_to_list o) (none_controlled subject p micros actual h)
 
 -- what is known after a heartbeat: its state, or what was known
@@ -268,7 +281,7 @@ pub heartbeat_passes : (subject : Subject) (rows : List Row) (p : Progress) (mic
 unfolding found control_findings heartbeat_findings progresses.after_control states.after_control
 heartbeat_passes subject rows p micros node.PreOperational h = record {
   none = heartbeat_none subject rows p micros node.PreOperational h;
-  fits = by (shows_state subject.limits p.started p.nmt micros 127);
+  fits = by (shows_state subject.limits p.started p.nmt p.free 127);
 }
   where
     by : (b : Bool) → is_shown (if b then record (after_other subject.limits p.nmt micros) { state = states.state_of 127 } else after_other subject.limits p.nmt micros).state node.PreOperational ≡ true
@@ -276,7 +289,7 @@ heartbeat_passes subject rows p micros node.PreOperational h = record {
     by false = other_shown subject.limits p micros node.PreOperational h
 heartbeat_passes subject rows p micros node.Operational h = record {
   none = heartbeat_none subject rows p micros node.Operational h;
-  fits = by (shows_state subject.limits p.started p.nmt micros 5);
+  fits = by (shows_state subject.limits p.started p.nmt p.free 5);
 }
   where
     by : (b : Bool) → is_shown (if b then record (after_other subject.limits p.nmt micros) { state = states.state_of 5 } else after_other subject.limits p.nmt micros).state node.Operational ≡ true
@@ -284,7 +297,7 @@ heartbeat_passes subject rows p micros node.Operational h = record {
     by false = other_shown subject.limits p micros node.Operational h
 heartbeat_passes subject rows p micros node.Stopped h = record {
   none = heartbeat_none subject rows p micros node.Stopped h;
-  fits = by (shows_state subject.limits p.started p.nmt micros 4);
+  fits = by (shows_state subject.limits p.started p.nmt p.free 4);
 }
   where
     by : (b : Bool) → is_shown (if b then record (after_other subject.limits p.nmt micros) { state = states.state_of 4 } else after_other subject.limits p.nmt micros).state node.Stopped ≡ true

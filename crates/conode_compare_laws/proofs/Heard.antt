@@ -27,7 +27,7 @@ use Rattle.conode_compare_rules.specs.declared.kind.FrameKind.{FrameKind}
 use Rattle.conode_compare_rules.specs.declared.kind.FrameKind.TheVariants.{Control}
 use Rattle.conode_compare_rules.specs.declared.limits.Subject.{Subject}
 use Rattle.conode_compare_rules.specs.declared.progress.Progress.{Progress}
-use Rattle.conode_compare_rules.specs.FrameKinds.{command_to, data_kind}
+use Rattle.conode_compare_rules.specs.FrameKinds.{command_kind, data_kind, long_command_in}
 use Rattle.conode_compare_rules.specs.Progresses.{before_recording, begun, findings_at, progress_with}
 use Rattle.conode_compare_laws.specs.Differences.{differences_from, differences_in, state_differences}
 use Rattle.conode_compare_laws.specs.Identifiers.{AllSendAside, AreAside, AreElsewhere, IsElsewhere, SendsAside}
@@ -72,9 +72,9 @@ received subject rows micros (Framed frame) p actual foreign h = by (frame.id ==
     by : (b : Bool) → (frame.id == 0) ≡ b → AllGo state_differences subject rows micros p (frame ∷ []) (stage_after (if b then service_for subject.node (nmt_command_in frame) else None) actual)
     by true is =
         one state_differences subject rows micros p frame (stage_after (service_for subject.node (nmt_command_in frame)) actual)
-        (goes subject rows micros p frame (command_to subject.node (nmt_command_in frame)) (stage_after (service_for subject.node (nmt_command_in frame)) actual)
+        (goes subject rows micros p frame (command_kind subject.node frame) (stage_after (service_for subject.node (nmt_command_in frame)) actual)
         (nmt_kind subject.node frame is)
-        (command_passes subject rows (begun subject p micros) micros (nmt_command_in frame) actual (begun_fits subject p micros micros (runs actual) h)))
+        (command_passes subject rows (begun subject p micros) micros (long_command_in frame) (nmt_command_in frame) actual (begun_fits subject p micros micros (runs actual) h)))
     by false is =
         one state_differences subject rows micros p frame (runs actual)
         (aside_goes subject rows micros p frame (runs actual) is (ne_eqb frame.id (0x700 + subject.node) foreign) h)

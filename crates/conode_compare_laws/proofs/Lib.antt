@@ -1,4 +1,5 @@
 pub mod Shown
+pub mod LongCommands
 pub mod Frames
 pub mod Along
 pub mod Runs

@@ -35,11 +35,11 @@ use Rattle.conode_explain_laws.proofs.Views.{is_begin, server_no_begin}
 use Rattle.conode_compare_transfers.specs.Dialogues.{dialogue_heard, exchange_in, given_up, interrupted, is_initiate}
 use Rattle.conode_compare_rules.specs.declared.finding.Finding.{Finding}
 use Rattle.conode_compare_rules.specs.declared.kind.FrameKind.{FrameKind}
-use Rattle.conode_compare_rules.specs.declared.kind.FrameKind.TheVariants.{Command, CommandToAll, Guarding, Control, OddControl, Emergency as Emcy, OddEmergency, Sdo, Process, Polled, Fault, Other}
+use Rattle.conode_compare_rules.specs.declared.kind.FrameKind.TheVariants.{Command, CommandToAll, LongCommand, Guarding, Control, OddControl, Emergency as Emcy, OddEmergency, Sdo, Process, Polled, Fault, Other}
 use Rattle.conode_compare_rules.specs.declared.limits.Subject.{Subject}
 use Rattle.conode_compare_rules.specs.declared.progress.Progress.{Progress}
 use Rattle.conode_compare_rules.specs.declared.verdict.Findings.{Findings}
-use Rattle.conode_compare_rules.specs.FrameKinds.{command_kind, command_to, control_kind, data_kind, emergency_kind, emergency_with, length_of}
+use Rattle.conode_compare_rules.specs.FrameKinds.{command_kind, command_to, control_kind, data_kind, emergency_kind, emergency_with, length_of, long_command_in}
 use Rattle.conode_compare_rules.specs.Progresses as progresses
 use Rattle.conode_compare_rules.specs.Progresses.{
   after_command,
@@ -64,6 +64,7 @@ use Rattle.conode_compare_rules.specs.Progresses.{
 }
 use Rattle.conode_compare_laws.specs.Identifiers.{AreNoSdo, IsUnnamed}
 use Rattle.conode_compare_laws.specs.Recordings.{Recorded, stamped}
+use Rattle.conode_compare_laws.proofs.LongCommands.{long_such}
 use Rattle.conode_compare_laws.proofs.AnswerFollowed.{reads}
 use Rattle.conode_compare_laws.proofs.AnswerKeys.{kept, uninitiated}
 use Rattle.conode_compare_laws.proofs.Runs.{AllRun}
@@ -276,9 +277,9 @@ abbrev pub NamesAs : (Key → Type 0) → FrameKind → Type 0
 NamesAs P (Sdo side frame) = NamesBy P side frame.bytes
 NamesAs P _ = Unit {0}
 
-command_names : (P : Key → Type 0) (node : ℕ) (command : Option NmtCommand) → NamesAs P (command_to node command)
-command_names P node None = tt
-command_names P node (Some command) = by (command.node == 0) (command.node == node)
+command_names : (P : Key → Type 0) (node : ℕ) (long command : Option NmtCommand) → NamesAs P (command_to node long command)
+command_names P node long None = long_such (NamesAs P) node long (λ service. tt) tt
+command_names P node long (Some command) = by (command.node == 0) (command.node == node)
   where
     by : (a b : Bool) → NamesAs P (if a then CommandToAll command.service else (if b then Command command.service else Other))
     by true b = tt
@@ -303,7 +304,7 @@ names_as P node frame n =
         else (if c then Sdo Server frame
         else (if d then Sdo Client frame
         else (if e then control_kind frame else Process frame.id (length_of frame))))))
-    by true b c d e m = command_names P node (nmt_command_in frame)
+    by true b c d e m = command_names P node (long_command_in frame) (nmt_command_in frame)
     by false true c d e m = emergency_names P (length_of frame) (emergency_in frame.bytes)
     by false false true d e m = tt
     by false false false true e m = m refl
@@ -334,6 +335,7 @@ frame_open : (P : Key → Type 0) (subject : Subject) (p : Progress) (micros : �
 unfolding after_odd_control after_emergency after_process after_fault with_gap
 frame_open P subject p micros (Command service) n h = command_open P p service false micros h
 frame_open P subject p micros (CommandToAll service) n h = command_open P p service subject.facts.starts_itself micros h
+frame_open P subject p micros (LongCommand service) n h = command_open P p service true micros h
 frame_open P subject p micros Guarding n h = h
 frame_open P subject p micros (Control byte) n h = control_open P subject p micros byte h
 frame_open P subject p micros (OddControl length) n h = h

@@ -25,13 +25,13 @@ use Rattle.conode_compare_rules.specs.declared.finding.Finding.{Finding}
 use Rattle.conode_compare_rules.specs.declared.finding.Finding.TheVariants.{EmergencyInhibit, EmergencyRegister, EmergencyStopped}
 use Rattle.conode_compare_rules.specs.declared.finding.NmtState.{NmtState}
 use Rattle.conode_compare_rules.specs.declared.kind.FrameKind.{FrameKind}
-use Rattle.conode_compare_rules.specs.declared.kind.FrameKind.TheVariants.{Command, CommandToAll, Control, Emergency as Emcy, OddEmergency, Other, Process, Sdo}
+use Rattle.conode_compare_rules.specs.declared.kind.FrameKind.TheVariants.{Command, CommandToAll, LongCommand, Control, Emergency as Emcy, OddEmergency, Other, Process, Sdo}
 use Rattle.conode_compare_rules.specs.declared.limits.Limits.{Limits}
 use Rattle.conode_compare_rules.specs.declared.limits.Subject.{Subject}
 use Rattle.conode_compare_rules.specs.declared.progress.Progress.{Progress}
 use Rattle.conode_compare_rules.specs.EmergencyRules.{emergency_finding, gap_finding, has_register, inhibit_finding, inhibit_with, is_in_force, is_stopped, least_gap}
 use Rattle.conode_compare_rules.specs.EntriesInForce.{asked_to_write, done_word, shown_inhibit, shown_period, with_inhibit, with_period}
-use Rattle.conode_compare_rules.specs.FrameKinds.{command_kind, command_to, control_kind, data_kind, emergency_kind, emergency_with, length_of}
+use Rattle.conode_compare_rules.specs.FrameKinds.{command_kind, command_to, control_kind, data_kind, emergency_kind, emergency_with, length_of, long_command_in}
 use Rattle.conode_compare_rules.specs.Progresses as progresses
 use Rattle.conode_compare_rules.specs.Progresses.{
   after_command,
@@ -64,6 +64,7 @@ use Rattle.conode_compare_transfers.specs.Times.{micros_of}
 use Rattle.conode_compare_laws.specs.Differences.{inhibit_differences, only_inhibit}
 use Rattle.conode_compare_laws.specs.Identifiers.{AreWithout}
 use Rattle.conode_compare_laws.specs.Periods.{KnowsInhibit}
+use Rattle.conode_compare_laws.proofs.LongCommands.{long_such}
 use Rattle.conode_compare_laws.proofs.Frames.{life_kind}
 use Rattle.conode_compare_laws.proofs.Runs.{AllRun}
 use Rattle.conode_compare_laws.proofs.ShowsWord.{AllShow, Shown, ShowsAt}
@@ -111,14 +112,15 @@ begun_calm subject inhibit micros sent p knows h = by (begins_anew subject.limit
 abbrev is_quiet : FrameKind → Bool
 is_quiet (Command service) = true
 is_quiet (CommandToAll service) = true
+is_quiet (LongCommand service) = true
 is_quiet (Sdo side frame) = true
 is_quiet (Process id length) = true
 is_quiet Other = true
 is_quiet _ = false
 
-quiet_command : (node : ℕ) (command : Option NmtCommand) → is_quiet (command_to node command) ≡ true
-quiet_command node None = refl
-quiet_command node (Some command) = by (command.node == 0) (command.node == node)
+quiet_command : (node : ℕ) (long command : Option NmtCommand) → is_quiet (command_to node long command) ≡ true
+quiet_command node long None = long_such (λ kind. is_quiet kind ≡ true) node long (λ service. refl) refl
+quiet_command node long (Some command) = by (command.node == 0) (command.node == node)
   where
     by : (a b : Bool) → is_quiet (if a then CommandToAll command.service else (if b then Command command.service else Other)) ≡ true
     by true b = refl
@@ -136,7 +138,7 @@ quiet_kind node frame emergency control =
         else (if c then Sdo Server frame
         else (if d then Sdo Client frame
         else (if e then control_kind frame else Process frame.id (length_of frame)))))) ≡ true
-    by true b c d e o r = quiet_command node (nmt_command_in frame)
+    by true b c d e o r = quiet_command node (long_command_in frame) (nmt_command_in frame)
     by false true c d e o r = absurd (cc)
     by false false true d e o r = refl
     by false false false true e o r = refl
@@ -216,6 +218,7 @@ quiet_passes : (inhibit micros : ℕ) (sent : List Sending) (subject : Subject) 
 unfolding after_process
 quiet_passes inhibit micros sent subject rows p (Command service) is shows h = record { none = refl; calm = command_calm inhibit micros sent p service false h }
 quiet_passes inhibit micros sent subject rows p (CommandToAll service) is shows h = record { none = refl; calm = command_calm inhibit micros sent p service subject.facts.starts_itself h }
+quiet_passes inhibit micros sent subject rows p (LongCommand service) is shows h = record { none = refl; calm = command_calm inhibit micros sent p service true h }
 quiet_passes inhibit micros sent subject rows p (Sdo Server frame) is shows h = record {
   none = refl;
   calm = sdo_calm inhibit micros sent subject (answer_noted subject p micros) Server frame (noted_shows inhibit micros subject p frame shows) (noted_calm inhibit micros sent subject p h);
@@ -336,7 +339,7 @@ emergency_passes : (inhibit micros code register : ℕ) (sent : List Sending) (s
     → Passes inhibit micros (just_now inhibit ∷ sent) subject rows p (Emcy code register)
 unfolding emergency_findings found after_emergency
 emergency_passes inhibit micros code register sent subject rows p over h = record {
-  none = finding_none subject.limits p.entries p.nmt.state (is_settled subject.limits p.started p.nmt.commanded micros) p.emergency micros code register
+  none = finding_none subject.limits p.entries p.nmt.state (is_settled subject.limits p.started p.nmt.commanded p.free) p.emergency micros code register
       (inhibit_none subject.limits p.entries p.emergency micros inhibit sent h.known h.since over);
   calm = record { known = h.known; since = (omega arith, refl) };
 }
@@ -364,6 +367,7 @@ own_passes inhibit micros sent subject rows p (Emcy code register) is shows over
 own_passes inhibit micros sent subject rows p (OddEmergency length) is shows over h = odd_passes inhibit micros length sent subject rows p h
 own_passes inhibit micros sent subject rows p (Command service) is shows over h = other_passes inhibit micros sent subject rows p (Command service) refl shows h
 own_passes inhibit micros sent subject rows p (CommandToAll service) is shows over h = other_passes inhibit micros sent subject rows p (CommandToAll service) refl shows h
+own_passes inhibit micros sent subject rows p (LongCommand service) is shows over h = other_passes inhibit micros sent subject rows p (LongCommand service) refl shows h
 own_passes inhibit micros sent subject rows p (Sdo side frame) is shows over h = other_passes inhibit micros sent subject rows p (Sdo side frame) refl shows h
 own_passes inhibit micros sent subject rows p (Process id length) is shows over h = other_passes inhibit micros sent subject rows p (Process id length) refl shows h
 own_passes inhibit micros sent subject rows p Other is shows over h = other_passes inhibit micros sent subject rows p Other refl shows h
@@ -372,6 +376,7 @@ own_passes inhibit micros sent subject rows p _ is shows over h = absurd (cc)
 quiet_own : (kind : FrameKind) → is_quiet kind ≡ true → is_own kind ≡ true
 quiet_own (Command service) h = refl
 quiet_own (CommandToAll service) h = refl
+quiet_own (LongCommand service) h = refl
 quiet_own (Sdo side frame) h = refl
 quiet_own (Process id length) h = refl
 quiet_own Other h = refl
@@ -391,7 +396,7 @@ own_kind node frame control =
         else (if c then Sdo Server frame
         else (if d then Sdo Client frame
         else (if e then control_kind frame else Process frame.id (length_of frame)))))) ≡ true
-    by true b c d e r = quiet_own (command_to node (nmt_command_in frame)) (quiet_command node (nmt_command_in frame))
+    by true b c d e r = quiet_own (command_kind node frame) (quiet_command node (long_command_in frame) (nmt_command_in frame))
     by false true c d e r = own_emergency (length_of frame) (emergency_in frame.bytes)
     by false false true d e r = refl
     by false false false true e r = refl

@@ -17,7 +17,7 @@ use Rattle.conode_compare_values.specs.HeldNumbers.{held_mismatch, nothing_writt
 use Rattle.conode_compare_rules.specs.declared.finding.Finding.{Finding}
 use Rattle.conode_compare_rules.specs.declared.finding.Finding.TheVariants.{Held}
 use Rattle.conode_compare_rules.specs.declared.kind.FrameKind.{FrameKind}
-use Rattle.conode_compare_rules.specs.declared.kind.FrameKind.TheVariants.{Command, CommandToAll, Control, OddControl, Emergency as Emcy, OddEmergency, Process, Sdo, Fault}
+use Rattle.conode_compare_rules.specs.declared.kind.FrameKind.TheVariants.{Command, CommandToAll, LongCommand, Control, OddControl, Emergency as Emcy, OddEmergency, Process, Sdo, Fault}
 use Rattle.conode_compare_rules.specs.declared.limits.Subject.{Subject}
 use Rattle.conode_compare_rules.specs.declared.progress.Progress.{Progress}
 use Rattle.conode_compare_rules.specs.declared.verdict.Findings.{Findings}
@@ -126,6 +126,7 @@ fault_same micros p = refl
 after_same : (subject : Subject) (micros : ℕ) (kind : FrameKind) (p : Progress) → unwritten (after_frame subject (unwritten p) micros kind) ≡ unwritten (after_frame subject p micros kind)
 after_same subject micros (Command service) p = command_same service false micros p
 after_same subject micros (CommandToAll service) p = command_same service subject.facts.starts_itself micros p
+after_same subject micros (LongCommand service) p = command_same service true micros p
 after_same subject micros (Control byte) p = control_same subject micros byte p
 after_same subject micros (OddControl length) p = odd_control_same subject micros p
 after_same subject micros (Emcy code register) p = emergency_same micros p

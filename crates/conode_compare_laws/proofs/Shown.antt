@@ -13,7 +13,7 @@ use Rattle.co_node_parts.specs.NmtStates.{after_loss, heartbeat_of}
 use Rattle.conode_compare_rules.specs.declared.finding.NmtState.{NmtState}
 use Rattle.conode_compare_rules.specs.declared.finding.NmtState.TheVariants.{Unknown, Initialising, PreOperational, Operational, Stopped}
 use Rattle.conode_compare_rules.specs.declared.limits.Limits.{Limits}
-use Rattle.conode_compare_rules.specs.States.{is_reset, is_wrong, overdue_in, state_after, state_finding}
+use Rattle.conode_compare_rules.specs.States.{either_state, is_reset, is_wrong, overdue_in, state_after, state_finding}
 use Rattle.conode_compare_transfers.specs.Times.{is_past}
 
 -- compare may have this state for a device that is in that one: nothing, the same, or one from which it has fallen back without a
@@ -205,3 +205,24 @@ command_fits micros Stop own state actual reset booted h = stop_shown own state 
 command_fits micros EnterPreOperational own state actual reset booted h = enter_shown own state actual h
 command_fits micros ResetNode own state actual reset booted h = (refl, node_awaits micros own state actual h)
 command_fits micros ResetCommunication own state actual reset booted h = (refl, communication_awaits micros own state actual h)
+
+-- ---- a command with more than two bytes, which it doesn't take
+
+pub either_shown : (state after : NmtState) (actual : NodeState) → is_shown state actual ≡ true → is_shown (either_state state after) actual ≡ true
+either_shown Unknown after actual h = refl
+either_shown Initialising after actual h = absurd (cc)
+either_shown PreOperational Unknown actual h = refl
+either_shown PreOperational Initialising actual h = refl
+either_shown PreOperational PreOperational actual h = h
+either_shown PreOperational Operational actual h = refl
+either_shown PreOperational Stopped actual h = refl
+either_shown Operational Unknown actual h = refl
+either_shown Operational Initialising actual h = refl
+either_shown Operational PreOperational actual h = refl
+either_shown Operational Operational actual h = refl
+either_shown Operational Stopped actual h = refl
+either_shown Stopped Unknown actual h = refl
+either_shown Stopped Initialising actual h = refl
+either_shown Stopped PreOperational actual h = refl
+either_shown Stopped Operational actual h = refl
+either_shown Stopped Stopped actual h = h

@@ -25,16 +25,16 @@ use Rattle.conode_compare_pdos.specs.declared.pdos.Pdos.{Pdos}
 use Rattle.conode_compare_pdos.specs.declared.pdos.Sighting.{Sighting}
 use Rattle.conode_compare_pdos.specs.declared.tpdo.Tpdo.{Tpdo}
 use Rattle.conode_compare_pdos.specs.Deviations.{deviation_at, is_judged}
-use Rattle.conode_compare_pdos.specs.Followed.{commanded, framed, interrupted, or_else, seen, sighting, unknown_pdos}
+use Rattle.conode_compare_pdos.specs.Followed.{commanded, first_seen, framed, interrupted, is_shared, or_else, seen, sighting, unjudged, unknown_pdos}
 use Rattle.conode_compare_pdos.specs.PdoParameters.{nothing_known}
 use Rattle.conode_compare_pdos.specs.Tpdos.{after_frame as after_tpdo, is_id}
 use Rattle.conode_compare_rules.specs.declared.finding.Finding.TheVariants.{Pdo}
 use Rattle.conode_compare_rules.specs.declared.kind.FrameKind.{FrameKind}
-use Rattle.conode_compare_rules.specs.declared.kind.FrameKind.TheVariants.{Command, CommandToAll, Control, Emergency as Emcy, OddEmergency, Other, Process, Sdo}
+use Rattle.conode_compare_rules.specs.declared.kind.FrameKind.TheVariants.{Command, CommandToAll, LongCommand, Control, Emergency as Emcy, OddEmergency, Other, Process, Sdo}
 use Rattle.conode_compare_rules.specs.declared.limits.Limits.{Limits}
 use Rattle.conode_compare_rules.specs.declared.limits.Subject.{Subject}
 use Rattle.conode_compare_rules.specs.declared.progress.Progress.{Progress}
-use Rattle.conode_compare_rules.specs.FrameKinds.{command_kind, command_to, control_kind, data_kind, emergency_kind, emergency_with, length_of}
+use Rattle.conode_compare_rules.specs.FrameKinds.{command_kind, command_to, control_kind, data_kind, emergency_kind, emergency_with, length_of, long_command_in}
 use Rattle.conode_compare_rules.specs.Heartbeats.{follows_closely, is_gap}
 use Rattle.conode_compare_rules.specs.Progresses as progresses
 use Rattle.conode_compare_rules.specs.Progresses.{
@@ -65,6 +65,7 @@ use Rattle.conode_compare_rules.specs.Verdicts.{found}
 use Rattle.conode_compare_laws.specs.TpdoDifferences.{of_kind, tpdo_differences}
 use Rattle.conode_compare_laws.specs.TpdoFrames.{is_followed}
 use Rattle.conode_compare_laws.specs.NamedTpdos.{NamesNoTpdo}
+use Rattle.conode_compare_laws.proofs.LongCommands.{long_such}
 use Rattle.conode_compare_laws.proofs.Frames.{life_kind}
 use Rattle.conode_compare_laws.proofs.NamedKeys.{IsOpenOn, begun_open, noted_open, stays_open}
 use Rattle.conode_compare_laws.proofs.Runs.{AllRun}
@@ -185,12 +186,23 @@ pub record AreFine (is : Deviation → Bool) (moment : Moment) (pdos : Pdos) (id
   pub third : is_id pdos.third.parameters.id id ≡ true → is_of is (deviation_at moment (is_some pdos.sync) pdos.third length) ≡ false
   pub fourth : is_id pdos.fourth.parameters.id id ≡ true → is_of is (deviation_at moment (is_some pdos.sync) pdos.fourth length) ≡ false
 
+unjudged_fine : (is : Deviation → Bool) (seen : Option Sighting) → IsFine is (unjudged seen)
+unjudged_fine is None = tt
+unjudged_fine is (Some seen) = refl
+
 pub all_fine : (is : Deviation → Bool) (moment : Moment) (pdos : Pdos) (id length : ℕ) → AreFine is moment pdos id length → IsFine is (sighting moment pdos id length)
 unfolding sighting
-all_fine is moment pdos id length h =
-    or_fine is _ _ (seen_fine is moment (is_some pdos.sync) 1 pdos.first id length h.first)
-    (or_fine is _ _ (seen_fine is moment (is_some pdos.sync) 2 pdos.second id length h.second)
-    (or_fine is _ _ (seen_fine is moment (is_some pdos.sync) 3 pdos.third id length h.third) (seen_fine is moment (is_some pdos.sync) 4 pdos.fourth id length h.fourth)))
+all_fine is moment pdos id length h = by (is_shared pdos id)
+  where
+    first : IsFine is (first_seen moment pdos id length)
+    first =
+        or_fine is _ _ (seen_fine is moment (is_some pdos.sync) 1 pdos.first id length h.first)
+        (or_fine is _ _ (seen_fine is moment (is_some pdos.sync) 2 pdos.second id length h.second)
+        (or_fine is _ _ (seen_fine is moment (is_some pdos.sync) 3 pdos.third id length h.third) (seen_fine is moment (is_some pdos.sync) 4 pdos.fourth id length h.fourth)))
+
+    by : (b : Bool) → IsFine is (if b then unjudged (first_seen moment pdos id length) else first_seen moment pdos id length)
+    by true = unjudged_fine is (first_seen moment pdos id length)
+    by false = first
 
 pub unseen : (is : Deviation → Bool) (moment : Moment) (facts pdos : Pdos) (id length : ℕ) → Knows facts pdos → is_followed facts id ≡ false → AreFine is moment pdos id length
 unseen is moment facts pdos id length knows off =
@@ -306,6 +318,7 @@ sdo_passes is I subject rows p micros Server frame names opened new h = record {
 abbrev IsOtherKind : Pdos → FrameKind → Type 0
 IsOtherKind facts (Command service) = Unit {0}
 IsOtherKind facts (CommandToAll service) = Unit {0}
+IsOtherKind facts (LongCommand service) = Unit {0}
 IsOtherKind facts (Emcy code register) = Unit {0}
 IsOtherKind facts (OddEmergency length) = Unit {0}
 IsOtherKind facts (Sdo side frame) = NamesNoneBy side frame
@@ -326,6 +339,7 @@ other_passes : (is : Deviation → Bool) (I : Pdos → Type 0) (subject : Subjec
 unfolding after_emergency process_findings after_process
 other_passes is I subject rows p micros (Command service) kept other opened new h = record { none = refl; after = command_holds subject.facts.pdos I p micros service false kept new h }
 other_passes is I subject rows p micros (CommandToAll service) kept other opened new h = record { none = refl; after = command_holds subject.facts.pdos I p micros service subject.facts.starts_itself kept new h }
+other_passes is I subject rows p micros (LongCommand service) kept other opened new h = record { none = refl; after = command_holds subject.facts.pdos I p micros service true kept new h }
 other_passes is I subject rows p micros (Emcy code register) kept other opened new h = record { none = refl; after = record { fresh = fresh micros p new; kept = h } }
 other_passes is I subject rows p micros (OddEmergency length) kept other opened new h = record { none = refl; after = record { fresh = fresh micros p new; kept = h } }
 other_passes is I subject rows p micros (Process id length) kept other opened new h = record {
@@ -337,9 +351,9 @@ other_passes is I subject rows p micros (Sdo side frame) kept other opened new h
 other_passes is I subject rows p micros Other kept other opened new h = record { none = refl; after = record { fresh = fresh micros p new; kept = h } }
 other_passes is I subject rows p micros _ kept other opened new h = absurd other
 
-other_command : (facts : Pdos) (node : ℕ) (command : Option NmtCommand) → IsOtherKind facts (command_to node command)
-other_command facts node None = tt
-other_command facts node (Some command) = by (command.node == 0) (command.node == node)
+other_command : (facts : Pdos) (node : ℕ) (long command : Option NmtCommand) → IsOtherKind facts (command_to node long command)
+other_command facts node long None = long_such (IsOtherKind facts) node long (λ service. tt) tt
+other_command facts node long (Some command) = by (command.node == 0) (command.node == node)
   where
     by : (a b : Bool) → IsOtherKind facts (if a then CommandToAll command.service else (if b then Command command.service else Other))
     by true b = tt
@@ -365,7 +379,7 @@ other_kind facts node frame h =
         else (if c then Sdo Server frame
         else (if d then Sdo Client frame
         else (if e then control_kind frame else Process frame.id (length_of frame))))))
-    by true b c d e q r = other_command facts node (nmt_command_in frame)
+    by true b c d e q r = other_command facts node (long_command_in frame) (nmt_command_in frame)
     by false true c d e q r = other_emergency facts (length_of frame) (emergency_in frame.bytes)
     by false false true d e q r = tt
     by false false false true e q r = q refl

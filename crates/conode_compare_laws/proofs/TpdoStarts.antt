@@ -31,7 +31,7 @@ use Rattle.conode_compare_rules.specs.declared.finding.NmtState.TheVariants.{Pre
 use Rattle.conode_compare_rules.specs.declared.kind.FrameKind.TheVariants.{Command, CommandToAll, Other}
 use Rattle.conode_compare_rules.specs.declared.limits.Subject.{Subject}
 use Rattle.conode_compare_rules.specs.declared.progress.Progress.{Progress}
-use Rattle.conode_compare_rules.specs.FrameKinds.{command_to}
+use Rattle.conode_compare_rules.specs.FrameKinds.{command_kind, command_to, long_command_in}
 use Rattle.conode_compare_rules.specs.Progresses.{after_command, begun, with_gap}
 use Rattle.conode_compare_laws.specs.NamedTpdos.{NamesNoTpdo}
 use Rattle.conode_compare_laws.specs.Recordings.{elapsed, frame_of}
@@ -182,9 +182,9 @@ module _ (is : Deviation → Bool) (R : ℕ → Sent → List ℕ → Type 0) (i
   command_holds p ResetNode own new h = record { fresh = fresh micros p new; kept = unknown_timed R subject.node ids subject.facts.pdos micros ages }
   command_holds p ResetCommunication own new h = record { fresh = fresh micros p new; kept = unknown_timed R subject.node ids subject.facts.pdos micros ages }
 
-  command_passes : (p : Progress) (command : Option NmtCommand) → is_some (service_for subject.node command) ≡ true → IsNewest micros p → Knows subject.facts.pdos p.pdos → Passes is I subject rows p micros (command_to subject.node command)
-  command_passes p None is_one new h = absurd (cc)
-  command_passes p (Some command) is_one new h = by (command.node == 0) (command.node == subject.node) is_one
+  command_passes : (p : Progress) (long command : Option NmtCommand) → is_some (service_for subject.node command) ≡ true → IsNewest micros p → Knows subject.facts.pdos p.pdos → Passes is I subject rows p micros (command_to subject.node long command)
+  command_passes p long None is_one new h = absurd (cc)
+  command_passes p long (Some command) is_one new h = by (command.node == 0) (command.node == subject.node) is_one
     where
       by : (all this : Bool) → is_some (if all || this then Some command.service else None) ≡ true
           → Passes is I subject rows p micros (if all then CommandToAll command.service else (if this then Command command.service else Other))
@@ -203,6 +203,6 @@ module _ (is : Deviation → Bool) (R : ℕ → Sent → List ℕ → Type 0) (i
     where
       by : (b : Bool) → (frame.id == 0) ≡ b → is_some (if b then service_for subject.node (nmt_command_in frame) else None) ≡ true → AllRun (tpdo_differences is) subject rows micros p (frame ∷ []) (Holds I)
       by true zero g =
-          one is I subject rows micros p frame (command_to subject.node (nmt_command_in frame)) (nmt_kind subject.node frame zero) (command_names frame zero) h.opened
-          (command_passes (begun subject p micros) (nmt_command_in frame) g (begun_newest subject p micros h.fresh) (begun_kept subject (Knows subject.facts.pdos) p micros (knows_kept subject.facts.pdos) h.kept))
+          one is I subject rows micros p frame (command_kind subject.node frame) (nmt_kind subject.node frame zero) (command_names frame zero) h.opened
+          (command_passes (begun subject p micros) (long_command_in frame) (nmt_command_in frame) g (begun_newest subject p micros h.fresh) (begun_kept subject (Knows subject.facts.pdos) p micros (knows_kept subject.facts.pdos) h.kept))
       by false zero g = absurd (cc)

@@ -12,7 +12,7 @@ use Rattle.conode_compare_transfers.specs.Dialogues.{dialogue_heard}
 use Rattle.conode_compare_rules.specs.declared.entries.Entries.{Entries}
 use Rattle.conode_compare_rules.specs.declared.finding.Finding.{Finding}
 use Rattle.conode_compare_rules.specs.declared.kind.FrameKind.{FrameKind}
-use Rattle.conode_compare_rules.specs.declared.kind.FrameKind.TheVariants.{Command, CommandToAll, Control, OddControl, Emergency as Emcy, OddEmergency, Process, Sdo, Fault}
+use Rattle.conode_compare_rules.specs.declared.kind.FrameKind.TheVariants.{Command, CommandToAll, LongCommand, Control, OddControl, Emergency as Emcy, OddEmergency, Process, Sdo, Fault}
 use Rattle.conode_compare_rules.specs.declared.limits.Subject.{Subject}
 use Rattle.conode_compare_rules.specs.declared.progress.Progress.{Progress}
 use Rattle.conode_compare_rules.specs.FrameKinds.{data_kind}
@@ -145,6 +145,7 @@ fault_off p micros off = off
 after_off : (subject : Subject) (p : Progress) (micros : ℕ) (kind : FrameKind) → JudgesNone subject → IsOff p → IsOff (after_frame subject p micros kind)
 after_off subject p micros (Command service) none off = command_off p service false micros off
 after_off subject p micros (CommandToAll service) none off = command_off p service subject.facts.starts_itself micros off
+after_off subject p micros (LongCommand service) none off = command_off p service true micros off
 after_off subject p micros (Control byte) none off = control_off subject p micros byte none off
 after_off subject p micros (OddControl length) none off = odd_control_off subject p micros length off
 after_off subject p micros (Emcy code register) none off = emergency_off subject p micros code register off

@@ -18,7 +18,7 @@ use Rattle.conode_compare_values.specs.SheetValues.{shown_number}
 use Rattle.conode_compare_values.specs.HeldNumbers.{is_done}
 use Rattle.conode_compare_rules.specs.declared.entries.Entries.{Entries}
 use Rattle.conode_compare_rules.specs.declared.kind.FrameKind.{FrameKind}
-use Rattle.conode_compare_rules.specs.declared.kind.FrameKind.TheVariants.{Command, CommandToAll, Control, Emergency, OddEmergency, Sdo}
+use Rattle.conode_compare_rules.specs.declared.kind.FrameKind.TheVariants.{Command, CommandToAll, LongCommand, Control, Emergency, OddEmergency, Sdo}
 use Rattle.conode_compare_rules.specs.declared.limits.Limits.{Limits}
 use Rattle.conode_compare_rules.specs.declared.progress.Progress.{Progress}
 use Rattle.conode_compare_notes.specs.declared.history.ErrorCode.{ErrorCode}
@@ -128,5 +128,6 @@ errors_with limits errors (Control byte) progress =
     if is_restart byte || is_some (late_warning limits errors.signalled errors.shown progress.newest) then nothing_signalled else errors
 errors_with limits errors (Command service) progress = nothing_signalled
 errors_with limits errors (CommandToAll service) progress = nothing_signalled
+errors_with limits errors (LongCommand service) progress = nothing_signalled
 errors_with limits errors (Sdo side frame) progress = errors_heard limits progress.entries errors side frame progress.exchange
 errors_with limits errors kind progress = errors

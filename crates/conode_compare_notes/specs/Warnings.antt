@@ -24,7 +24,7 @@ use Rattle.conode_compare_values.specs.HeldWords.{entry_of}
 use Rattle.conode_compare_rules.specs.declared.finding.Remark.{Remark}
 use Rattle.conode_compare_rules.specs.declared.finding.Remark.TheVariants.{Restarted as RestartedRemark, EarlyHeartbeat}
 use Rattle.conode_compare_rules.specs.declared.kind.FrameKind.{FrameKind}
-use Rattle.conode_compare_rules.specs.declared.kind.FrameKind.TheVariants.{Command, CommandToAll, Control, Emergency, Sdo}
+use Rattle.conode_compare_rules.specs.declared.kind.FrameKind.TheVariants.{Command, CommandToAll, LongCommand, Control, Emergency, Sdo}
 use Rattle.conode_compare_rules.specs.declared.limits.Subject.{Subject}
 use Rattle.conode_compare_rules.specs.declared.progress.Progress.{Progress}
 use Rattle.conode_compare_rules.specs.Progresses.{is_begun}
@@ -171,6 +171,7 @@ abbrev pub after_other : Subject → Watched → FrameKind → Watched
 after_other subject watched (Control byte) = if byte == 0 then booted subject else watched
 after_other subject watched (Command service) = if is_reset service then nothing_watched else watched
 after_other subject watched (CommandToAll service) = if is_reset service then nothing_watched else watched
+after_other subject watched (LongCommand service) = if is_reset service then nothing_watched else watched
 after_other subject watched kind = watched
 
 -- by a frame of the SDO channel: it may end a transfer, or request one

@@ -238,8 +238,10 @@ impl Errors {
                     self
                 }
             }
-            FrameKind::OddEmergency(_) | FrameKind::Command(_) | FrameKind::CommandToAll(_) =>
-                Errors::none(),
+            FrameKind::OddEmergency(_)
+            | FrameKind::Command(_)
+            | FrameKind::CommandToAll(_)
+            | FrameKind::LongCommand(_) => Errors::none(),
             _ => self,
         }
     }

@@ -361,6 +361,7 @@ impl Watched {
             }
             FrameKind::Command(service) if is_reset(*service) => self.forget(),
             FrameKind::CommandToAll(service) if is_reset(*service) => self.forget(),
+            FrameKind::LongCommand(service) if is_reset(*service) => self.forget(),
             _ => {}
         }
     }

@@ -1,6 +1,6 @@
 -- What a TPDO is otherwise than prescribed and what it isn't, on both sides of each edge, computed from the definitions.
 use Rattle.std.proofs.Common.{◌≡◌, ℕ, Bool, true, false, List, [], ◌∷◌, map, Option, Some, None, refl}
-use Rattle.std.specs.Prelude.{pos}
+use Rattle.std.specs.Prelude.{pos, ◌/◌, ◌%◌, ◌^◌, ◌==◌}
 use Rattle.co_profile.specs.declared.access.Access.TheVariants.{Constant, Rw}
 use Rattle.co_sheet.specs.Content.{Row}
 use Rattle.co_sheet.specs.Limits.{Default, absent, number, node_id}
@@ -10,7 +10,7 @@ use Rattle.conode_compare_pdos.specs.declared.deviation.Moment.{Moment}
 use Rattle.conode_compare_pdos.specs.declared.parameters.Parameters.{Parameters}
 use Rattle.conode_compare_pdos.specs.declared.tpdo.Tpdo.{Tpdo}
 use Rattle.conode_compare_pdos.specs.Deviations.{deviation_at, is_judged, time_deviation}
-use Rattle.conode_compare_pdos.specs.Followed.{sighting, unknown_pdos}
+use Rattle.conode_compare_pdos.specs.Followed.{are_several, sighting, unknown_pdos}
 use Rattle.conode_compare_pdos.specs.Identifiers.{is_cob_id, may_change, may_get, may_have}
 use Rattle.conode_compare_pdos.specs.PdoParameters.{asked_to_write, counted_bytes, identifier_of, length_of, mapped_bytes, parameters_of, shown}
 use Rattle.conode_compare_pdos.specs.Tpdos.{after_frame, after_gap, after_poll, after_request, after_sync, booted_tpdo}
@@ -257,6 +257,9 @@ other_mapping = refl
 
 -- ---- frames of others
 
+abbrev flag : ℕ → ℕ → Bool
+flag flags bit = flags / 2 ^ bit % 2 == 1
+
 not_its : sighting (at 5) (record unknown_pdos { first = tpdo }) 0x189 4 ≡ None
 unfolding sighting
 not_its = refl
@@ -264,6 +267,25 @@ not_its = refl
 third : sighting (at 5) (record unknown_pdos { third = tpdo }) 0x188 4 ≡ Some (record { number = 3; deviation = None; judged = true })
 unfolding sighting deviation_at time_deviation
 third = refl
+
+third_short : sighting (at 5) (record unknown_pdos { third = tpdo }) 0x188 3 ≡ Some (record { number = 3; deviation = Some (Length 3 4); judged = true })
+unfolding sighting deviation_at time_deviation
+third_short = refl
+
+-- two on one identifier: any two of the four
+shared_short : sighting (at 5) (record unknown_pdos { second = tpdo; third = tpdo }) 0x188 3 ≡ Some (record { number = 2; deviation = None; judged = false })
+unfolding sighting deviation_at time_deviation
+shared_short = refl
+
+beside_others : sighting (at 5) (record unknown_pdos { second = record tpdo { parameters = record event_driven { id = Some 0x288 } }; third = tpdo }) 0x188 3
+    ≡ Some (record { number = 3; deviation = Some (Length 3 4); judged = true })
+unfolding sighting deviation_at time_deviation
+beside_others = refl
+
+pairs : map (λ flags. are_several (flag flags 0) (flag flags 1) (flag flags 2) (flag flags 3))
+    (12 ∷ 10 ∷ 9 ∷ 6 ∷ 5 ∷ 3 ∷ 7 ∷ 15 ∷ 0 ∷ 1 ∷ 2 ∷ 4 ∷ 8 ∷ [])
+    ≡ true ∷ true ∷ true ∷ true ∷ true ∷ true ∷ true ∷ true ∷ false ∷ false ∷ false ∷ false ∷ false ∷ []
+pairs = refl
 
 -- ---- an identifier that a TPDO may have
 

@@ -1,5 +1,5 @@
 -- The first four TPDOs of a device, followed through a recording.
-use Rattle.std.specs.Prelude.{ℕ, Bool, if◌then◌else◌, List, Option, Some, None, is_some, option_and_then}
+use Rattle.std.specs.Prelude.{ℕ, Bool, false, ◌&&◌, ◌||◌, if◌then◌else◌, List, Option, Some, None, is_some, option_and_then}
 use Rattle.co_profile.specs.Keys.{sync_key}
 use Rattle.co_sheet.specs.Content.{Row}
 use Rattle.co_value.specs.declared.key.Key.{Key}
@@ -81,9 +81,26 @@ abbrev pub or_else : Option Sighting → Option Sighting → Option Sighting
 or_else (Some sighting) other = Some sighting
 or_else None other = other
 
--- a data frame with this identifier and so many bytes, where it is one of the TPDOs
-unfoldable pub sighting : Moment → Pdos → ℕ → ℕ → Option Sighting
-sighting moment pdos id length =
+-- at least two of four
+abbrev pub are_several : Bool → Bool → Bool → Bool → Bool
+are_several first second third fourth = (first && (second || (third || fourth))) || ((second && (third || fourth)) || (third && fourth))
+
+-- more than one of them has this identifier: of which one a frame is isn't known
+abbrev pub is_shared : Pdos → ℕ → Bool
+is_shared pdos id =
+    are_several (is_id pdos.first.parameters.id id) (is_id pdos.second.parameters.id id) (is_id pdos.third.parameters.id id) (is_id pdos.fourth.parameters.id id)
+
+abbrev pub unjudged : Option Sighting → Option Sighting
+unjudged None = None
+unjudged (Some seen) = Some (record seen { deviation = None; judged = false })
+
+abbrev pub first_seen : Moment → Pdos → ℕ → ℕ → Option Sighting
+first_seen moment pdos id length =
     let has_sync = is_some pdos.sync in
     or_else (seen moment has_sync 1 pdos.first id length) (or_else (seen moment has_sync 2 pdos.second id length)
     (or_else (seen moment has_sync 3 pdos.third id length) (seen moment has_sync 4 pdos.fourth id length)))
+
+-- a data frame with this identifier and so many bytes, where it is one of the TPDOs
+unfoldable pub sighting : Moment → Pdos → ℕ → ℕ → Option Sighting
+sighting moment pdos id length =
+    if is_shared pdos id then unjudged (first_seen moment pdos id length) else first_seen moment pdos id length

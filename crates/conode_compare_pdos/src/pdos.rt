@@ -6,8 +6,10 @@ ghost use Rattle.co_sheet.specs.SheetViews.{row_view};
 ghost use Rattle.co_value.specs.Keys.{is_key_before};
 ghost use Rattle.conode_compare_pdos.specs.Followed.{
   commanded,
+  first_seen,
   framed,
   interrupted,
+  is_shared,
   pdos_of,
   polled,
   requested,
@@ -15,6 +17,7 @@ ghost use Rattle.conode_compare_pdos.specs.Followed.{
   sighting,
   synced,
   transferred,
+  unjudged,
   unknown_pdos,
 };
 
@@ -91,6 +94,20 @@ fn seen(
         deviation: deviation_at(moment, has_sync, pdo, length),
         judged: is_judged(moment, pdo),
     })
+}
+
+// of a frame that may be of several TPDOs
+fn unjudged(seen: Option<Sighting>) -> Option<Sighting>
+    ensures { result ≡ unjudged seen }
+{
+    match seen {
+        Some(sighting) => Some(Sighting {
+            number: sighting.number,
+            deviation: None,
+            judged: false,
+        }),
+        None => None,
+    }
 }
 
 impl Pdos {
@@ -187,16 +204,38 @@ impl Pdos {
         self.fourth = self.fourth.after_frame(moment, id);
     }
 
-    /// What is said of a data frame with this identifier and so many bytes, where it is of one of
-    /// the TPDOs.
-    #[tactic(auto, unfolding(crate::specs::Followed::sighting))]
-    pub fn sighting(&self, moment: &Moment, id: u16, length: u8) -> Option<Sighting>
-        ensures { result ≡ sighting moment.now self.now id length }
+    // whether more than one of them has this identifier
+    fn is_shared(&self, id: u16) -> bool
+        ensures { result ≡ is_shared self.now id }
+    {
+        let first = is_id(self.first.parameters.id, id);
+        let second = is_id(self.second.parameters.id, id);
+        let third = is_id(self.third.parameters.id, id);
+        let fourth = is_id(self.fourth.parameters.id, id);
+        first && (second || third || fourth) || second && (third || fourth) || third && fourth
+    }
+
+    // what is said of a frame with this identifier by the first TPDO that has it
+    fn first_seen(&self, moment: &Moment, id: u16, length: u8) -> Option<Sighting>
+        ensures { result ≡ first_seen moment.now self.now id length }
     {
         let has_sync = self.sync.is_some();
         seen(moment, has_sync, 1, &self.first, id, length)
             .or(seen(moment, has_sync, 2, &self.second, id, length))
             .or(seen(moment, has_sync, 3, &self.third, id, length))
             .or(seen(moment, has_sync, 4, &self.fourth, id, length))
+    }
+    /// What is said of a data frame with this identifier and so many bytes, where it is of one of
+    /// the TPDOs. Where more than one has the identifier, it isn't judged.
+    #[tactic(auto, unfolding(crate::specs::Followed::sighting))]
+    pub fn sighting(&self, moment: &Moment, id: u16, length: u8) -> Option<Sighting>
+        ensures { result ≡ sighting moment.now self.now id length }
+    {
+        let seen = self.first_seen(moment, id, length);
+        if self.is_shared(id) {
+            unjudged(seen)
+        } else {
+            seen
+        }
     }
 }

@@ -30,7 +30,7 @@ use Rattle.conode_compare_values.specs.declared.written.Written.{Written}
 use Rattle.conode_compare_values.specs.HeldNumbers.{is_restricted, unmapped, unmapped_at}
 use Rattle.conode_compare_values.specs.RpdoWrites.{all_fit, forgotten, no_writes, received, settled, without_values}
 use Rattle.conode_compare_rules.specs.declared.kind.FrameKind.{FrameKind}
-use Rattle.conode_compare_rules.specs.declared.kind.FrameKind.TheVariants.{Command, CommandToAll, Guarding, Control, OddControl, Emergency, OddEmergency, Sdo, Process, Polled, Fault, Other}
+use Rattle.conode_compare_rules.specs.declared.kind.FrameKind.TheVariants.{Command, CommandToAll, LongCommand, Guarding, Control, OddControl, Emergency, OddEmergency, Sdo, Process, Polled, Fault, Other}
 use Rattle.conode_compare_rules.specs.declared.limits.Subject.{Subject}
 use Rattle.conode_compare_rules.specs.declared.progress.Progress.{Progress}
 use Rattle.conode_compare_receptions.specs.declared.other_ids.OtherIds.{OtherIds}
@@ -263,6 +263,7 @@ receptions_at subject rows r progress micros (Control byte) id content = control
 receptions_at subject rows r progress micros (OddControl length) id content = with_written (without_brought r) progress.written
 receptions_at subject rows r progress micros (Command service) id content = commanded r progress service
 receptions_at subject rows r progress micros (CommandToAll service) id content = commanded r progress service
+receptions_at subject rows r progress micros (LongCommand service) id content = commanded r progress service
 receptions_at subject rows r progress micros (Sdo side frame) id content = exchanged subject r progress micros side frame progress.exchange
 receptions_at subject rows r progress micros (Emergency code register) id content = frame_received subject rows r progress micros id content
 receptions_at subject rows r progress micros (OddEmergency length) id content = frame_received subject rows r progress micros id content

@@ -170,7 +170,9 @@ impl Receptions {
                 self.forget_brought();
                 self.set_written(progress.written);
             }
-            FrameKind::Command(service) | FrameKind::CommandToAll(service) => {
+            FrameKind::Command(service)
+            | FrameKind::CommandToAll(service)
+            | FrameKind::LongCommand(service) => {
                 self.take_command(progress, *service);
             }
             FrameKind::Sdo(side, frame) => self.take_sdo(subject, progress, micros, *side, frame),

@@ -2,6 +2,7 @@
 use Rattle.std.proofs.Common.{◌≡◌, ℕ, Bool, true, false, List, [], ◌∷◌, map, Some, None, refl}
 use Rattle.std.specs.Prelude.{pos}
 use Rattle.co_frame.specs.SdoRequests.{request_row_in}
+use Rattle.co_frame.specs.declared.nmt.NmtService.{NmtService}
 use Rattle.co_frame.specs.declared.nmt.NmtService.TheVariants.{Start, Stop, ResetNode}
 use Rattle.co_profile.specs.declared.access.Access.{Access}
 use Rattle.co_profile.specs.declared.access.Access.TheVariants.{Rw, Constant}
@@ -10,7 +11,7 @@ use Rattle.co_sheet.specs.Limits.{Default, absent, number, node_id}
 use Rattle.co_value.specs.declared.data_type.DataType.{DataType}
 use Rattle.co_value.specs.declared.data_type.DataType.TheVariants.{Unsigned8, Unsigned16, Unsigned32}
 use Rattle.co_value.specs.declared.key.Key.{Key}
-use Rattle.conode_compare_pdos.specs.Followed.{pdos_of}
+use Rattle.conode_compare_pdos.specs.Followed.{pdos_of, unknown_pdos}
 use Rattle.conode_explain_transfers.specs.declared.ended.Ended.{Ended}
 use Rattle.conode_explain_transfers.specs.declared.ended.Ending.TheVariants.{Done}
 use Rattle.conode_explain_transfers.specs.declared.kinds.Direction.{Direction}
@@ -25,17 +26,21 @@ use Rattle.conode_compare_rules.specs.declared.finding.Remark.TheVariants.{Resta
 use Rattle.conode_compare_rules.specs.declared.finding.NmtState.{NmtState}
 use Rattle.conode_compare_rules.specs.declared.finding.NmtState.TheVariants.{Unknown, Initialising, PreOperational, Operational, Stopped}
 use Rattle.conode_compare_rules.specs.declared.heartbeats.Heartbeats.{Heartbeats}
-use Rattle.conode_compare_rules.specs.declared.kind.FrameKind.TheVariants.{Command, CommandToAll, Other}
+use Rattle.conode_compare_rules.specs.declared.kind.FrameKind.TheVariants.{Command, CommandToAll, LongCommand, Other}
 use Rattle.conode_compare_rules.specs.declared.limits.Limits.{Limits}
+use Rattle.conode_compare_rules.specs.declared.limits.Subject.{Subject}
 use Rattle.conode_compare_rules.specs.declared.nmt.Nmt.{Nmt}
+use Rattle.conode_compare_rules.specs.declared.progress.Progress.{Progress}
 use Rattle.conode_compare_transfers.specs.Dialogues.{dialogue_heard, is_certain, nothing_asked}
 use Rattle.conode_compare_transfers.specs.NewestFrames.{newest_after, newest_with}
 use Rattle.conode_compare_rules.specs.EmergencyRules.{emergency_finding, inhibit_finding}
 use Rattle.conode_compare_rules.specs.EntriesInForce.{ended_entries, facts_of, initial_entries, shares_id, sheet_entries, shown_inhibit, shown_period, with_sharing}
 use Rattle.conode_compare_rules.specs.FrameKinds.{command_kind}
 use Rattle.conode_compare_rules.specs.Heartbeats.{after_byte, after_transfer, early_remark, follows_closely, late_finding, overdue_by, is_gap}
-use Rattle.conode_compare_rules.specs.Progresses.{free_at, still_awaited}
-use Rattle.conode_compare_rules.specs.States.{either_state, after_boot_up, after_command, after_other, awaits_boot_up, boot_finding, is_settled, nothing_commanded, restart_remark, second_boot_up, state_finding}
+use Rattle.conode_compare_rules.specs.Progresses as progresses
+use Rattle.conode_compare_rules.specs.Progresses.{after_frame, before_recording, control_judged, emergency_findings, free_at, still_awaited}
+use Rattle.conode_compare_rules.specs.States.{either_state, after_boot_up, after_command, after_control, after_other, awaits_boot_up, boot_finding, control_finding, is_settled, nothing_commanded, restart_remark, second_boot_up, state_finding}
+use Rattle.conode_compare_rules.specs.Verdicts.{found}
 
 -- 10 ms, 1 %, 1 s and 10 s
 abbrev pub limits : Limits
@@ -331,6 +336,16 @@ same_state : (after_command (up_in Operational) Start true 5).state ≡ Operatio
 unfolding after_command
 same_state = refl
 
+-- a boot-up after a reset command is right, however soon after another one; after another command it
+-- isn't
+reset_since : second_boot_up (after_command (up_in PreOperational) ResetNode false 5).booted 6 ≡ None
+unfolding after_command second_boot_up
+reset_since = refl
+
+started_since : second_boot_up (after_command (up_in PreOperational) Start false 5).booted 6 ≡ Some (SecondBootUp 6)
+unfolding after_command second_boot_up
+started_since = refl
+
 reset_of_its_own : boot_finding limits (after_command (up_in Operational) ResetNode true 1) 10000002 ≡ None
 unfolding boot_finding awaits_boot_up after_command
 reset_of_its_own = refl
@@ -348,6 +363,22 @@ to_it = refl
 
 to_another : command_kind 5 (record { id = 0; bytes = 2 ∷ 6 ∷ [] }) ≡ Other
 to_another = refl
+
+-- a command of more than two bytes: perhaps one
+long_to_it : command_kind 5 (record { id = 0; bytes = 2 ∷ 5 ∷ 0 ∷ [] }) ≡ LongCommand Stop
+long_to_it = refl
+
+padded_to_all : command_kind 5 (record { id = 0; bytes = 1 ∷ 0 ∷ 0 ∷ 0 ∷ 0 ∷ 0 ∷ 0 ∷ 0 ∷ [] }) ≡ LongCommand Start
+padded_to_all = refl
+
+long_to_another : command_kind 5 (record { id = 0; bytes = 2 ∷ 6 ∷ 5 ∷ [] }) ≡ Other
+long_to_another = refl
+
+long_unknown : command_kind 5 (record { id = 0; bytes = 3 ∷ 5 ∷ 0 ∷ [] }) ≡ Other
+long_unknown = refl
+
+short : command_kind 5 (record { id = 0; bytes = 2 ∷ [] }) ≡ Other
+short = refl
 
 abbrev pub key : ℕ → ℕ → Key
 key index sub = record { index = index; sub = sub }
@@ -550,3 +581,67 @@ asked = refl
 
 shared : map (λ shares. (with_sharing shares entries).emergencies) (false ∷ true ∷ []) ≡ true ∷ false ∷ []
 shared = refl
+
+-- ---- a heartbeat that waited for the bus, after a command at 100 ms
+
+abbrev device : Subject
+device = record {
+  node = 5;
+  limits = limits;
+  facts = record { before = entries; booted = entries; pdos = unknown_pdos; starts_itself = false; modular = false; stores = false; as_sheet = true };
+  held = record { entries = record { items = [] } };
+  rooms = record { strings = None; domains = None };
+}
+
+abbrev commanded_to : NmtService → NmtState → Nmt
+commanded_to service state = record {
+  state = state;
+  commanded = Some (record { service = service; micros = 100000 });
+  reset = None;
+  several = false;
+  booted = None;
+}
+
+-- the bus was free last 10 ms after it: the heartbeat may be one of the state before
+waits_since : control_finding device 0 false (commanded_to Stop Stopped) 110000 150000 5 ≡ None
+unfolding control_finding is_settled
+waits_since = refl
+
+free_since : control_finding device 0 false (commanded_to Stop Stopped) 110001 150000 5 ≡ Some (WrongState Operational Stopped)
+unfolding control_finding is_settled state_finding
+free_since = refl
+
+-- the state stays as commanded, or is the one that is shown
+shows_none : (after_control limits 0 (commanded_to Start Operational) 110000 150000 127).state ≡ Operational
+unfolding after_control after_other awaits_boot_up is_settled
+shows_none = refl
+
+shows_its_own : (after_control limits 0 (commanded_to Start Operational) 110001 150000 127).state ≡ PreOperational
+unfolding after_control after_other awaits_boot_up is_settled
+shows_its_own = refl
+
+-- so is it judged, and an EMCY while stopped
+abbrev after_stop : ℕ → Progress
+after_stop free = record (before_recording device) { free = free; nmt = commanded_to Stop Stopped }
+
+judged_when_free : map (λ free. control_judged device (after_stop free)) (110000 ∷ 110001 ∷ []) ≡ false ∷ true ∷ []
+unfolding control_judged is_settled
+judged_when_free = refl
+
+emergency_waits : map (λ free. (emergency_findings device (after_stop free) 150000 0 0).frame) (110000 ∷ 110001 ∷ []) ≡ None ∷ Some EmergencyStopped ∷ []
+unfolding emergency_findings emergency_finding inhibit_finding is_settled found
+emergency_waits = refl
+
+-- ---- a command with more than two bytes: the device is in the state before, or in that after it
+
+long_stop : (after_frame device (record (before_recording device) { nmt = up_in Operational }) 5 (LongCommand Stop)).nmt.state ≡ Unknown
+unfolding progresses.after_command after_command
+long_stop = refl
+
+long_start : (after_frame device (record (before_recording device) { nmt = up_in Operational }) 5 (LongCommand Start)).nmt.state ≡ Operational
+unfolding progresses.after_command after_command
+long_start = refl
+
+long_reset : boot_finding limits (after_frame device (record (before_recording device) { nmt = up_in Operational }) 5 (LongCommand ResetNode)).nmt 10000006 ≡ None
+unfolding progresses.after_command progresses.with_gap after_command boot_finding awaits_boot_up
+long_reset = refl

@@ -1,6 +1,6 @@
 -- What a frame of a recording is to the device that is compared (CiA 301, 7.3.3, pre-defined
 -- connection set).
-use Rattle.std.specs.Prelude.{ℕ, ◌+◌, ◌==◌, if◌then◌else◌, length, slice_index, Option, Some, None}
+use Rattle.std.specs.Prelude.{ℕ, ◌+◌, ◌==◌, nat_lt, ◌||◌, if◌then◌else◌, [], ◌∷◌, length, slice_index, Option, Some, None}
 use Rattle.co_frame.specs.FrameContent.{FrameContent}
 use Rattle.co_frame.specs.declared.emergency.Emergency.{Emergency}
 use Rattle.co_frame.specs.declared.nmt.NmtCommand.{NmtCommand}
@@ -12,21 +12,32 @@ use Rattle.conode_record.specs.declared.content.Content.TheVariants.{Data, Remot
 use Rattle.conode_record.specs.declared.fields.Identifier.{Identifier}
 use Rattle.conode_record.specs.declared.fields.Identifier.TheVariants.{Base, Extended, Error}
 use Rattle.conode_compare_rules.specs.declared.kind.FrameKind.{FrameKind}
-use Rattle.conode_compare_rules.specs.declared.kind.FrameKind.TheVariants.{Command, CommandToAll, Guarding, Control, OddControl, Emergency as Emcy, OddEmergency, Sdo, Process, Polled, Fault, Other}
+use Rattle.conode_compare_rules.specs.declared.kind.FrameKind.TheVariants.{Command, CommandToAll, LongCommand, Guarding, Control, OddControl, Emergency as Emcy, OddEmergency, Sdo, Process, Polled, Fault, Other}
 
 -- how many bytes a frame has
 abbrev pub length_of : FrameContent → ℕ
 length_of frame = length frame.bytes
 
--- an NMT command to all nodes, or to this one
-abbrev pub command_to : ℕ → Option NmtCommand → FrameKind
-command_to node None = Other
-command_to node (Some command) =
+-- An NMT command has two bytes. Devices differ in whether they take one with more by its first two.
+abbrev pub long_command_in : FrameContent → Option NmtCommand
+long_command_in frame =
+    if nat_lt 2 (length frame.bytes)
+    then nmt_command_in (record { id = frame.id; bytes = slice_index frame.bytes 0 ∷ slice_index frame.bytes 1 ∷ [] })
+    else None
+
+abbrev pub long_to : ℕ → Option NmtCommand → FrameKind
+long_to node None = Other
+long_to node (Some command) = if command.node == 0 || command.node == node then LongCommand command.service else Other
+
+-- an NMT command to all nodes, or to this one; else one with more bytes
+abbrev pub command_to : ℕ → Option NmtCommand → Option NmtCommand → FrameKind
+command_to node long None = long_to node long
+command_to node long (Some command) =
     if command.node == 0 then CommandToAll command.service
     else (if command.node == node then Command command.service else Other)
 
 abbrev pub command_kind : ℕ → FrameContent → FrameKind
-command_kind node frame = command_to node (nmt_command_in frame)
+command_kind node frame = command_to node (long_command_in frame) (nmt_command_in frame)
 
 -- error control has one byte
 abbrev pub control_kind : FrameContent → FrameKind

@@ -26,7 +26,7 @@ use Rattle.conode_compare_transfers.specs.declared.dialogue.Dialogue.{Dialogue}
 use Rattle.conode_compare_rules.specs.declared.limits.Limits.{Limits}
 use Rattle.conode_compare_rules.specs.declared.limits.Subject.{Subject}
 use Rattle.conode_compare_rules.specs.declared.kind.FrameKind.{FrameKind}
-use Rattle.conode_compare_rules.specs.declared.kind.FrameKind.TheVariants.{Command, CommandToAll, Guarding, Control, OddControl, Emergency, OddEmergency, Sdo, Process, Polled, Fault, Other}
+use Rattle.conode_compare_rules.specs.declared.kind.FrameKind.TheVariants.{Command, CommandToAll, LongCommand, Guarding, Control, OddControl, Emergency, OddEmergency, Sdo, Process, Polled, Fault, Other}
 use Rattle.conode_compare_rules.specs.declared.verdict.Findings.{Findings}
 use Rattle.conode_compare_rules.specs.Answers.{answer_finding, confirmed_finding, held_finding, silence_finding, stopped_finding}
 use Rattle.conode_compare_transfers.specs.Dialogues.{dialogue_heard, given_up, interrupted, nothing_asked, nothing_left, exchange_in}
@@ -119,7 +119,8 @@ after_fault progress micros = record (with_gap progress micros) { nmt = nothing_
 
 -- ---- commands and node guarding
 
--- A command, which is perhaps the device's own. After a reset nothing is known of its PDOs until the
+-- A command, which the device needn't follow where it is perhaps its own, or has more than two bytes.
+-- After a reset nothing is known of its PDOs until the
 -- boot-up, nor of the inhibit time of its EMCY.
 unfoldable pub after_command : Progress → NmtService → Bool → ℕ → Progress
 after_command progress service own micros =
@@ -134,13 +135,13 @@ after_guarding progress = record progress { heartbeats = record progress.heartbe
 
 abbrev pub boot_findings : Subject → Progress → ℕ → Findings
 boot_findings subject progress micros =
-    found None None None (control_finding subject progress.started progress.heartbeats.guarded progress.nmt micros 0) true
+    found None None None (control_finding subject progress.started progress.heartbeats.guarded progress.nmt progress.free micros 0) true
 
 -- the entries have what the data sheet says, as far as that is known, and the next heartbeat is
 -- awaited; no earlier request is answered any more, however long it took
 unfoldable pub booted : Subject → Progress → ℕ → Progress
 booted subject progress micros = record progress {
-  nmt = states.after_control subject.limits progress.started progress.nmt micros 0;
+  nmt = states.after_control subject.limits progress.started progress.nmt progress.free micros 0;
   heartbeats = record progress.heartbeats { since = Some micros; sent = Some progress.free };
   entries = subject.facts.booted;
   emergency = None;
@@ -157,10 +158,14 @@ is_known Unknown = false
 is_known Initialising = false
 is_known state = true
 
--- a heartbeat is judged where the state is known, and settled
-unfoldable pub control_judged : Subject → Progress → ℕ → Bool
-control_judged subject progress micros =
-    (not progress.heartbeats.guarded && is_known progress.nmt.state) && is_settled subject.limits progress.started progress.nmt.commanded micros
+-- the tolerance since the begin and since the newest command was over when the bus was free last
+abbrev pub settled_when_free : Subject → Progress → Bool
+settled_when_free subject progress = is_settled subject.limits progress.started progress.nmt.commanded progress.free
+
+-- a heartbeat is judged where the state is known, and was settled when the bus was free last
+unfoldable pub control_judged : Subject → Progress → Bool
+control_judged subject progress =
+    (not progress.heartbeats.guarded && is_known progress.nmt.state) && settled_when_free subject progress
 
 abbrev pub late_at : Subject → Progress → ℕ → Option Finding
 late_at subject progress micros = late_finding subject.limits progress.entries.period progress.heartbeats progress.free micros
@@ -170,8 +175,8 @@ heartbeat_findings subject progress answer micros byte =
     found (boot_finding subject.limits progress.nmt micros)
     (late_at subject progress micros)
     answer
-    (control_finding subject progress.started progress.heartbeats.guarded progress.nmt micros byte)
-    (control_judged subject progress micros)
+    (control_finding subject progress.started progress.heartbeats.guarded progress.nmt progress.free micros byte)
+    (control_judged subject progress)
 
 abbrev pub silence_at : Subject → Progress → ℕ → ℕ → Option Finding
 silence_at subject progress micros byte = silence_finding subject.limits progress.started progress.nmt progress.dialogue micros byte
@@ -181,7 +186,7 @@ control_findings subject progress micros byte = heartbeat_findings subject progr
 
 unfoldable pub after_control : Subject → Progress → ℕ → ℕ → Progress
 after_control subject progress micros byte = record progress {
-  nmt = states.after_control subject.limits progress.started progress.nmt micros byte;
+  nmt = states.after_control subject.limits progress.started progress.nmt progress.free micros byte;
   heartbeats = after_byte progress.heartbeats progress.free micros byte;
   pdos = if byte == 5 then progress.pdos else tpdos.commanded progress.pdos;
   dialogue = if is_some (silence_at subject progress micros byte) then given_up progress.dialogue micros else progress.dialogue;
@@ -207,9 +212,8 @@ after_odd_control subject progress micros = record progress {
 
 unfoldable pub emergency_findings : Subject → Progress → ℕ → ℕ → ℕ → Findings
 emergency_findings subject progress micros code register =
-    let settled = is_settled subject.limits progress.started progress.nmt.commanded micros in
     found None None None
-    (emergency_finding subject.limits progress.entries progress.nmt.state settled progress.emergency micros code register)
+    (emergency_finding subject.limits progress.entries progress.nmt.state (settled_when_free subject progress) progress.emergency micros code register)
     progress.entries.emergencies
 
 abbrev pub odd_emergency_findings : Progress → ℕ → Findings
@@ -316,9 +320,6 @@ is_idle starts_itself PreOperational = not starts_itself
 is_idle starts_itself Stopped = true
 is_idle starts_itself state = false
 
-abbrev pub settled_when_free : Subject → Progress → Bool
-settled_when_free subject progress = is_settled subject.limits progress.started progress.nmt.commanded progress.free
-
 unfoldable pub moment_at : Subject → Progress → ℕ → Moment
 moment_at subject progress micros = record {
   micros = micros;
@@ -380,6 +381,7 @@ after_frame subject progress micros (Sdo Server frame) = after_answer subject pr
 after_frame subject progress micros (Sdo Client frame) = after_sdo subject progress micros Client frame
 after_frame subject progress micros (Command service) = after_command progress service false micros
 after_frame subject progress micros (CommandToAll service) = after_command progress service subject.facts.starts_itself micros
+after_frame subject progress micros (LongCommand service) = after_command progress service true micros
 after_frame subject progress micros (Process id length) = after_process subject progress micros id length
 after_frame subject progress micros (Polled id) = after_poll progress id
 after_frame subject progress micros Guarding = after_guarding progress

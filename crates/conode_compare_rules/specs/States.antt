@@ -93,8 +93,9 @@ awaits_boot_up limits nmt micros = overdue_in limits nmt.state nmt.reset micros
 unfoldable pub boot_finding : Limits → Nmt → ℕ → Option Finding
 boot_finding limits nmt micros = option_map (λ waited. BootMissing waited) (awaits_boot_up limits nmt micros)
 
--- `second-sender`: another boot-up within a second, nothing between them, and only one was due. A
--- device that is switched off and on by hand takes longer.
+-- `second-sender`: another boot-up within a second, nothing of the device and no reset command
+-- between them, and only one was due. A device that is switched off and on by hand takes longer than a
+-- second, but perhaps not longer than a boot-up may take.
 unfoldable pub second_boot_up : Option ℕ → ℕ → Option Finding
 second_boot_up None micros = None
 second_boot_up (Some booted) micros = if is_past booted 1000 micros then None else Some (SecondBootUp (micros - booted))
@@ -175,20 +176,23 @@ state_finding starts_itself state byte =
     if is_state byte then (if is_wrong starts_itself state (state_of byte) then Some (WrongState (state_of byte) state) else None)
     else (if is_initialising state then None else Some (NoState byte))
 
--- the difference of a byte of error control; answers of node guarding aren't judged
-unfoldable pub control_finding : Subject → ℕ → Bool → Nmt → ℕ → ℕ → Option Finding
-control_finding subject started guarded nmt micros byte =
+-- The difference of a byte of error control; answers of node guarding aren't judged. A heartbeat may
+-- have waited since the bus was free last: where a command came since, or within the tolerance
+-- before, it may be one of the state before that.
+unfoldable pub control_finding : Subject → ℕ → Bool → Nmt → ℕ → ℕ → ℕ → Option Finding
+control_finding subject started guarded nmt free micros byte =
     if byte == 0 then second_boot_up nmt.booted micros
-    else (if guarded || (is_guarded_state byte || not (is_settled subject.limits started nmt.commanded micros)) then None
+    else (if guarded || (is_guarded_state byte || not (is_settled subject.limits started nmt.commanded free)) then None
     else state_finding subject.facts.starts_itself nmt.state byte)
 
--- a heartbeat shows the state, once it is settled, and unless the boot-up is awaited
+-- a heartbeat shows the state, once it was settled when the bus was free last, and unless the boot-up
+-- is awaited
 abbrev pub shows_state : Limits → ℕ → Nmt → ℕ → ℕ → Bool
-shows_state limits started nmt micros byte =
-    is_settled limits started nmt.commanded micros && (is_state byte && not (is_initialising nmt.state))
+shows_state limits started nmt free byte =
+    is_settled limits started nmt.commanded free && (is_state byte && not (is_initialising nmt.state))
 
-unfoldable pub after_control : Limits → ℕ → Nmt → ℕ → ℕ → Nmt
-after_control limits started nmt micros byte =
+unfoldable pub after_control : Limits → ℕ → Nmt → ℕ → ℕ → ℕ → Nmt
+after_control limits started nmt free micros byte =
     if byte == 0 then after_boot_up limits nmt micros
-    else (if shows_state limits started nmt micros byte then record (after_other limits nmt micros) { state = state_of byte }
+    else (if shows_state limits started nmt free byte then record (after_other limits nmt micros) { state = state_of byte }
     else after_other limits nmt micros)

@@ -9,9 +9,12 @@ ghost use Rattle.conode_compare_rules.specs.FrameKinds.{
   emergency_kind,
   length_of,
   kind_of,
+  long_command_in,
+  long_to,
 };
 
 use co_frame::{Emergency, Frame, NmtCommand, NmtService};
+use co_value::PackedBytes;
 use conode_explain_transfers::Side;
 use conode_record::{Content, Identifier};
 
@@ -22,6 +25,9 @@ pub enum FrameKind {
     Command(NmtService),
     /// An NMT command to all nodes, which it doesn't follow if it sent that itself.
     CommandToAll(NmtService),
+    /// An NMT command with more than two bytes, to it or to all nodes: devices differ in whether
+    /// they take that.
+    LongCommand(NmtService),
     /// A remote frame that asks for its state: node guarding.
     Guarding,
     /// One byte on its identifier of error control: a boot-up, 0, or a heartbeat (CiA 301,
@@ -54,13 +60,39 @@ fn length_of(frame: &Frame) -> u8
     frame.bytes().len() as u8
 }
 
+// the command that the first two of more bytes are
+fn long_command_in(frame: &Frame) -> Option<NmtCommand>
+    ensures { result ≡ long_command_in frame.now }
+{
+    match frame.bytes() {
+        [specifier, node, _, ..] => {
+            let mut bytes = PackedBytes::new();
+            bytes.append(&[*specifier, *node]);
+            NmtCommand::read(&Frame::packed(frame.id(), &bytes))
+        }
+        _ => None,
+    }
+}
+
+fn long_kind(node: u8, frame: &Frame) -> FrameKind
+    ensures { result ≡ long_to node (long_command_in frame.now) }
+{
+    match long_command_in(frame) {
+        Some(command) if command.node == 0 || command.node == node => {
+            FrameKind::LongCommand(command.service)
+        }
+        _ => FrameKind::Other,
+    }
+}
+
 fn command_kind(node: u8, frame: &Frame) -> FrameKind
     ensures { result ≡ command_kind node frame.now }
 {
     match NmtCommand::read(frame) {
         Some(command) if command.node == 0 => FrameKind::CommandToAll(command.service),
         Some(command) if command.node == node => FrameKind::Command(command.service),
-        _ => FrameKind::Other,
+        Some(_) => FrameKind::Other,
+        None => long_kind(node, frame),
     }
 }
 

@@ -253,24 +253,25 @@ impl Nmt {
         }
     }
 
-    /// The difference of a byte of error control. Once node guarding was seen, only boot-ups are
-    /// judged.
+    /// The difference of a byte of error control; the bus was free last at `free`. Once node guarding
+    /// was seen, only boot-ups are judged.
     #[tactic(auto, unfolding(crate::specs::States::control_finding))]
     pub(crate) fn control_finding(
         &self,
         subject: &Subject,
         started: u64,
         guarded: bool,
+        free: u64,
         micros: u64,
         byte: u8,
     ) -> Option<Finding>
         ensures { result
-            ≡ control_finding subject.now started guarded self.now micros byte }
+            ≡ control_finding subject.now started guarded self.now free micros byte }
     {
         if byte == 0 {
             return self.second_boot_up(micros);
         }
-        if guarded || is_guarded_state(byte) || !self.is_settled(&subject.limits, started, micros) {
+        if guarded || is_guarded_state(byte) || !self.is_settled(&subject.limits, started, free) {
             return None;
         }
         self.state_finding(subject.facts.starts_itself, byte)
@@ -356,15 +357,22 @@ impl Nmt {
         }
     }
 
-    /// A byte of error control came.
+    /// A byte of error control came; the bus was free last at `free`.
     #[tactic(auto, unfolding(crate::specs::States::after_control))]
-    pub(crate) fn after_control(self, limits: &Limits, started: u64, micros: u64, byte: u8) -> Nmt
-        ensures { result ≡ after_control limits.now started self micros byte }
+    pub(crate) fn after_control(
+        self,
+        limits: &Limits,
+        started: u64,
+        free: u64,
+        micros: u64,
+        byte: u8,
+    ) -> Nmt
+        ensures { result ≡ after_control limits.now started self free micros byte }
     {
         if byte == 0 {
             return self.after_boot_up(limits, micros);
         }
-        let settled = self.is_settled(limits, started, micros);
+        let settled = self.is_settled(limits, started, free);
         let next = self.after_other(limits, micros);
         if !settled || !is_state(byte) || matches!(self.state, NmtState::Initialising) {
             return next;

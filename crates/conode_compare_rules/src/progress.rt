@@ -211,8 +211,9 @@ impl Progress {
         self.written = Written::nothing();
     }
 
-    // A command; `own`: the device may have sent it itself, and needn't follow it. After a reset
-    // nothing is known of its PDOs until the boot-up, nor of the inhibit time of its EMCY.
+    // A command; `own`: the device needn't follow it, since it may have sent it itself, or it has
+    // more than two bytes. After a reset nothing is known of its PDOs until the boot-up, nor of the
+    // inhibit time of its EMCY.
     #[tactic(auto, unfolding(crate::specs::Progresses::after_command, crate::specs::Progresses::with_gap))]
     fn take_command(&mut self, service: NmtService, own: bool, micros: u64)
         ensures { self.new ≡ after_command self.old service own micros }
@@ -245,11 +246,11 @@ impl Progress {
         let guarded = self.heartbeats.guarded;
         let frame = self
             .nmt
-            .control_finding(subject, self.started, guarded, micros, 0);
+            .control_finding(subject, self.started, guarded, self.free, micros, 0);
         self.remark = self.nmt.restart_remark(micros);
         self.nmt = self
             .nmt
-            .after_control(&subject.limits, self.started, micros, 0);
+            .after_control(&subject.limits, self.started, self.free, micros, 0);
         self.break_off(micros);
         self.dialogue.slow = Left::new();
         self.dialogue.sub_block = false;
@@ -260,17 +261,18 @@ impl Progress {
         Findings::of(None, None, None, frame, true)
     }
 
-    // whether a heartbeat is judged: the state is known, and settled
+    // whether a heartbeat is judged: the state is known, and was settled when the bus was free last
     #[tactic(auto, unfolding(crate::specs::Progresses::control_judged))]
-    fn control_judged(&self, subject: &Subject, micros: u64) -> bool
-        ensures { result ≡ control_judged subject.now self.now micros }
+    fn control_judged(&self, subject: &Subject) -> bool
+        ensures { result ≡ control_judged subject.now self.now }
     {
         if self.heartbeats.guarded
             || matches!(self.nmt.state, NmtState::Unknown | NmtState::Initialising)
         {
             return false;
         }
-        self.nmt.is_settled(&subject.limits, self.started, micros)
+        self.nmt
+            .is_settled(&subject.limits, self.started, self.free)
     }
 
     // what is found at a heartbeat
@@ -288,14 +290,14 @@ impl Progress {
         let guarded = self.heartbeats.guarded;
         let frame = self
             .nmt
-            .control_finding(subject, self.started, guarded, micros, byte);
+            .control_finding(subject, self.started, guarded, self.free, micros, byte);
         Findings::of(
             self.nmt.boot_finding(limits, micros),
             self.heartbeats
                 .late_finding(limits, &self.entries, self.free, micros),
             answer,
             frame,
-            self.control_judged(subject, micros),
+            self.control_judged(subject),
         )
     }
 
@@ -318,7 +320,9 @@ impl Progress {
         self.remark = self
             .heartbeats
             .early_remark(limits, &self.entries, micros, byte);
-        self.nmt = self.nmt.after_control(limits, self.started, micros, byte);
+        self.nmt = self
+            .nmt
+            .after_control(limits, self.started, self.free, micros, byte);
         self.heartbeats = self.heartbeats.after_control(self.free, micros, byte);
         if byte != 5 {
             self.pdos.command();
@@ -368,7 +372,7 @@ impl Progress {
         ensures progress { self.new ≡ after_emergency self.old micros }
     {
         let limits = &subject.limits;
-        let settled = self.nmt.is_settled(limits, self.started, micros);
+        let settled = self.nmt.is_settled(limits, self.started, self.free);
         let frame = emergency_finding(
             limits,
             &self.entries,
@@ -530,6 +534,7 @@ impl Progress {
             FrameKind::CommandToAll(service) => {
                 self.take_command(*service, subject.facts.starts_itself, micros)
             }
+            FrameKind::LongCommand(service) => self.take_command(*service, true, micros),
             FrameKind::Guarding => self.heartbeats.guarded = true,
             FrameKind::Fault => self.take_fault(micros),
             FrameKind::Other => self.written.forget_mapped(&subject.held),
