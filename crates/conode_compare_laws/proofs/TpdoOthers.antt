@@ -28,6 +28,7 @@ use Rattle.conode_compare_pdos.specs.Deviations.{deviation_at, is_judged}
 use Rattle.conode_compare_pdos.specs.Followed.{commanded, framed, interrupted, or_else, seen, sighting, unknown_pdos}
 use Rattle.conode_compare_pdos.specs.PdoParameters.{nothing_known}
 use Rattle.conode_compare_pdos.specs.Tpdos.{after_frame as after_tpdo, is_id}
+use Rattle.conode_compare_rules.specs.declared.finding.Finding.{Finding}
 use Rattle.conode_compare_rules.specs.declared.finding.Finding.TheVariants.{Pdo}
 use Rattle.conode_compare_rules.specs.declared.kind.FrameKind.{FrameKind}
 use Rattle.conode_compare_rules.specs.declared.kind.FrameKind.TheVariants.{Command, CommandToAll, Control, Emergency as Emcy, OddEmergency, Other, Process, Sdo}
@@ -53,6 +54,7 @@ use Rattle.conode_compare_rules.specs.Progresses.{
   findings_at,
   findings_in,
   free_at,
+  late_by_tpdo,
   late_noted,
   moment_at,
   process_findings,
@@ -160,10 +162,10 @@ none_of : (is : Deviation → Bool) (number : ℕ) (deviation : Option Deviation
 none_of is number None off = refl
 none_of is number (Some d) off = rw off refl
 
-pub sighted_none : (is : Deviation → Bool) (id length : ℕ) (o : Option Sighting) → IsFine is o → tpdo_differences is (Process id length) (sighting_findings o) ≡ []
+pub sighted_none : (is : Deviation → Bool) (late : Option Finding) (id length : ℕ) (o : Option Sighting) → IsFine is o → tpdo_differences is (Process id length) (sighting_findings late o) ≡ []
 unfolding found
-sighted_none is id length None fine = refl
-sighted_none is id length (Some sighting) fine = none_of is sighting.number sighting.deviation fine
+sighted_none is late id length None fine = refl
+sighted_none is late id length (Some sighting) fine = none_of is sighting.number sighting.deviation fine
 
 pub seen_fine : (is : Deviation → Bool) (moment : Moment) (has_sync : Bool) (number : ℕ) (pdo : Tpdo) (id length : ℕ) → (is_id pdo.parameters.id id ≡ true → is_of is (deviation_at moment has_sync pdo length) ≡ false)
     → IsFine is (seen moment has_sync number pdo id length)
@@ -329,7 +331,7 @@ other_passes is I subject rows p micros (CommandToAll service) kept other opened
 other_passes is I subject rows p micros (Emcy code register) kept other opened new h = record { none = refl; after = record { fresh = fresh micros p new; kept = h } }
 other_passes is I subject rows p micros (OddEmergency length) kept other opened new h = record { none = refl; after = record { fresh = fresh micros p new; kept = h } }
 other_passes is I subject rows p micros (Process id length) kept other opened new h = record {
-  none = sighted_none is id length (sighting (moment_at subject p micros) p.pdos id length)
+  none = sighted_none is (late_by_tpdo subject p micros id length) id length (sighting (moment_at subject p micros) p.pdos id length)
       (all_fine is (moment_at subject p micros) p.pdos id length (unseen is (moment_at subject p micros) subject.facts.pdos p.pdos id length (kept.knows p.pdos h) other));
   after = record { fresh = fresh micros p new; kept = kept.other p.pdos (moment_at subject p micros) id other h };
 }

@@ -36,7 +36,7 @@ use Rattle.conode_compare_rules.specs.declared.kind.FrameKind.TheVariants.{Proce
 use Rattle.conode_compare_rules.specs.declared.limits.Subject.{Subject}
 use Rattle.conode_compare_rules.specs.declared.progress.Progress.{Progress}
 use Rattle.conode_compare_rules.specs.FrameKinds.{data_kind, length_of}
-use Rattle.conode_compare_rules.specs.Progresses.{after_process, begun, moment_at, process_findings}
+use Rattle.conode_compare_rules.specs.Progresses.{after_process, begun, late_by_tpdo, moment_at, process_findings}
 use Rattle.conode_compare_laws.specs.Differences.{differences_in}
 use Rattle.conode_compare_laws.specs.Identifiers.{AllSendAside, AreElsewhere, IsElsewhere}
 use Rattle.conode_compare_laws.specs.NamedTpdos.{AreNoSdoSyncs, IsNoSdoSync, NameNoTpdos, NamesNoTpdo}
@@ -382,7 +382,7 @@ sync_passes : (subject : Subject) (rows : List Row) (p : Progress) (micros id le
     → Passes is_pdo_sync (HaveSync subject.facts.pdos true due) subject rows p micros (Process id length)
 unfolding process_findings after_process
 sync_passes subject rows p micros id length due new knows off same = record {
-  none = sighted_none is_pdo_sync id length (sighting (moment_at subject p micros) p.pdos id length)
+  none = sighted_none is_pdo_sync (late_by_tpdo subject p micros id length) id length (sighting (moment_at subject p micros) p.pdos id length)
       (all_fine is_pdo_sync (moment_at subject p micros) p.pdos id length (unseen is_pdo_sync (moment_at subject p micros) subject.facts.pdos p.pdos id length knows off));
   after = record {
     fresh = fresh micros p new;
