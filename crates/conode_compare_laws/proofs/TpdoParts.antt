@@ -97,7 +97,7 @@ is_unwatched node id = (id == 0x80 + node) || ((id == 0x580 + node) || (id == 0x
 -- it is as it should be, and what holds then; and what, where it isn't taken for a TPDO
 pub record Step (is : Deviation → Bool) (J : Pdos → Type 0) (subject : Subject) (p : Progress) (micros id length : ℕ) : Type 0 where
   pub fine : AreFine is (moment_at subject p micros) p.pdos id length
-  pub kept : is_unwatched subject.node id ≡ false → J (framed p.pdos (moment_at subject p micros) id)
+  pub kept : is_unwatched subject.node id ≡ false → J (framed p.pdos (moment_at subject p micros) id length)
   pub unseen : is_unwatched subject.node id ≡ true → J p.pdos
 
 emergency_passes : (is : Deviation → Bool) (J : Pdos → Type 0) (subject : Subject) (rows : List Row) (p : Progress) (micros length : ℕ) (o : Option Emergency) → IsNewest micros p → J p.pdos

@@ -372,7 +372,7 @@ with_rpdo subject written own id = if own then written else with_process subject
 unfoldable pub after_process : Subject → Progress → ℕ → ℕ → ℕ → Progress
 after_process subject progress micros id length = record progress {
   heartbeats = said_late progress.heartbeats (late_by_tpdo subject progress micros id length);
-  pdos = tpdos.framed progress.pdos (moment_at subject progress micros) id;
+  pdos = tpdos.framed progress.pdos (moment_at subject progress micros) id length;
   written = with_rpdo subject progress.written (is_some (sighted subject progress micros id length)) id;
 }
 

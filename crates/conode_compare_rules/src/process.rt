@@ -71,7 +71,7 @@ impl Progress {
         let moment = self.moment_at(subject, micros);
         let sighting = self.pdos.sighting(&moment, id, length);
         let late = self.notice_late(subject, sighting.is_some(), micros);
-        self.pdos.frame(&moment, id);
+        self.pdos.frame(&moment, id, length);
         if sighting.is_none() {
             self.written.take_process(&subject.held, id);
         }
