@@ -156,7 +156,8 @@ impl Heartbeats {
     {
         match (entries.period, self.since) {
             (Some(period), Some(since)) => {
-                free.saturating_sub(since) > 2 * allowance(limits, period)
+                let allowed = allowance(limits, period);
+                free.saturating_sub(since).saturating_sub(allowed) > allowed
             }
             _ => false,
         }
