@@ -76,6 +76,7 @@ tpdo = record {
   sent = None;
   syncs = 0;
   changed = None;
+  odd = None;
 }
 
 abbrev pdos : Pdos

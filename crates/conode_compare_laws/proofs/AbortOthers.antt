@@ -19,7 +19,7 @@ use Rattle.conode_compare_rules.specs.declared.progress.Progress.{Progress}
 use Rattle.conode_compare_rules.specs.declared.verdict.Findings.{Findings}
 use Rattle.conode_compare_rules.specs.FrameKinds.{data_kind}
 use Rattle.conode_compare_rules.specs.Progresses as progresses
-use Rattle.conode_compare_rules.specs.Progresses.{after_command, after_emergency, after_fault, after_frame, after_odd_control, after_process, begins_anew, begun, booted, findings_at, findings_in, progress_with, silence_at, was_quiet, with_gap}
+use Rattle.conode_compare_rules.specs.Progresses.{after_command, after_emergency, after_fault, after_frame, after_odd_control, after_process, begins_anew, begun, booted, emergency_noted, findings_at, findings_in, progress_with, silence_at, was_quiet, with_gap}
 use Rattle.conode_compare_laws.specs.AnswerSenders.{AreOther}
 use Rattle.conode_compare_laws.proofs.Frames.{life_kind}
 use Rattle.conode_compare_laws.proofs.AnswerOthers.{is_sdo, other_kind}
@@ -67,6 +67,10 @@ module _ (P : Dialogue → Type 0) (none : (d : Dialogue) → d.newest ≡ None 
   unfolding after_emergency
   emergency_has p micros h = h
 
+  noted_has : (subject : Subject) (p : Progress) (micros : ℕ) → Has p → Has (emergency_noted subject p micros)
+  unfolding after_emergency
+  noted_has subject p micros h = h
+
   process_has : (subject : Subject) (p : Progress) (micros id length : ℕ) → Has p → Has (after_process subject p micros id length)
   unfolding after_process
   process_has subject p micros id length h = h
@@ -78,7 +82,7 @@ module _ (P : Dialogue → Type 0) (none : (d : Dialogue) → d.newest ≡ None 
   kind_has : (subject : Subject) (p : Progress) (micros : ℕ) (kind : FrameKind) → is_sdo kind ≡ false → Has p → Has (after_frame subject p micros kind)
   kind_has subject p micros (Control byte) off h = either (byte == 0) _ _ (boot_has subject p micros) (control_has subject p micros byte h)
   kind_has subject p micros (OddControl length) off h = odd_has subject p micros h
-  kind_has subject p micros (Emcy code register) off h = emergency_has p micros h
+  kind_has subject p micros (Emcy code register) off h = noted_has subject p micros h
   kind_has subject p micros (OddEmergency length) off h = emergency_has p micros h
   kind_has subject p micros (Sdo side frame) off h = absurd (false≢true (sym off))
   kind_has subject p micros (Command service) off h = command_has p service false micros h

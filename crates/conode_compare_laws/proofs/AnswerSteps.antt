@@ -52,6 +52,7 @@ use Rattle.conode_compare_rules.specs.Progresses.{
   findings_at,
   findings_in,
   heartbeat_findings,
+  late_by_tpdo,
   late_noted,
   process_findings,
   progress_with,
@@ -263,14 +264,14 @@ odd_emergency_quiet : (Idle : Type 0) (subject : Subject) (rows : List Row) (p :
 unfolding after_emergency found
 odd_emergency_quiet Idle subject rows p micros length stage h = record { none = refl; next = record { sound = h.sound; asked = h.asked } }
 
-sighted_none : (id length : ℕ) (o : Option Sighting) → answer_differences (Process id length) (sighting_findings o) ≡ []
+sighted_none : (late : Option Finding) (id length : ℕ) (o : Option Sighting) → answer_differences (Process id length) (sighting_findings late o) ≡ []
 unfolding found
-sighted_none id length None = refl
-sighted_none id length (Some sighting) = refl
+sighted_none late id length None = refl
+sighted_none late id length (Some sighting) = refl
 
 process_quiet : (Idle : Type 0) (subject : Subject) (rows : List Row) (p : Progress) (micros id length : ℕ) (stage : Stage) → Holds Idle stage p → Quiet subject rows p micros (Process id length) (Holds Idle stage)
 unfolding process_findings after_process
-process_quiet Idle subject rows p micros id length stage h = record { none = sighted_none id length (tpdos.sighting _ p.pdos id length); next = record { sound = h.sound; asked = h.asked } }
+process_quiet Idle subject rows p micros id length stage h = record { none = sighted_none (late_by_tpdo subject p micros id length) id length (tpdos.sighting _ p.pdos id length); next = record { sound = h.sound; asked = h.asked } }
 
 pub apart_quiet : (Idle : Type 0) (subject : Subject) (rows : List Row) (p : Progress) (micros : ℕ) (kind : FrameKind) (stage : Stage) → is_apart kind ≡ true → Holds Idle stage p → Quiet subject rows p micros kind (Holds Idle stage)
 apart_quiet Idle subject rows p micros (Emcy code register) stage is h = emergency_quiet Idle subject rows p micros code register stage h

@@ -1,6 +1,6 @@
 -- The heartbeats of a device in its recording, and what compare knows of them.
 use Rattle.std.proofs.Common.{◌≡◌, ◌≢◌, ℕ, ◌+◌, ◌*◌, ◌-◌, ◌%◌, ◌<◌, ◌≤◌, Bool, true, false, List, [], ◌∷◌, length, Option, Some, None, refl, sym, ap, ◌∙◌, subst, arith, ◌⊎◌, inl, inr, add-one}
-use Rattle.std.specs.Prelude.{if◌then◌else◌, ◌==◌, ◌||◌, nat_le, nat_lt, is_some, option_map, IfSome}
+use Rattle.std.specs.Prelude.{if◌then◌else◌, ◌==◌, ◌&&◌, ◌||◌, nat_le, nat_lt, is_some, option_map, IfSome}
 use Rattle.std.specs.Option.{option_to_list}
 use Rattle.std.proofs.Math.Nat.{mod-eq_of_lt, mod-lt, mod_self, suc-mod}
 use Rattle.std.proofs.lemmas.Bool.{eq-eqb, le-leb, ltb-false, ltb-true, ne_eqb, or_parts, or_right}
@@ -21,7 +21,6 @@ use Rattle.co_sheet.specs.Content.{Row}
 use Rattle.conode_explain_transfers.specs.declared.ended.Ended.{Ended}
 use Rattle.conode_explain_transfers.specs.declared.kinds.Side.{Side}
 use Rattle.conode_explain_transfers.specs.declared.kinds.Side.TheVariants.{Client, Server}
-use Rattle.conode_compare_pdos.specs.Followed as tpdos
 use Rattle.conode_compare_pdos.specs.declared.pdos.Sighting.{Sighting}
 use Rattle.conode_compare_rules.specs.declared.entries.Entries.{Entries}
 use Rattle.conode_compare_rules.specs.declared.finding.Finding.{Finding}
@@ -60,13 +59,16 @@ use Rattle.conode_compare_rules.specs.Progresses.{
   findings_at,
   findings_in,
   free_at,
+  is_missing_at,
   heartbeat_findings,
   late_at,
+  late_by,
+  late_by_tpdo,
   late_noted,
-  moment_at,
   process_findings,
   progress_with,
   request_findings,
+  sighted,
   sighting_findings,
   with_gap,
 }
@@ -290,10 +292,22 @@ command_beats p micros period ago EnterPreOperational own h = (let e : Beats per
 command_beats p micros period ago ResetNode own h = (let e : Beats period micros ago p = ended period micros ago p h in record { fresh = e.fresh; known = e.known; since = tt })
 command_beats p micros period ago ResetCommunication own h = (let e : Beats period micros ago p = ended period micros ago p h in record { fresh = e.fresh; known = e.known; since = tt })
 
-sighted_none : (id length : ℕ) (o : Option Sighting) → late_differences (Process id length) (sighting_findings o) ≡ []
+-- by an EMCY or a TPDO none is late either, and the last heartbeat is as before, or forgotten
+none_by : (subject : Subject) (p : Progress) (own : Bool) (micros period ago : ℕ) → (period ≡ 0) ⊎ (ago ≤ period * 1000) → Begun period micros ago p → late_by subject p own micros ≡ None
+none_by subject p own micros period ago few h = by (own && is_missing_at subject p)
+  where
+    by : (b : Bool) → (if b then late_at subject p micros else None) ≡ None
+    by true = none_late subject p micros period ago few h
+    by false = refl
+
+said_since : (since : Option ℕ) (late : Bool) (micros ago : ℕ) → IfSome since (λ last. micros ≤ last + ago) → IfSome (if late then None else since) (λ last. micros ≤ last + ago)
+said_since since true micros ago h = tt
+said_since since false micros ago h = h
+
+sighted_none : (late : Option Finding) (id length : ℕ) (o : Option Sighting) → late ≡ None → late_differences (Process id length) (sighting_findings late o) ≡ []
 unfolding found
-sighted_none id length None = refl
-sighted_none id length (Some sighting) = refl
+sighted_none late id length None none = refl
+sighted_none late id length (Some sighting) none = ap (λ o. option_to_list o) none
 
 other_passes : (subject : Subject) (rows : List Row) (p : Progress) (micros : ℕ) (kind : FrameKind) (period ago : ℕ) → (period ≡ 0) ⊎ (ago ≤ period * 1000) → is_other kind ≡ true → ShowsAt producer_key period p micros kind → Begun period micros ago p → Passes subject rows p micros kind period ago
 unfolding emergency_findings found after_emergency process_findings after_process
@@ -301,11 +315,20 @@ other_passes subject rows p micros (Command service) period ago few is shows h =
 other_passes subject rows p micros (CommandToAll service) period ago few is shows h = record { none = refl; beats = command_beats p micros period ago service subject.facts.starts_itself h }
 other_passes subject rows p micros (LongCommand service) period ago few is shows h = record { none = refl; beats = command_beats p micros period ago service true h }
 other_passes subject rows p micros (Emcy code register) period ago few is shows h =
-    (let e : Beats period micros ago p = ended period micros ago p h in record { none = refl; beats = record { fresh = e.fresh; known = e.known; since = e.since } })
+    (let e : Beats period micros ago p = ended period micros ago p h in
+    record {
+      none = ap (λ o. option_to_list o) (none_by subject p p.entries.emergencies micros period ago few h);
+      beats = record { fresh = e.fresh; known = e.known; since = said_since p.heartbeats.since (is_some (late_by subject p p.entries.emergencies micros)) micros ago e.since };
+    })
 other_passes subject rows p micros (OddEmergency length) period ago few is shows h =
     (let e : Beats period micros ago p = ended period micros ago p h in record { none = refl; beats = record { fresh = e.fresh; known = e.known; since = e.since } })
 other_passes subject rows p micros (Process id length) period ago few is shows h =
-    (let e : Beats period micros ago p = ended period micros ago p h in record { none = sighted_none id length (tpdos.sighting (moment_at subject p micros) p.pdos id length); beats = record { fresh = e.fresh; known = e.known; since = e.since } })
+    (let e : Beats period micros ago p = ended period micros ago p h in
+    record {
+      none = sighted_none (late_by_tpdo subject p micros id length) id length (sighted subject p micros id length)
+          (none_by subject p (is_some (sighted subject p micros id length)) micros period ago few h);
+      beats = record { fresh = e.fresh; known = e.known; since = said_since p.heartbeats.since (is_some (late_by_tpdo subject p micros id length)) micros ago e.since };
+    })
 other_passes subject rows p micros Other period ago few is shows h =
     (let e : Beats period micros ago p = ended period micros ago p h in record { none = refl; beats = record { fresh = e.fresh; known = e.known; since = e.since } })
 other_passes subject rows p micros (Sdo Server frame) period ago few is shows h = answer_passes subject rows p micros frame period ago few shows h

@@ -48,6 +48,7 @@ use Rattle.conode_compare_rules.specs.Progresses.{
   findings_at,
   findings_in,
   heartbeat_findings,
+  late_by_tpdo,
   late_noted,
   moment_at,
   process_findings,
@@ -130,10 +131,10 @@ confirmed_none (Process id length) None h = refl
 confirmed_none (Process id length) (Some finding) h = refl
 confirmed_none _ o h = absurd (cc)
 
-sighted_none : (id length : ℕ) (o : Option Sighting) → state_differences (Process id length) (sighting_findings o) ≡ []
+sighted_none : (late : Option Finding) (id length : ℕ) (o : Option Sighting) → state_differences (Process id length) (sighting_findings late o) ≡ []
 unfolding found
-sighted_none id length None = refl
-sighted_none id length (Some sighting) = refl
+sighted_none late id length None = refl
+sighted_none late id length (Some sighting) = refl
 
 emergency_passes : (subject : Subject) (rows : List Row) (p : Progress) (micros code register : ℕ) (stage : Stage) → FitsAt micros stage p → Passes subject rows p micros (Emcy code register) stage
 unfolding emergency_findings after_emergency found
@@ -153,7 +154,7 @@ request_passes subject rows p micros frame stage h = record {
 process_passes : (subject : Subject) (rows : List Row) (p : Progress) (micros id length : ℕ) (stage : Stage) → FitsAt micros stage p → Passes subject rows p micros (Process id length) stage
 unfolding process_findings after_process
 process_passes subject rows p micros id length stage h = record {
-  none = sighted_none id length (tpdos.sighting (moment_at subject p micros) p.pdos id length);
+  none = sighted_none (late_by_tpdo subject p micros id length) id length (tpdos.sighting (moment_at subject p micros) p.pdos id length);
   fits = h;
 }
 

@@ -41,6 +41,7 @@ use Rattle.conode_compare_rules.specs.Progresses.{
   control_findings,
   control_judged,
   emergency_findings,
+  emergency_noted,
   exchange_at,
   exchange_noted,
   findings_at,
@@ -107,6 +108,10 @@ emergency_same : (micros : ℕ) (p : Progress) → unwritten (after_emergency (u
 unfolding after_emergency
 emergency_same micros p = refl
 
+noted_same : (subject : Subject) (micros : ℕ) (p : Progress) → unwritten (emergency_noted subject (unwritten p) micros) ≡ unwritten (emergency_noted subject p micros)
+unfolding after_emergency
+noted_same subject micros p = refl
+
 server_same : (subject : Subject) (micros : ℕ) (frame : FrameContent) (p : Progress) → unwritten (after_frame subject (unwritten p) micros (Sdo Server frame)) ≡ unwritten (after_frame subject p micros (Sdo Server frame))
 unfolding channel_heard exchange_at exchange_noted late_noted
 server_same subject micros frame p = refl
@@ -129,7 +134,7 @@ after_same subject micros (CommandToAll service) p = command_same service subjec
 after_same subject micros (LongCommand service) p = command_same service true micros p
 after_same subject micros (Control byte) p = control_same subject micros byte p
 after_same subject micros (OddControl length) p = odd_control_same subject micros p
-after_same subject micros (Emcy code register) p = emergency_same micros p
+after_same subject micros (Emcy code register) p = noted_same subject micros p
 after_same subject micros (OddEmergency length) p = emergency_same micros p
 after_same subject micros (Sdo Server frame) p = server_same subject micros frame p
 after_same subject micros (Sdo Client frame) p = client_same subject micros frame p

@@ -97,7 +97,7 @@ judged : (subject : Subject) (micros : ℕ) (frame : ℕ → FrameContent) (all 
     → (nat_le 254 (number_at k.start (tpdo_key n 2)) ≡ true → list_all (λ a. has_elapsed (number_at k.start (tpdo_key n 3)) a) (old n) ≡ true) → IsJudged is_pdo_inhibit Since subject micros frame (ids k) all old sheet number n
 judged subject micros frame all old k sheet number n of over_then p has_sync pdo new same own since =
     let moment : Judged = moment_at subject p micros in
-    deviation_none is_pdo_inhibit moment has_sync pdo (length_of (frame n)) (state_none is_pdo_inhibit moment refl) (length_none is_pdo_inhibit pdo.parameters.length (length_of (frame n)) (λ l m. refl))
+    deviation_none is_pdo_inhibit moment has_sync pdo (length_of (frame n)) (state_none is_pdo_inhibit moment refl) (length_none is_pdo_inhibit pdo.parameters.length pdo.odd (length_of (frame n)) (λ l m. refl))
     (sync_none is_pdo_inhibit has_sync pdo refl)
     (time_none is_pdo_inhibit moment pdo
     (λ on.

@@ -13,6 +13,7 @@ use Rattle.conode_compare_pdos.specs.Deviations.{
   greatest_gap,
   inhibit_deviation,
   is_event_driven,
+  is_number,
   is_settled,
   is_synchronous,
   least_gap,
@@ -39,13 +40,13 @@ unless_none is true o h = refl
 unless_none is false o h = h
 
 -- the first of four
-pub deviation_none : (is : Deviation → Bool) (moment : Moment) (has_sync : Bool) (pdo : Tpdo) (length : ℕ) → is_of is (state_deviation moment) ≡ false → is_of is (length_deviation pdo.parameters.length length) ≡ false
+pub deviation_none : (is : Deviation → Bool) (moment : Moment) (has_sync : Bool) (pdo : Tpdo) (length : ℕ) → is_of is (state_deviation moment) ≡ false → is_of is (length_deviation pdo.parameters.length pdo.odd length) ≡ false
     → is_of is (sync_deviation has_sync pdo) ≡ false → is_of is (time_deviation moment pdo) ≡ false → is_of is (deviation_at moment has_sync pdo length) ≡ false
 unfolding deviation_at
 deviation_none is moment has_sync pdo length state bytes sync time =
     if_none is (is_settled moment pdo.changed) _
     (first_none is (state_deviation moment) _ state
-    (first_none is (length_deviation pdo.parameters.length length) _ bytes
+    (first_none is (length_deviation pdo.parameters.length pdo.odd length) _ bytes
     (first_none is (sync_deviation has_sync pdo) (time_deviation moment pdo) sync time)))
 
 -- ---- kinds that aren't looked for
@@ -53,9 +54,9 @@ deviation_none is moment has_sync pdo length state bytes sync time =
 pub state_none : (is : Deviation → Bool) (moment : Moment) → is NotOperational ≡ false → is_of is (state_deviation moment) ≡ false
 state_none is moment h = if_none is moment.idle (Some NotOperational) h
 
-pub length_none : (is : Deviation → Bool) (mapped : Option ℕ) (length : ℕ) → ((l m : ℕ) → is (Length l m) ≡ false) → is_of is (length_deviation mapped length) ≡ false
-length_none is None length h = refl
-length_none is (Some mapped) length h = unless_none is (length == mapped) (Some (Length length mapped)) (h length mapped)
+pub length_none : (is : Deviation → Bool) (mapped odd : Option ℕ) (length : ℕ) → ((l m : ℕ) → is (Length l m) ≡ false) → is_of is (length_deviation mapped odd length) ≡ false
+length_none is None odd length h = refl
+length_none is (Some mapped) odd length h = unless_none is ((length == mapped) || is_number odd length) (Some (Length length mapped)) (h length mapped)
 
 pub sync_none : (is : Deviation → Bool) (has_sync : Bool) (pdo : Tpdo) → is WithoutSync ≡ false → is_of is (sync_deviation has_sync pdo) ≡ false
 sync_none is has_sync pdo h = if_none is (has_sync && (is_synchronous pdo.parameters.kind && (pdo.syncs == 0))) (Some WithoutSync) h

@@ -113,7 +113,7 @@ judged : (operational : Bool) → operational ≡ true → (subject : Subject) (
     → (nat_le 254 (number_at k.start (tpdo_key n 2)) ≡ true → IsInTime (settings_of k.start n) (old n)) → IsJudged is_pdo_late (While operational) subject micros frame (ids k) all old sheet number n
 judged operational running subject micros frame all old k sheet number n of timely p has_sync pdo new same own since =
     let moment : Judged = moment_at subject p micros in
-    deviation_none is_pdo_late moment has_sync pdo (length_of (frame n)) (state_none is_pdo_late moment refl) (length_none is_pdo_late pdo.parameters.length (length_of (frame n)) (λ l m. refl))
+    deviation_none is_pdo_late moment has_sync pdo (length_of (frame n)) (state_none is_pdo_late moment refl) (length_none is_pdo_late pdo.parameters.length pdo.odd (length_of (frame n)) (λ l m. refl))
     (sync_none is_pdo_late has_sync pdo refl)
     (time_none is_pdo_late moment pdo
     (λ on.

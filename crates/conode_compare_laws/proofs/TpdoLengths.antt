@@ -54,15 +54,15 @@ record HaveBytes (facts : Pdos) (id length : ℕ) : Type 0 where
   third : HasBytes facts.third id length
   fourth : HasBytes facts.fourth id length
 
-mapped_none : (mapped : Option ℕ) (length : ℕ) → IfSome mapped (λ bytes. length ≡ bytes) → is_of is_pdo_length (length_deviation mapped length) ≡ false
-mapped_none None length h = refl
-mapped_none (Some bytes) length h = rw (eq-eqb length bytes h) refl
+mapped_none : (mapped odd : Option ℕ) (length : ℕ) → IfSome mapped (λ bytes. length ≡ bytes) → is_of is_pdo_length (length_deviation mapped odd length) ≡ false
+mapped_none None odd length h = refl
+mapped_none (Some bytes) odd length h = rw (eq-eqb length bytes h) refl
 
-bytes_fine : (sheet pdo : Tpdo) (id length : ℕ) → IsOf sheet pdo → is_id pdo.parameters.id id ≡ true → HasBytes sheet id length → is_of is_pdo_length (length_deviation pdo.parameters.length length) ≡ false
+bytes_fine : (sheet pdo : Tpdo) (id length : ℕ) → IsOf sheet pdo → is_id pdo.parameters.id id ≡ true → HasBytes sheet id length → is_of is_pdo_length (length_deviation pdo.parameters.length pdo.odd length) ≡ false
 bytes_fine sheet pdo id length (inl unknown) on has = absurd (let off : is_id pdo.parameters.id id ≡ false = ap (λ parameters. is_id parameters.id id) unknown in cc)
 bytes_fine sheet pdo id length (inr same) on has =
     let here : is_id sheet.parameters.id id ≡ true = sym (ap (λ parameters. is_id parameters.id id) same) ∙ on in
-    ap (λ parameters. is_of is_pdo_length (length_deviation parameters.length length)) same ∙ mapped_none sheet.parameters.length length (has here)
+    ap (λ parameters. is_of is_pdo_length (length_deviation parameters.length pdo.odd length)) same ∙ mapped_none sheet.parameters.length pdo.odd length (has here)
 
 fine : (moment : Judged) (has_sync : Bool) (sheet pdo : Tpdo) (id length : ℕ) → IsOf sheet pdo → HasBytes sheet id length → is_id pdo.parameters.id id ≡ true → is_of is_pdo_length (deviation_at moment has_sync pdo length) ≡ false
 fine moment has_sync sheet pdo id length of has on =
@@ -85,7 +85,7 @@ length_walk subject micros frame = record {
   goes_on = λ p n id h. tt;
   step = λ n later p new have once none h. record {
     fine = all_fine (moment_at subject p micros) subject.facts.pdos p.pdos (frame n).id (length_of (frame n)) h have;
-    kept = λ other. knows_framed subject.facts.pdos p.pdos (moment_at subject p micros) (frame n).id h;
+    kept = λ other. knows_framed subject.facts.pdos p.pdos (moment_at subject p micros) (frame n).id (length_of (frame n)) h;
     unseen = λ emergency. h;
   };
 }

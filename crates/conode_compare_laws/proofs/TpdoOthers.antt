@@ -24,10 +24,11 @@ use Rattle.conode_compare_pdos.specs.declared.deviation.Moment.{Moment}
 use Rattle.conode_compare_pdos.specs.declared.pdos.Pdos.{Pdos}
 use Rattle.conode_compare_pdos.specs.declared.pdos.Sighting.{Sighting}
 use Rattle.conode_compare_pdos.specs.declared.tpdo.Tpdo.{Tpdo}
-use Rattle.conode_compare_pdos.specs.Deviations.{deviation_at, is_judged}
+use Rattle.conode_compare_pdos.specs.Deviations.{deviation_at, is_judged, shows_length}
 use Rattle.conode_compare_pdos.specs.Followed.{commanded, first_seen, framed, interrupted, is_shared, or_else, seen, sighting, unjudged, unknown_pdos}
 use Rattle.conode_compare_pdos.specs.PdoParameters.{nothing_known}
 use Rattle.conode_compare_pdos.specs.Tpdos.{after_frame as after_tpdo, is_id}
+use Rattle.conode_compare_rules.specs.declared.finding.Finding.{Finding}
 use Rattle.conode_compare_rules.specs.declared.finding.Finding.TheVariants.{Pdo}
 use Rattle.conode_compare_rules.specs.declared.kind.FrameKind.{FrameKind}
 use Rattle.conode_compare_rules.specs.declared.kind.FrameKind.TheVariants.{Command, CommandToAll, LongCommand, Control, Emergency as Emcy, OddEmergency, Other, Process, Sdo}
@@ -53,6 +54,7 @@ use Rattle.conode_compare_rules.specs.Progresses.{
   findings_at,
   findings_in,
   free_at,
+  late_by_tpdo,
   late_noted,
   moment_at,
   process_findings,
@@ -89,11 +91,11 @@ pub other_id : (sheet pdo : Tpdo) (id : ℕ) → IsOf sheet pdo → is_id sheet.
 other_id sheet pdo id (inl unknown) off = ap (λ parameters. is_id parameters.id id) unknown
 other_id sheet pdo id (inr same) off = ap (λ parameters. is_id parameters.id id) same ∙ off
 
-pub tpdo_sent : (moment : Moment) (id : ℕ) (pdo : Tpdo) → (after_tpdo moment id pdo).parameters ≡ pdo.parameters
-tpdo_sent moment id pdo = by (is_id pdo.parameters.id id) pdo refl
+pub tpdo_sent : (moment : Moment) (id length : ℕ) (pdo : Tpdo) → (after_tpdo moment id length pdo).parameters ≡ pdo.parameters
+tpdo_sent moment id length pdo = by (is_id pdo.parameters.id id) pdo refl
   where
     by : (b : Bool) (x : Tpdo) → x.parameters ≡ pdo.parameters
-        → (if b then record pdo { sent = Some (record { free = moment.free; micros = moment.micros }); syncs = pdo.syncs - 1 } else x).parameters ≡ pdo.parameters
+        → (if b then record pdo { sent = Some (record { free = moment.free; micros = moment.micros }); syncs = pdo.syncs - 1; odd = if shows_length moment pdo length then Some length else pdo.odd } else x).parameters ≡ pdo.parameters
     by true x h = refl
     by false x h = h
 
@@ -113,16 +115,16 @@ knows_commanded facts pdos h = record { sync = h.sync; first = h.first; second =
 pub knows_interrupted : (facts pdos : Pdos) → Knows facts pdos → Knows facts (interrupted pdos)
 knows_interrupted facts pdos h = record { sync = h.sync; first = h.first; second = h.second; third = h.third; fourth = h.fourth }
 
-pub knows_framed : (facts pdos : Pdos) (moment : Moment) (id : ℕ) → Knows facts pdos → Knows facts (framed pdos moment id)
+pub knows_framed : (facts pdos : Pdos) (moment : Moment) (id length : ℕ) → Knows facts pdos → Knows facts (framed pdos moment id length)
 unfolding framed
-knows_framed facts pdos moment id h = by (is_id pdos.sync id) _ _
+knows_framed facts pdos moment id length h = by (is_id pdos.sync id) _ _
     (record { sync = h.sync; first = h.first; second = h.second; third = h.third; fourth = h.fourth })
     (record {
       sync = h.sync;
-      first = is_still_of facts.first pdos.first (after_tpdo moment id pdos.first) (tpdo_sent moment id pdos.first) h.first;
-      second = is_still_of facts.second pdos.second (after_tpdo moment id pdos.second) (tpdo_sent moment id pdos.second) h.second;
-      third = is_still_of facts.third pdos.third (after_tpdo moment id pdos.third) (tpdo_sent moment id pdos.third) h.third;
-      fourth = is_still_of facts.fourth pdos.fourth (after_tpdo moment id pdos.fourth) (tpdo_sent moment id pdos.fourth) h.fourth;
+      first = is_still_of facts.first pdos.first (after_tpdo moment id length pdos.first) (tpdo_sent moment id length pdos.first) h.first;
+      second = is_still_of facts.second pdos.second (after_tpdo moment id length pdos.second) (tpdo_sent moment id length pdos.second) h.second;
+      third = is_still_of facts.third pdos.third (after_tpdo moment id length pdos.third) (tpdo_sent moment id length pdos.third) h.third;
+      fourth = is_still_of facts.fourth pdos.fourth (after_tpdo moment id length pdos.fourth) (tpdo_sent moment id length pdos.fourth) h.fourth;
     })
   where
     by : (b : Bool) (x y : Pdos) → Knows facts x → Knows facts y → Knows facts (if b then x else y)
@@ -135,7 +137,7 @@ pub record IsKept (facts : Pdos) (I : Pdos → Type 0) : Type 0 where
   pub unknown : I unknown_pdos
   pub command : (pdos : Pdos) → I pdos → I (commanded pdos)
   pub gap : (pdos : Pdos) → I pdos → I (interrupted pdos)
-  pub other : (pdos : Pdos) (moment : Moment) (id : ℕ) → is_followed facts id ≡ false → I pdos → I (framed pdos moment id)
+  pub other : (pdos : Pdos) (moment : Moment) (id length : ℕ) → is_followed facts id ≡ false → I pdos → I (framed pdos moment id length)
 
 pub knows_kept : (facts : Pdos) → IsKept facts (Knows facts)
 knows_kept facts = record {
@@ -143,7 +145,7 @@ knows_kept facts = record {
   unknown = knows_unknown facts;
   command = knows_commanded facts;
   gap = knows_interrupted facts;
-  other = λ pdos moment id off. knows_framed facts pdos moment id;
+  other = λ pdos moment id length off. knows_framed facts pdos moment id length;
 }
 
 -- ---- a difference of a kind
@@ -161,17 +163,17 @@ none_of : (is : Deviation → Bool) (number : ℕ) (deviation : Option Deviation
 none_of is number None off = refl
 none_of is number (Some d) off = rw off refl
 
-pub sighted_none : (is : Deviation → Bool) (id length : ℕ) (o : Option Sighting) → IsFine is o → tpdo_differences is (Process id length) (sighting_findings o) ≡ []
+pub sighted_none : (is : Deviation → Bool) (late : Option Finding) (id length : ℕ) (o : Option Sighting) → IsFine is o → tpdo_differences is (Process id length) (sighting_findings late o) ≡ []
 unfolding found
-sighted_none is id length None fine = refl
-sighted_none is id length (Some sighting) fine = none_of is sighting.number sighting.deviation fine
+sighted_none is late id length None fine = refl
+sighted_none is late id length (Some sighting) fine = none_of is sighting.number sighting.deviation fine
 
 pub seen_fine : (is : Deviation → Bool) (moment : Moment) (has_sync : Bool) (number : ℕ) (pdo : Tpdo) (id length : ℕ) → (is_id pdo.parameters.id id ≡ true → is_of is (deviation_at moment has_sync pdo length) ≡ false)
     → IsFine is (seen moment has_sync number pdo id length)
 seen_fine is moment has_sync number pdo id length none = by (is_id pdo.parameters.id id) none
   where
     by : (b : Bool) → (b ≡ true → is_of is (deviation_at moment has_sync pdo length) ≡ false)
-        → IsFine is (if b then Some (record { number = number; deviation = deviation_at moment has_sync pdo length; judged = is_judged moment pdo }) else None)
+        → IsFine is (if b then Some (record { number = number; deviation = deviation_at moment has_sync pdo length; judged = is_judged moment pdo length }) else None)
     by true h = h refl
     by false h = tt
 
@@ -343,9 +345,9 @@ other_passes is I subject rows p micros (LongCommand service) kept other opened 
 other_passes is I subject rows p micros (Emcy code register) kept other opened new h = record { none = refl; after = record { fresh = fresh micros p new; kept = h } }
 other_passes is I subject rows p micros (OddEmergency length) kept other opened new h = record { none = refl; after = record { fresh = fresh micros p new; kept = h } }
 other_passes is I subject rows p micros (Process id length) kept other opened new h = record {
-  none = sighted_none is id length (sighting (moment_at subject p micros) p.pdos id length)
+  none = sighted_none is (late_by_tpdo subject p micros id length) id length (sighting (moment_at subject p micros) p.pdos id length)
       (all_fine is (moment_at subject p micros) p.pdos id length (unseen is (moment_at subject p micros) subject.facts.pdos p.pdos id length (kept.knows p.pdos h) other));
-  after = record { fresh = fresh micros p new; kept = kept.other p.pdos (moment_at subject p micros) id other h };
+  after = record { fresh = fresh micros p new; kept = kept.other p.pdos (moment_at subject p micros) id length other h };
 }
 other_passes is I subject rows p micros (Sdo side frame) kept other opened new h = sdo_passes is I subject rows p micros side frame other opened new h
 other_passes is I subject rows p micros Other kept other opened new h = record { none = refl; after = record { fresh = fresh micros p new; kept = h } }

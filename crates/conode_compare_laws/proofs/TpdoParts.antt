@@ -28,7 +28,7 @@ use Rattle.conode_compare_rules.specs.declared.limits.Subject.{Subject}
 use Rattle.conode_compare_rules.specs.declared.progress.Progress.{Progress}
 use Rattle.conode_compare_rules.specs.declared.verdict.Findings.{Findings}
 use Rattle.conode_compare_rules.specs.FrameKinds.{command_kind, control_kind, data_kind, emergency_kind, emergency_with, length_of}
-use Rattle.conode_compare_rules.specs.Progresses.{after_emergency, after_process, begun, moment_at, process_findings, progress_with}
+use Rattle.conode_compare_rules.specs.Progresses.{after_emergency, after_process, begun, late_by_tpdo, moment_at, process_findings, progress_with}
 use Rattle.conode_compare_laws.specs.Identifiers.{AreAside, IsElsewhere, SendsAside}
 use Rattle.conode_compare_laws.specs.NamedTpdos.{NamesNoTpdo}
 use Rattle.conode_compare_laws.specs.Recordings.{frame_of}
@@ -97,7 +97,7 @@ is_unwatched node id = (id == 0x80 + node) || ((id == 0x580 + node) || (id == 0x
 -- it is as it should be, and what holds then; and what, where it isn't taken for a TPDO
 pub record Step (is : Deviation → Bool) (J : Pdos → Type 0) (subject : Subject) (p : Progress) (micros id length : ℕ) : Type 0 where
   pub fine : AreFine is (moment_at subject p micros) p.pdos id length
-  pub kept : is_unwatched subject.node id ≡ false → J (framed p.pdos (moment_at subject p micros) id)
+  pub kept : is_unwatched subject.node id ≡ false → J (framed p.pdos (moment_at subject p micros) id length)
   pub unseen : is_unwatched subject.node id ≡ true → J p.pdos
 
 emergency_passes : (is : Deviation → Bool) (J : Pdos → Type 0) (subject : Subject) (rows : List Row) (p : Progress) (micros length : ℕ) (o : Option Emergency) → IsNewest micros p → J p.pdos
@@ -110,7 +110,7 @@ process_passes : (is : Deviation → Bool) (J : Pdos → Type 0) (subject : Subj
     → Passes is J subject rows p micros (Process id length)
 unfolding process_findings after_process
 process_passes is J subject rows p micros id length other new step = record {
-  none = sighted_none is id length (sighting (moment_at subject p micros) p.pdos id length) (all_fine is (moment_at subject p micros) p.pdos id length step.fine);
+  none = sighted_none is (late_by_tpdo subject p micros id length) id length (sighting (moment_at subject p micros) p.pdos id length) (all_fine is (moment_at subject p micros) p.pdos id length step.fine);
   after = record { fresh = fresh micros p new; kept = step.kept other };
 }
 

@@ -74,7 +74,7 @@ operational subject p micros h = rw (last_off (settled_when_free subject p) (is_
 
 fine : (subject : Subject) (p : Progress) (micros length : ℕ) (has_sync : Bool) (pdo : Tpdo) → is_shown p.nmt.state node.Operational ≡ true → is_of is_pdo_state (deviation_at (moment_at subject p micros) has_sync pdo length) ≡ false
 fine subject p micros length has_sync pdo h =
-    deviation_none is_pdo_state (moment_at subject p micros) has_sync pdo length (operational subject p micros h) (length_none is_pdo_state pdo.parameters.length length (λ l m. refl))
+    deviation_none is_pdo_state (moment_at subject p micros) has_sync pdo length (operational subject p micros h) (length_none is_pdo_state pdo.parameters.length pdo.odd length (λ l m. refl))
     (sync_none is_pdo_state has_sync pdo refl) (untimed is_pdo_state (moment_at subject p micros) pdo (λ passed n. refl) (λ passed n. refl))
 
 all_fine : (subject : Subject) (p : Progress) (micros id length : ℕ) → is_shown p.nmt.state node.Operational ≡ true → AreFine is_pdo_state (moment_at subject p micros) p.pdos id length
@@ -94,7 +94,7 @@ state_walk subject rows micros frame = record {
   goes_on = λ p n id h. (aside_goes subject rows micros p (frame n) (runs node.Operational) (ne_eqb (frame n).id 0 id.0) (ne_eqb (frame n).id (0x700 + subject.node) id.1) h).fits;
   step = λ n later p new ok once fits h. record {
     fine = all_fine subject p micros (frame n).id (length_of (frame n)) fits;
-    kept = λ other. knows_framed subject.facts.pdos p.pdos (moment_at subject p micros) (frame n).id h;
+    kept = λ other. knows_framed subject.facts.pdos p.pdos (moment_at subject p micros) (frame n).id (length_of (frame n)) h;
     unseen = λ emergency. h;
   };
 }

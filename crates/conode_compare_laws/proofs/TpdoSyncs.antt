@@ -36,7 +36,7 @@ use Rattle.conode_compare_rules.specs.declared.kind.FrameKind.TheVariants.{Proce
 use Rattle.conode_compare_rules.specs.declared.limits.Subject.{Subject}
 use Rattle.conode_compare_rules.specs.declared.progress.Progress.{Progress}
 use Rattle.conode_compare_rules.specs.FrameKinds.{data_kind, length_of}
-use Rattle.conode_compare_rules.specs.Progresses.{after_process, begun, moment_at, process_findings}
+use Rattle.conode_compare_rules.specs.Progresses.{after_process, begun, late_by_tpdo, moment_at, process_findings}
 use Rattle.conode_compare_laws.specs.Differences.{differences_in}
 use Rattle.conode_compare_laws.specs.Identifiers.{AllSendAside, AreElsewhere, IsElsewhere}
 use Rattle.conode_compare_laws.specs.NamedTpdos.{AreNoSdoSyncs, IsNoSdoSync, NameNoTpdos, NamesNoTpdo}
@@ -100,24 +100,24 @@ counted pdo = by (nat_le most_syncs pdo.syncs)
     by false = omega arith
 
 -- a frame of a TPDO isn't one of another
-unsent : (moment : Judged) (id : ℕ) (pdo : Tpdo) → is_id pdo.parameters.id id ≡ false → after_tpdo moment id pdo ≡ pdo
-unsent moment id pdo off = rw off refl
+unsent : (moment : Judged) (id length : ℕ) (pdo : Tpdo) → is_id pdo.parameters.id id ≡ false → after_tpdo moment id length pdo ≡ pdo
+unsent moment id length pdo off = rw off refl
 
-still_has : (synced : Bool) (sync : Option ℕ) (number : ℕ) (due : List ℕ) (moment : Judged) (id : ℕ) (pdo : Tpdo) → is_id pdo.parameters.id id ≡ false → HasSync synced sync number due pdo → HasSync synced sync number due (after_tpdo moment id pdo)
-still_has synced sync number due moment id pdo off h = subst (HasSync synced sync number due) (sym (unsent moment id pdo off)) h
+still_has : (synced : Bool) (sync : Option ℕ) (number : ℕ) (due : List ℕ) (moment : Judged) (id length : ℕ) (pdo : Tpdo) → is_id pdo.parameters.id id ≡ false → HasSync synced sync number due pdo → HasSync synced sync number due (after_tpdo moment id length pdo)
+still_has synced sync number due moment id length pdo off h = subst (HasSync synced sync number due) (sym (unsent moment id length pdo off)) h
 
 -- whatever comes, if it is none of these TPDOs
-framed_has : (facts : Pdos) (synced : Bool) (due : List ℕ) (pdos : Pdos) (moment : Judged) (id : ℕ) → Knows facts (framed pdos moment id) → HasSync synced pdos.sync 0 due (after_tpdo moment id pdos.first)
-    → HasSync synced pdos.sync 1 due (after_tpdo moment id pdos.second) → HasSync synced pdos.sync 2 due (after_tpdo moment id pdos.third) → HasSync synced pdos.sync 3 due (after_tpdo moment id pdos.fourth)
-    → HaveSync facts synced due (framed pdos moment id)
+framed_has : (facts : Pdos) (synced : Bool) (due : List ℕ) (pdos : Pdos) (moment : Judged) (id length : ℕ) → Knows facts (framed pdos moment id length) → HasSync synced pdos.sync 0 due (after_tpdo moment id length pdos.first)
+    → HasSync synced pdos.sync 1 due (after_tpdo moment id length pdos.second) → HasSync synced pdos.sync 2 due (after_tpdo moment id length pdos.third) → HasSync synced pdos.sync 3 due (after_tpdo moment id length pdos.fourth)
+    → HaveSync facts synced due (framed pdos moment id length)
 unfolding framed
-framed_has facts synced due pdos moment id knows a b c d = by (is_id pdos.sync id) knows
+framed_has facts synced due pdos moment id length knows a b c d = by (is_id pdos.sync id) knows
   where
     after_syncs : Pdos
     after_syncs = record pdos { first = after_sync pdos.first; second = after_sync pdos.second; third = after_sync pdos.third; fourth = after_sync pdos.fourth }
 
     after_frames : Pdos
-    after_frames = record pdos { first = after_tpdo moment id pdos.first; second = after_tpdo moment id pdos.second; third = after_tpdo moment id pdos.third; fourth = after_tpdo moment id pdos.fourth }
+    after_frames = record pdos { first = after_tpdo moment id length pdos.first; second = after_tpdo moment id length pdos.second; third = after_tpdo moment id length pdos.third; fourth = after_tpdo moment id length pdos.fourth }
 
     by : (here : Bool) → Knows facts (if here then after_syncs else after_frames) → HaveSync facts synced due (if here then after_syncs else after_frames)
     by true k = record {
@@ -129,16 +129,16 @@ framed_has facts synced due pdos moment id knows a b c d = by (is_id pdos.sync i
     }
     by false k = record { knows = k; first = a; second = b; third = c; fourth = d }
 
-other_has : (facts : Pdos) (synced : Bool) (due : List ℕ) (pdos : Pdos) (moment : Judged) (id : ℕ) → is_followed facts id ≡ false → HaveSync facts synced due pdos → HaveSync facts synced due (framed pdos moment id)
-other_has facts synced due pdos moment id off h =
+other_has : (facts : Pdos) (synced : Bool) (due : List ℕ) (pdos : Pdos) (moment : Judged) (id length : ℕ) → is_followed facts id ≡ false → HaveSync facts synced due pdos → HaveSync facts synced due (framed pdos moment id length)
+other_has facts synced due pdos moment id length off h =
     let a = or_parts (is_id facts.first.parameters.id id) _ off in
     let b = or_parts (is_id facts.second.parameters.id id) _ a.1 in
     let c = or_parts (is_id facts.third.parameters.id id) _ b.1 in
-    framed_has facts synced due pdos moment id (knows_framed facts pdos moment id h.knows)
-    (still_has synced pdos.sync 0 due moment id pdos.first (other_id facts.first pdos.first id h.knows.first a.0) h.first)
-    (still_has synced pdos.sync 1 due moment id pdos.second (other_id facts.second pdos.second id h.knows.second b.0) h.second)
-    (still_has synced pdos.sync 2 due moment id pdos.third (other_id facts.third pdos.third id h.knows.third c.0) h.third)
-    (still_has synced pdos.sync 3 due moment id pdos.fourth (other_id facts.fourth pdos.fourth id h.knows.fourth c.1) h.fourth)
+    framed_has facts synced due pdos moment id length (knows_framed facts pdos moment id length h.knows)
+    (still_has synced pdos.sync 0 due moment id length pdos.first (other_id facts.first pdos.first id h.knows.first a.0) h.first)
+    (still_has synced pdos.sync 1 due moment id length pdos.second (other_id facts.second pdos.second id h.knows.second b.0) h.second)
+    (still_has synced pdos.sync 2 due moment id length pdos.third (other_id facts.third pdos.third id h.knows.third c.0) h.third)
+    (still_has synced pdos.sync 3 due moment id length pdos.fourth (other_id facts.fourth pdos.fourth id h.knows.fourth c.1) h.fourth)
 
 sync_kept : (facts : Pdos) (synced : Bool) (due : List ℕ) → IsKept facts (HaveSync facts synced due)
 sync_kept facts synced due = record {
@@ -158,7 +158,7 @@ sync_kept facts synced due = record {
     third = λ on has is. omega arith;
     fourth = λ on has is. omega arith;
   };
-  other = λ pdos moment id off h. other_has facts synced due pdos moment id off h;
+  other = λ pdos moment id length off h. other_has facts synced due pdos moment id length off h;
 }
 
 -- without a SYNC there is nothing to it
@@ -235,7 +235,7 @@ sync_fine synced sync sheet pdo number n id later (inr same) ok has on =
 fine : (moment : Judged) (synced : Bool) (sync : Option ℕ) (sheet pdo : Tpdo) (number n id length : ℕ) (later : List ℕ) → IsOf sheet pdo → IsSynced synced number sheet n id → HasSync synced sync number (n ∷ later) pdo
     → is_id pdo.parameters.id id ≡ true → is_of is_pdo_sync (deviation_at moment (is_some sync) pdo length) ≡ false
 fine moment synced sync sheet pdo number n id length later of ok has on =
-    deviation_none is_pdo_sync moment (is_some sync) pdo length (state_none is_pdo_sync moment refl) (length_none is_pdo_sync pdo.parameters.length length (λ l m. refl))
+    deviation_none is_pdo_sync moment (is_some sync) pdo length (state_none is_pdo_sync moment refl) (length_none is_pdo_sync pdo.parameters.length pdo.odd length (λ l m. refl))
     (sync_fine synced sync sheet pdo number n id later of ok has on) (untimed is_pdo_sync moment pdo (λ passed n. refl) (λ passed n. refl))
 
 all_are_fine : (facts : Pdos) (moment : Judged) (synced : Bool) (n id length : ℕ) (later : List ℕ) (pdos : Pdos) → AreSynced facts synced n id → HaveSync facts synced (n ∷ later) pdos → AreFine is_pdo_sync moment pdos id length
@@ -250,12 +250,12 @@ all_are_fine facts moment synced n id length later pdos ok h = record {
 later_has : (synced : Bool) (sync : Option ℕ) (number n : ℕ) (later : List ℕ) (pdo : Tpdo) → HasSync synced sync number (n ∷ later) pdo → HasSync synced sync number later pdo
 later_has synced sync number n later pdo h = λ on has is. h on has (among_later n number later is)
 
-sent_has : (synced : Bool) (sync : Option ℕ) (moment : Judged) (sheet pdo : Tpdo) (number n id : ℕ) (later : List ℕ) → is_among n later ≡ false → IsOf sheet pdo → IsSynced synced number sheet n id
-    → HasSync synced sync number (n ∷ later) pdo → HasSync synced sync number later (after_tpdo moment id pdo)
-sent_has synced sync moment sheet pdo number n id later once of ok h = by (is_id pdo.parameters.id id) refl of
+sent_has : (synced : Bool) (sync : Option ℕ) (moment : Judged) (sheet pdo : Tpdo) (number n id length : ℕ) (later : List ℕ) → is_among n later ≡ false → IsOf sheet pdo → IsSynced synced number sheet n id
+    → HasSync synced sync number (n ∷ later) pdo → HasSync synced sync number later (after_tpdo moment id length pdo)
+sent_has synced sync moment sheet pdo number n id length later once of ok h = by (is_id pdo.parameters.id id) refl of
   where
-    by : (b : Bool) → is_id pdo.parameters.id id ≡ b → IsOf sheet pdo → HasSync synced sync number later (after_tpdo moment id pdo)
-    by false off known = still_has synced sync number later moment id pdo off (later_has synced sync number n later pdo h)
+    by : (b : Bool) → is_id pdo.parameters.id id ≡ b → IsOf sheet pdo → HasSync synced sync number later (after_tpdo moment id length pdo)
+    by false off known = still_has synced sync number later moment id length pdo off (later_has synced sync number n later pdo h)
     by true on (inl unknown) = absurd (let off : is_id pdo.parameters.id id ≡ false = ap (λ parameters. is_id parameters.id id) unknown in cc)
     by true on (inr same) =
         let mine : (n ≡ number) × ((synced ≡ true) ⊎ (is_synchronous sheet.parameters.kind ≡ false)) = ok (sym (ap (λ parameters. is_id parameters.id id) same) ∙ on) in
@@ -268,11 +268,11 @@ sync_step subject synced p micros n id length later ok once h =
     let moment : Judged = moment_at subject p micros in
     record {
       fine = all_are_fine facts moment synced n id length later p.pdos ok h;
-      kept = λ other. framed_has facts synced later p.pdos moment id (knows_framed facts p.pdos moment id h.knows)
-          (sent_has synced p.pdos.sync moment facts.first p.pdos.first 0 n id later once h.knows.first ok.first h.first)
-          (sent_has synced p.pdos.sync moment facts.second p.pdos.second 1 n id later once h.knows.second ok.second h.second)
-          (sent_has synced p.pdos.sync moment facts.third p.pdos.third 2 n id later once h.knows.third ok.third h.third)
-          (sent_has synced p.pdos.sync moment facts.fourth p.pdos.fourth 3 n id later once h.knows.fourth ok.fourth h.fourth);
+      kept = λ other. framed_has facts synced later p.pdos moment id length (knows_framed facts p.pdos moment id length h.knows)
+          (sent_has synced p.pdos.sync moment facts.first p.pdos.first 0 n id length later once h.knows.first ok.first h.first)
+          (sent_has synced p.pdos.sync moment facts.second p.pdos.second 1 n id length later once h.knows.second ok.second h.second)
+          (sent_has synced p.pdos.sync moment facts.third p.pdos.third 2 n id length later once h.knows.third ok.third h.third)
+          (sent_has synced p.pdos.sync moment facts.fourth p.pdos.fourth 3 n id length later once h.knows.fourth ok.fourth h.fourth);
       unseen = λ emergency. record {
         knows = h.knows;
         first = later_has synced p.pdos.sync 0 n later p.pdos.first h.first;
@@ -363,13 +363,13 @@ known_sync facts pdos id knows same = by facts.sync knows.sync same
     by None (inr none) h = inl none
     by (Some n) (inr is) h = inr (ap (λ o. is_id o id) is ∙ eq-eqb n id h)
 
-synced_has : (facts : Pdos) (due : List ℕ) (pdos : Pdos) (moment : Judged) (id : ℕ) → Knows facts pdos → (pdos.sync ≡ None) ⊎ (is_id pdos.sync id ≡ true) → HaveSync facts true due (framed pdos moment id)
+synced_has : (facts : Pdos) (due : List ℕ) (pdos : Pdos) (moment : Judged) (id length : ℕ) → Knows facts pdos → (pdos.sync ≡ None) ⊎ (is_id pdos.sync id ≡ true) → HaveSync facts true due (framed pdos moment id length)
 unfolding framed
-synced_has facts due pdos moment id knows (inl none) =
+synced_has facts due pdos moment id length knows (inl none) =
     let never : (is_some pdos.sync ≡ true) → ⊥ = λ on. absurd (let off : is_some pdos.sync ≡ false = ap is_some none in cc) in
-    framed_has facts true due pdos moment id (knows_framed facts pdos moment id knows) (λ on has is. absurd (never has)) (λ on has is. absurd (never has)) (λ on has is. absurd (never has)) (λ on has is. absurd (never has))
-synced_has facts due pdos moment id knows (inr here) =
-    let k : Knows facts (framed pdos moment id) = knows_framed facts pdos moment id knows in
+    framed_has facts true due pdos moment id length (knows_framed facts pdos moment id length knows) (λ on has is. absurd (never has)) (λ on has is. absurd (never has)) (λ on has is. absurd (never has)) (λ on has is. absurd (never has))
+synced_has facts due pdos moment id length knows (inr here) =
+    let k : Knows facts (framed pdos moment id length) = knows_framed facts pdos moment id length knows in
     rw here (record {
       knows = record { sync = knows.sync; first = knows.first; second = knows.second; third = knows.third; fourth = knows.fourth };
       first = λ on has is. counted pdos.first;
@@ -382,11 +382,11 @@ sync_passes : (subject : Subject) (rows : List Row) (p : Progress) (micros id le
     → Passes is_pdo_sync (HaveSync subject.facts.pdos true due) subject rows p micros (Process id length)
 unfolding process_findings after_process
 sync_passes subject rows p micros id length due new knows off same = record {
-  none = sighted_none is_pdo_sync id length (sighting (moment_at subject p micros) p.pdos id length)
+  none = sighted_none is_pdo_sync (late_by_tpdo subject p micros id length) id length (sighting (moment_at subject p micros) p.pdos id length)
       (all_fine is_pdo_sync (moment_at subject p micros) p.pdos id length (unseen is_pdo_sync (moment_at subject p micros) subject.facts.pdos p.pdos id length knows off));
   after = record {
     fresh = fresh micros p new;
-    kept = synced_has subject.facts.pdos due p.pdos (moment_at subject p micros) id knows (known_sync subject.facts.pdos p.pdos id knows same);
+    kept = synced_has subject.facts.pdos due p.pdos (moment_at subject p micros) id length knows (known_sync subject.facts.pdos p.pdos id knows same);
   };
 }
 

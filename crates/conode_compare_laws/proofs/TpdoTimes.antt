@@ -40,25 +40,25 @@ pub record AreTimed (R : ℕ → Sent → List ℕ → Type 0) (node : ℕ) (ids
 
 -- ---- frames that are none of them
 
-timed_if : (R : ℕ → Sent → List ℕ → Type 0) (node micros id : ℕ) (ages : List ℕ) (moment : Judged) (other : ℕ) (pdo : Tpdo) → is_id pdo.parameters.id other ≡ false → IsTimed R node micros id ages pdo → IsTimed R node micros id ages (after_tpdo moment other pdo)
-timed_if R node micros id ages moment other pdo off h = rw off h
+timed_if : (R : ℕ → Sent → List ℕ → Type 0) (node micros id : ℕ) (ages : List ℕ) (moment : Judged) (other length : ℕ) (pdo : Tpdo) → is_id pdo.parameters.id other ≡ false → IsTimed R node micros id ages pdo → IsTimed R node micros id ages (after_tpdo moment other length pdo)
+timed_if R node micros id ages moment other length pdo off h = rw off h
 
-framed_timed : (R : ℕ → Sent → List ℕ → Type 0) (node : ℕ) (ids : ℕ → ℕ) (facts : Pdos) (micros : ℕ) (ages : ℕ → List ℕ) (pdos : Pdos) (moment : Judged) (id : ℕ) → Knows facts pdos
-    → (is_id pdos.sync id ≡ true → AreTimed R node ids facts micros ages pdos) → (is_id pdos.sync id ≡ false → IsTimed R node micros (ids 0) (ages 0) (after_tpdo moment id pdos.first))
-    → (is_id pdos.sync id ≡ false → IsTimed R node micros (ids 1) (ages 1) (after_tpdo moment id pdos.second)) → (is_id pdos.sync id ≡ false → IsTimed R node micros (ids 2) (ages 2) (after_tpdo moment id pdos.third))
-    → (is_id pdos.sync id ≡ false → IsTimed R node micros (ids 3) (ages 3) (after_tpdo moment id pdos.fourth)) → AreTimed R node ids facts micros ages (framed pdos moment id)
+framed_timed : (R : ℕ → Sent → List ℕ → Type 0) (node : ℕ) (ids : ℕ → ℕ) (facts : Pdos) (micros : ℕ) (ages : ℕ → List ℕ) (pdos : Pdos) (moment : Judged) (id length : ℕ) → Knows facts pdos
+    → (is_id pdos.sync id ≡ true → AreTimed R node ids facts micros ages pdos) → (is_id pdos.sync id ≡ false → IsTimed R node micros (ids 0) (ages 0) (after_tpdo moment id length pdos.first))
+    → (is_id pdos.sync id ≡ false → IsTimed R node micros (ids 1) (ages 1) (after_tpdo moment id length pdos.second)) → (is_id pdos.sync id ≡ false → IsTimed R node micros (ids 2) (ages 2) (after_tpdo moment id length pdos.third))
+    → (is_id pdos.sync id ≡ false → IsTimed R node micros (ids 3) (ages 3) (after_tpdo moment id length pdos.fourth)) → AreTimed R node ids facts micros ages (framed pdos moment id length)
 unfolding framed
-framed_timed R node ids facts micros ages pdos moment id knows same a b c d = by (is_id pdos.sync id) (knows_framed facts pdos moment id knows) same a b c d
+framed_timed R node ids facts micros ages pdos moment id length knows same a b c d = by (is_id pdos.sync id) (knows_framed facts pdos moment id length knows) same a b c d
   where
     after_syncs : Pdos
     after_syncs = record pdos { first = after_sync pdos.first; second = after_sync pdos.second; third = after_sync pdos.third; fourth = after_sync pdos.fourth }
 
     after_frames : Pdos
-    after_frames = record pdos { first = after_tpdo moment id pdos.first; second = after_tpdo moment id pdos.second; third = after_tpdo moment id pdos.third; fourth = after_tpdo moment id pdos.fourth }
+    after_frames = record pdos { first = after_tpdo moment id length pdos.first; second = after_tpdo moment id length pdos.second; third = after_tpdo moment id length pdos.third; fourth = after_tpdo moment id length pdos.fourth }
 
-    by : (here : Bool) → Knows facts (if here then after_syncs else after_frames) → (here ≡ true → AreTimed R node ids facts micros ages pdos) → (here ≡ false → IsTimed R node micros (ids 0) (ages 0) (after_tpdo moment id pdos.first))
-        → (here ≡ false → IsTimed R node micros (ids 1) (ages 1) (after_tpdo moment id pdos.second)) → (here ≡ false → IsTimed R node micros (ids 2) (ages 2) (after_tpdo moment id pdos.third))
-        → (here ≡ false → IsTimed R node micros (ids 3) (ages 3) (after_tpdo moment id pdos.fourth)) → AreTimed R node ids facts micros ages (if here then after_syncs else after_frames)
+    by : (here : Bool) → Knows facts (if here then after_syncs else after_frames) → (here ≡ true → AreTimed R node ids facts micros ages pdos) → (here ≡ false → IsTimed R node micros (ids 0) (ages 0) (after_tpdo moment id length pdos.first))
+        → (here ≡ false → IsTimed R node micros (ids 1) (ages 1) (after_tpdo moment id length pdos.second)) → (here ≡ false → IsTimed R node micros (ids 2) (ages 2) (after_tpdo moment id length pdos.third))
+        → (here ≡ false → IsTimed R node micros (ids 3) (ages 3) (after_tpdo moment id length pdos.fourth)) → AreTimed R node ids facts micros ages (if here then after_syncs else after_frames)
     by true k h p q r s = record { knows = k; first = (h refl).first; second = (h refl).second; third = (h refl).third; fourth = (h refl).fourth }
     by false k h p q r s = record { knows = k; first = p refl; second = q refl; third = r refl; fourth = s refl }
 
@@ -81,15 +81,15 @@ all_off facts pdos id knows off =
       fourth = other_id facts.fourth pdos.fourth id knows.fourth c.1;
     }
 
-other_timed : (R : ℕ → Sent → List ℕ → Type 0) (node : ℕ) (ids : ℕ → ℕ) (facts : Pdos) (micros : ℕ) (ages : ℕ → List ℕ) (pdos : Pdos) (moment : Judged) (id : ℕ) → is_followed facts id ≡ false → AreTimed R node ids facts micros ages pdos
-    → AreTimed R node ids facts micros ages (framed pdos moment id)
-other_timed R node ids facts micros ages pdos moment id off h =
+other_timed : (R : ℕ → Sent → List ℕ → Type 0) (node : ℕ) (ids : ℕ → ℕ) (facts : Pdos) (micros : ℕ) (ages : ℕ → List ℕ) (pdos : Pdos) (moment : Judged) (id length : ℕ) → is_followed facts id ≡ false → AreTimed R node ids facts micros ages pdos
+    → AreTimed R node ids facts micros ages (framed pdos moment id length)
+other_timed R node ids facts micros ages pdos moment id length off h =
     let o : AreOff pdos id = all_off facts pdos id h.knows off in
-    framed_timed R node ids facts micros ages pdos moment id h.knows (λ on. h)
-    (λ apart. timed_if R node micros (ids 0) (ages 0) moment id pdos.first o.first h.first)
-    (λ apart. timed_if R node micros (ids 1) (ages 1) moment id pdos.second o.second h.second)
-    (λ apart. timed_if R node micros (ids 2) (ages 2) moment id pdos.third o.third h.third)
-    (λ apart. timed_if R node micros (ids 3) (ages 3) moment id pdos.fourth o.fourth h.fourth)
+    framed_timed R node ids facts micros ages pdos moment id length h.knows (λ on. h)
+    (λ apart. timed_if R node micros (ids 0) (ages 0) moment id length pdos.first o.first h.first)
+    (λ apart. timed_if R node micros (ids 1) (ages 1) moment id length pdos.second o.second h.second)
+    (λ apart. timed_if R node micros (ids 2) (ages 2) moment id length pdos.third o.third h.third)
+    (λ apart. timed_if R node micros (ids 3) (ages 3) moment id length pdos.fourth o.fourth h.fourth)
 
 pub timed_kept : (R : ℕ → Sent → List ℕ → Type 0) (node : ℕ) (ids : ℕ → ℕ) (facts : Pdos) (micros : ℕ) (ages : ℕ → List ℕ) → IsKept facts (AreTimed R node ids facts micros ages)
 timed_kept R node ids facts micros ages = record {
@@ -97,7 +97,7 @@ timed_kept R node ids facts micros ages = record {
   unknown = record { knows = knows_unknown facts; first = tt; second = tt; third = tt; fourth = tt };
   command = λ pdos h. record { knows = knows_commanded facts pdos h.knows; first = tt; second = tt; third = tt; fourth = tt };
   gap = λ pdos h. record { knows = knows_interrupted facts pdos h.knows; first = tt; second = tt; third = tt; fourth = tt };
-  other = λ pdos moment id off h. other_timed R node ids facts micros ages pdos moment id off h;
+  other = λ pdos moment id length off h. other_timed R node ids facts micros ages pdos moment id length off h;
 }
 
 -- ---- what is said of them changes
@@ -229,11 +229,11 @@ module _ (is : Deviation → Bool) (R : ℕ → Sent → List ℕ → Type 0) (s
   IsJustNow = (free : ℕ) (a : List ℕ) → free ≤ micros → R micros (record { free = free; micros = micros }) (0 ∷ a)
 
   sent_timed : IsJustNow → (p : Progress) (sheet pdo : Tpdo) (number n : ℕ) (later : List ℕ) → is_unwatched node (frame n).id ≡ false → IsNewest micros p → IsOwn sheet number n → (frame n).id ≡ ids n → is_among n later ≡ false → is_among n all ≡ true → IsOf sheet pdo
-      → IsTimed R node micros (ids number) (ages (n ∷ later) number) pdo → IsTimed R node micros (ids number) (ages later number) (after_tpdo (moment_at subject p micros) (frame n).id pdo)
+      → IsTimed R node micros (ids number) (ages (n ∷ later) number) pdo → IsTimed R node micros (ids number) (ages later number) (after_tpdo (moment_at subject p micros) (frame n).id (length_of (frame n)) pdo)
   unfolding moment_at
   sent_timed just_now p sheet pdo number n later other new ok id once sent of h = by (is_id pdo.parameters.id (frame n).id) refl
     where
-      by : (b : Bool) → is_id pdo.parameters.id (frame n).id ≡ b → IsTimed R node micros (ids number) (ages later number) (after_tpdo (moment_at subject p micros) (frame n).id pdo)
+      by : (b : Bool) → is_id pdo.parameters.id (frame n).id ≡ b → IsTimed R node micros (ids number) (ages later number) (after_tpdo (moment_at subject p micros) (frame n).id (length_of (frame n)) pdo)
       by true on =
           let same : n ≡ number = ok.own (of_own sheet pdo (frame n).id of on).1 in
           let now : ages later number ≡ 0 ∷ old number = now_sent n number later same once sent in
@@ -285,7 +285,7 @@ module _ (is : Deviation → Bool) (R : ℕ → Sent → List ℕ → Type 0) (s
           third = one_fine p (is_some pdos.sync) facts.third pdos.third 2 n later new ok.third h.knows.third h.third;
           fourth = one_fine p (is_some pdos.sync) facts.fourth pdos.fourth 3 n later new ok.fourth h.knows.fourth h.fourth;
         };
-        kept = λ other. framed_timed R node ids facts micros (ages later) pdos (moment_at subject p micros) (frame n).id h.knows
+        kept = λ other. framed_timed R node ids facts micros (ages later) pdos (moment_at subject p micros) (frame n).id (length_of (frame n)) h.knows
             (λ on. all_unseen facts pdos n later (subst (AreOff pdos) ok.id (all_off facts pdos (frame n).id h.knows (on_sync facts pdos (frame n).id h.knows apart on))) h)
             (λ off. sent_timed just_now p facts.first pdos.first 0 n later other new ok.first ok.id once ok.sent h.knows.first h.first)
             (λ off. sent_timed just_now p facts.second pdos.second 1 n later other new ok.second ok.id once ok.sent h.knows.second h.second)

@@ -27,7 +27,7 @@ abbrev tpdo : Tpdo
 tpdo = booted_tpdo event_driven
 
 abbrev sent : Tpdo
-sent = after_frame (at 5) 0x188 tpdo
+sent = after_frame (at 5) 0x188 4 tpdo
 
 abbrev synchronous : Tpdo
 synchronous = booted_tpdo (record event_driven { kind = Some 240 })
@@ -63,14 +63,57 @@ written_before : deviation_at (at 10006) true (record tpdo { changed = Some 5 })
 unfolding deviation_at time_deviation
 written_before = refl
 
-judged : is_judged (at 5) tpdo ≡ true
+judged : is_judged (at 5) tpdo 4 ≡ true
 judged = refl
 
-not_judged : is_judged (record (at 5) { known = false }) tpdo ≡ false
+not_judged : is_judged (record (at 5) { known = false }) tpdo 4 ≡ false
 not_judged = refl
 
-length_not_judged : is_judged (at 5) (booted_tpdo (record event_driven { length = None })) ≡ false
+length_not_judged : is_judged (at 5) (booted_tpdo (record event_driven { length = None })) 4 ≡ false
 length_not_judged = refl
+
+-- ---- a wrong number of bytes is said once
+
+abbrev odd : Tpdo
+odd = after_frame (at 5) 0x188 3 tpdo
+
+odd_again : deviation_at (at 500005) true odd 3 ≡ None
+unfolding deviation_at time_deviation
+odd_again = refl
+
+other_odd : deviation_at (at 500005) true odd 5 ≡ Some (Length 5 4)
+unfolding deviation_at time_deviation
+other_odd = refl
+
+-- a frame with the right number of bytes changes nothing of it
+right_between : deviation_at (at 900005) true (after_frame (at 500005) 0x188 4 odd) 3 ≡ None
+unfolding deviation_at time_deviation
+right_between = refl
+
+-- nor does a parameter that is written
+written_between : (after_request (record { index = 0x1800; sub = 2 }) 7 0 odd).odd ≡ Some 3
+written_between = refl
+
+-- the newest one counts
+newest_odd : deviation_at (at 900005) true (after_frame (at 500005) 0x188 5 odd) 3 ≡ Some (Length 3 4)
+unfolding deviation_at time_deviation
+newest_odd = refl
+
+-- such a frame isn't judged, but what else differs is said
+odd_not_judged : is_judged (at 500005) odd 3 ≡ false
+odd_not_judged = refl
+
+right_judged : is_judged (at 500005) odd 4 ≡ true
+right_judged = refl
+
+odd_too_soon : deviation_at (at 6) true odd 3 ≡ Some (Inhibit 1 1000)
+unfolding deviation_at time_deviation
+odd_too_soon = refl
+
+-- where it wasn't said it isn't known: while not operational, in the tolerance, of another frame
+not_said : map (λ (pdo : Tpdo). pdo.odd) (after_frame (record (at 5) { idle = true }) 0x188 3 tpdo ∷ after_frame (at 10005) 0x188 3 (record tpdo { changed = Some 5 }) ∷ after_frame (at 5) 0x189 3 tpdo ∷ sent ∷ [])
+    ≡ None ∷ None ∷ None ∷ None ∷ []
+not_said = refl
 
 -- ---- SYNC
 
@@ -83,16 +126,16 @@ with_sync : deviation_at (at 5) true (after_sync synchronous) 4 ≡ None
 unfolding deviation_at time_deviation
 with_sync = refl
 
-again : deviation_at (at 5) true (after_frame (at 5) 0x188 (after_sync synchronous)) 4 ≡ Some WithoutSync
+again : deviation_at (at 5) true (after_frame (at 5) 0x188 4 (after_sync synchronous)) 4 ≡ Some WithoutSync
 unfolding deviation_at time_deviation
 again = refl
 
 -- a slow device may answer two of them in turn, not three
-slow : deviation_at (at 5) true (after_frame (at 5) 0x188 (after_sync (after_sync (after_sync synchronous)))) 4 ≡ None
+slow : deviation_at (at 5) true (after_frame (at 5) 0x188 4 (after_sync (after_sync (after_sync synchronous)))) 4 ≡ None
 unfolding deviation_at time_deviation
 slow = refl
 
-too_many : deviation_at (at 5) true (after_frame (at 5) 0x188 (after_frame (at 5) 0x188 (after_sync (after_sync (after_sync synchronous))))) 4 ≡ Some WithoutSync
+too_many : deviation_at (at 5) true (after_frame (at 5) 0x188 4 (after_frame (at 5) 0x188 4 (after_sync (after_sync (after_sync synchronous))))) 4 ≡ Some WithoutSync
 unfolding deviation_at time_deviation
 too_many = refl
 
@@ -132,7 +175,7 @@ unfolding deviation_at time_deviation
 after = refl
 
 -- the one before may have waited for the bus
-waited : deviation_at (at 89004) true (after_frame (record (at 5) { free = 4 }) 0x188 tpdo) 4 ≡ None
+waited : deviation_at (at 89004) true (after_frame (record (at 5) { free = 4 }) 0x188 4 tpdo) 4 ≡ None
 unfolding deviation_at time_deviation
 waited = refl
 

@@ -1,5 +1,5 @@
 -- Where a TPDO differs from CiA 301 (7.2.2, 7.3.2.2 and 7.5.2.37).
-use Rattle.std.specs.Prelude.{ℕ, ◌+◌, ◌-◌, ◌*◌, ◌/◌, ◌==◌, nat_lt, nat_le, Bool, true, false, ◌&&◌, ◌||◌, if◌then◌else◌, Option, Some, None, is_some}
+use Rattle.std.specs.Prelude.{ℕ, ◌+◌, ◌-◌, ◌*◌, ◌/◌, ◌==◌, nat_lt, nat_le, Bool, true, false, not, ◌&&◌, ◌||◌, if◌then◌else◌, Option, Some, None, is_some}
 use Rattle.conode_compare_pdos.specs.declared.deviation.Deviation.{Deviation}
 use Rattle.conode_compare_pdos.specs.declared.deviation.Deviation.TheVariants.{Length, NotOperational, WithoutSync, Inhibit, Timer}
 use Rattle.conode_compare_pdos.specs.declared.deviation.Moment.{Moment}
@@ -29,10 +29,15 @@ abbrev pub is_event_driven : Option ℕ → Bool
 is_event_driven None = false
 is_event_driven (Some kind) = nat_le 254 kind
 
--- `pdo-length`: another number of bytes than is mapped
-abbrev pub length_deviation : Option ℕ → ℕ → Option Deviation
-length_deviation None length = None
-length_deviation (Some mapped) length = if length == mapped then None else Some (Length length mapped)
+abbrev pub is_number : Option ℕ → ℕ → Bool
+is_number (Some n) other = n == other
+is_number None other = false
+
+-- `pdo-length`: another number of bytes than is mapped, and than the last such difference showed,
+-- `odd`
+abbrev pub length_deviation : Option ℕ → Option ℕ → ℕ → Option Deviation
+length_deviation None odd length = None
+length_deviation (Some mapped) odd length = if (length == mapped) || is_number odd length then None else Some (Length length mapped)
 
 -- `pdo-sync`: a synchronous TPDO, and since its last one no SYNC came
 abbrev pub sync_deviation : Bool → Tpdo → Option Deviation
@@ -87,10 +92,15 @@ unfoldable pub deviation_at : Moment → Bool → Tpdo → ℕ → Option Deviat
 deviation_at moment has_sync pdo length =
     if is_settled moment pdo.changed then
     first_of (state_deviation moment)
-    (first_of (length_deviation pdo.parameters.length length)
+    (first_of (length_deviation pdo.parameters.length pdo.odd length)
     (first_of (sync_deviation has_sync pdo) (time_deviation moment pdo)))
     else None
 
--- a frame is judged where its length and the state of the device are known
-abbrev pub is_judged : Moment → Tpdo → Bool
-is_judged moment pdo = moment.known && (is_settled moment pdo.changed && is_some pdo.parameters.length)
+-- the frame is `pdo-length`
+abbrev pub shows_length : Moment → Tpdo → ℕ → Bool
+shows_length moment pdo length =
+    is_settled moment pdo.changed && (not moment.idle && is_some (length_deviation pdo.parameters.length pdo.odd length))
+
+-- a frame is judged where it has as many bytes as are mapped, and the state of the device is known
+abbrev pub is_judged : Moment → Tpdo → ℕ → Bool
+is_judged moment pdo length = moment.known && (is_settled moment pdo.changed && is_number pdo.parameters.length length)

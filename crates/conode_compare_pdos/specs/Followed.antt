@@ -62,10 +62,10 @@ requested pdos key micros =
 unfoldable pub transferred : Pdos → Ended → ℕ → Pdos
 transferred pdos ended micros = each (after_transfer ended micros) pdos
 
--- a data frame with this identifier: a SYNC, or a TPDO
-unfoldable pub framed : Pdos → Moment → ℕ → Pdos
-framed pdos moment id =
-    if is_id pdos.sync id then synced pdos else each (λ number. after_frame moment id) pdos
+-- a data frame with this identifier and so many bytes: a SYNC, or a TPDO
+unfoldable pub framed : Pdos → Moment → ℕ → ℕ → Pdos
+framed pdos moment id length =
+    if is_id pdos.sync id then synced pdos else each (λ number. after_frame moment id length) pdos
 
 -- ---- what is said of a frame
 
@@ -74,7 +74,7 @@ seen moment has_sync number pdo id length =
     if is_id pdo.parameters.id id then Some (record {
       number = number;
       deviation = deviation_at moment has_sync pdo length;
-      judged = is_judged moment pdo;
+      judged = is_judged moment pdo length;
     }) else None
 
 abbrev pub or_else : Option Sighting → Option Sighting → Option Sighting

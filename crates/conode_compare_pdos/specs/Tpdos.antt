@@ -10,6 +10,7 @@ use Rattle.conode_explain_transfers.specs.declared.kinds.Protocol.TheVariants.{E
 use Rattle.conode_compare_pdos.specs.declared.deviation.Moment.{Moment}
 use Rattle.conode_compare_pdos.specs.declared.parameters.Parameters.{Parameters}
 use Rattle.conode_compare_pdos.specs.declared.tpdo.Tpdo.{Tpdo}
+use Rattle.conode_compare_pdos.specs.Deviations.{shows_length}
 use Rattle.conode_compare_pdos.specs.PdoParameters.{asked_to_write, communication, mapping, nothing_known, shown}
 
 -- A slow device may answer a SYNC after the next one came, so two may be unanswered. So it is
@@ -18,10 +19,10 @@ abbrev pub most_syncs : ℕ
 most_syncs = 2
 
 abbrev pub unknown_tpdo : Tpdo
-unknown_tpdo = record { parameters = nothing_known; sent = None; syncs = most_syncs; changed = None }
+unknown_tpdo = record { parameters = nothing_known; sent = None; syncs = most_syncs; changed = None; odd = None }
 
 abbrev pub booted_tpdo : Parameters → Tpdo
-booted_tpdo parameters = record { parameters = parameters; sent = None; syncs = 0; changed = None }
+booted_tpdo parameters = record { parameters = parameters; sent = None; syncs = 0; changed = None; odd = None }
 
 -- times count anew after an NMT command
 abbrev pub after_command : Tpdo → Tpdo
@@ -43,24 +44,25 @@ is_id None id = false
 abbrev pub after_poll : ℕ → Tpdo → Tpdo
 after_poll id pdo = if is_id pdo.parameters.id id then after_gap pdo else pdo
 
--- it was sent
-abbrev pub after_frame : Moment → ℕ → Tpdo → Tpdo
-after_frame moment id pdo =
+-- it was sent, with so many bytes; a wrong number of them isn't said again
+abbrev pub after_frame : Moment → ℕ → ℕ → Tpdo → Tpdo
+after_frame moment id length pdo =
     if is_id pdo.parameters.id id then record pdo {
       sent = Some (record { free = moment.free; micros = moment.micros });
       syncs = pdo.syncs - 1;
+      odd = if shows_length moment pdo length then Some length else pdo.odd;
     } else pdo
 
 -- ---- its parameters are written and read
 
-abbrev pub with_parameters : ℕ → Parameters → Tpdo
-with_parameters micros parameters = record { parameters = parameters; sent = None; syncs = most_syncs; changed = Some micros }
+abbrev pub with_parameters : ℕ → Option ℕ → Parameters → Tpdo
+with_parameters micros odd parameters = record { parameters = parameters; sent = None; syncs = most_syncs; changed = Some micros; odd = odd }
 
 -- a download is requested: a mapping that is written isn't known any more
 abbrev pub after_request : Key → ℕ → ℕ → Tpdo → Tpdo
 after_request key micros number pdo =
-    if key.index == communication number then with_parameters micros (asked_to_write pdo.parameters key.sub)
-    else (if key.index == mapping number then with_parameters micros (record pdo.parameters { length = None }) else pdo)
+    if key.index == communication number then with_parameters micros pdo.odd (asked_to_write pdo.parameters key.sub)
+    else (if key.index == mapping number then with_parameters micros pdo.odd (record pdo.parameters { length = None }) else pdo)
 
 abbrev pub shows_bytes : Protocol → Ending → Bool
 shows_bytes Expedited (Done crc) = true
@@ -70,6 +72,6 @@ shows_bytes protocol ending = false
 abbrev pub after_transfer : Ended → ℕ → ℕ → Tpdo → Tpdo
 after_transfer ended micros number pdo =
     if ended.key.index == communication number then
-    (if shows_bytes ended.protocol ended.ending then with_parameters micros (shown pdo.parameters ended.key.sub ended.first.items)
+    (if shows_bytes ended.protocol ended.ending then with_parameters micros pdo.odd (shown pdo.parameters ended.key.sub ended.first.items)
     else pdo)
     else pdo

@@ -8,11 +8,13 @@ ghost use Rattle.conode_compare_pdos.specs.Deviations.{
   inhibit_deviation,
   is_event_driven,
   is_judged,
+  is_number,
   is_settled,
   is_synchronous,
   least_gap,
   length_deviation,
   micros_of,
+  shows_length,
   state_deviation,
   sync_deviation,
   time_deviation,
@@ -99,12 +101,23 @@ pub(crate) fn is_event_driven(kind: Option<u8>) -> bool
     }
 }
 
-fn length_deviation(mapped: Option<u8>, length: u8) -> Option<Deviation>
-    ensures { result ≡ length_deviation mapped length }
+fn is_number(known: Option<u8>, other: u8) -> bool
+    ensures { result ≡ is_number known other }
 {
-    match mapped {
-        Some(mapped) if length != mapped => Some(Deviation::Length(length, mapped)),
-        _ => None,
+    match known {
+        Some(number) => number == other,
+        None => false,
+    }
+}
+
+fn length_deviation(mapped: Option<u8>, odd: Option<u8>, length: u8) -> Option<Deviation>
+    ensures { result ≡ length_deviation mapped odd length }
+{
+    let mapped = mapped?;
+    if length == mapped || is_number(odd, length) {
+        None
+    } else {
+        Some(Deviation::Length(length, mapped))
     }
 }
 
@@ -206,14 +219,24 @@ pub(crate) fn deviation_at(
         return None;
     }
     state_deviation(moment)
-        .or(length_deviation(pdo.parameters.length, length))
+        .or(length_deviation(pdo.parameters.length, pdo.odd, length))
         .or(sync_deviation(has_sync, pdo))
         .or(time_deviation(moment, pdo))
 }
 
-/// Whether a frame of it is judged: the number of its bytes is known, and the state of the device.
-pub(crate) fn is_judged(moment: &Moment, pdo: &Tpdo) -> bool
-    ensures { result ≡ is_judged moment.now pdo.now }
+/// Whether a frame of it is `pdo-length`: that isn't said again of frames with so many bytes.
+pub(crate) fn shows_length(moment: &Moment, pdo: &Tpdo, length: u8) -> bool
+    ensures { result ≡ shows_length moment.now pdo.now length }
 {
-    moment.known && is_settled(moment, pdo.changed) && pdo.parameters.length.is_some()
+    is_settled(moment, pdo.changed)
+        && !moment.idle
+        && length_deviation(pdo.parameters.length, pdo.odd, length).is_some()
+}
+
+/// Whether a frame of it is judged: it has as many bytes as are mapped, and the state of the device
+/// is known.
+pub(crate) fn is_judged(moment: &Moment, pdo: &Tpdo, length: u8) -> bool
+    ensures { result ≡ is_judged moment.now pdo.now length }
+{
+    moment.known && is_settled(moment, pdo.changed) && is_number(pdo.parameters.length, length)
 }

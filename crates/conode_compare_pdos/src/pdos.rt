@@ -92,7 +92,7 @@ fn seen(
     Some(Sighting {
         number,
         deviation: deviation_at(moment, has_sync, pdo, length),
-        judged: is_judged(moment, pdo),
+        judged: is_judged(moment, pdo, length),
     })
 }
 
@@ -189,19 +189,20 @@ impl Pdos {
         self.fourth = self.fourth.after_sync();
     }
 
-    /// A data frame with this identifier came: a SYNC, or one that may be of a TPDO.
+    /// A data frame with this identifier and so many bytes came: a SYNC, or one that may be of a
+    /// TPDO.
     #[tactic(auto, unfolding(crate::specs::Followed::framed))]
-    pub fn frame(&mut self, moment: &Moment, id: u16)
-        ensures { self.new ≡ framed self.old moment.now id }
+    pub fn frame(&mut self, moment: &Moment, id: u16, length: u8)
+        ensures { self.new ≡ framed self.old moment.now id length }
     {
         if is_id(self.sync, id) {
             self.take_sync();
             return;
         }
-        self.first = self.first.after_frame(moment, id);
-        self.second = self.second.after_frame(moment, id);
-        self.third = self.third.after_frame(moment, id);
-        self.fourth = self.fourth.after_frame(moment, id);
+        self.first = self.first.after_frame(moment, id, length);
+        self.second = self.second.after_frame(moment, id, length);
+        self.third = self.third.after_frame(moment, id, length);
+        self.fourth = self.fourth.after_frame(moment, id, length);
     }
 
     // whether more than one of them has this identifier

@@ -17,7 +17,7 @@ ghost use Rattle.conode_compare_pdos.specs.Tpdos.{
   with_parameters,
 };
 
-use crate::deviation::Moment;
+use crate::deviation::{Moment, shows_length};
 use crate::parameters::{Parameters, communication, mapping};
 use co_value::Key;
 use conode_explain_transfers::{Ended, Ending, Protocol};
@@ -42,6 +42,8 @@ pub struct Tpdo {
     pub syncs: u8,
     /// When one of its parameters was written or read last.
     pub changed: Option<u64>,
+    /// With how many bytes it came, other than are mapped, where that was said.
+    pub odd: Option<u8>,
 }
 
 // how many SYNCs may be unanswered at most
@@ -77,6 +79,7 @@ impl Tpdo {
             sent: None,
             syncs: MOST_SYNCS,
             changed: None,
+            odd: None,
         }
     }
 
@@ -89,6 +92,7 @@ impl Tpdo {
             sent: None,
             syncs: 0,
             changed: None,
+            odd: None,
         }
     }
 
@@ -101,6 +105,7 @@ impl Tpdo {
             sent: None,
             syncs: self.syncs,
             changed: self.changed,
+            odd: self.odd,
         }
     }
 
@@ -113,6 +118,7 @@ impl Tpdo {
             sent: None,
             syncs: MOST_SYNCS,
             changed: self.changed,
+            odd: self.odd,
         }
     }
 
@@ -129,6 +135,7 @@ impl Tpdo {
                 self.syncs + 1
             },
             changed: self.changed,
+            odd: self.odd,
         }
     }
 
@@ -144,13 +151,14 @@ impl Tpdo {
         }
     }
 
-    /// A data frame with this identifier came.
-    pub(crate) fn after_frame(self, moment: &Moment, id: u16) -> Tpdo
-        ensures { result ≡ after_frame moment.now id self }
+    /// A data frame with this identifier and so many bytes came.
+    pub(crate) fn after_frame(self, moment: &Moment, id: u16, length: u8) -> Tpdo
+        ensures { result ≡ after_frame moment.now id length self }
     {
         if !is_id(self.parameters.id, id) {
             return self;
         }
+        let is_odd = shows_length(moment, &self, length);
         Tpdo {
             parameters: self.parameters,
             sent: Some(Sent {
@@ -159,18 +167,20 @@ impl Tpdo {
             }),
             syncs: self.syncs.saturating_sub(1),
             changed: self.changed,
+            odd: if is_odd { Some(length) } else { self.odd },
         }
     }
 
     // A parameter was written or read.
-    fn with_parameters(micros: u64, parameters: Parameters) -> Tpdo
-        ensures { result ≡ with_parameters micros parameters }
+    fn with_parameters(self, micros: u64, parameters: Parameters) -> Tpdo
+        ensures { result ≡ with_parameters micros self.odd parameters }
     {
         Tpdo {
             parameters,
             sent: None,
             syncs: MOST_SYNCS,
             changed: Some(micros),
+            odd: self.odd,
         }
     }
 
@@ -180,11 +190,11 @@ impl Tpdo {
     {
         let mut parameters = self.parameters;
         if key.index == communication(number) {
-            return Tpdo::with_parameters(micros, parameters.asked_to_write(key.sub));
+            return self.with_parameters(micros, parameters.asked_to_write(key.sub));
         }
         if key.index == mapping(number) {
             parameters.length = None;
-            return Tpdo::with_parameters(micros, parameters);
+            return self.with_parameters(micros, parameters);
         }
         self
     }
@@ -197,6 +207,6 @@ impl Tpdo {
             return self;
         }
         let parameters = self.parameters.shown(ended.key.sub, ended.first.as_slice());
-        Tpdo::with_parameters(micros, parameters)
+        self.with_parameters(micros, parameters)
     }
 }

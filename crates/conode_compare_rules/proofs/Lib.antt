@@ -1,3 +1,4 @@
 mod AnswerExamples
 mod Examples
+mod MissingExamples
 mod SilenceExamples

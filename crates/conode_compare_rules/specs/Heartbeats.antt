@@ -83,6 +83,16 @@ unfoldable pub late_finding : Limits → Option ℕ → Heartbeats → ℕ → �
 late_finding limits period heartbeats free micros =
     option_map (λ late. HeartbeatLate late.0 late.1) (overdue_by limits period heartbeats free micros)
 
+-- A heartbeat that hasn't come is missing when twice as long has passed as for a late one: when it
+-- is late, as long again.
+abbrev pub missing_since : Limits → ℕ → Option ℕ → ℕ → Bool
+missing_since limits period None free = false
+missing_since limits period (Some since) free = nat_lt (allowance limits period) ((free - since) - allowance limits period)
+
+unfoldable pub is_missing : Limits → Option ℕ → Option ℕ → ℕ → Bool
+is_missing limits None since free = false
+is_missing limits (Some period) since free = missing_since limits period since free
+
 -- ---- early ones
 
 -- a heartbeat is early before its period, less the tolerance and by how much the clocks may differ;

@@ -23,6 +23,7 @@ use Rattle.conode_compare_rules.specs.declared.finding.Finding.TheVariants.{Hear
 use Rattle.conode_compare_rules.specs.declared.finding.NmtState.{NmtState}
 use Rattle.conode_compare_rules.specs.declared.finding.NmtState.TheVariants.{Unknown, Initialising, PreOperational, Stopped}
 use Rattle.conode_compare_transfers.specs.declared.dialogue.Dialogue.{Dialogue}
+use Rattle.conode_compare_rules.specs.declared.heartbeats.Heartbeats.{Heartbeats}
 use Rattle.conode_compare_rules.specs.declared.limits.Limits.{Limits}
 use Rattle.conode_compare_rules.specs.declared.limits.Subject.{Subject}
 use Rattle.conode_compare_rules.specs.declared.kind.FrameKind.{FrameKind}
@@ -33,7 +34,7 @@ use Rattle.conode_compare_transfers.specs.Dialogues.{dialogue_heard, given_up, i
 use Rattle.conode_compare_values.specs.HeldNumbers.{is_kept, nothing_written, unmapped, with_process, written_heard}
 use Rattle.conode_compare_rules.specs.EmergencyRules.{emergency_finding, length_finding}
 use Rattle.conode_compare_rules.specs.EntriesInForce.{asked_to_write, ended_entries, reset_entries, shares_id, with_sharing}
-use Rattle.conode_compare_rules.specs.Heartbeats.{after_byte, after_transfer, early_remark, follows_closely, late_finding, no_heartbeat, is_gap}
+use Rattle.conode_compare_rules.specs.Heartbeats.{after_byte, after_transfer, early_remark, follows_closely, late_finding, no_heartbeat, is_gap, is_missing}
 use Rattle.conode_compare_rules.specs.States as states
 use Rattle.conode_compare_rules.specs.States.{boot_finding, control_finding, is_operational, is_reset, is_settled, nothing_commanded, restart_remark}
 use Rattle.conode_compare_transfers.specs.Times.{is_past}
@@ -170,6 +171,17 @@ control_judged subject progress =
 abbrev pub late_at : Subject → Progress → ℕ → Option Finding
 late_at subject progress micros = late_finding subject.limits progress.entries.period progress.heartbeats progress.free micros
 
+abbrev pub is_missing_at : Subject → Progress → Bool
+is_missing_at subject progress = is_missing subject.limits progress.entries.period progress.heartbeats.since progress.free
+
+-- an EMCY or a TPDO that is surely the device's shows that it sends, so its heartbeat may be missing
+abbrev pub late_by : Subject → Progress → Bool → ℕ → Option Finding
+late_by subject progress own micros = if own && is_missing_at subject progress then late_at subject progress micros else None
+
+-- where it is, that isn't said again until the next one
+abbrev pub said_late : Heartbeats → Option Finding → Heartbeats
+said_late heartbeats late = record heartbeats { since = if is_some late then None else heartbeats.since }
+
 unfoldable pub heartbeat_findings : Subject → Progress → Option Finding → ℕ → ℕ → Findings
 heartbeat_findings subject progress answer micros byte =
     found (boot_finding subject.limits progress.nmt micros)
@@ -212,7 +224,7 @@ after_odd_control subject progress micros = record progress {
 
 unfoldable pub emergency_findings : Subject → Progress → ℕ → ℕ → ℕ → Findings
 emergency_findings subject progress micros code register =
-    found None None None
+    found None (late_by subject progress progress.entries.emergencies micros) None
     (emergency_finding subject.limits progress.entries progress.nmt.state (settled_when_free subject progress) progress.emergency micros code register)
     progress.entries.emergencies
 
@@ -221,6 +233,13 @@ odd_emergency_findings progress length = found None None None (length_finding pr
 
 unfoldable pub after_emergency : Progress → ℕ → Progress
 after_emergency progress micros = record progress { nmt = record progress.nmt { booted = None }; emergency = Some micros }
+
+-- by an EMCY of eight bytes a heartbeat may be missing
+abbrev pub emergency_noted : Subject → Progress → ℕ → Progress
+emergency_noted subject progress micros =
+    after_emergency (record progress {
+      heartbeats = said_late progress.heartbeats (late_by subject progress progress.entries.emergencies micros);
+    }) micros
 
 -- ---- the SDO channel
 
@@ -330,18 +349,22 @@ moment_at subject progress micros = record {
   known = settled_when_free subject progress && is_known progress.nmt.state;
 }
 
-abbrev pub sighting_findings : Option Sighting → Findings
-sighting_findings None = nothing_found
-sighting_findings (Some sighting) =
-    found None None None (option_map (λ deviation. PdoFinding sighting.number deviation) sighting.deviation) sighting.judged
+abbrev pub sighting_findings : Option Finding → Option Sighting → Findings
+sighting_findings late None = nothing_found
+sighting_findings late (Some sighting) =
+    found None late None (option_map (λ deviation. PdoFinding sighting.number deviation) sighting.deviation) sighting.judged
+
+abbrev pub sighted : Subject → Progress → ℕ → ℕ → ℕ → Option Sighting
+sighted subject progress micros id length = tpdos.sighting (moment_at subject progress micros) progress.pdos id length
+
+-- by a TPDO a heartbeat may be missing
+abbrev pub late_by_tpdo : Subject → Progress → ℕ → ℕ → ℕ → Option Finding
+late_by_tpdo subject progress micros id length = late_by subject progress (is_some (sighted subject progress micros id length)) micros
 
 -- of a data frame with this identifier and so many bytes
 unfoldable pub process_findings : Subject → Progress → ℕ → ℕ → ℕ → Findings
 process_findings subject progress micros id length =
-    sighting_findings (tpdos.sighting (moment_at subject progress micros) progress.pdos id length)
-
-abbrev pub sighted : Subject → Progress → ℕ → ℕ → ℕ → Option Sighting
-sighted subject progress micros id length = tpdos.sighting (moment_at subject progress micros) progress.pdos id length
+    sighting_findings (late_by_tpdo subject progress micros id length) (sighted subject progress micros id length)
 
 -- what an RPDO may have written is unknown; a TPDO of the device writes nothing
 abbrev pub with_rpdo : Subject → Written → Bool → ℕ → Written
@@ -349,7 +372,8 @@ with_rpdo subject written own id = if own then written else with_process subject
 
 unfoldable pub after_process : Subject → Progress → ℕ → ℕ → ℕ → Progress
 after_process subject progress micros id length = record progress {
-  pdos = tpdos.framed progress.pdos (moment_at subject progress micros) id;
+  heartbeats = said_late progress.heartbeats (late_by_tpdo subject progress micros id length);
+  pdos = tpdos.framed progress.pdos (moment_at subject progress micros) id length;
   written = with_rpdo subject progress.written (is_some (sighted subject progress micros id length)) id;
 }
 
@@ -375,7 +399,7 @@ abbrev pub after_frame : Subject → Progress → ℕ → FrameKind → Progress
 after_frame subject progress micros (Control byte) =
     if byte == 0 then booted subject progress micros else after_control subject progress micros byte
 after_frame subject progress micros (OddControl length) = after_odd_control subject progress micros
-after_frame subject progress micros (Emergency code register) = after_emergency progress micros
+after_frame subject progress micros (Emergency code register) = emergency_noted subject progress micros
 after_frame subject progress micros (OddEmergency length) = after_emergency progress micros
 after_frame subject progress micros (Sdo Server frame) = after_answer subject progress micros frame
 after_frame subject progress micros (Sdo Client frame) = after_sdo subject progress micros Client frame

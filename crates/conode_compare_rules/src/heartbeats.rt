@@ -10,6 +10,7 @@ ghost use Rattle.conode_compare_rules.specs.Heartbeats.{
   no_heartbeat,
   overdue_by,
   is_gap,
+  is_missing,
   follows_closely,
 };
 
@@ -145,6 +146,21 @@ impl Heartbeats {
             return None;
         }
         Some((micros.saturating_sub(since), period))
+    }
+
+    /// Whether the next heartbeat is missing: it hasn't come, and when the bus was free last, twice
+    /// as long had passed as for a late one.
+    #[tactic(auto, unfolding(crate::specs::Heartbeats::is_missing))]
+    pub(crate) fn is_missing(&self, limits: &Limits, entries: &Entries, free: u64) -> bool
+        ensures { result ≡ is_missing limits.now entries.now.period self.now.since free }
+    {
+        match (entries.period, self.since) {
+            (Some(period), Some(since)) => {
+                let allowed = allowance(limits, period);
+                free.saturating_sub(since).saturating_sub(allowed) > allowed
+            }
+            _ => false,
+        }
     }
 
     /// The difference of a frame of the device that is no boot-up, where a heartbeat is late: it

@@ -14,8 +14,9 @@ use crate::progress::Progress;
 use crate::verdict::Findings;
 use conode_compare_pdos::{Moment, Sighting};
 
-fn sighting_findings(sighting: Option<Sighting>) -> Findings
-    ensures { result ≡ sighting_findings sighting }
+// what is found at a PDO, where a heartbeat is late or isn't
+fn sighting_findings(late: Option<Finding>, sighting: Option<Sighting>) -> Findings
+    ensures { result ≡ sighting_findings late sighting }
 {
     match sighting {
         Some(sighting) => {
@@ -23,7 +24,7 @@ fn sighting_findings(sighting: Option<Sighting>) -> Findings
                 Some(deviation) => Some(Finding::Pdo(sighting.number, deviation)),
                 None => None,
             };
-            Findings::of(None, None, None, frame, sighting.judged)
+            Findings::of(None, late, None, frame, sighting.judged)
         }
         None => Findings::none(),
     }
@@ -55,7 +56,7 @@ impl Progress {
     }
 
     /// A data frame that is none of the others comes: a SYNC, or a PDO. Returns what is found at
-    /// it. What an RPDO may have written to the entries that are held is unknown then.
+    /// it: by a TPDO a heartbeat may be missing. What an RPDO may have written to the entries that are held is unknown then.
     #[tactic(auto, unfolding(crate::specs::Progresses::process_findings, crate::specs::Progresses::after_process))]
     pub(crate) fn take_process(
         &mut self,
@@ -69,10 +70,11 @@ impl Progress {
     {
         let moment = self.moment_at(subject, micros);
         let sighting = self.pdos.sighting(&moment, id, length);
-        self.pdos.frame(&moment, id);
+        let late = self.notice_late(subject, sighting.is_some(), micros);
+        self.pdos.frame(&moment, id, length);
         if sighting.is_none() {
             self.written.take_process(&subject.held, id);
         }
-        sighting_findings(sighting)
+        sighting_findings(late, sighting)
     }
 }

@@ -23,6 +23,7 @@ ghost use Rattle.conode_compare_rules.specs.Progresses.{
   control_judged,
   progress_with,
   emergency_findings,
+  emergency_noted,
   entries_heard,
   findings_at,
   findings_in,
@@ -30,6 +31,7 @@ ghost use Rattle.conode_compare_rules.specs.Progresses.{
   heartbeat_findings,
   is_judged,
   is_number_kept,
+  late_by,
   odd_control_findings,
   odd_emergency_findings,
   with_gap,
@@ -39,6 +41,7 @@ ghost use Rattle.conode_compare_rules.specs.Progresses.{
   channel_heard,
   exchange_at,
   late_noted,
+  said_late,
   was_quiet,
   exchange_noted,
 };
@@ -301,6 +304,33 @@ impl Progress {
         )
     }
 
+    /// The difference of an EMCY or a TPDO, where the device's heartbeat is missing; `own`: the
+    /// frame is surely the device's. It isn't said again until the next heartbeat.
+    pub(crate) fn notice_late(
+        &mut self,
+        subject: &Subject,
+        own: bool,
+        micros: u64,
+    ) -> Option<Finding>
+        ensures finding { result ≡ late_by subject.now self.old own micros }
+        ensures progress { self.new ≡ record self.old {
+          heartbeats = said_late self.old.heartbeats (late_by subject.now self.old own micros);
+        } }
+    {
+        let limits = &subject.limits;
+        let is_missing = self.heartbeats.is_missing(limits, &self.entries, self.free);
+        if !(own && is_missing) {
+            return None;
+        }
+        let late = self
+            .heartbeats
+            .late_finding(limits, &self.entries, self.free, micros);
+        if late.is_some() {
+            self.heartbeats.since = None;
+        }
+        late
+    }
+
     // a heartbeat
     #[tactic(auto, unfolding(crate::specs::Progresses::control_findings, crate::specs::Progresses::after_control))]
     fn take_heartbeat(&mut self, subject: &Subject, micros: u64, byte: u8) -> Findings
@@ -359,7 +389,7 @@ impl Progress {
         self.nmt.booted = None;
     }
 
-    // an EMCY
+    // an EMCY, by which a heartbeat may be missing
     #[tactic(auto, unfolding(crate::specs::Progresses::emergency_findings, crate::specs::Progresses::after_emergency))]
     fn take_emergency(
         &mut self,
@@ -369,10 +399,11 @@ impl Progress {
         register: u8,
     ) -> Findings
         ensures findings { result ≡ emergency_findings subject.now self.old micros code register }
-        ensures progress { self.new ≡ after_emergency self.old micros }
+        ensures progress { self.new ≡ emergency_noted subject.now self.old micros }
     {
         let limits = &subject.limits;
         let settled = self.nmt.is_settled(limits, self.started, self.free);
+        let late = self.notice_late(subject, self.entries.emergencies, micros);
         let frame = emergency_finding(
             limits,
             &self.entries,
@@ -384,7 +415,7 @@ impl Progress {
             register,
         );
         self.note_emergency(micros);
-        Findings::of(None, None, None, frame, self.entries.emergencies)
+        Findings::of(None, late, None, frame, self.entries.emergencies)
     }
 
     // an EMCY of another number of bytes than eight

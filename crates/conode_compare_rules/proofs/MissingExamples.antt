@@ -1,0 +1,150 @@
+-- A heartbeat that is missing, by an EMCY and by a TPDO of the device, on both sides of each edge.
+use Rattle.std.proofs.Common.{◌≡◌, ℕ, true, false, [], Option, Some, None, refl}
+use Rattle.conode_compare_pdos.specs.declared.parameters.Parameters.{Parameters}
+use Rattle.conode_compare_pdos.specs.declared.pdos.Pdos.{Pdos}
+use Rattle.conode_compare_pdos.specs.Followed.{sighting, unknown_pdos}
+use Rattle.conode_compare_pdos.specs.Tpdos.{booted_tpdo}
+use Rattle.conode_compare_rules.specs.declared.entries.Entries.{Entries}
+use Rattle.conode_compare_rules.specs.declared.entries.Facts.{Facts}
+use Rattle.conode_compare_rules.specs.declared.finding.Finding.{Finding}
+use Rattle.conode_compare_rules.specs.declared.finding.Finding.TheVariants.{HeartbeatLate}
+use Rattle.conode_compare_rules.specs.declared.finding.NmtState.TheVariants.{Operational}
+use Rattle.conode_compare_rules.specs.declared.kind.FrameKind.{FrameKind}
+use Rattle.conode_compare_rules.specs.declared.kind.FrameKind.TheVariants.{Control, Emergency, OddEmergency, Other, Process}
+use Rattle.conode_compare_rules.specs.declared.limits.Subject.{Subject}
+use Rattle.conode_compare_rules.specs.declared.progress.Progress.{Progress}
+use Rattle.conode_compare_rules.specs.Heartbeats.{is_missing, late_finding, overdue_by}
+use Rattle.conode_compare_rules.specs.Progresses.{
+  after_control,
+  after_emergency,
+  after_process,
+  before_recording,
+  begun,
+  control_findings,
+  emergency_findings,
+  findings_at,
+  heartbeat_findings,
+  moment_at,
+  process_findings,
+  progress_with,
+}
+use Rattle.conode_compare_rules.specs.States.{nothing_commanded}
+use Rattle.conode_compare_rules.specs.Verdicts.{found}
+use Rattle.conode_compare_rules.proofs.Examples.{limits}
+
+-- ---- node 5, whose first TPDO is on 185h, of four bytes and event-driven; 1017:00 has 1000 ms
+
+abbrev event_driven : Parameters
+event_driven = record { id = Some 0x185; kind = Some 255; inhibit = Some 0; timer = Some 0; length = Some 4 }
+
+abbrev sheet : Entries
+sheet = record { period = Some 1000; emergencies = true; inhibit = Some 0; inhibit_shown = None }
+
+abbrev pdos : Pdos
+pdos = record unknown_pdos { first = booted_tpdo event_driven }
+
+abbrev facts : Facts
+facts = record { before = sheet; booted = sheet; pdos = pdos; starts_itself = false; modular = false; stores = false; as_sheet = true }
+
+abbrev subject : Subject
+subject = record {
+  node = 5;
+  limits = limits;
+  facts = facts;
+  held = record { entries = record { items = [] } };
+  rooms = record { strings = None; domains = None };
+}
+
+-- operational, its last heartbeat came at 5 µs, and other frames come up to 1 s
+abbrev waiting : Progress
+waiting = record (before_recording subject) {
+  newest = Some 1000000;
+  free = 1000000;
+  nmt = record nothing_commanded { state = Operational };
+  heartbeats = record { guarded = false; since = Some 5; sent = Some 5 };
+  pdos = pdos;
+}
+
+abbrev found_of : Progress → ℕ → FrameKind → Option Finding
+found_of progress micros kind = (findings_at subject [] progress micros kind).heartbeat
+
+abbrev emergency : FrameKind
+emergency = Emergency 0x8130 0x11
+
+-- ---- by an EMCY: missing after twice 1000 ms, 10 ms and 1 %
+
+by_emergency : found_of waiting 2040006 emergency ≡ Some (HeartbeatLate 2040001 1000)
+unfolding findings_at begun emergency_findings found late_finding overdue_by is_missing
+by_emergency = refl
+
+not_yet : found_of waiting 2040005 emergency ≡ None
+unfolding findings_at begun emergency_findings found late_finding overdue_by is_missing
+not_yet = refl
+
+-- a late one that comes is said with its own stamp; by an EMCY nothing is said yet
+late_itself : found_of waiting 1020006 (Control 5) ≡ Some (HeartbeatLate 1020001 1000)
+unfolding findings_at begun control_findings heartbeat_findings found late_finding overdue_by
+late_itself = refl
+
+-- a TPDO may have its identifier, or 1014:00 isn't known
+of_another : found_of (record waiting { entries = record sheet { emergencies = false } }) 2040006 emergency ≡ None
+unfolding findings_at begun emergency_findings found late_finding overdue_by is_missing
+of_another = refl
+
+-- of another number of bytes than eight: it needn't be the device's
+odd : found_of waiting 2040006 (OddEmergency 0) ≡ None
+unfolding findings_at begun found
+odd = refl
+
+-- ---- by a TPDO
+
+by_tpdo : found_of waiting 2040006 (Process 0x185 4) ≡ Some (HeartbeatLate 2040001 1000)
+unfolding findings_at begun process_findings moment_at sighting found late_finding overdue_by is_missing
+by_tpdo = refl
+
+tpdo_not_yet : found_of waiting 2040005 (Process 0x185 4) ≡ None
+unfolding findings_at begun process_findings moment_at sighting found late_finding overdue_by is_missing
+tpdo_not_yet = refl
+
+-- the bus wasn't free since 1 s: the heartbeat may wait
+waits_for_bus : found_of (record waiting { newest = Some 2040000 }) 2040006 (Process 0x185 4) ≡ None
+unfolding findings_at begun process_findings moment_at sighting found late_finding overdue_by is_missing
+waits_for_bus = refl
+
+-- ---- no other frame says that the device sends: it may be switched off
+
+other_pdo : found_of waiting 2000000 (Process 0x186 4) ≡ None
+unfolding findings_at begun process_findings moment_at sighting
+other_pdo = refl
+
+other_frame : found_of waiting 2000000 Other ≡ None
+unfolding findings_at begun
+other_frame = refl
+
+-- nothing at all was recorded for longer than three periods
+after_gap : found_of waiting 4000001 emergency ≡ None
+unfolding findings_at begun emergency_findings found late_finding overdue_by is_missing
+after_gap = refl
+
+-- ---- once, until the next heartbeat
+
+said_once : found_of (progress_with subject waiting 2040006 emergency) 2500000 emergency ≡ None
+unfolding findings_at progress_with begun after_emergency emergency_findings found late_finding overdue_by is_missing
+said_once = refl
+
+tpdo_once : found_of (progress_with subject waiting 2040006 (Process 0x185 4)) 2500000 (Process 0x185 4) ≡ None
+unfolding findings_at progress_with begun after_process process_findings moment_at sighting found late_finding overdue_by is_missing
+tpdo_once = refl
+
+heartbeat_once : found_of (progress_with subject waiting 2040006 emergency) 2500000 (Control 5) ≡ None
+unfolding findings_at progress_with begun after_emergency control_findings heartbeat_findings found late_finding overdue_by is_missing
+heartbeat_once = refl
+
+said_again : found_of (progress_with subject (progress_with subject waiting 2040006 emergency) 2500000 (Control 5)) 4540001 emergency ≡ Some (HeartbeatLate 2040001 1000)
+unfolding findings_at progress_with begun after_emergency after_control emergency_findings found late_finding overdue_by is_missing
+said_again = refl
+
+-- awaited until then
+still_awaited : (progress_with subject waiting 2040005 emergency).heartbeats.since ≡ Some 5
+unfolding progress_with begun after_emergency late_finding overdue_by is_missing
+still_awaited = refl
