@@ -35,8 +35,8 @@ use Rattle.conode_explain_transfers.specs.declared.ended.Ending.TheVariants.{Int
 use Rattle.conode_explain_transfers.specs.Followed.{closed}
 use Rattle.conode_explain_filter.specs.Changes.{Said}
 use Rattle.conode_explain_filter.specs.declared.kind.Kind.{Kind}
-use Rattle.conode_explain_filter.specs.declared.kind.Kind.TheVariants.{Sdo}
 use Rattle.conode_explain_filter.specs.declared.subject.Subject.{Subject}
+use Rattle.conode_explain_forms.specs.EndLines.{end_json_line}
 use Rattle.conode_explain_forms.specs.JsonLines.{json_line}
 use Rattle.conode_explain_forms.specs.Fields.{field_of}
 use Rattle.conode_explain_forms.specs.Lines.{has_one, header, signal_line}
@@ -149,10 +149,19 @@ first_lines form bus claims place nodes so_far lasts frame told =
     if shows_frame form so_far (subject_by place claims frame) frame.micros
     then line_of form bus claims place nodes so_far lasts frame told else []
 
--- the line of a transfer of a node that ended, where one did and it is asked for
+-- the line of a transfer of a node that ended, as text, perhaps in the colour of its tone, or as an
+-- object of JSON
+abbrev pub end_line_by : LineFormat → Bool → ℕ → Ended → List Part → List ℕ
+end_line_by Text colours node e parts = toned colours (ending_tone e.ending) (line_text parts)
+end_line_by Json colours node e parts = end_json_line node e parts
+
+abbrev pub end_line_as : Layout → ℕ → Ended → List Part → List ℕ
+end_line_as form node e parts = end_line_by form.format form.colours node e parts
+
+-- where one did and it is asked for
 unfoldable pub end_line : Layout → List KnownSheet → SoFar → ℕ → List ℕ → ℕ → Option ChannelIds → Ended → List ℕ
 end_line form sheets so_far micros interface node ids e =
-    line_as form (ending_tone e.ending) Sdo (Some node)
+    end_line_as form node e
     (own_parts form.stamps (times_at so_far micros) (shows_interface so_far interface) interface (ended_words (names_for sheets interface node) node ids e))
 
 abbrev pub ended_lines : Layout → List KnownSheet → SoFar → ℕ → List ℕ → ℕ → Option ChannelIds → Option Ended → List (List ℕ)

@@ -15,8 +15,10 @@ use Rattle.conode_explain_transfers.specs.declared.ended.Ending.TheVariants.{Abo
 use Rattle.conode_explain_transfers.specs.declared.kinds.Side.{Side}
 use Rattle.conode_explain_pdo.specs.declared.claim.Claim.{Claim}
 use Rattle.conode_explain_pdo.specs.Buses.{Bus, names_at}
-use Rattle.conode_explain_entries.specs.Ends.{end_text}
+use Rattle.conode_explain_entries.specs.Ends.{end_text, transfer_text}
 use Rattle.conode_explain_entries.specs.Frames.{after_text, segment_number, segment_text}
+use Rattle.conode_explain_forms.specs.EndedValues.{end_value}
+use Rattle.conode_explain_forms.specs.Refusals.{refusal_note}
 use Rattle.conode_explain.specs.AbortWords.{words_of}
 use Rattle.conode_explain.specs.FrameWords.{words_of_content}
 
@@ -61,6 +63,9 @@ abbrev pub channel_words : Option ChannelIds → List ℕ
 channel_words None = []
 channel_words (Some ids) = codes " channel " ++ digits_text 16 3 ids.request ++ codes "/" ++ digits_text 16 3 ids.answer
 
+-- the node, its channel where that isn't the default one, what was transferred, the value of the entry
+-- where no frame's line has it, how it ended, and a note where our rules refuse it
 unfoldable pub ended_words : Names → ℕ → Option ChannelIds → Ended → List ℕ
 ended_words names node ids e =
-    codes "node " ++ decimal node ++ channel_words ids ++ codes "  " ++ end_text e (name_bytes names node e.key) (ending_words e.ending)
+    codes "node " ++ decimal node ++ channel_words ids ++ codes "  " ++ transfer_text e (name_bytes names node e.key)
+    ++ end_value names node e ++ end_text e (ending_words e.ending) ++ refusal_note names node e

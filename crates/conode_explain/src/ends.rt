@@ -8,10 +8,10 @@ ghost use Rattle.conode_explain_text.specs.SoFar.{shows_interface, times_at};
 ghost use Rattle.conode_explain.specs.Explained.{
   boot_lines,
   end_lines,
+  end_line_as,
   ended_lines,
   interrupted_at,
   interrupted_in,
-  line_as,
   unfinished_in,
   unfinished_on,
 };
@@ -23,8 +23,7 @@ use crate::settings::Settings;
 use crate::told_words::set_ended_words;
 use crate::writes::Room;
 use conode_explain_entries::{ChannelIds, FurtherChannel, Place};
-use conode_explain_filter::Kind;
-use conode_explain_forms::{Tone, ending_tone, own_json_line, put_tone};
+use conode_explain_forms::{end_json_line, ending_tone, put_tone};
 use conode_explain_pdo::names_for;
 use conode_explain_text::{Seen, set_own_line};
 use conode_explain_transfers::{Ended, Ending, Told};
@@ -33,7 +32,7 @@ use conode_record::Record;
 use std::alloc::AllocError;
 use std::io::Write;
 
-// Sets the line to that of an ended transfer, with the words that are said, in a tone.
+// Sets the line to that of a node's transfer that ended, with the words that are said.
 fn set_end_line(
     room: &mut Room,
     seen: &Seen,
@@ -41,9 +40,9 @@ fn set_end_line(
     micros: u64,
     interface: &[u8],
     node: u8,
-    tone: Tone,
+    ended: &Ended,
 ) -> Result<(), AllocError>
-    ensures { OnOk result (room.new.line.items ≡ line_as form.now tone Kind.Sdo (Some node)
+    ensures { OnOk result (room.new.line.items ≡ end_line_as form.now node ended.now
         (own_parts form.now.stamps (times_at seen.now micros)
         (shows_interface seen.now interface.now) interface.now (string_bytes room.old.said))) }
 {
@@ -60,18 +59,19 @@ fn set_end_line(
                 interface,
                 room.said.as_bytes(),
             ));
+            let tone = ending_tone(ended.ending);
             put_tone(room.alloc, &mut room.line, form.colours, tone)
         }
         LineFormat::Json => {
-            room.line = attempt_value!(own_json_line(
+            room.line = attempt_value!(end_json_line(
                 room.alloc,
                 form.stamps,
                 times,
                 shows,
                 interface,
                 room.said.as_bytes(),
-                Kind::Sdo,
-                Some(node),
+                node,
+                ended,
             ));
             Ok(())
         }
@@ -104,15 +104,7 @@ fn write_end<W: Write>(
     }
     let names = names_for(settings.sheets, interface, node);
     attempt_in_memory!(set_ended_words(&mut room.said, names, node, ids, ended));
-    attempt_in_memory!(set_end_line(
-        room,
-        seen,
-        &settings.form,
-        micros,
-        interface,
-        node,
-        ending_tone(ended.ending),
-    ));
+    attempt_in_memory!(set_end_line(room, seen, &settings.form, micros, interface, node, ended));
     hand_over(room.line.as_slice(), out)
 }
 

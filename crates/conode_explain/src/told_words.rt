@@ -21,7 +21,10 @@ use crate::frame_words::set_words;
 use co_sheet_changes::{Names, shown_name};
 use co_text::{push_byte, push_decimal, push_digit};
 use co_value::Key;
-use conode_explain_entries::{ChannelIds, push_after, push_end, push_segment, segment_number};
+use conode_explain_entries::{
+    ChannelIds, push_after, push_end, push_segment, push_transfer, segment_number,
+};
+use conode_explain_forms::{push_end_value, push_refusal};
 use conode_explain_pdo::{Bus, Claim};
 use conode_explain_services::Nodes;
 use conode_explain_transfers::{Ended, Ending, Part, Told};
@@ -154,10 +157,8 @@ pub(crate) fn set_ended_words(
     attempt!(push_decimal(said, node as u64));
     attempt!(push_channel(said, ids));
     attempt!(said.push_str("  "));
-    push_end(
-        said,
-        ended,
-        name_of(names, node, ended.key),
-        ending_words(ended.ending),
-    )
+    attempt!(push_transfer(said, ended, name_of(names, node, ended.key)));
+    attempt!(push_end_value(said, names, node, ended));
+    attempt!(push_end(said, ended, ending_words(ended.ending)));
+    push_refusal(said, names, node, ended)
 }

@@ -152,9 +152,14 @@ unknown_word : word_after (count_written 1 ∷ Written (tpdo1 1) None ∷ []) �
 unfolding assumed_values
 unknown_word = refl
 
-unknown_count : count_after (Written (tpdo1 0) None ∷ count_written 1 ∷ []) ≡ awaiting values.Unknown values.Assumed
+-- of a count that isn't known the mapping isn't either, and isn't being changed
+unknown_count : count_after (Written (tpdo1 0) None ∷ count_written 1 ∷ []) ≡ has values.Unknown values.Assumed
 unfolding assumed_values
 unknown_count = refl
+
+unknown_count_after_none : count_after (Written (tpdo1 0) None ∷ word_written ∷ count_written 0 ∷ []) ≡ has values.Unknown values.Assumed
+unfolding assumed_values
+unknown_count_after_none = refl
 
 -- ---- boot-ups, stored values
 
@@ -282,14 +287,27 @@ unclear = refl
 unclear_size : event_by Download (endings.SizeDiffers 4) (key 0x1A00 1) (1 ∷ []) ≡ Some (Written (tpdo1 1) None)
 unclear_size = refl
 
+unclear_crc : event_by Download (endings.CrcDiffers 1 2) (key 0x1A00 1) (1 ∷ []) ≡ Some (Written (tpdo1 1) None)
+unclear_crc = refl
+
 unclear_upload : event_by Upload endings.Irregular (key 0x1A00 1) (1 ∷ []) ≡ None
 unclear_upload = refl
 
-unanswered : event_by Download endings.Unanswered (key 0x1A00 1) (1 ∷ []) ≡ Some (Written (tpdo1 1) None)
+-- a download without an acknowledge changes nothing: the count keeps what it had
+unanswered : event_by Download endings.Unanswered (key 0x1A00 0) [] ≡ None
 unanswered = refl
 
+asked_again : event_by Download endings.Repeated (key 0x1A00 0) [] ≡ None
+asked_again = refl
+
+interrupted : event_by Download endings.Interrupted (key 0x1A00 0) [] ≡ None
+interrupted = refl
+
+unfinished : event_by Download endings.Unfinished (key 0x1A00 0) [] ≡ None
+unfinished = refl
+
 -- the client gives up; the device refuses
-given_up : event_by Download (endings.Aborted Client (record { 0 = 0x05040000 })) (key 0x1A00 1) (1 ∷ []) ≡ Some (Written (tpdo1 1) None)
+given_up : event_by Download (endings.Aborted Client (record { 0 = 0x05040000 })) (key 0x1A00 0) [] ≡ None
 given_up = refl
 
 refused : event_by Download (endings.Aborted Server (record { 0 = 0x06090030 })) (key 0x1A00 1) (1 ∷ []) ≡ None

@@ -71,14 +71,16 @@ ending_text e ending words = filled (ending_words ending) (seconds_text e.newest
 
 -- ---- the line
 
--- what was transferred, in how many frames, and the time from the first of them to the end; `name` is
--- what its entry is called
+-- its beginning: which way the data went, and of which entry; `name` is what that is called
 unfoldable pub transfer_text : Ended → List ℕ → List ℕ
-transfer_text e name =
-    filled (codes "SDO % % % byte% in % frame%, %: ")
-    (direction_text e.direction ∷ entry_text e.key name ∷ grouped e.bytes ∷ plural e.bytes ∷ grouped e.frames ∷ plural e.frames
-    ∷ seconds_text e.begun e.end ∷ [])
+transfer_text e name = filled (codes "SDO % %") (direction_text e.direction ∷ entry_text e.key name ∷ [])
 
--- the whole line, without its end
-unfoldable pub end_text : Ended → List ℕ → List ℕ → List ℕ
-end_text e name words = transfer_text e name ++ ending_text e e.ending words
+-- how much was transferred, in how many frames, and the time from the first of them to the end
+unfoldable pub count_text : Ended → List ℕ
+count_text e =
+    filled (codes " % byte% in % frame%, %: ")
+    (grouped e.bytes ∷ plural e.bytes ∷ grouped e.frames ∷ plural e.frames ∷ seconds_text e.begun e.end ∷ [])
+
+-- what follows its beginning, or the value that comes after that
+unfoldable pub end_text : Ended → List ℕ → List ℕ
+end_text e words = count_text e ++ ending_text e e.ending words

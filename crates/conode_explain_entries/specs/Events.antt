@@ -8,10 +8,9 @@ use Rattle.conode_explain_transfers.specs.declared.told.Part.{Part}
 use Rattle.conode_explain_transfers.specs.declared.told.Told.{Told}
 use Rattle.conode_explain_transfers.specs.declared.ended.Ended.{Ended}
 use Rattle.conode_explain_transfers.specs.declared.ended.Ending.{Ending}
-use Rattle.conode_explain_transfers.specs.declared.ended.Ending.TheVariants.{Done, Aborted}
+use Rattle.conode_explain_transfers.specs.declared.ended.Ending.TheVariants.{Done, Irregular, SizeDiffers, CrcDiffers}
 use Rattle.conode_explain_transfers.specs.declared.kinds.Direction.{Direction}
 use Rattle.conode_explain_transfers.specs.declared.kinds.Direction.TheVariants.{Download, Upload}
-use Rattle.conode_explain_transfers.specs.declared.kinds.Side.TheVariants.{Server}
 use Rattle.conode_explain_entries.specs.declared.event.Event.{Event}
 use Rattle.conode_explain_entries.specs.declared.event.Event.TheVariants.{Written, Read, BootedUp, Saved, Restored}
 use Rattle.conode_explain_entries.specs.declared.event.PdoEntry.{PdoEntry}
@@ -72,16 +71,17 @@ written_event key bytes =
 abbrev pub read_event : Key → List ℕ → Option Event
 read_event key bytes = option_map (λ of. Read of (number_in key bytes)) (entry_of key)
 
--- a download may have been acknowledged, and its bytes aren't known
+-- a download was acknowledged, and its bytes aren't known
 abbrev pub unclear_event : Key → Option Event
 unclear_event key = option_map (λ of. Written of None) (entry_of key)
 
--- a download may have been taken, and its bytes or its acknowledge are missing in the recording:
--- all but those that are done and those that the device refused
+-- a download was acknowledged, but bytes of it are missing in the recording, or aren't those that were
+-- meant. One that the device refused, or that has no acknowledge, changes nothing
 abbrev pub is_unclear : Ending → Bool
-is_unclear (Done crc) = false
-is_unclear (Aborted Server code) = false
-is_unclear _ = true
+is_unclear Irregular = true
+is_unclear (SizeDiffers indicated) = true
+is_unclear (CrcDiffers came computed) = true
+is_unclear _ = false
 
 abbrev pub download_event : Ending → Key → List ℕ → Option Event
 download_event (Done crc) key bytes = written_event key bytes

@@ -18,7 +18,7 @@ nothing_shown = record { now = assumed_values; stored = assumed_values; is_being
 
 -- ---- a transfer shows a number of an entry
 
--- nothing is known of a write that may have come, or whose data are missing in the recording
+-- nothing is known of a write whose data are missing in the recording
 abbrev pub shown_value : Option ℕ → Value
 shown_value None = values.Unknown
 shown_value (Some number) = values.Seen number
@@ -28,16 +28,16 @@ abbrev pub values_with : PdoValues → PdoPart → Value → PdoValues
 values_with old CobId value = record old { cob_id = value }
 values_with old (Mapping sub) value = record old { mapping = slice_set old.mapping sub value }
 
--- a number of entries other than 0
-abbrev pub is_count : Option ℕ → Bool
-is_count None = false
-is_count (Some number) = not (number == 0)
+-- a number of entries that is known to be 0
+abbrev pub is_no_count : Option ℕ → Bool
+is_no_count None = false
+is_no_count (Some number) = number == 0
 
--- the mapping is being changed once an entry of it is written, and until sub-index 0 is shown with
--- a number of entries
+-- the mapping is being changed once sub-index 0 or a word of it is acknowledged, and until sub-index 0
+-- is shown with a number of entries other than 0; where that number isn't known, the mapping isn't
 abbrev pub changes_written : Bool → PdoPart → Option ℕ → Bool
 changes_written changes CobId number = changes
-changes_written changes (Mapping sub) number = not (sub == 0) || not (is_count number)
+changes_written changes (Mapping sub) number = not (sub == 0) || is_no_count number
 
 -- of those that are read, only sub-index 0 counts
 abbrev pub changes_read : Bool → PdoPart → ℕ → Bool

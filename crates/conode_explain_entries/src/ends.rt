@@ -4,6 +4,7 @@
 ghost use Rattle.std.specs.Prelude.{◌≡◌, ◌++◌, OnOk, string_bytes};
 ghost use Rattle.conode_explain_entries.specs.Ends.{
   aborted_text,
+  count_text,
   crc_text,
   end_text,
   ending_text,
@@ -103,18 +104,30 @@ fn push_ending(
 
 // ---- the line
 
-// what was transferred; `name` is the name of its entry
+/// Appends the beginning of the line of a transfer that ended: `SDO download 2100:00 "Firmware"`.
+/// `name` is the name of its entry, and may be empty.
 #[tactic(auto, unfolding(crate::specs::Ends::transfer_text))]
-fn push_transfer(text: &mut String, ended: &Ended, name: &str) -> Result<(), AllocError>
+pub fn push_transfer(text: &mut String, ended: &Ended, name: &str) -> Result<(), AllocError>
     ensures { OnOk result
         (string_bytes text.new ≡ string_bytes text.old ++ transfer_text ended.now name.now) }
 {
     push_filled(
         text,
-        "SDO % % % byte% in % frame%, %: ",
+        "SDO % %",
+        &[Part::Way(ended.direction), Part::Entry(ended.key, name)],
+    )
+}
+
+// how much was transferred
+#[tactic(auto, unfolding(crate::specs::Ends::count_text))]
+fn push_counts(text: &mut String, ended: &Ended) -> Result<(), AllocError>
+    ensures { OnOk result
+        (string_bytes text.new ≡ string_bytes text.old ++ count_text ended.now) }
+{
+    push_filled(
+        text,
+        " % byte% in % frame%, %: ",
         &[
-            Part::Way(ended.direction),
-            Part::Entry(ended.key, name),
             Part::Grouped(ended.bytes),
             Part::Plural(ended.bytes),
             Part::Grouped(ended.frames),
@@ -124,14 +137,13 @@ fn push_transfer(text: &mut String, ended: &Ended, name: &str) -> Result<(), All
     )
 }
 
-/// Appends the line of a transfer that ended, without a line feed: `SDO download 2100:00 "Firmware"
-/// 1,024 bytes in 150 frames, 0.182 s: done`. `name` is the name of its entry, and `words` is what
-/// its abort code means; each may be empty.
+/// Appends what follows it, or the value of the entry after it, without a line feed: ` 1,024 bytes
+/// in 150 frames, 0.182 s: done`. `words` is what its abort code means, and may be empty.
 #[tactic(auto, unfolding(crate::specs::Ends::end_text))]
-pub fn push_end(text: &mut String, ended: &Ended, name: &str, words: &str) -> Result<(), AllocError>
-    ensures { OnOk result (string_bytes text.new
-        ≡ string_bytes text.old ++ end_text ended.now name.now words.now) }
+pub fn push_end(text: &mut String, ended: &Ended, words: &str) -> Result<(), AllocError>
+    ensures { OnOk result
+        (string_bytes text.new ≡ string_bytes text.old ++ end_text ended.now words.now) }
 {
-    attempt!(push_transfer(text, ended, name));
+    attempt!(push_counts(text, ended));
     push_ending(text, ended, ended.ending, words)
 }

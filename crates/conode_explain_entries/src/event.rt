@@ -23,7 +23,7 @@ ghost use Rattle.conode_explain_entries.specs.Events.{
 
 use co_profile::{IndexRange, PDO_COB_ID, RESTORE_PARAMETERS, STORE_PARAMETERS};
 use co_value::{Key, unsigned_of};
-use conode_explain_transfers::{Direction, Ended, Ending, Side, Told};
+use conode_explain_transfers::{Direction, Ended, Ending, Told};
 
 /// Which entry of a PDO.
 #[derive(Clone, Copy)]
@@ -46,8 +46,8 @@ pub struct PdoEntry {
 /// What happens to the entries of a node.
 #[derive(Clone, Copy)]
 pub enum Event {
-    /// A download to an entry was acknowledged, with this number. `None`: it may have been taken,
-    /// and its bytes or its acknowledge are missing in the recording.
+    /// A download to an entry was acknowledged, with this number. `None`: bytes of it are missing
+    /// in the recording.
     Written { of: PdoEntry, number: Option<u32> },
     /// An upload of an entry was answered with this number.
     Read { of: PdoEntry, number: u32 },
@@ -185,17 +185,18 @@ fn unclear_event(key: Key) -> Option<Event>
     Some(Event::Written { of, number: None })
 }
 
-// whether a download may have been taken, and its bytes or its acknowledge are missing
+// whether a download was acknowledged, and its bytes aren't known
 fn is_unclear(ending: Ending) -> bool
     ensures { result ≡ is_unclear ending }
 {
     match ending {
-        Ending::Done { crc: _ } => false,
-        Ending::Aborted {
-            by: Side::Server,
-            code: _,
-        } => false,
-        _ => true,
+        Ending::Irregular
+        | Ending::SizeDiffers { indicated: _ }
+        | Ending::CrcDiffers {
+            came: _,
+            computed: _,
+        } => true,
+        _ => false,
     }
 }
 

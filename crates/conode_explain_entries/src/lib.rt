@@ -34,7 +34,7 @@ mod numbers;
 mod part;
 mod state;
 
-pub use ends::push_end;
+pub use ends::{push_end, push_transfer};
 pub use entries::{Entries, ShownPdo};
 pub use event::{Event, PdoEntry, PdoPart, event_in};
 pub use frames::{push_after, push_segment, segment_number};

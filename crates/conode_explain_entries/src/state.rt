@@ -5,7 +5,7 @@ ghost use Rattle.conode_explain_entries.specs.Histories.{
   assumed_values,
   changes_read,
   changes_written,
-  is_count,
+  is_no_count,
   nothing_shown,
   shown_value,
   state_read,
@@ -27,7 +27,7 @@ pub enum Value {
     Seen { number: u32 },
     /// This number was stored, and came back with a boot-up.
     Saved { number: u32 },
-    /// It was written, or may have been, and nothing is known of the number.
+    /// It was written, and nothing is known of the number.
     Unknown,
 }
 
@@ -50,8 +50,8 @@ pub struct PdoState {
     pub now: PdoValues,
     /// What comes back with the next boot-up.
     pub stored: PdoValues,
-    /// Whether the mapping was written, and sub-index 0 wasn't shown with a number other than 0
-    /// since.
+    /// Whether a word of the mapping was written, or 0 to sub-index 0, and sub-index 0 wasn't shown
+    /// with another number since.
     pub is_being_changed: bool,
 }
 
@@ -76,11 +76,11 @@ impl Value {
     }
 }
 
-fn is_count(number: Option<u32>) -> bool
-    ensures { result ≡ is_count number }
+fn is_no_count(number: Option<u32>) -> bool
+    ensures { result ≡ is_no_count number }
 {
     match number {
-        Some(number) => number != 0,
+        Some(number) => number == 0,
         None => false,
     }
 }
@@ -90,7 +90,7 @@ fn changes_written(changes: bool, part: PdoPart, number: Option<u32>) -> bool
 {
     match part {
         PdoPart::CobId => changes,
-        PdoPart::Mapping { sub } => sub != 0 || !is_count(number),
+        PdoPart::Mapping { sub } => sub != 0 || is_no_count(number),
     }
 }
 

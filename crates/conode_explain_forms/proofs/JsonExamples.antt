@@ -1,7 +1,8 @@
 -- Lines as objects of JSON, evaluated: each part, and both sides of each edge.
-use Rattle.std.proofs.Common.{◌≡◌, ℕ, true, List, [], ◌∷◌, Some, None, refl}
+use Rattle.std.proofs.Common.{◌≡◌, ℕ, true, false, List, [], ◌∷◌, Some, None, map, refl}
 use Rattle.std.specs.Prelude.{codes}
 use Rattle.std.specs.Fmt.{digits}
+use Rattle.std.specs.List.{flat_map}
 use Rattle.std.specs.Str.{is_utf8, chars}
 use lib.Utf8.{encode}
 use Rattle.json.specs.Token.{begin_array, end_array, key, string, number, boolean}
@@ -11,7 +12,15 @@ use Rattle.conode_record.specs.declared.content.Content.TheVariants.{Data, Remot
 use Rattle.conode_record.specs.declared.fields.Identifier.TheVariants.{Base, Extended, Error}
 use Rattle.conode_record.specs.declared.line.Record.{Record}
 use Rattle.conode_json.specs.Characters.{characters_of, windows_1252}
-use Rattle.conode_explain_filter.specs.declared.kind.Kind.TheVariants.{Sdo, Sync, Pdo, Nmt}
+use Rattle.conode_explain_transfers.specs.declared.ended.Ended.{Ended}
+use Rattle.conode_explain_transfers.specs.declared.ended.Ending.{Ending}
+use Rattle.conode_explain_transfers.specs.declared.ended.Ending.TheVariants.{Done, Aborted, Unanswered, Repeated, Interrupted, Unfinished, Irregular, SizeDiffers, CrcDiffers}
+use Rattle.conode_explain_transfers.specs.declared.kinds.Direction.{Direction}
+use Rattle.conode_explain_transfers.specs.declared.kinds.Direction.TheVariants.{Download, Upload}
+use Rattle.conode_explain_transfers.specs.declared.kinds.Protocol.{Protocol}
+use Rattle.conode_explain_transfers.specs.declared.kinds.Protocol.TheVariants.{Undecided, Expedited, Segmented, Block}
+use Rattle.conode_explain_transfers.specs.declared.kinds.Side.TheVariants.{Client, Server}
+use Rattle.conode_explain_filter.specs.declared.kind.Kind.TheVariants.{Sync, Pdo, Nmt}
 use Rattle.conode_explain_text.specs.declared.so_far.Times.{Times}
 use Rattle.conode_explain_text.specs.declared.stamps.StampForm.TheVariants.{Relative, Absolute, Delta, Date as AsDate}
 use Rattle.conode_explain_text.specs.Dates.{date_in_year, date_of, day_of_year, year_of_cycle}
@@ -19,6 +28,7 @@ use Rattle.conode_explain_text.specs.Lines.{content, gap, identifier, interface,
 use Rattle.conode_explain_text.specs.SoFar.{nothing_seen, seen_with}
 use Rattle.conode_explain_text.specs.Stamps.{date_text, moment_text, time_of_day_text}
 use Rattle.conode_json.specs.Members.{flag_member, number_member, numbers_member, text_member}
+use Rattle.conode_explain_forms.specs.EndLines.{abort_members, end_json_line, end_tokens, protocol_members, result_members, result_name, subject_members}
 use Rattle.conode_explain_forms.specs.JsonLines.{data_members, json_line, kind_members, line_tokens, part_tokens, stamp_member}
 
 -- ---- times
@@ -124,7 +134,52 @@ line_back_on_another : json_line Sync None (line_parts Relative (seen_with nothi
 unfolding sync json_line line_tokens line_parts odd_words stamp_member kind_members data_members numbers_member text_member number_member characters_of is_utf8 chars encode digits_text digits print_from escape_byte
 line_back_on_another = refl
 
-transfer : json_line Sdo (Some 5) (own_parts Relative (times 5 5 6) true (codes "can1") (codes "node 5  done"))
-    ≡ codes "{\"stamp\":1,\"interface\":\"can1\",\"text\":\"node 5  done\",\"kind\":\"sdo\",\"node\":5}\n"
-unfolding times json_line line_tokens own_parts stamp_member kind_members text_member number_member characters_of is_utf8 chars encode digits_text digits print_from escape_byte
-transfer = refl
+-- ---- transfers that ended
+
+-- of 2100:01, from 1 s to 1.182 s
+abbrev transfer : Direction → Protocol → ℕ → Ending → Ended
+transfer direction protocol bytes ending = record {
+  key = record { index = 0x2100; sub = 1 };
+  direction = direction;
+  protocol = protocol;
+  bytes = bytes;
+  first = record { items = [] };
+  frames = 150;
+  begun = 1000000;
+  newest = 1180000;
+  end = 1182000;
+  ending = ending;
+}
+
+done_line : end_json_line 5 (transfer Download Block 1024 (Done true)) (own_parts Relative (times 5 5 6) true (codes "can1") (codes "node 5  done"))
+    ≡ codes "{\"stamp\":1,\"interface\":\"can1\",\"text\":\"node 5  done\",\"kind\":\"sdo\",\"node\":5,\"index\":8448,\"subIndex\":1,\"direction\":\"download\",\"protocol\":\"block\",\"result\":\"done\",\"bytes\":1024,\"frames\":150,\"duration\":182000}\n"
+unfolding times end_json_line end_tokens subject_members result_members own_parts stamp_member kind_members text_member number_member characters_of is_utf8 chars encode digits_text digits print_from escape_byte
+done_line = refl
+
+aborted_line : end_json_line 127 (transfer Upload Undecided 0 (Aborted Server (record { 0 = 0x06020000 }))) (own_parts Relative (times 5 5 5) false (codes "can1") (codes "x"))
+    ≡ codes "{\"stamp\":0,\"text\":\"x\",\"kind\":\"sdo\",\"node\":127,\"index\":8448,\"subIndex\":1,\"direction\":\"upload\",\"result\":\"aborted\",\"bytes\":0,\"frames\":150,\"duration\":182000,\"abortedBy\":\"server\",\"abortCode\":\"06020000\"}\n"
+unfolding times end_json_line end_tokens subject_members result_members own_parts stamp_member kind_members text_member number_member characters_of is_utf8 chars encode digits_text digits print_from escape_byte
+aborted_line = refl
+
+by_the_client : abort_members (Aborted Client (record { 0 = 0x0504000A }))
+    ≡ key (codes "abortedBy") ∷ string (codes "client") ∷ key (codes "abortCode") ∷ string (codes "0504000A") ∷ []
+unfolding text_member digits_text
+by_the_client = refl
+
+protocols : flat_map protocol_members (Undecided ∷ Expedited ∷ Segmented ∷ Block ∷ [])
+    ≡ key (codes "protocol") ∷ string (codes "expedited") ∷ key (codes "protocol") ∷ string (codes "segmented") ∷ key (codes "protocol") ∷ string (codes "block") ∷ []
+unfolding text_member
+protocols = refl
+
+results : map result_name (Done false ∷ Aborted Client (record { 0 = 0 }) ∷ Unanswered ∷ Repeated ∷ Interrupted ∷ Unfinished ∷ Irregular ∷ SizeDiffers 1 ∷ CrcDiffers 1 2 ∷ [])
+    ≡ codes "done" ∷ codes "aborted" ∷ codes "unanswered" ∷ codes "repeated" ∷ codes "interrupted" ∷ codes "unfinished" ∷ codes "irregular" ∷ codes "sizeDiffers" ∷ codes "crcDiffers" ∷ []
+results = refl
+
+not_aborted : flat_map abort_members (Done false ∷ Unanswered ∷ SizeDiffers 1 ∷ []) ≡ []
+not_aborted = refl
+
+-- an end with an earlier stamp than the beginning; a number that readers may not keep
+of_no_time : result_members (record { key = record { index = 0; sub = 0 }; direction = Upload; protocol = Block; bytes = 9007199254740992; first = record { items = [] }; frames = 1; begun = 2; newest = 2; end = 1; ending = Unfinished })
+    ≡ key (codes "result") ∷ string (codes "unfinished") ∷ key (codes "bytes") ∷ string (codes "9007199254740992") ∷ key (codes "frames") ∷ number (codes "1") ∷ key (codes "duration") ∷ number (codes "0") ∷ []
+unfolding result_members text_member number_member digits
+of_no_time = refl

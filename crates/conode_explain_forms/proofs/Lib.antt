@@ -1,3 +1,4 @@
+mod EndExamples
 pub mod Examples
 pub mod JsonExamples
 pub mod JsonLemmas

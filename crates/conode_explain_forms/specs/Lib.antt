@@ -1,7 +1,10 @@
+pub mod EndLines
+pub mod EndedValues
 pub mod Fields
 pub mod JsonLines
 pub mod Lines
 pub mod Places
+pub mod Refusals
 pub mod Stamps
 pub mod Tones
 pub mod Words

@@ -83,20 +83,20 @@ fn push_value_field(
     push_value(text, value_type, bits, bytes)
 }
 
-fn is_done(ending: Ending) -> bool
+pub(crate) fn is_done(ending: Ending) -> bool
     ensures { result ≡ is_done ending }
 {
     matches!(ending, Ending::Done { crc: _ })
 }
 
-fn is_expedited(protocol: Protocol) -> bool
+pub(crate) fn is_expedited(protocol: Protocol) -> bool
     ensures { result ≡ is_expedited protocol }
 {
     matches!(protocol, Protocol::Expedited)
 }
 
 // the first bytes, all if there are fewer
-fn first_bytes(bytes: &[u8], count: usize) -> &[u8]
+pub(crate) fn first_bytes(bytes: &[u8], count: usize) -> &[u8]
     ensures bytes { result.now ≡ take count bytes.now }
     ensures few { length result.now ≤ length bytes.now }
 {

@@ -9,7 +9,6 @@ ghost use Rattle.conode_explain_text.specs.Lines.{
   interface_parts,
   line_parts,
   notes,
-  own_parts,
   said,
   stamp,
 };
@@ -51,7 +50,7 @@ fn stamp_number(form: StampForm, times: Times) -> Option<i128>
 }
 
 #[tactic(auto, unfolding(crate::specs::JsonLines::stamp_member))]
-fn put_stamp(
+pub(crate) fn put_stamp(
     alloc: Global,
     writer: &mut JsonWriter,
     text: &mut String,
@@ -76,7 +75,11 @@ fn put_gap(alloc: Global, writer: &mut JsonWriter, times: Times) -> Result<(), A
     writer.put_number(alloc, "gap", between(times.before, times.now))
 }
 
-fn put_said(alloc: Global, writer: &mut JsonWriter, words: &[u8]) -> Result<(), AllocError>
+pub(crate) fn put_said(
+    alloc: Global,
+    writer: &mut JsonWriter,
+    words: &[u8],
+) -> Result<(), AllocError>
     ensures { OnOk result (writer.new ≡ writer.old ++ part_tokens (said words.now)) }
 {
     writer.put_bytes(alloc, "text", words)
@@ -93,7 +96,7 @@ fn put_notes(writer: &mut JsonWriter, times: Times) -> Result<(), AllocError>
 }
 
 #[tactic(auto, unfolding(crate::specs::JsonLines::kind_members))]
-fn put_kind(
+pub(crate) fn put_kind(
     alloc: Global,
     writer: &mut JsonWriter,
     kind: Kind,
@@ -189,65 +192,6 @@ pub fn json_line(
         form,
         seen,
         frame,
-        words,
-        kind,
-        node,
-    ));
-    writer.into_text()
-}
-
-// the tokens of a line of its own in the order in which they are written
-fn put_own_line(
-    alloc: Global,
-    writer: &mut JsonWriter,
-    text: &mut String,
-    form: StampForm,
-    times: Times,
-    shows: bool,
-    name: &[u8],
-    words: &[u8],
-    kind: Kind,
-    node: Option<u8>,
-) -> Result<(), AllocError>
-    ensures { OnOk result (writer.new ≡ writer.old ++ begin_object ∷ []
-        ++ part_tokens (stamp form times)
-        ++ flat_map part_tokens (interface_parts shows name.now) ++ part_tokens (said words.now)
-        ++ kind_members kind node ++ end_object ∷ []) }
-{
-    attempt!(writer.begin_object());
-    attempt!(put_stamp(alloc, writer, text, form, times));
-    attempt!(put_interface(writer, text, shows, name));
-    attempt!(put_said(alloc, writer, words));
-    attempt!(put_kind(alloc, writer, kind, node));
-    writer.end_object()
-}
-
-/// A line of its own with these words, between those of frames, in the same form: the stamp of a
-/// frame, its interface, where it `shows`, the words, the kind and the node. On an `Err` memory ran
-/// out.
-pub fn own_json_line(
-    alloc: Global,
-    form: StampForm,
-    times: Times,
-    shows: bool,
-    name: &[u8],
-    words: &[u8],
-    kind: Kind,
-    node: Option<u8>,
-) -> Result<Vec<u8>, AllocError>
-    ensures { IfOk result (λ line. line.items
-        ≡ json_line kind node (own_parts form times shows name.now words.now)) }
-{
-    let mut text = String::new(alloc);
-    let mut writer = JsonWriter::new(alloc);
-    attempt!(put_own_line(
-        alloc,
-        &mut writer,
-        &mut text,
-        form,
-        times,
-        shows,
-        name,
         words,
         kind,
         node,

@@ -24,19 +24,25 @@ macro_rules! attempt_value {
 }
 
 mod columns;
+mod end_lines;
+mod ended_value;
 mod fields;
 mod json_content;
 mod json_lines;
 mod kind_name;
 mod lines;
 mod places;
+mod refusal;
 mod signal;
 mod stamps;
 mod tones;
 
 pub use columns::{first_missing, header};
-pub use json_lines::{json_line, own_json_line};
+pub use end_lines::end_json_line;
+pub use ended_value::push_end_value;
+pub use json_lines::json_line;
 pub use lines::set_signal_line;
 pub use places::{SheetChannel, channels_of, place_of, read_as};
+pub use refusal::{Refusal, push_refusal};
 pub use signal::{Signal, SignalFault};
 pub use tones::{Tone, data_of, ending_tone, frame_tone, put_tone};
