@@ -311,7 +311,7 @@ third : sighting (at 5) (record unknown_pdos { third = tpdo }) 0x188 4 ≡ Some 
 unfolding sighting deviation_at time_deviation
 third = refl
 
-third_short : sighting (at 5) (record unknown_pdos { third = tpdo }) 0x188 3 ≡ Some (record { number = 3; deviation = Some (Length 3 4); judged = true })
+third_short : sighting (at 5) (record unknown_pdos { third = tpdo }) 0x188 3 ≡ Some (record { number = 3; deviation = Some (Length 3 4); judged = false })
 unfolding sighting deviation_at time_deviation
 third_short = refl
 
@@ -321,7 +321,7 @@ unfolding sighting deviation_at time_deviation
 shared_short = refl
 
 beside_others : sighting (at 5) (record unknown_pdos { second = record tpdo { parameters = record event_driven { id = Some 0x288 } }; third = tpdo }) 0x188 3
-    ≡ Some (record { number = 3; deviation = Some (Length 3 4); judged = true })
+    ≡ Some (record { number = 3; deviation = Some (Length 3 4); judged = false })
 unfolding sighting deviation_at time_deviation
 beside_others = refl
 
