@@ -49,7 +49,7 @@ use Rattle.conode_explain_transfers.specs.Stages.{confirmed_with}
 use Rattle.conode_explain_transfers.specs.Transfers.{Turn, after, awaited_number, unexpected, is_download}
 use Rattle.conode_explain_transfers.specs.Turns.{response_turn}
 use Rattle.conode_explain_laws.proofs.Readings.{Abort, Begin, Nothing, Reading, Request, Response, Segment, beginning, follows_by, plain_reading, reading_of, response_reading, segment_reading, turn_of}
-use Rattle.conode_explain_laws.proofs.Follows.{unawaited}
+use Rattle.conode_explain_laws.proofs.Follows.{none_of_server}
 use Rattle.conode_explain_laws.proofs.UploadBlocks.{no_abort}
 use Rattle.conode_explain_laws.proofs.Views.{is_begin, server_no_begin}
 use Rattle.conode_compare_transfers.specs.declared.dialogue.Dialogue.{Dialogue}
@@ -310,7 +310,7 @@ settles heard (Some t) micros bytes b a l = by (is_in_sub_block t.stage) (is_sen
     by : (x y : Bool) → is_in_sub_block t.stage ≡ x → is_sender t.direction Server ≡ y → Settles (follows_by heard (Some t) (reading_of (Some t) Server micros bytes) micros Server bytes)
     by true true e f = inr (inside_at heard (Some t) micros bytes (record { stage = e; sender = f }) a).awaits
     by true false e f = rw (inside_awaits t.stage t.direction t.protocol e, f) (looked heard t micros bytes b l)
-    by false y e f = rw (unawaited t.stage t.direction t.protocol e) (looked heard t micros bytes b l)
+    by false y e f = rw (none_of_server t.stage t.direction t.protocol e) (looked heard t micros bytes b l)
 
 first_next : (answer started : ℕ) (d : Dialogue) (micros : ℕ) (frame : FrameContent) → is_abort_in_sub_block frame.bytes ≡ false → Looks frame.bytes → Quiet d → InBurst (dialogue_heard answer started d micros Server frame)
 first_next answer started d micros frame a l (inl none) = inl (newest_stays answer started d micros frame none)

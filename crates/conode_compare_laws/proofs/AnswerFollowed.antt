@@ -35,13 +35,14 @@ use Rattle.conode_explain_transfers.specs.declared.transfer.Transfer.{Transfer}
 use Rattle.conode_explain_transfers.specs.BlockTurns.{is_block}
 use Rattle.conode_explain_transfers.specs.Endings.{ended, verdict}
 use Rattle.conode_explain_transfers.specs.Followed.{Followed, Following, followed, one_more, turns_at, with_frame}
-use Rattle.conode_explain_transfers.specs.Readings.{awaits_segment, is_sender, may_have_segment}
+use Rattle.conode_explain_transfers.specs.Readings.{awaits_segment, is_sender, may_have_segment, is_in_sub_block}
 use Rattle.conode_explain_transfers.specs.Stages.{confirmed_with}
 use Rattle.conode_explain_transfers.specs.Initiates.{initiate_of}
 use Rattle.conode_explain_transfers.specs.Transfers.{Turn, after, begun}
 use Rattle.conode_explain_laws.specs.Downloads.{is_block_begin}
 use Rattle.conode_explain_transfers.specs.Turns.{request_turn, response_turn}
 use Rattle.conode_explain_laws.proofs.Begins.{response_is}
+use Rattle.conode_explain_laws.proofs.Follows.{none_of_server}
 use Rattle.conode_explain_laws.proofs.Kept.{Keeps, keeps}
 use Rattle.conode_explain_laws.proofs.Readings.{Reading, Segment, Begin, Abort, Request, Response, Nothing, begun_with, request_reading, response_reading, plain_reading, beginning, segment_reading, reading_of, turn_of, follows_by, same as same_reading}
 use Rattle.conode_explain_laws.proofs.Views.{abort_is, is_abort_reading, is_begin, server_no_begin}
@@ -398,7 +399,7 @@ part_read heard t bytes response micros plain stage read part =
     ∙ part
   where
     first : t.stage ≡ Initiated → reading_of (Some t) Server micros bytes ≡ response_reading (response_in bytes)
-    first e = rw e refl
+    first e = rw (none_of_server t.stage t.direction t.protocol (ap is_in_sub_block e)) refl
 
 pub segmented_upload : (heard : Bool) (key : Key) (size : ℕ) (micros : ℕ) (frame : List ℕ) → key.index < 65536
     → says_of heard (begun (initiate_of key Upload Undecided) micros frame) micros (response_bytes (UploadInitiated key (Some size))) ≡ what.Part

@@ -155,16 +155,16 @@ pub begun_by : (current : Option Transfer) (micros : ℕ) (frame : List ℕ) (ne
 begun_by current micros frame new h = begun_request frame micros new (request_in frame) refl (plain_is current micros frame new h)
 
 -- outside a sub-block no segment is awaited of the server
-pub unawaited : (stage : Stage) (direction : Direction) (protocol : Protocol) → is_in_sub_block stage ≡ false
+pub none_of_server : (stage : Stage) (direction : Direction) (protocol : Protocol) → is_in_sub_block stage ≡ false
     → (if may_have_segment stage direction protocol then is_sender direction Server else false) ≡ false
-unawaited Initiated Upload protocol h = refl
-unawaited Initiated Download protocol h = by (is_block protocol)
+none_of_server Initiated Upload protocol h = refl
+none_of_server Initiated Download protocol h = by (is_block protocol)
   where
     by : (block : Bool) → (if block then false else false) ≡ false
     by true = refl
     by false = refl
-unawaited (SubBlock last) direction protocol h = absurd (false≢true (sym h))
-unawaited _ direction protocol h = refl
+none_of_server (SubBlock last) direction protocol h = absurd (false≢true (sym h))
+none_of_server _ direction protocol h = refl
 
 -- the server's frames are no segments in a download
 pub response_read : (t : Transfer) (micros : ℕ) (frame : List ℕ) → t.direction ≡ Download → reading_of (Some t) Server micros frame ≡ response_reading (response_in frame)

@@ -44,7 +44,7 @@ use Rattle.conode_explain_laws.specs.Downloads.{Complete, is_block_begin, if_don
 use Rattle.conode_explain_laws.specs.Uploads.{is_upload, Read, ended_by, read_served}
 use Rattle.conode_explain_laws.proofs.Readings.{Reading, Segment, Begin, Abort, Request, Response, Nothing, request_reading, response_reading, plain_reading, sub_block_reading, reading_of, turn_of}
 use Rattle.conode_explain_laws.proofs.Views.{View, Closes, no_write, is_begin}
-use Rattle.conode_explain_laws.proofs.Follows.{begun_by, client_no_response, is_response, request_spoils}
+use Rattle.conode_explain_laws.proofs.Follows.{begun_by, client_no_response, is_response, request_spoils, segment_spoils}
 use Rattle.conode_explain_laws.proofs.Begins.{outside_answers, outside_opens, write_of}
 use Rattle.conode_explain_laws.proofs.Exchanges.{same_toggle}
 use Rattle.conode_explain_laws.proofs.UploadViews.{holds, read_as, hears, hears_answers, begin_writes, abort_closes, turned, IsAside, KnowsAside, aside_turn, aside_reads, aside_answers}
@@ -468,7 +468,7 @@ asked_reads Loose micros frame heard t got done count (Abort code) l h n m = rec
   holds = tt;
   same = ap (λ w. w ++ done) (no_write (is_upload t.direction) _ refl);
 }
-asked_reads Loose micros frame heard t got done count (Segment segment) l h n m = aside_turn Loose micros Client frame heard t got done count (Segment segment) (inl (l, rw h refl))
+asked_reads Loose micros frame heard t got done count (Segment segment) l h n m = aside_turn Loose micros Client frame heard t got done count (Segment segment) (inl (l, segment_spoils t segment h))
 asked_reads Loose micros frame heard t got done count (Request request) l h n m = aside_turn Loose micros Client frame heard t got done count (Request request) (inl (l, request_spoils t request frame h))
 asked_reads Loose micros frame heard t got done count Nothing l h n m = aside_turn Loose micros Client frame heard t got done count Nothing (inl (l, refl))
 
