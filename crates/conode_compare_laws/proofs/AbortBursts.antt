@@ -25,6 +25,8 @@ use Rattle.co_dict.specs.Rows.{Contents, Rows}
 use Rattle.co_dict.specs.Stores.{Description}
 use Rattle.co_sdo.specs.declared.stage.Stage.{Stage}
 use Rattle.co_sdo.specs.declared.stage.Stage.TheVariants.{Download as Receiving, Upload as Uploading, SubBlock as InSubBlock, LastTaken, BlockUploadInitiated as Begun, BlockUpload, BlockUploadEnded}
+use Rattle.conode_explain_transfers.specs.declared.kinds.Direction.{Direction}
+use Rattle.conode_explain_transfers.specs.declared.kinds.Protocol.{Protocol}
 use Rattle.co_sdo.specs.Log.{Answer, Log, Response as Replied, Segment as Sent, answer_bytes, frames_on}
 use Rattle.co_sdo.specs.Opened.{OpenTransfer, opened_after}
 use Rattle.co_sdo.specs.OpenTransfers.{is_initiate as initiates}
@@ -37,16 +39,17 @@ use Rattle.conode_explain_transfers.specs.declared.kinds.Side.TheVariants.{Clien
 use Rattle.conode_explain_transfers.specs.declared.kinds.What.{What}
 use Rattle.conode_explain_transfers.specs.declared.kinds.What.TheVariants as what
 use Rattle.conode_explain_transfers.specs.declared.stage.Stage.{Stage as Progressed}
-use Rattle.conode_explain_transfers.specs.declared.stage.Stage.TheVariants.{SubBlock, UploadAsked, UploadTaken}
+use Rattle.conode_explain_transfers.specs.declared.stage.Stage.TheVariants.{SubBlock, UploadAsked, UploadTaken, Initiated}
 use Rattle.conode_explain_transfers.specs.declared.transfer.Transfer.{Transfer}
-use Rattle.conode_explain_transfers.specs.BlockTurns.{block_segment_at, segment_added, segment_again, segment_ahead}
+use Rattle.conode_explain_transfers.specs.BlockTurns.{block_segment_at, segment_added, segment_again, segment_ahead, segment_first, is_block}
 use Rattle.conode_explain_transfers.specs.Followed.{Followed, Following, turns_at, with_frame}
-use Rattle.conode_explain_transfers.specs.Readings.{is_in_sub_block, is_sender}
+use Rattle.conode_explain_transfers.specs.Readings.{is_in_sub_block, is_sender, may_have_segment}
 use Rattle.conode_explain_transfers.specs.SegmentedTurns.{upload_segment_at}
 use Rattle.conode_explain_transfers.specs.Stages.{confirmed_with}
-use Rattle.conode_explain_transfers.specs.Transfers.{Turn, after, awaited_number, unexpected}
+use Rattle.conode_explain_transfers.specs.Transfers.{Turn, after, awaited_number, unexpected, is_download}
 use Rattle.conode_explain_transfers.specs.Turns.{response_turn}
 use Rattle.conode_explain_laws.proofs.Readings.{Abort, Begin, Nothing, Reading, Request, Response, Segment, beginning, follows_by, plain_reading, reading_of, response_reading, segment_reading, turn_of}
+use Rattle.conode_explain_laws.proofs.Follows.{none_of_server}
 use Rattle.conode_explain_laws.proofs.UploadBlocks.{no_abort}
 use Rattle.conode_explain_laws.proofs.Views.{is_begin, server_no_begin}
 use Rattle.conode_compare_transfers.specs.declared.dialogue.Dialogue.{Dialogue}
@@ -201,6 +204,7 @@ module _ (t : Transfer) (h : Awaits t) where
   segments (SubBlock false) one =
       either_awaits (nat_lt one.sequence t.next_number) (segment_again t one) _ (record { stage = h.stage; sender = h.sender })
       (either_awaits (one.sequence == awaited_number t) (segment_added t one) (segment_ahead t one) (record { stage = refl; sender = h.sender }) (record { stage = h.stage; sender = h.sender }))
+  segments Initiated one = either_awaits (is_download t.direction && is_block t.protocol) (segment_first t one) (unexpected t) (record { stage = refl; sender = h.sender }) same
   segments _ one = same
 
 -- a segment, or none of the open transfer
@@ -235,8 +239,12 @@ segment_read block_size (Some one) otherwise h = by (nat_le one.sequence block_s
     by true = refl
     by false = h
 
+inside_awaits : (stage : Progressed) (direction : Direction) (protocol : Protocol) → is_in_sub_block stage ≡ true → may_have_segment stage direction protocol ≡ true
+inside_awaits (SubBlock last) direction protocol h = refl
+inside_awaits _ direction protocol h = absurd (false≢true h)
+
 read_inside : (t : Transfer) (micros : ℕ) (bytes : List ℕ) → Awaits t → is_abort_in_sub_block bytes ≡ false → is_segment (reading_of (Some t) Server micros bytes) ≡ true
-read_inside t micros bytes h a = rw (h.stage, h.sender, a) (segment_read t.block_size (block_segment_in bytes) (beginning (plain_reading Server micros bytes)) (none_begins (response_in bytes)))
+read_inside t micros bytes h a = rw (inside_awaits t.stage t.direction t.protocol h.stage, h.sender, a) (segment_read t.block_size (block_segment_in bytes) (beginning (plain_reading Server micros bytes)) (none_begins (response_in bytes)))
 
 inside_at : (heard : Bool) (o : Option Transfer) (micros : ℕ) (bytes : List ℕ) → IfSome o Awaits → is_abort_in_sub_block bytes ≡ false → Inside (follows_by heard o (reading_of o Server micros bytes) micros Server bytes)
 inside_at heard None micros bytes h a = passed heard (reading_of None Server micros bytes) micros bytes (server_no_begin None micros bytes)
@@ -301,8 +309,8 @@ settles heard (Some t) micros bytes b a l = by (is_in_sub_block t.stage) (is_sen
   where
     by : (x y : Bool) → is_in_sub_block t.stage ≡ x → is_sender t.direction Server ≡ y → Settles (follows_by heard (Some t) (reading_of (Some t) Server micros bytes) micros Server bytes)
     by true true e f = inr (inside_at heard (Some t) micros bytes (record { stage = e; sender = f }) a).awaits
-    by true false e f = rw (e, f) (looked heard t micros bytes b l)
-    by false y e f = rw e (looked heard t micros bytes b l)
+    by true false e f = rw (inside_awaits t.stage t.direction t.protocol e, f) (looked heard t micros bytes b l)
+    by false y e f = rw (none_of_server t.stage t.direction t.protocol e) (looked heard t micros bytes b l)
 
 first_next : (answer started : ℕ) (d : Dialogue) (micros : ℕ) (frame : FrameContent) → is_abort_in_sub_block frame.bytes ≡ false → Looks frame.bytes → Quiet d → InBurst (dialogue_heard answer started d micros Server frame)
 first_next answer started d micros frame a l (inl none) = inl (newest_stays answer started d micros frame none)

@@ -32,6 +32,7 @@ use Rattle.conode_explain_transfers.specs.Stages.{confirmed_with}
 use Rattle.conode_explain_transfers.specs.Transfers.{Turn, after}
 use Rattle.conode_explain_transfers.specs.Turns.{response_turn}
 use Rattle.conode_explain_laws.proofs.Views.{is_begin}
+use Rattle.conode_explain_laws.proofs.Follows.{none_of_server}
 use Rattle.conode_explain_laws.proofs.Readings.{Reading, Begin, Abort, Response, follows_by, reading_of, response_reading}
 use Rattle.conode_compare_transfers.specs.declared.breach.Breach.TheVariants.{AbortKey, Size}
 use Rattle.conode_compare_transfers.specs.declared.newest.Newest.{Newest}
@@ -184,7 +185,7 @@ came_goes t toggle segment last frame e = rw (e, same_toggle toggle) (record { p
 -- ---- what the channel answers to segments
 
 outside_reading : (t : Transfer) (micros : ℕ) (bytes : List ℕ) → is_in_sub_block t.stage ≡ false → reading_of (Some t) Server micros bytes ≡ response_reading (response_in bytes)
-outside_reading t micros bytes off = rw off refl
+outside_reading t micros bytes off = rw (none_of_server t.stage t.direction t.protocol off) refl
 
 pub response_fine : (heard : Bool) (t : Transfer) (response : SdoResponse) (micros : ℕ) (frame : FrameContent) → is_in_sub_block t.stage ≡ false → response_reading (response_in frame.bytes) ≡ Response response → GoesFine (response_turn t response frame.bytes)
     → Fine frame (reads (record { heard = heard; transfer = Some t }) micros Server frame.bytes).says

@@ -23,7 +23,7 @@ use Rattle.conode_explain_transfers.specs.declared.kinds.What.TheVariants as wha
 use Rattle.conode_explain_transfers.specs.declared.stage.Stage.{Stage}
 use Rattle.conode_explain_transfers.specs.declared.stage.Stage.TheVariants.{AllAcknowledged, BlockEnded, BlockInitiated, Confirmed, DownloadConfirmed, DownloadSent, Initiated, SubBlock, UploadAsked, UploadTaken}
 use Rattle.conode_explain_transfers.specs.declared.transfer.Transfer.{Transfer}
-use Rattle.conode_explain_transfers.specs.BlockTurns.{acknowledged, block_ended, block_ended_at, block_segment_at, crc_in, end_confirmed, is_block, segment_added, segment_again, segment_ahead}
+use Rattle.conode_explain_transfers.specs.BlockTurns.{acknowledged, block_ended, block_ended_at, block_segment_at, crc_in, end_confirmed, is_block, segment_added, segment_again, segment_ahead, segment_first}
 use Rattle.conode_explain_transfers.specs.Endings.{size_fault, size_verdict, verdict}
 use Rattle.conode_explain_transfers.specs.Followed.{Followed, turns_at, with_frame}
 use Rattle.conode_explain_transfers.specs.SegmentedTurns.{answering, segment_done_at, upload_segment_at}
@@ -31,6 +31,7 @@ use Rattle.conode_explain_transfers.specs.Stages.{confirmed_with, is_initiated}
 use Rattle.conode_explain_transfers.specs.Transfers.{Turn, after, awaited_number, is_download, overtaken, unexpected}
 use Rattle.conode_explain_transfers.specs.Turns.{response_turn}
 use Rattle.conode_explain_laws.proofs.Kept.{keeps}
+use Rattle.conode_explain_laws.proofs.Follows.{segment_spoils}
 use Rattle.conode_explain_laws.proofs.Readings.{Abort, Begin, Nothing, Reading, Request, Response, Segment, follows_by, reading_of, turn_of}
 use Rattle.conode_explain_laws.proofs.UploadViews.{hears}
 use Rattle.conode_explain_laws.proofs.Views.{View, abort_is, is_abort_reading, is_begin, server_no_begin}
@@ -208,7 +209,7 @@ module _ (t : Transfer) (bytes : List ℕ) (up : is_download t.direction ≡ fal
   first_leads : (reading : Reading) → is_begin reading ≡ false → is_request reading ≡ false → t.stage ≡ Initiated → t.size ≡ None → Leads (turn_of t reading bytes).transfer
   first_leads (Begin new) b q s n = absurd (false≢true (sym b))
   first_leads (Request request) b q s n = absurd (false≢true (sym q))
-  first_leads (Segment segment) b q s n = spoilt _ (ap (λ x. (block_segment_at x t segment).transfer.irregular) s)
+  first_leads (Segment segment) b q s n = spoilt _ (segment_spoils t segment s)
   first_leads (Response response) b q s n = first_response response s n
   first_leads (Abort code) b q s n = spoilt _ refl
   first_leads Nothing b q s n = spoilt _ refl
@@ -248,6 +249,7 @@ module _ (t : Transfer) (bytes : List ℕ) (up : is_download t.direction ≡ fal
   block_leads (SubBlock false) segment c =
       either (nat_lt segment.sequence t.next_number) (segment_again t segment) _ (spoilt _ refl)
       (either (segment.sequence == awaited_number t) (segment_added t segment) (segment_ahead t segment) (rests (calm refl)) (rests (calm c)))
+  block_leads Initiated segment c = either (is_download t.direction && is_block t.protocol) (segment_first t segment) (unexpected t) (spoilt _ refl) (spoilt _ refl)
   block_leads _ segment c = spoilt _ refl
 
   calm_response : (response : SdoResponse) → is_calm t.stage ≡ true → Leads (response_turn t response bytes).transfer

@@ -23,6 +23,7 @@ use Rattle.co_sdo_laws.proofs.Frames.{done_read, expedited_sent_read}
 use Rattle.conode_explain_transfers.specs.declared.ended.Ended.{Ended}
 use Rattle.conode_explain_transfers.specs.declared.kinds.Direction.{Direction}
 use Rattle.conode_explain_transfers.specs.declared.kinds.Direction.TheVariants.{Download, Upload}
+use Rattle.conode_explain_transfers.specs.declared.kinds.Protocol.{Protocol}
 use Rattle.conode_explain_transfers.specs.declared.kinds.Protocol.TheVariants.{Block, Expedited, Segmented, Undecided}
 use Rattle.conode_explain_transfers.specs.declared.kinds.Side.{Side}
 use Rattle.conode_explain_transfers.specs.declared.kinds.Side.TheVariants.{Client, Server}
@@ -34,13 +35,14 @@ use Rattle.conode_explain_transfers.specs.declared.transfer.Transfer.{Transfer}
 use Rattle.conode_explain_transfers.specs.BlockTurns.{is_block}
 use Rattle.conode_explain_transfers.specs.Endings.{ended, verdict}
 use Rattle.conode_explain_transfers.specs.Followed.{Followed, Following, followed, one_more, turns_at, with_frame}
-use Rattle.conode_explain_transfers.specs.Readings.{awaits_segment, is_in_sub_block, is_sender}
+use Rattle.conode_explain_transfers.specs.Readings.{awaits_segment, is_sender, may_have_segment, is_in_sub_block}
 use Rattle.conode_explain_transfers.specs.Stages.{confirmed_with}
 use Rattle.conode_explain_transfers.specs.Initiates.{initiate_of}
 use Rattle.conode_explain_transfers.specs.Transfers.{Turn, after, begun}
 use Rattle.conode_explain_laws.specs.Downloads.{is_block_begin}
 use Rattle.conode_explain_transfers.specs.Turns.{request_turn, response_turn}
 use Rattle.conode_explain_laws.proofs.Begins.{response_is}
+use Rattle.conode_explain_laws.proofs.Follows.{none_of_server}
 use Rattle.conode_explain_laws.proofs.Kept.{Keeps, keeps}
 use Rattle.conode_explain_laws.proofs.Readings.{Reading, Segment, Begin, Abort, Request, Response, Nothing, begun_with, request_reading, response_reading, plain_reading, beginning, segment_reading, reading_of, turn_of, follows_by, same as same_reading}
 use Rattle.conode_explain_laws.proofs.Views.{abort_is, is_abort_reading, is_begin, server_no_begin}
@@ -199,16 +201,15 @@ server_lasts heard t micros frame l =
 
 -- ---- the client's frames
 
-inside_in_blocks : (stage : Stage) → is_in_sub_block stage ≡ true → in_blocks stage ≡ true
-inside_in_blocks (SubBlock last) h = refl
-inside_in_blocks _ h = absurd (false≢true h)
+none_sent : (stage : Stage) (direction : Direction) (protocol : Protocol) → (in_blocks stage ≡ true → direction ≡ Upload) → (direction ≡ Download → is_block protocol ≡ false)
+    → (if may_have_segment stage direction protocol then is_sender direction Client else false) ≡ false
+none_sent (SubBlock last) direction protocol up plain = ap (λ x. is_sender x Client) (up refl)
+none_sent Initiated Download protocol up plain = ap (λ b. if b then true else false) (plain refl)
+none_sent Initiated Upload protocol up plain = refl
+none_sent _ direction protocol up plain = refl
 
 no_segment : (t : Transfer) → Sound t → awaits_segment t Client ≡ false
-no_segment t s = by (is_in_sub_block t.stage) refl
-  where
-    by : (b : Bool) → is_in_sub_block t.stage ≡ b → (if b then is_sender t.direction Client else false) ≡ false
-    by true e = ap (λ x. is_sender x Client) (s.blocks (inside_in_blocks t.stage e)).direction
-    by false e = refl
+no_segment t s = none_sent t.stage t.direction t.protocol (λ h. (s.blocks h).direction) s.plain
 
 -- it is read as a request
 pub client_reading : (current : Option Transfer) (micros : ℕ) (bytes : List ℕ) → IfSome current Sound → reading_of current Client micros bytes ≡ request_reading (request_in bytes) micros bytes
@@ -398,7 +399,7 @@ part_read heard t bytes response micros plain stage read part =
     ∙ part
   where
     first : t.stage ≡ Initiated → reading_of (Some t) Server micros bytes ≡ response_reading (response_in bytes)
-    first e = rw e refl
+    first e = rw (none_of_server t.stage t.direction t.protocol (ap is_in_sub_block e)) refl
 
 pub segmented_upload : (heard : Bool) (key : Key) (size : ℕ) (micros : ℕ) (frame : List ℕ) → key.index < 65536
     → says_of heard (begun (initiate_of key Upload Undecided) micros frame) micros (response_bytes (UploadInitiated key (Some size))) ≡ what.Part

@@ -18,7 +18,7 @@ use Rattle.conode_explain_transfers.specs.declared.kinds.What.TheVariants as wha
 use Rattle.conode_explain_transfers.specs.declared.stage.Stage.{Stage}
 use Rattle.conode_explain_transfers.specs.declared.stage.Stage.TheVariants.{Initiated, DownloadConfirmed, DownloadSent, UploadTaken, UploadAsked, BlockInitiated, SubBlock, AllAcknowledged, BlockEnded}
 use Rattle.conode_explain_transfers.specs.declared.transfer.Transfer.{Transfer}
-use Rattle.conode_explain_transfers.specs.BlockTurns.{is_block, upload_started_at, segment_added, segment_ahead, segment_again, block_segment_at, acknowledged_at, acknowledged, crc_in, block_ended_at, block_ended, end_confirmed_at, end_confirmed}
+use Rattle.conode_explain_transfers.specs.BlockTurns.{is_block, upload_started_at, segment_added, segment_ahead, segment_again, block_segment_at, acknowledged_at, acknowledged, crc_in, block_ended_at, block_ended, end_confirmed_at, end_confirmed, segment_first}
 use Rattle.conode_explain_transfers.specs.SegmentedTurns.{answering, download_answered, download_segment_at, segment_done_at, segment_pending, upload_request_at, upload_segment_at}
 use Rattle.conode_explain_transfers.specs.Stages.{is_initiated}
 use Rattle.conode_explain_transfers.specs.Transfers.{Turn, is_download, awaited_number, unexpected, repeated, overtaken, irregular, goes_on}
@@ -88,6 +88,7 @@ block_segment_kept (SubBlock false) t segment =
     ahead : (b : Bool) → is_initiate (if b then what.Segment segment.sequence else what.OutOfSequence segment.sequence t.next_number) ≡ false
     ahead true = refl
     ahead false = refl
+block_segment_kept Initiated t segment = either (is_download t.direction && is_block t.protocol) t (segment_first t segment) (unexpected t) (same t _ refl refl refl) (spoiled t)
 block_segment_kept _ t segment = spoiled t
 
 acknowledged_kept : (stage : Stage) (t : Transfer) (sequence block_size : ℕ) → KeptIn t (acknowledged_at stage t sequence block_size)

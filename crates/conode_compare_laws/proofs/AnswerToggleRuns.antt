@@ -64,6 +64,7 @@ use Rattle.conode_explain_transfers.specs.Stages.{confirmed_with}
 use Rattle.conode_explain_transfers.specs.Transfers.{after, is_download}
 use Rattle.conode_explain_transfers.specs.Turns.{response_turn}
 use Rattle.conode_explain_laws.proofs.Exchanges.{same_toggle}
+use Rattle.conode_explain_laws.proofs.Follows.{none_of_server}
 use Rattle.conode_explain_laws.proofs.Readings.{Abort, Reading, Response, follows_by, reading_of, response_reading}
 use Rattle.conode_explain_laws.proofs.Views.{abort_is, is_abort_reading, is_begin, server_no_begin}
 use Rattle.conode_compare_transfers.specs.declared.breach.Breach.{Breach}
@@ -287,7 +288,7 @@ outside_blocks (SubBlock last) h = absurd (false≢true (sym h))
 outside_blocks _ h = refl
 
 server_plain : (t : Transfer) (micros : ℕ) (bytes : List ℕ) → in_blocks t.stage ≡ false → reading_of (Some t) Server micros bytes ≡ response_reading (response_in bytes)
-server_plain t micros bytes out = rw (outside_blocks t.stage out) refl
+server_plain t micros bytes out = rw (none_of_server t.stage t.direction t.protocol (outside_blocks t.stage out)) refl
 
 response_again : (heard : Bool) (t : Transfer) (response : SdoResponse) (micros : ℕ) (bytes : List ℕ) → is_again (response_turn t response bytes).what ≡ false → is_again (follows_by heard (Some t) (Response response) micros Server bytes).says.what ≡ false
 response_again heard t response micros bytes h = ap is_again (turn_what (confirmed_with (response_turn t response bytes).transfer.stage) heard (response_turn t response bytes).what (after t (response_turn t response bytes)) micros Server) ∙ h

@@ -1,10 +1,12 @@
 -- What one frame makes of explain's open transfer, whether in blocks or not: where an answer comes again (`Repeated`), and where none can.
 use Rattle.std.proofs.Common.{◌≡◌, ℕ, ◌+◌, Bool, true, false, not, List, Option, Some, None, refl, sym, ap, ◌∙◌, ◌⊎◌, inl, inr, subst}
-use Rattle.std.specs.Prelude.{◌&&◌, ◌==◌, nat_lt, if◌then◌else◌, IfSome}
+use Rattle.std.specs.Prelude.{◌&&◌, ◌==◌, nat_lt, if◌then◌else◌, IfSome, nat_le}
 use Rattle.std.proofs.lemmas.Bool.{false≢true}
 use Rattle.arrayvec.specs.ArrayVec.{ArrayVec}
 use Rattle.co_value.specs.declared.key.Key.{Key}
 use Rattle.co_value.specs.Keys.{same_key}
+use Rattle.co_frame.specs.BlockSegments.{block_segment_in, is_abort_in_sub_block}
+use Rattle.co_frame.specs.SdoParts.{code_in}
 use Rattle.co_frame.specs.SdoRequests.{request_in}
 use Rattle.co_frame.specs.Segments.{same_bool}
 use Rattle.co_frame.specs.declared.block_segment.BlockSegment.{BlockSegment}
@@ -13,6 +15,8 @@ use Rattle.co_frame.specs.declared.sdo_request.SdoRequest.TheVariants.{DownloadE
 use Rattle.co_frame.specs.declared.sdo_response.SdoResponse.{SdoResponse}
 use Rattle.co_frame.specs.declared.sdo_response.SdoResponse.TheVariants.{Abort as Refuse, DownloadDone, DownloadSegmentDone, UploadExpedited, UploadInitiated, UploadSegment, BlockDownloadInitiated, BlockDownloadDone, BlockDownloadAcknowledge, BlockUploadInitiated, BlockUploadEnd}
 use Rattle.co_sdo.specs.OpenTransfers.{is_initiate as initiates}
+use Rattle.conode_explain_transfers.specs.declared.kinds.Direction.{Direction}
+use Rattle.conode_explain_transfers.specs.declared.kinds.Direction.TheVariants.{Download, Upload}
 use Rattle.conode_explain_transfers.specs.declared.kinds.Protocol.{Protocol}
 use Rattle.conode_explain_transfers.specs.declared.kinds.Protocol.TheVariants.{Expedited, Segmented}
 use Rattle.conode_explain_transfers.specs.declared.kinds.Side.{Side}
@@ -22,16 +26,16 @@ use Rattle.conode_explain_transfers.specs.declared.kinds.What.TheVariants as wha
 use Rattle.conode_explain_transfers.specs.declared.stage.Stage.{Stage}
 use Rattle.conode_explain_transfers.specs.declared.stage.Stage.TheVariants.{AllAcknowledged, BlockEnded, BlockInitiated, Confirmed, DownloadConfirmed, DownloadSent, Initiated, SubBlock, UploadAsked, UploadTaken}
 use Rattle.conode_explain_transfers.specs.declared.transfer.Transfer.{Transfer}
-use Rattle.conode_explain_transfers.specs.BlockTurns.{acknowledged, acknowledged_at, block_ended, block_ended_at, block_segment_at, crc_in, end_confirmed, end_confirmed_at, is_block, segment_added, segment_again, segment_ahead, upload_started_at}
+use Rattle.conode_explain_transfers.specs.BlockTurns.{acknowledged, acknowledged_at, block_ended, block_ended_at, block_segment_at, crc_in, end_confirmed, end_confirmed_at, is_block, segment_added, segment_again, segment_ahead, upload_started_at, segment_first, block_segment}
 use Rattle.conode_explain_transfers.specs.Followed.{Followed, Following, turns_at, with_frame}
-use Rattle.conode_explain_transfers.specs.Readings.{is_in_sub_block}
+use Rattle.conode_explain_transfers.specs.Readings.{awaits_segment, is_sender, may_have_segment}
 use Rattle.conode_explain_transfers.specs.SegmentedTurns.{answering, download_answered, download_segment_at, segment_done_at, upload_request_at, upload_segment_at}
 use Rattle.conode_explain_transfers.specs.Stages.{confirmed_with, is_initiated}
 use Rattle.conode_explain_transfers.specs.Transfers.{Turn, after, awaited_number, is_download, overtaken, unexpected}
 use Rattle.conode_explain_transfers.specs.Turns.{request_turn, response_turn}
 use Rattle.conode_explain_laws.proofs.Follows.{BegunBy, begun_by}
 use Rattle.conode_explain_laws.proofs.Begins.{awaits}
-use Rattle.conode_explain_laws.proofs.Readings.{Abort, Begin, Nothing, Reading, Request, Response, Segment, begun_with, follows_by, reading_of, request_reading, turn_of}
+use Rattle.conode_explain_laws.proofs.Readings.{Abort, Begin, Nothing, Reading, Request, Response, Segment, begun_with, follows_by, reading_of, request_reading, turn_of, beginning, plain_reading, segment_reading}
 use Rattle.conode_explain_laws.proofs.Views.{is_begin}
 use Rattle.conode_compare_transfers.specs.Dialogues.{continues}
 use Rattle.conode_compare_laws.proofs.AnswerFollowed.{reads}
@@ -133,6 +137,7 @@ module _ (t : Transfer) (b : in_blocks t.stage ≡ true) where
       either (nat_lt one.sequence t.next_number) (segment_again t one) _ (record { once = refl; stays = settled t.stage b })
       (either (one.sequence == awaited_number t) (segment_added t one) (segment_ahead t one) (record { once = refl; stays = refl })
       (record { once = ahead (one.sequence == t.next_number) one.sequence t.next_number; stays = settled t.stage b }))
+  segments Initiated one = either (is_download t.direction && is_block t.protocol) (segment_first t one) (unexpected t) (record { once = refl; stays = refl }) odd
   segments _ one = odd
 
   first_late : (key : Key) (turn : Turn) → Steady (answering t key turn)
@@ -257,7 +262,9 @@ pub first_once : (heard : Bool) (t : Transfer) (reading : Reading) (micros : ℕ
 first_once heard t (Begin new) micros bytes n q e = absurd (false≢true (sym n))
 first_once heard t (Request request) micros bytes n q e = absurd (false≢true (sym q))
 first_once heard t (Abort code) micros bytes n q e = refl
-first_once heard t (Segment one) micros bytes n q e = ap is_again (turn_what _ heard _ _ micros Server) ∙ ap (λ s. is_again (block_segment_at s t one).what) e
+first_once heard t (Segment one) micros bytes n q e =
+    ap is_again (turn_what _ heard _ _ micros Server) ∙ ap (λ s. is_again (block_segment_at s t one).what) e
+    ∙ both (is_download t.direction && is_block t.protocol) (segment_first t one) (unexpected t) refl refl
 first_once heard t (Response one) micros bytes n q e = ap is_again (turn_what _ heard _ _ micros Server) ∙ response_once t one bytes e
 first_once heard t Nothing micros bytes n q e = ap is_again (turn_what (confirmed_with (turn_of t Nothing bytes).transfer.stage) heard (turn_of t Nothing bytes).what (after t (turn_of t Nothing bytes)) micros Server)
 
@@ -401,12 +408,63 @@ module _ (heard : Bool) (t : Transfer) (micros : ℕ) (bytes : List ℕ) (out : 
   by_request (Some (BlockUploadInitiate key size threshold)) n = absurd (false≢true (sym n))
   by_request (Some (BlockDownloadInitiate key size)) n = absurd (false≢true (sym n))
 
-outside_blocks : (stage : Stage) → in_blocks stage ≡ false → is_in_sub_block stage ≡ false
-outside_blocks (SubBlock last) h = absurd (false≢true (sym h))
-outside_blocks _ h = refl
+plain : (t : Transfer) (micros : ℕ) (bytes : List ℕ) → awaits_segment t Client ≡ false → reading_of (Some t) Client micros bytes ≡ request_reading (request_in bytes) micros bytes
+plain t micros bytes out = rw out refl
 
-plain : (t : Transfer) (micros : ℕ) (bytes : List ℕ) → in_blocks t.stage ≡ false → reading_of (Some t) Client micros bytes ≡ request_reading (request_in bytes) micros bytes
-plain t micros bytes out = rw (outside_blocks t.stage out) refl
+-- where a segment may come, no other request is read
+abbrev is_inner : Reading → Bool
+is_inner (Request request) = false
+is_inner (Response response) = false
+is_inner _ = true
+
+beginning_inner : (reading : Reading) → is_inner (beginning reading) ≡ true
+beginning_inner (Begin new) = refl
+beginning_inner _ = refl
+
+segment_inner : (block_size : ℕ) (segment : Option BlockSegment) (otherwise : Reading) → is_inner otherwise ≡ true → is_inner (segment_reading block_size segment otherwise) ≡ true
+segment_inner block_size None otherwise h = h
+segment_inner block_size (Some segment) otherwise h = by (nat_le segment.sequence block_size)
+  where
+    by : (b : Bool) → is_inner (if b then Segment segment else otherwise) ≡ true
+    by true = refl
+    by false = h
+
+inner : (t : Transfer) (micros : ℕ) (bytes : List ℕ) → awaits_segment t Client ≡ true → is_inner (reading_of (Some t) Client micros bytes) ≡ true
+inner t micros bytes on = rw on (by (is_abort_in_sub_block bytes))
+  where
+    by : (abort : Bool) → is_inner (if abort then Abort (code_in bytes) else segment_reading t.block_size (block_segment_in bytes) (beginning (plain_reading Client micros bytes))) ≡ true
+    by true = refl
+    by false = segment_inner t.block_size (block_segment_in bytes) _ (beginning_inner (plain_reading Client micros bytes))
+
+-- outside blocks it may come after the initiate request of a download in blocks, and is in its first sub-block then
+may_come : (stage : Stage) (direction : Direction) (protocol : Protocol) → in_blocks stage ≡ false → (if may_have_segment stage direction protocol then is_sender direction Client else false) ≡ true
+    → (stage ≡ Initiated) × ((is_download direction && is_block protocol) ≡ true)
+may_come (SubBlock last) direction protocol out on = absurd (false≢true (sym out))
+may_come Initiated Download protocol out on = (refl, by (is_block protocol) on)
+  where
+    by : (block : Bool) → (if block then true else false) ≡ true → block ≡ true
+    by true h = refl
+    by false h = absurd (false≢true h)
+may_come Initiated Upload protocol out on = absurd (false≢true on)
+may_come _ direction protocol out on = absurd (false≢true on)
+
+first_comes : (heard : Bool) (t : Transfer) (segment : BlockSegment) (micros : ℕ) (bytes : List ℕ) → in_blocks t.stage ≡ false → awaits_segment t Client ≡ true
+    → AreBlocks (follows_by heard (Some t) (Segment segment) micros Client bytes).next.transfer
+first_comes heard t segment micros bytes out on =
+    let m = may_come t.stage t.direction t.protocol out on in
+    let turn : block_segment t segment ≡ segment_first t segment =
+    ap (λ s. block_segment_at s t segment) m.0 ∙ ap (λ b. if b then segment_first t segment else unexpected t) m.1 in
+    subst (λ x. AreBlocks (turns_at (confirmed_with x.transfer.stage) heard x.what (after t x) micros Client).next.transfer) (sym turn) refl
+
+inside_first : (heard : Bool) (t : Transfer) (reading : Reading) (micros : ℕ) (bytes : List ℕ) → in_blocks t.stage ≡ false → awaits_segment t Client ≡ true → is_begin reading ≡ false → is_inner reading ≡ true
+    → Heard (request_in bytes) (follows_by heard (Some t) reading micros Client bytes).says.what (follows_by heard (Some t) reading micros Client bytes).next.transfer
+inside_first heard t (Begin new) micros bytes out on n i = absurd (false≢true (sym n))
+inside_first heard t (Request request) micros bytes out on n i = absurd (false≢true i)
+inside_first heard t (Response response) micros bytes out on n i = absurd (false≢true i)
+inside_first heard t (Abort code) micros bytes out on n i = in_turn tt
+inside_first heard t (Segment segment) micros bytes out on n i = in_turn (first_comes heard t segment micros bytes out on)
+inside_first heard t Nothing micros bytes out on n i =
+    odd_frame (ap is_kept (turn_what (confirmed_with t.stage) heard what.Unexpected (after t (turn_of t Nothing bytes)) micros Client))
 
 outside : (heard : Bool) (t : Transfer) (reading : Reading) (micros : ℕ) (bytes : List ℕ) → reading_of (Some t) Client micros bytes ≡ reading → is_begin reading ≡ false
     → Heard (request_in bytes) (follows_by heard (Some t) reading micros Client bytes).says.what (follows_by heard (Some t) reading micros Client bytes).next.transfer
@@ -414,10 +472,14 @@ outside heard t reading micros bytes e n = by (in_blocks t.stage) refl
   where
     by : (b : Bool) → in_blocks t.stage ≡ b → Heard (request_in bytes) (follows_by heard (Some t) reading micros Client bytes).says.what (follows_by heard (Some t) reading micros Client bytes).next.transfer
     by true b = in_turn (blocks_once heard (Some t) reading micros Client bytes n b).blocks
-    by false out =
-        let is : reading ≡ request_reading (request_in bytes) micros bytes = sym e ∙ plain t micros bytes out in
-        subst (λ x. Heard (request_in bytes) (follows_by heard (Some t) x micros Client bytes).says.what (follows_by heard (Some t) x micros Client bytes).next.transfer) (sym is)
-        (by_request heard t micros bytes out (request_in bytes) (sym (ap is_begin is) ∙ n))
+    by false out = by_end (awaits_segment t Client) refl
+      where
+        by_end : (awaited : Bool) → awaits_segment t Client ≡ awaited → Heard (request_in bytes) (follows_by heard (Some t) reading micros Client bytes).says.what (follows_by heard (Some t) reading micros Client bytes).next.transfer
+        by_end true on = inside_first heard t reading micros bytes out on n (ap is_inner (sym e) ∙ inner t micros bytes on)
+        by_end false off =
+            let is : reading ≡ request_reading (request_in bytes) micros bytes = sym e ∙ plain t micros bytes off in
+            subst (λ x. Heard (request_in bytes) (follows_by heard (Some t) x micros Client bytes).says.what (follows_by heard (Some t) x micros Client bytes).next.transfer) (sym is)
+            (by_request heard t micros bytes out (request_in bytes) (sym (ap is_begin is) ∙ n))
 
 by_reading : (heard : Bool) (current : Option Transfer) (reading : Reading) (micros : ℕ) (bytes : List ℕ) → reading_of current Client micros bytes ≡ reading
     → Heard (request_in bytes) (follows_by heard current reading micros Client bytes).says.what (follows_by heard current reading micros Client bytes).next.transfer

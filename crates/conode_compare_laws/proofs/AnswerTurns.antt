@@ -21,7 +21,7 @@ use Rattle.conode_explain_transfers.specs.declared.kinds.What.TheVariants as wha
 use Rattle.conode_explain_transfers.specs.declared.stage.Stage.{Stage}
 use Rattle.conode_explain_transfers.specs.declared.stage.Stage.TheVariants.{Initiated, DownloadConfirmed, DownloadSent, UploadTaken, UploadAsked, BlockInitiated, SubBlock, AllAcknowledged, BlockEnded}
 use Rattle.conode_explain_transfers.specs.declared.transfer.Transfer.{Transfer}
-use Rattle.conode_explain_transfers.specs.BlockTurns.{is_block, upload_started_at, segment_added, segment_ahead, segment_again, block_segment_at, acknowledged_at, acknowledged, crc_in, block_ended_at, block_ended, end_confirmed_at, end_confirmed}
+use Rattle.conode_explain_transfers.specs.BlockTurns.{is_block, upload_started_at, segment_added, segment_ahead, segment_again, block_segment_at, acknowledged_at, acknowledged, crc_in, block_ended_at, block_ended, end_confirmed_at, end_confirmed, segment_first}
 use Rattle.conode_explain_transfers.specs.SegmentedTurns.{answering, download_answered, download_segment_at, download_stage, segment_done_at, upload_request_at, upload_segment_at, upload_stage}
 use Rattle.conode_explain_transfers.specs.Stages.{confirmed_with, is_initiated}
 use Rattle.conode_explain_transfers.specs.Transfers.{Turn, is_download, awaited_number, unexpected, repeated, overtaken, goes_on}
@@ -156,8 +156,8 @@ started_turned : (stage : Stage) (t : Transfer) → t.stage ≡ stage → Blocks
 started_turned BlockInitiated t e b = moves _ t refl refl refl (b (ap in_blocks e))
 started_turned _ t e b = spoiled t b
 
-block_segment_turned : (stage : Stage) (t : Transfer) (segment : BlockSegment) → t.stage ≡ stage → Blocks t → Turned (block_segment_at stage t segment)
-block_segment_turned (SubBlock false) t segment e b =
+block_segment_turned : (stage : Stage) (t : Transfer) (segment : BlockSegment) → t.stage ≡ stage → Plain t → Blocks t → Turned (block_segment_at stage t segment)
+block_segment_turned (SubBlock false) t segment e p b =
     let u = b (ap in_blocks e) in
     either (nat_lt segment.sequence t.next_number) (segment_again t segment) _ (moves _ t refl refl refl u)
     (either (segment.sequence == awaited_number t) (segment_added t segment) (segment_ahead t segment) (moves _ t refl refl refl u)
@@ -166,7 +166,9 @@ block_segment_turned (SubBlock false) t segment e b =
     ahead : (same : Bool) (number next : ℕ) → is_turned (if same then what.Segment number else what.OutOfSequence number next) ≡ true
     ahead true number next = refl
     ahead false number next = refl
-block_segment_turned _ t segment e b = spoiled t b
+block_segment_turned Initiated t segment e p b =
+    block_download_turned t (segment_first t segment) (is_download t.direction && is_block t.protocol) (none_down t.direction (is_block t.protocol) p) b
+block_segment_turned _ t segment e p b = spoiled t b
 
 acknowledged_turned : (stage : Stage) (t : Transfer) (sequence block_size : ℕ) → t.stage ≡ stage → Blocks t → Turned (acknowledged_at stage t sequence block_size)
 acknowledged_turned (SubBlock last) t sequence block_size e b =
@@ -225,7 +227,7 @@ response_turned t (BlockUploadEnd unused) frame p b = by_sender_turned (not (is_
 response_turned t _ frame p b = spoiled t b
 
 pub turned : (t : Transfer) (reading : Reading) (frame : List ℕ) → Sound t → Turned (turn_of t reading frame)
-turned t (Segment segment) frame s = block_segment_turned t.stage t segment refl s.blocks
+turned t (Segment segment) frame s = block_segment_turned t.stage t segment refl s.plain s.blocks
 turned t (Request request) frame s = request_turned t request frame s.blocks
 turned t (Response response) frame s = response_turned t response frame s.plain s.blocks
 turned t _ frame s = spoiled t s.blocks
@@ -353,6 +355,7 @@ block_segment_lasts : (stage : Stage) (t : Transfer) (segment : BlockSegment) �
 block_segment_lasts (SubBlock false) t segment i l =
     either_lasts (nat_lt segment.sequence t.next_number) (segment_again t segment) _ (on _ t i refl refl l)
     (either_lasts (segment.sequence == awaited_number t) (segment_added t segment) (segment_ahead t segment) (on _ t refl refl refl l) (on _ t i refl refl l))
+block_segment_lasts Initiated t segment i l = either_lasts (is_download t.direction && is_block t.protocol) (segment_first t segment) (unexpected t) (on _ t refl refl refl l) (stays t l)
 block_segment_lasts _ t segment i l = stays t l
 
 ended_lasts : (stage : Stage) (t : Transfer) (unused crc : ℕ) → Lasts t → LastsIn (block_ended_at stage t unused crc)

@@ -38,7 +38,7 @@ use Rattle.conode_explain_transfers.specs.Data.{data_with}
 use Rattle.conode_explain_transfers.specs.Digests.{counted, digest_of}
 use Rattle.conode_explain_transfers.specs.Endings.{size_fault, verdict}
 use Rattle.conode_explain_transfers.specs.Followed.{Followed, left, left_by, turns_at, with_frame}
-use Rattle.conode_explain_transfers.specs.Readings.{is_in_sub_block as is_inside, is_sender}
+use Rattle.conode_explain_transfers.specs.Readings.{may_have_segment, is_sender}
 use Rattle.conode_explain_transfers.specs.SegmentedTurns.{download_segment_at, upload_request_at}
 use Rattle.conode_explain_transfers.specs.Stages.{confirmed_with}
 use Rattle.conode_explain_transfers.specs.Transfers.{Turn, after, awaited_number, goes_on as part, irregular, is_download, is_same_request, takes_pending, unexpected}
@@ -48,7 +48,7 @@ use Rattle.conode_explain_laws.specs.Downloads.{Complete}
 use Rattle.conode_explain_laws.specs.Uploads.{Read}
 use Rattle.conode_explain_laws.proofs.Begins.{outside_answers}
 use Rattle.conode_explain_laws.proofs.Exchanges.{same_toggle}
-use Rattle.conode_explain_laws.proofs.Follows.{BegunBy, IsLate, begun_by, client_no_response, is_response, request_spoils}
+use Rattle.conode_explain_laws.proofs.Follows.{BegunBy, IsLate, begun_by, client_no_response, is_response, request_spoils, segment_spoils}
 use Rattle.conode_explain_laws.proofs.NoUploads.{begins_nothing}
 use Rattle.conode_explain_laws.proofs.Readings.{Abort, Begin, Nothing, Reading, Request, Response, Segment, begun_with, bytes_by, follows_by, plain_reading, reading_of, request_reading, response_reading, sub_block_reading, turn_of}
 use Rattle.conode_explain_laws.proofs.UploadStanding.{AtEnd, FollowsIn, InUpload, IsWaiting, aside, asked, at_end, begun, blocks, gone, late_request, segmented, size_is}
@@ -154,7 +154,7 @@ begun_rests _ micros bytes = tt
 
 -- the client's frames in an upload are read as requests
 pub upload_plain : (t : Transfer) (micros : ℕ) (bytes : List ℕ) → t.direction ≡ Upload → reading_of (Some t) Client micros bytes ≡ request_reading (request_in bytes) micros bytes
-upload_plain t micros bytes e = by (is_inside t.stage) t.direction e
+upload_plain t micros bytes e = by (may_have_segment t.stage t.direction t.protocol) t.direction e
   where
     by : (inside : Bool) (x : Direction) → x ≡ Upload
         → (if (if inside then is_sender x Client else false) then sub_block_reading t.block_size Client micros bytes else plain_reading Client micros bytes) ≡ request_reading (request_in bytes) micros bytes
@@ -211,7 +211,7 @@ module _ (stamp : ℕ → ℕ) (heard : Bool) (t : Transfer) (got : List ℕ) (d
 pub asked_worn : (t : Transfer) (reading : Reading) (bytes : List ℕ) → is_begin reading ≡ false → is_response reading ≡ false → t.stage ≡ Initiated → (turn_of t reading bytes).transfer.irregular ≡ true
 asked_worn t (Begin new) bytes n m e = absurd (false≢true (sym n))
 asked_worn t (Response response) bytes n m e = absurd (false≢true (sym m))
-asked_worn t (Segment one) bytes n m e = ap (λ s. (block_segment_at s t one).transfer.irregular) e
+asked_worn t (Segment one) bytes n m e = segment_spoils t one e
 asked_worn t (Request request) bytes n m e = request_spoils t request bytes e
 asked_worn t (Abort code) bytes n m e = refl
 asked_worn t Nothing bytes n m e = refl

@@ -18,7 +18,7 @@ use Rattle.conode_explain_transfers.specs.declared.kinds.Protocol.TheVariants.{E
 use Rattle.conode_explain_transfers.specs.declared.stage.Stage.{Stage}
 use Rattle.conode_explain_transfers.specs.declared.stage.Stage.TheVariants.{Initiated, DownloadConfirmed, DownloadSent, UploadTaken, UploadAsked, BlockInitiated, SubBlock, AllAcknowledged, BlockEnded}
 use Rattle.conode_explain_transfers.specs.declared.transfer.Transfer.{Transfer}
-use Rattle.conode_explain_transfers.specs.BlockTurns.{is_block, upload_started_at, segment_added, segment_ahead, segment_again, block_segment_at, acknowledged_at, acknowledged, crc_in, block_ended_at, block_ended, end_confirmed_at, end_confirmed}
+use Rattle.conode_explain_transfers.specs.BlockTurns.{is_block, upload_started_at, segment_added, segment_ahead, segment_again, block_segment_at, acknowledged_at, acknowledged, crc_in, block_ended_at, block_ended, end_confirmed_at, end_confirmed, segment_first}
 use Rattle.conode_explain_transfers.specs.Initiates.{data_of}
 use Rattle.conode_explain_transfers.specs.SegmentedTurns.{answering, confirmed, download_answered, download_segment_at, download_stage, segment_done_at, upload_request_at, upload_segment_at, upload_stage}
 use Rattle.conode_explain_transfers.specs.Stages.{is_initiated}
@@ -95,6 +95,7 @@ module _ (strict : Bool) (t : Transfer) (e : is_expedited t.protocol ≡ false) 
       let off : is_initiated t.stage ≡ false = ap is_initiated is in
       either (nat_lt segment.sequence t.next_number) (segment_again t segment) _ (turned _ e refl off)
       (either (segment.sequence == awaited_number t) (segment_added t segment) (segment_ahead t segment) (turned _ e refl refl) (turned _ e refl off))
+  block_segments Initiated segment is = either (is_download t.direction && is_block t.protocol) (segment_first t segment) (unexpected t) (turned _ e refl refl) spoiled
   block_segments _ segment is = spoiled
 
   acknowledges_at : (stage : Stage) (sequence size : ℕ) → Goes strict t (acknowledged_at stage t sequence size)

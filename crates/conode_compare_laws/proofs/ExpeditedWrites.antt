@@ -93,7 +93,7 @@ module _ (t : Transfer) (s : t.stage ≡ Initiated) (down : t.direction ≡ Down
   by_response _ bytes = spoils refl
 
   outcome : (reading : Reading) (bytes : List ℕ) → Outcome t reading (turn_of t reading bytes)
-  outcome (Segment one) bytes = spoils (ap (λ x. block_segment_at x t one) s)
+  outcome (Segment one) bytes = spoils (ap (λ x. block_segment_at x t one) s ∙ no_block _)
   outcome (Request request) bytes = by_request request bytes
   outcome (Response response) bytes = by_response response bytes
   outcome _ bytes = spoils refl

@@ -36,12 +36,13 @@ use Rattle.conode_explain_transfers.specs.declared.kinds.Side.TheVariants.{Serve
 use Rattle.conode_explain_transfers.specs.declared.stage.Stage.TheVariants.{Initiated}
 use Rattle.conode_explain_transfers.specs.declared.transfer.Transfer.{Transfer}
 use Rattle.conode_explain_transfers.specs.BlockTurns.{acknowledged}
-use Rattle.conode_explain_transfers.specs.Initiates.{has_crc, data_of, initiate_of}
+use Rattle.conode_explain_transfers.specs.Initiates.{has_crc, data_of, initiate_of, first_segment}
+use Rattle.conode_explain_transfers.specs.Readings.{is_in_sub_block as is_inside}
 use Rattle.conode_explain_transfers.specs.Transfers.{begun, is_download}
 use Rattle.conode_explain_laws.specs.Downloads.{Complete, entry_bytes, if_done}
 use Rattle.conode_explain_laws.proofs.Readings.{Reading, Response, begun_with, response_reading, reading_of}
 use Rattle.conode_explain_laws.proofs.Views.{View, read_as, hears_answers, KnowsAside, aside_turn, aside_answers, aborted_closes}
-use Rattle.conode_explain_laws.proofs.Follows.{asked, segmented, blocks, Ends, ends_closed, ends_aside, BegunBy}
+use Rattle.conode_explain_laws.proofs.Follows.{asked, segmented, blocks, Ends, ends_closed, ends_aside, BegunBy, none_of_server}
 
 -- ---- the key of a request
 
@@ -147,7 +148,7 @@ asks t done count = record { following = record { heard = true; transfer = Some 
 
 pub response_is : (response : SdoResponse) (t : Transfer) (micros : ℕ) → t.stage ≡ Initiated → response_in (response_bytes response) ≡ Some response
     → reading_of (Some t) Server micros (response_bytes response) ≡ response_reading (Some response)
-response_is response t micros e h = rw e (ap response_reading h)
+response_is response t micros e h = rw (none_of_server t.stage t.direction t.protocol (ap is_inside e)) (ap response_reading h)
 
 -- the channel takes the frame inside a sub-block
 pub acknowledged_spoils : (by : Bool) (t : Transfer) (sequence block_size : ℕ) → t.stage ≡ Initiated → (acknowledged by t sequence block_size).transfer.irregular ≡ true
@@ -214,7 +215,7 @@ segmented_begins rows stamp key size micros frame done count q k =
 
 -- a download in blocks
 abbrev pub in_blocks : Key → Option ℕ → ℕ → List ℕ → Transfer
-in_blocks key size micros frame = begun (record (initiate_of key Download Block) { size = size; crc = has_crc frame }) micros frame
+in_blocks key size micros frame = begun (record (initiate_of key Download Block) { size = size; crc = has_crc frame; block_size = first_segment }) micros frame
 
 blocks_begin : (rows : Rows) (stamp : ℕ → ℕ) (key : Key) (size : Option ℕ) (micros : ℕ) (frame : List ℕ) (done : List Complete) (count : ℕ)
     → request_in frame ≡ Some (BlockDownloadInitiate key size) → key.index < 65536

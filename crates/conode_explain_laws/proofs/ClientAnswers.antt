@@ -22,10 +22,11 @@ use Rattle.conode_explain_transfers.specs.declared.kinds.Direction.TheVariants.{
 use Rattle.conode_explain_transfers.specs.declared.kinds.Side.TheVariants.{Server}
 use Rattle.conode_explain_transfers.specs.declared.transfer.Transfer.{Transfer}
 use Rattle.conode_explain_transfers.specs.Digests.{digest_of}
-use Rattle.conode_explain_transfers.specs.Readings.{is_in_sub_block, is_sender}
+use Rattle.conode_explain_transfers.specs.Readings.{is_in_sub_block, may_have_segment, is_sender}
 use Rattle.conode_explain_laws.specs.Downloads.{number_in, goes_up}
 use Rattle.conode_explain_laws.specs.Clients.{direction_of, newest_number, open_sub_block}
 use Rattle.conode_explain_laws.proofs.Readings.{Reading, response_reading, plain_reading, sub_block_reading, reading_of}
+use Rattle.conode_explain_laws.proofs.Follows.{none_of_server}
 use Rattle.conode_explain_laws.proofs.ClientViews.{Seen, holds, says, hears, read_as, lost_answer}
 use Rattle.conode_explain_laws.proofs.ClientStanding.{Sync, at_once, begun, sent, block_begun, block_sent, block_ended, asked, taking, block_asked, in_sub_block, all_taken, HasLost, Steps}
 use Rattle.conode_explain_laws.proofs.ClientDownloads.{at_once_answer, begun_answer, sent_answer}
@@ -135,8 +136,8 @@ up_so call (Some a) frame size taken d u e h =
 
 -- outside a sub-block of an upload the server's frames are read as responses
 server_reads : (t : Transfer) (micros : ℕ) (frame : List ℕ) → (is_in_sub_block t.stage ≡ false) ⊎ (t.direction ≡ Download) → reading_of (Some t) Server micros frame ≡ response_reading (response_in frame)
-server_reads t micros frame (inl e) = rw e refl
-server_reads t micros frame (inr e) = by (is_in_sub_block t.stage) t.direction e
+server_reads t micros frame (inl e) = rw (none_of_server t.stage t.direction t.protocol e) refl
+server_reads t micros frame (inr e) = by (may_have_segment t.stage t.direction t.protocol) t.direction e
   where
     by : (inside : Bool) (x : Direction) → x ≡ Download
         → (if (if inside then is_sender x Server else false) then sub_block_reading t.block_size Server micros frame else plain_reading Server micros frame) ≡ response_reading (response_in frame)

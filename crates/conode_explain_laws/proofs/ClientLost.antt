@@ -22,7 +22,7 @@ use Rattle.conode_explain_transfers.specs.declared.kinds.Direction.{Direction}
 use Rattle.conode_explain_transfers.specs.declared.kinds.Direction.TheVariants.{Upload}
 use Rattle.conode_explain_transfers.specs.declared.kinds.Side.TheVariants.{Client}
 use Rattle.conode_explain_transfers.specs.declared.transfer.Transfer.{Transfer}
-use Rattle.conode_explain_transfers.specs.Readings.{is_in_sub_block, is_sender}
+use Rattle.conode_explain_transfers.specs.Readings.{may_have_segment, is_sender}
 use Rattle.conode_explain_laws.specs.Clients.{Transferred, direction_of}
 use Rattle.conode_explain_laws.proofs.Readings.{request_reading, plain_reading, sub_block_reading, reading_of}
 use Rattle.conode_explain_laws.proofs.Views.{is_begin}
@@ -46,7 +46,7 @@ AllHarmless (message ∷ later) = (is_harmless message ≡ true) × AllHarmless 
 -- in an upload the client's frames are no segments
 pub client_reads : (current : Option Transfer) (micros : ℕ) (frame : List ℕ) → IfSome current (λ t. t.direction ≡ Upload) → reading_of current Client micros frame ≡ request_reading (request_in frame) micros frame
 client_reads None micros frame h = refl
-client_reads (Some t) micros frame h = by (is_in_sub_block t.stage) t.direction h
+client_reads (Some t) micros frame h = by (may_have_segment t.stage t.direction t.protocol) t.direction h
   where
     by : (inside : Bool) (x : Direction) → x ≡ Upload
         → (if (if inside then is_sender x Client else false) then sub_block_reading t.block_size Client micros frame else plain_reading Client micros frame) ≡ request_reading (request_in frame) micros frame

@@ -38,7 +38,7 @@ use Rattle.conode_explain_transfers.specs.declared.transfer.Transfer.{Transfer}
 use Rattle.conode_explain_transfers.specs.Digests.{counted, digest_of}
 use Rattle.conode_explain_transfers.specs.Endings.{size_fault, verdict}
 use Rattle.conode_explain_transfers.specs.Transfers.{is_download}
-use Rattle.conode_explain_transfers.specs.Readings.{is_in_sub_block as is_inside, is_sender}
+use Rattle.conode_explain_transfers.specs.Readings.{may_have_segment, is_sender}
 use Rattle.conode_explain_transfers.proofs.DataLemmas.{taking}
 use Rattle.conode_explain_laws.specs.Downloads.{Complete, is_block_begin, entry_bytes, if_done, write_set}
 use Rattle.conode_explain_laws.proofs.Readings.{Begin, Request, Response, begun_with, request_reading, response_reading, plain_reading, sub_block_reading, reading_of}
@@ -405,7 +405,7 @@ to_dropped d contents stamp frame heard t got done count toggle h small r q n =
     (answered_reads d.rows (stamp count) frame heard t got done count (request_reading r (stamp count) frame) (in_segments t toggle h) refl refl).same
 
 pub upload_plain : (t : Transfer) (micros : ℕ) (frame : List ℕ) → IsUpload t → reading_of (Some t) Client micros frame ≡ request_reading (request_in frame) micros frame
-upload_plain t micros frame e = by (is_inside t.stage) t.direction e
+upload_plain t micros frame e = by (may_have_segment t.stage t.direction t.protocol) t.direction e
   where
     by : (inside : Bool) (x : Direction) → x ≡ Upload
         → (if (if inside then is_sender x Client else false) then sub_block_reading t.block_size Client micros frame else plain_reading Client micros frame) ≡ request_reading (request_in frame) micros frame

@@ -20,7 +20,8 @@ use Rattle.co_sdo.specs.OpenTransfers.{is_upload_end}
 use Rattle.co_sdo.specs.Opened.{OpenTransfer}
 use Rattle.co_sdo.specs.Downloads.{Download as Whole}
 use Rattle.conode_explain_transfers.specs.declared.kinds.Direction.{Direction}
-use Rattle.conode_explain_transfers.specs.declared.kinds.Direction.TheVariants.{Download}
+use Rattle.conode_explain_transfers.specs.declared.kinds.Direction.TheVariants.{Download, Upload}
+use Rattle.conode_explain_transfers.specs.declared.kinds.Protocol.{Protocol}
 use Rattle.conode_explain_transfers.specs.declared.kinds.Protocol.TheVariants.{Block}
 use Rattle.conode_explain_transfers.specs.declared.kinds.Side.TheVariants.{Client, Server}
 use Rattle.conode_explain_transfers.specs.declared.kinds.Side.{Side}
@@ -29,10 +30,10 @@ use Rattle.conode_explain_transfers.specs.declared.kinds.What.TheVariants.{Overt
 use Rattle.conode_explain_transfers.specs.declared.stage.Stage.{Stage}
 use Rattle.conode_explain_transfers.specs.declared.stage.Stage.TheVariants.{Initiated, DownloadConfirmed, DownloadSent, UploadTaken, UploadAsked, BlockInitiated, SubBlock, AllAcknowledged}
 use Rattle.conode_explain_transfers.specs.declared.transfer.Transfer.{Transfer}
-use Rattle.conode_explain_transfers.specs.BlockTurns.{segment_added, segment_ahead, segment_again, block_segment_at, acknowledged, acknowledged_at, block_ended, block_ended_at, crc_in, end_confirmed, upload_started_at, is_block, end_confirmed_at}
+use Rattle.conode_explain_transfers.specs.BlockTurns.{segment_added, segment_ahead, segment_again, segment_first, block_segment_at, block_segment, acknowledged, acknowledged_at, block_ended, block_ended_at, crc_in, end_confirmed, upload_started_at, is_block, end_confirmed_at}
 use Rattle.conode_explain_transfers.specs.Data.{data_with}
 use Rattle.conode_explain_transfers.specs.Followed.{with_frame, turns, turns_at}
-use Rattle.conode_explain_transfers.specs.Readings.{is_in_sub_block, is_sender, awaits_segment}
+use Rattle.conode_explain_transfers.specs.Readings.{may_have_segment, is_sender, awaits_segment, is_in_sub_block}
 use Rattle.conode_explain_transfers.specs.SegmentedTurns.{download_segment_at, upload_request_at}
 use Rattle.conode_explain_transfers.specs.Stages.{is_initiated, confirmed_with}
 use Rattle.conode_explain_transfers.specs.Transfers.{Turn, after, is_download, awaited_number, unexpected, repeated}
@@ -153,9 +154,21 @@ begun_request frame micros new (Some request) q h = begun_or frame micros new re
 pub begun_by : (current : Option Transfer) (micros : ℕ) (frame : List ℕ) (new : Transfer) → reading_of current Client micros frame ≡ Begin new → BegunBy frame micros new
 begun_by current micros frame new h = begun_request frame micros new (request_in frame) refl (plain_is current micros frame new h)
 
+-- outside a sub-block no segment is awaited of the server
+pub none_of_server : (stage : Stage) (direction : Direction) (protocol : Protocol) → is_in_sub_block stage ≡ false
+    → (if may_have_segment stage direction protocol then is_sender direction Server else false) ≡ false
+none_of_server Initiated Upload protocol h = refl
+none_of_server Initiated Download protocol h = by (is_block protocol)
+  where
+    by : (block : Bool) → (if block then false else false) ≡ false
+    by true = refl
+    by false = refl
+none_of_server (SubBlock last) direction protocol h = absurd (false≢true (sym h))
+none_of_server _ direction protocol h = refl
+
 -- the server's frames are no segments in a download
 pub response_read : (t : Transfer) (micros : ℕ) (frame : List ℕ) → t.direction ≡ Download → reading_of (Some t) Server micros frame ≡ response_reading (response_in frame)
-response_read t micros frame e = by (is_in_sub_block t.stage) t.direction e
+response_read t micros frame e = by (may_have_segment t.stage t.direction t.protocol) t.direction e
   where
     by : (inside : Bool) (x : Direction) → x ≡ Download
         → (if (if inside then is_sender x Server else false) then sub_block_reading t.block_size Server micros frame else plain_reading Server micros frame) ≡ response_reading (response_in frame)
@@ -212,6 +225,7 @@ pub late_segment_at : (stage : Stage) (t : Transfer) (segment : BlockSegment) �
 late_segment_at (SubBlock false) t segment u =
     either_late (nat_lt segment.sequence t.next_number) (segment_again t segment) _ (inl refl)
     (either_late (segment.sequence == awaited_number t) (segment_added t segment) (segment_ahead t segment) (inr refl) (inr u))
+late_segment_at Initiated t segment u = either_late (is_download t.direction && is_block t.protocol) (segment_first t segment) (unexpected t) (inl refl) (inl refl)
 late_segment_at _ t segment u = inl refl
 
 late_download : (stage : Stage) (t : Transfer) (toggle : Bool) (segment : ArrayVec ℕ) (last : Bool) → IsLate (download_segment_at stage t toggle segment last)
@@ -333,6 +347,13 @@ confirmed_by true true t e b = rw b (ap (λ s. (end_confirmed_at s t).transfer.i
 confirmed_by true false t e b = rw b refl
 confirmed_by false block t e b = refl
 
+pub segment_spoils : (t : Transfer) (segment : BlockSegment) → t.stage ≡ Initiated → (block_segment t segment).transfer.irregular ≡ true
+segment_spoils t segment e = ap (λ s. (block_segment_at s t segment).transfer.irregular) e ∙ by (is_download t.direction && is_block t.protocol)
+  where
+    by : (b : Bool) → (if b then segment_first t segment else unexpected t).transfer.irregular ≡ true
+    by true = refl
+    by false = refl
+
 pub request_spoils : (t : Transfer) (request : SdoRequest) (frame : List ℕ) → t.stage ≡ Initiated → (request_turn t request frame).transfer.irregular ≡ true
 request_spoils t (DownloadSegment toggle segment last) frame e = ap (λ s. (download_segment_at s t toggle segment last).transfer.irregular) e
 request_spoils t (NextSegment toggle) frame e = ap (λ s. (upload_request_at s t toggle).transfer.irregular) e
@@ -353,7 +374,7 @@ asked_reads rows micros frame heard t got done count (Abort code) h n m = record
   same = ap (λ w. w ++ done) (no_write (is_download t.direction) _ refl);
 }
 asked_reads rows micros frame heard t got done count (Segment segment) h n m =
-    aside_turn rows micros Client frame heard t got done count (Segment segment) (inl (ap (λ s. (block_segment_at s t segment).transfer.irregular) h))
+    aside_turn rows micros Client frame heard t got done count (Segment segment) (inl (segment_spoils t segment h))
 asked_reads rows micros frame heard t got done count (Request request) h n m =
     aside_turn rows micros Client frame heard t got done count (Request request) (inl (request_spoils t request frame h))
 asked_reads rows micros frame heard t got done count Nothing h n m =

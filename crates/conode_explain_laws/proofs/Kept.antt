@@ -17,7 +17,7 @@ use Rattle.conode_explain_transfers.specs.declared.kinds.Protocol.TheVariants.{E
 use Rattle.conode_explain_transfers.specs.declared.stage.Stage.{Stage}
 use Rattle.conode_explain_transfers.specs.declared.stage.Stage.TheVariants.{Initiated, DownloadConfirmed, DownloadSent, UploadTaken, UploadAsked, BlockInitiated, SubBlock, AllAcknowledged, BlockEnded}
 use Rattle.conode_explain_transfers.specs.declared.transfer.Transfer.{Transfer}
-use Rattle.conode_explain_transfers.specs.BlockTurns.{is_block, upload_started_at, segment_added, segment_ahead, segment_again, block_segment_at, acknowledged_at, acknowledged, crc_in, block_ended_at, block_ended, end_confirmed_at, end_confirmed}
+use Rattle.conode_explain_transfers.specs.BlockTurns.{is_block, upload_started_at, segment_added, segment_ahead, segment_again, segment_first, block_segment_at, acknowledged_at, acknowledged, crc_in, block_ended_at, block_ended, end_confirmed_at, end_confirmed}
 use Rattle.conode_explain_transfers.specs.SegmentedTurns.{answering, confirmed, download_answered, download_segment_at, download_stage, segment_done_at, upload_request_at, upload_segment_at, upload_stage}
 use Rattle.conode_explain_transfers.specs.Stages.{is_initiated}
 use Rattle.conode_explain_transfers.specs.Transfers.{Turn, is_download, awaited_number, unexpected, repeated, overtaken, irregular, takes_data}
@@ -132,6 +132,8 @@ block_segment_keeps (SubBlock false) t segment e =
     either (nat_lt segment.sequence t.next_number) t (segment_again t segment) _ (spoiled t)
     (either (segment.sequence == awaited_number t) t (segment_added t segment) (segment_ahead t segment)
     (moves t _ refl refl refl refl) (moves t _ refl (ap is_initiated e) refl refl))
+block_segment_keeps Initiated t segment e =
+    either (is_download t.direction && is_block t.protocol) t (segment_first t segment) (unexpected t) (spoils t _ refl (λ h. refl) refl refl) (spoiled t)
 block_segment_keeps _ t segment e = spoiled t
 
 acknowledged_keeps : (stage : Stage) (t : Transfer) (sequence block_size : ℕ) → KeepsIn t (acknowledged_at stage t sequence block_size)

@@ -20,7 +20,7 @@ use Rattle.conode_explain_transfers.specs.declared.transfer.Transfer.{Transfer}
 use Rattle.conode_explain_transfers.specs.BlockTurns.{block_segment}
 use Rattle.conode_explain_transfers.specs.Data.{data_with, data_by}
 use Rattle.conode_explain_transfers.specs.Followed.{Followed, left, passes, aborts, turns, followed_by}
-use Rattle.conode_explain_transfers.specs.Initiates.{has_crc, data_of, initiate_of}
+use Rattle.conode_explain_transfers.specs.Initiates.{has_crc, data_of, initiate_of, first_segment}
 use Rattle.conode_explain_transfers.specs.Readings.{reading_of as their_reading_of, plain_reading as their_plain_reading, request_reading as their_request_reading, response_reading as their_response_reading, sub_block_reading as their_sub_block_reading, segment_reading as their_segment_reading, beginning as their_beginning, awaits_segment}
 use Rattle.conode_explain_transfers.specs.Transfers.{Turn, begun, unexpected}
 use Rattle.conode_explain_transfers.specs.Turns.{request_turn, response_turn}
@@ -47,7 +47,7 @@ begun_with (UploadInitiate key) micros frame = Some (begun (initiate_of key Uplo
 begun_with (BlockUploadInitiate key block_size threshold) micros frame =
     Some (begun (record (initiate_of key Upload Block) { crc = has_crc frame; block_size = block_size }) micros frame)
 begun_with (BlockDownloadInitiate key size) micros frame =
-    Some (begun (record (initiate_of key Download Block) { size = size; crc = has_crc frame }) micros frame)
+    Some (begun (record (initiate_of key Download Block) { size = size; crc = has_crc frame; block_size = first_segment }) micros frame)
 begun_with _ micros frame = None
 
 abbrev pub begins_or : Option Transfer → Reading → Reading

@@ -36,7 +36,7 @@ use Rattle.conode_explain_transfers.specs.BlockTurns.{acknowledged, acknowledged
 use Rattle.conode_explain_transfers.specs.Digests.{counted, digest_of}
 use Rattle.conode_explain_transfers.specs.Endings.{size_fault, verdict}
 use Rattle.conode_explain_transfers.specs.Followed.{with_frame}
-use Rattle.conode_explain_transfers.specs.Readings.{is_in_sub_block as is_inside, is_sender}
+use Rattle.conode_explain_transfers.specs.Readings.{may_have_segment, is_sender}
 use Rattle.conode_explain_transfers.specs.Stages.{confirmed_with}
 use Rattle.conode_explain_transfers.specs.Transfers.{after, is_download, goes_on as part, takes_pending, unexpected}
 use Rattle.conode_explain_transfers.proofs.DataLemmas.{taking}
@@ -44,7 +44,7 @@ use Rattle.conode_explain_laws.specs.Downloads.{Complete, is_block_begin, if_don
 use Rattle.conode_explain_laws.specs.Uploads.{is_upload, Read, ended_by, read_served}
 use Rattle.conode_explain_laws.proofs.Readings.{Reading, Segment, Begin, Abort, Request, Response, Nothing, request_reading, response_reading, plain_reading, sub_block_reading, reading_of, turn_of}
 use Rattle.conode_explain_laws.proofs.Views.{View, Closes, no_write, is_begin}
-use Rattle.conode_explain_laws.proofs.Follows.{begun_by, client_no_response, is_response, request_spoils}
+use Rattle.conode_explain_laws.proofs.Follows.{begun_by, client_no_response, is_response, request_spoils, segment_spoils}
 use Rattle.conode_explain_laws.proofs.Begins.{outside_answers, outside_opens, write_of}
 use Rattle.conode_explain_laws.proofs.Exchanges.{same_toggle}
 use Rattle.conode_explain_laws.proofs.UploadViews.{holds, read_as, hears, hears_answers, begin_writes, abort_closes, turned, IsAside, KnowsAside, aside_turn, aside_reads, aside_answers}
@@ -452,7 +452,7 @@ outside_or Loose (Some t) got current ended (at_end crc bytes a g (inr c) e) = i
 
 -- the client's frames in an upload are read as requests
 upload_plain : (t : Transfer) (micros : ℕ) (frame : List ℕ) → t.direction ≡ Upload → reading_of (Some t) Client micros frame ≡ request_reading (request_in frame) micros frame
-upload_plain t micros frame e = by (is_inside t.stage) t.direction e
+upload_plain t micros frame e = by (may_have_segment t.stage t.direction t.protocol) t.direction e
   where
     by : (inside : Bool) (x : Direction) → x ≡ Upload
         → (if (if inside then is_sender x Client else false) then sub_block_reading t.block_size Client micros frame else plain_reading Client micros frame) ≡ request_reading (request_in frame) micros frame
@@ -468,7 +468,7 @@ asked_reads Loose micros frame heard t got done count (Abort code) l h n m = rec
   holds = tt;
   same = ap (λ w. w ++ done) (no_write (is_upload t.direction) _ refl);
 }
-asked_reads Loose micros frame heard t got done count (Segment segment) l h n m = aside_turn Loose micros Client frame heard t got done count (Segment segment) (inl (l, rw h refl))
+asked_reads Loose micros frame heard t got done count (Segment segment) l h n m = aside_turn Loose micros Client frame heard t got done count (Segment segment) (inl (l, segment_spoils t segment h))
 asked_reads Loose micros frame heard t got done count (Request request) l h n m = aside_turn Loose micros Client frame heard t got done count (Request request) (inl (l, request_spoils t request frame h))
 asked_reads Loose micros frame heard t got done count Nothing l h n m = aside_turn Loose micros Client frame heard t got done count Nothing (inl (l, refl))
 

@@ -2,7 +2,7 @@
 use Rattle.std.proofs.Common.{◌≡◌, true, false, [], ◌∷◌, refl, codes}
 use Rattle.co_frame.specs.SdoRequests.{request_row_in}
 use Rattle.co_frame.specs.SdoResponses.{response_row_in}
-use Rattle.conode_explain_transfers.specs.declared.ended.Ending.TheVariants.{Done, Aborted, Interrupted, Irregular, SizeDiffers, CrcDiffers}
+use Rattle.conode_explain_transfers.specs.declared.ended.Ending.TheVariants.{Done, Aborted, Unanswered, Interrupted, Irregular, SizeDiffers, CrcDiffers}
 use Rattle.conode_explain_transfers.specs.declared.kinds.Protocol.TheVariants.{Expedited, Segmented, Block}
 use Rattle.conode_explain_transfers.specs.declared.kinds.Side.TheVariants.{Client}
 use Rattle.conode_explain_transfers.specs.declared.kinds.What.TheVariants.{Initiate, Part, Segment, OutOfSequence, Unexpected}
@@ -102,6 +102,57 @@ after_a_gap : told (c (codes "C000210000000000") ∷ s (codes "A000210004000000"
     ≡ record { whats = Initiate ∷ Part ∷ Segment 1 ∷ OutOfSequence 3 2 ∷ Segment 4 ∷ Part ∷ []; ends = [] }
 unfolding request_row_in response_row_in shifted crc_with
 after_a_gap = refl
+
+-- the answer to initiate is lost in the recording: the client goes on with segment 1
+answer_lost : told (c (codes "C200210009000000") ∷ c (codes "0131323334353637") ∷ c (codes "8238390000000000") ∷ s (codes "A202040000000000") ∷ c (codes "D500000000000000") ∷ s (codes "A100000000000000") ∷ [])
+    ≡ record {
+      whats = Initiate ∷ Segment 1 ∷ Segment 2 ∷ Part ∷ Part ∷ Part ∷ [];
+      ends = record { protocol = Block; bytes = 9; first = codes "123456789"; frames = 6; ending = Irregular } ∷ [];
+    }
+unfolding request_row_in response_row_in shifted crc_with
+answer_lost = refl
+
+-- 81h is segment 1 there, which is the last, and 80h an abort
+only_segment : told (c (codes "C600210002000000") ∷ c (codes "8141420000000000") ∷ s (codes "A201040000000000") ∷ c (codes "D500000000000000") ∷ s (codes "A100000000000000") ∷ [])
+    ≡ record {
+      whats = Initiate ∷ Segment 1 ∷ Part ∷ Part ∷ Part ∷ [];
+      ends = record { protocol = Block; bytes = 2; first = codes "AB"; frames = 5; ending = Irregular } ∷ [];
+    }
+unfolding request_row_in response_row_in shifted crc_with
+only_segment = refl
+
+given_up : told (c (codes "C200210009000000") ∷ c (codes "8000210000000405") ∷ [])
+    ≡ record {
+      whats = Initiate ∷ Part ∷ [];
+      ends = record { protocol = Block; bytes = 0; first = []; frames = 2; ending = Aborted Client (record { 0 = 0x05040000 }) } ∷ [];
+    }
+unfolding request_row_in response_row_in shifted crc_with
+given_up = refl
+
+-- segments up to 127 go on with it: 20h, A0h and 7Fh begin nothing
+long_sub_block : told (c (codes "C000210000000000") ∷ c (codes "0131323334353637") ∷ c (codes "2031323334353637") ∷ c (codes "4231323334353637") ∷ c (codes "7F31323334353637") ∷ [])
+    ≡ record { whats = Initiate ∷ Segment 1 ∷ OutOfSequence 32 2 ∷ OutOfSequence 66 33 ∷ OutOfSequence 127 67 ∷ []; ends = [] }
+unfolding request_row_in response_row_in shifted crc_with
+long_sub_block = refl
+
+-- segment 2 is no first segment: what comes after it is read as before, and 40h begins an upload
+no_first_segment : told (c (codes "C200210009000000") ∷ c (codes "0238390000000000") ∷ c (codes "4000210000000000") ∷ s (codes "4F002100AA000000") ∷ [])
+    ≡ record {
+      whats = Initiate ∷ Unexpected ∷ Initiate ∷ Part ∷ [];
+      ends = record { protocol = Block; bytes = 0; first = []; frames = 2; ending = Unanswered }
+          ∷ record { protocol = Expedited; bytes = 1; first = 0xAA ∷ []; frames = 2; ending = Done false } ∷ [];
+    }
+unfolding request_row_in response_row_in shifted crc_with
+no_first_segment = refl
+
+-- in an upload, and in a download in segments, 01h before the answer is no segment of a sub-block
+other_protocols : told (c (codes "A400210004000000") ∷ c (codes "0131323334353637") ∷ s (codes "C000210000000000") ∷ c (codes "2100210009000000") ∷ c (codes "0131323334353637") ∷ s (codes "6000210000000000") ∷ [])
+    ≡ record {
+      whats = Initiate ∷ Unexpected ∷ Part ∷ Initiate ∷ Unexpected ∷ Part ∷ [];
+      ends = record { protocol = Block; bytes = 0; first = []; frames = 3; ending = Interrupted } ∷ [];
+    }
+unfolding request_row_in response_row_in shifted crc_with
+other_protocols = refl
 
 -- none comes after the last
 after_the_last : told (c (codes "C000210000000000") ∷ s (codes "A000210004000000") ∷ c (codes "8141420000000000") ∷ c (codes "0243444546474849") ∷ [])

@@ -124,6 +124,7 @@ block_segment_keeps : (stage : Stage) (transfer : Transfer) (segment : BlockSegm
 block_segment_keeps (SubBlock false) transfer segment u =
     keeps_if (nat_lt segment.sequence transfer.next_number) (segment_again transfer segment) _ u
     (keeps_if (segment.sequence == awaited_number transfer) (segment_added transfer segment) (segment_ahead transfer segment) refl u)
+block_segment_keeps Initiated transfer segment u = keeps_if (is_download transfer.direction && is_block transfer.protocol) _ (unexpected transfer) refl u
 block_segment_keeps _ transfer segment u = u
 
 acknowledged_keeps : (stage : Stage) (transfer : Transfer) (sequence block_size : ℕ) → Unconfirmed transfer → Keeps (acknowledged_at stage transfer sequence block_size)

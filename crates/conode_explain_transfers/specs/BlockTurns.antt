@@ -77,6 +77,23 @@ segment_again transfer segment = record {
   takes = None;
 }
 
+-- a sub-block has at most so many segments (CiA 301, 7.2.4.3.9)
+abbrev pub most_segments : ℕ
+most_segments = 127
+
+-- the first segment of a download, of which the answer to initiate is missing in the recording, and
+-- with it the number of segments that a sub-block may have
+abbrev pub segment_first : Transfer → BlockSegment → Turn
+segment_first transfer segment = record {
+  what = Segment segment.sequence;
+  transfer = record (numbered_after (irregular transfer) segment) {
+    block_size = most_segments;
+    pending = record { items = segment.bytes };
+    stage = SubBlock segment.last;
+  };
+  takes = None;
+}
+
 -- a segment: it is the next one where its number is the awaited one and none was missing before it;
 -- none comes after the last
 abbrev pub block_segment_at : Stage → Transfer → BlockSegment → Turn
@@ -84,6 +101,8 @@ block_segment_at (SubBlock false) transfer segment =
     if nat_lt segment.sequence transfer.next_number then segment_again transfer segment
     else (if segment.sequence == awaited_number transfer then segment_added transfer segment
     else segment_ahead transfer segment)
+block_segment_at Initiated transfer segment =
+    if is_download transfer.direction && is_block transfer.protocol then segment_first transfer segment else unexpected transfer
 block_segment_at _ transfer segment = unexpected transfer
 
 abbrev pub block_segment : Transfer → BlockSegment → Turn

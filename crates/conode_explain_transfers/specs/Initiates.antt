@@ -33,6 +33,11 @@ initiate_of key direction protocol = record {
   bytes = record { items = [] };
 }
 
+-- before the answer to initiate of a block download only its first segment can come, where this
+-- answer is missing in the recording: the greatest number of a segment is 1
+abbrev pub first_segment : ℕ
+first_segment = 1
+
 -- what a request initiates, which these bytes spell; the others are no initiate requests
 abbrev pub initiate_by : SdoRequest → List ℕ → Option Initiate
 initiate_by (DownloadExpedited key expedited) bytes =
@@ -42,5 +47,5 @@ initiate_by (UploadInitiate key) bytes = Some (initiate_of key Upload Undecided)
 initiate_by (BlockUploadInitiate key block_size threshold) bytes =
     Some (record (initiate_of key Upload Block) { crc = has_crc bytes; block_size = block_size })
 initiate_by (BlockDownloadInitiate key size) bytes =
-    Some (record (initiate_of key Download Block) { size = size; crc = has_crc bytes })
+    Some (record (initiate_of key Download Block) { size = size; crc = has_crc bytes; block_size = first_segment })
 initiate_by _ bytes = None

@@ -1,5 +1,5 @@
 -- What a frame is read as, by what came before it.
-use Rattle.std.specs.Prelude.{ℕ, nat_le, Bool, true, false, if◌then◌else◌, List, Option, Some, None}
+use Rattle.std.specs.Prelude.{ℕ, nat_le, ◌&&◌, Bool, true, false, if◌then◌else◌, List, Option, Some, None}
 use Rattle.co_frame.specs.BlockSegments.{IsBlockSegment, block_segment_in, is_abort_in_sub_block}
 use Rattle.co_frame.specs.SdoParts.{code_in}
 use Rattle.co_frame.specs.SdoRequests.{request_in}
@@ -12,14 +12,17 @@ use Rattle.co_frame.specs.declared.sdo_response.SdoResponse.TheVariants.{Downloa
 use Rattle.conode_explain_transfers.specs.declared.initiate.Initiate.{Initiate}
 use Rattle.conode_explain_transfers.specs.declared.kinds.Direction.{Direction}
 use Rattle.conode_explain_transfers.specs.declared.kinds.Direction.TheVariants.{Download, Upload}
+use Rattle.conode_explain_transfers.specs.declared.kinds.Protocol.{Protocol}
 use Rattle.conode_explain_transfers.specs.declared.kinds.Side.{Side}
 use Rattle.conode_explain_transfers.specs.declared.kinds.Side.TheVariants.{Client, Server}
 use Rattle.conode_explain_transfers.specs.declared.reading.Reading.{Reading}
 use Rattle.conode_explain_transfers.specs.declared.reading.Reading.TheVariants.{Segment, Begin, Abort, Request, Response, Nothing}
 use Rattle.conode_explain_transfers.specs.declared.stage.Stage.{Stage}
-use Rattle.conode_explain_transfers.specs.declared.stage.Stage.TheVariants.{SubBlock}
+use Rattle.conode_explain_transfers.specs.declared.stage.Stage.TheVariants.{Initiated, SubBlock}
 use Rattle.conode_explain_transfers.specs.declared.transfer.Transfer.{Transfer}
+use Rattle.conode_explain_transfers.specs.BlockTurns.{is_block}
 use Rattle.conode_explain_transfers.specs.Initiates.{initiate_by}
+use Rattle.conode_explain_transfers.specs.Transfers.{is_download}
 
 -- ---- outside a sub-block
 
@@ -73,9 +76,17 @@ is_sender Download Server = false
 is_sender Upload Client = false
 is_sender Upload Server = true
 
--- a segment of a sub-block is awaited of this end
+-- a segment may come: inside a sub-block; and after the initiate request of a block download, of
+-- which the answer is missing in the recording
+abbrev pub may_have_segment : Stage → Direction → Protocol → Bool
+may_have_segment (SubBlock last) direction protocol = true
+may_have_segment Initiated direction protocol = is_download direction && is_block protocol
+may_have_segment _ direction protocol = false
+
+-- a segment of a sub-block may come of this end
 abbrev pub awaits_segment : Transfer → Side → Bool
-awaits_segment transfer side = if is_in_sub_block transfer.stage then is_sender transfer.direction side else false
+awaits_segment transfer side =
+    if may_have_segment transfer.stage transfer.direction transfer.protocol then is_sender transfer.direction side else false
 
 -- what an end's frame is read as, by the open transfer
 abbrev pub reading_of : Option Transfer → Side → List ℕ → Reading

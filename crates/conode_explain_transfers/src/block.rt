@@ -11,6 +11,7 @@ ghost use Rattle.conode_explain_transfers.specs.BlockTurns.{
   segment_added,
   segment_ahead,
   segment_again,
+  segment_first,
   block_segment,
   acknowledged,
   crc_in,
@@ -25,6 +26,9 @@ use byteorder::{ByteOrder, LittleEndian};
 use co_frame::{BYTES_PER_SEGMENT, BlockSegment, Frame};
 use co_value::Key;
 
+/// How many segments a sub-block has at most.
+const MOST_SEGMENTS: u8 = 127;
+
 /// The CRC of end SDO block download or upload: bytes 1 and 2.
 pub(crate) fn crc_in(frame: &Frame) -> u16
     ensures { result ≡ crc_in frame.now.bytes }
@@ -38,7 +42,8 @@ pub(crate) fn crc_in(frame: &Frame) -> u16
 }
 
 impl Transfer {
-    fn is_block(&self) -> bool
+    /// Whether it is in blocks.
+    pub(crate) fn is_block(&self) -> bool
         ensures { result ≡ is_block self.now.protocol }
     {
         match self.protocol {
@@ -144,6 +149,23 @@ impl Transfer {
         }
     }
 
+    // The first segment of a download, of which the answer to initiate is missing in the recording.
+    fn segment_first(&mut self, segment: &BlockSegment) -> What
+        requires { IsBlockSegment segment.now }
+        ensures transfer { self.new ≡ after self.old (segment_first self.old segment.now) }
+        ensures what { result ≡ (segment_first self.old segment.now).what }
+    {
+        self.irregular = true;
+        self.block_size = MOST_SEGMENTS;
+        self.pending.clear();
+        self.pending.try_extend_from_slice(&segment.bytes).unwrap();
+        self.next_number = segment.sequence + 1;
+        self.stage = Stage::SubBlock { last: segment.last };
+        What::Segment {
+            number: segment.sequence,
+        }
+    }
+
     /// Download SDO block segment and upload SDO block segment.
     pub(crate) fn take_block_segment(&mut self, segment: &BlockSegment) -> What
         requires { IsBlockSegment segment.now }
@@ -159,6 +181,9 @@ impl Transfer {
                 } else {
                     self.segment_ahead(segment)
                 }
+            }
+            Stage::Initiated if self.is_download() && self.is_block() => {
+                self.segment_first(segment)
             }
             _ => self.unexpected(),
         }

@@ -8,6 +8,10 @@ use arrayvec::ArrayVec;
 use co_frame::{ExpeditedData, Frame, SdoRequest};
 use co_value::Key;
 
+/// Before the answer to initiate of a block download only its first segment can come, where this
+/// answer is missing in the recording.
+const FIRST_SEGMENT: u8 = 1;
+
 /// What an initiate request asks for (CiA 301, 7.2.4.3.3, 7.2.4.3.6, 7.2.4.3.9 and 7.2.4.3.13).
 #[derive(Drop)]
 pub(crate) struct Initiate {
@@ -18,7 +22,8 @@ pub(crate) struct Initiate {
     pub(crate) size: Option<u32>,
     /// Whether the client supports the CRC of a block transfer.
     pub(crate) crc: bool,
-    /// Of a block upload, how many segments a sub-block may have.
+    /// Of a block upload, how many segments a sub-block may have; of a block download 1, until the
+    /// answer has this number.
     pub(crate) block_size: u8,
     /// Of an expedited download, its bytes; all four where their number isn't indicated.
     pub(crate) bytes: ArrayVec<u8, 4>,
@@ -103,6 +108,7 @@ impl Initiate {
             SdoRequest::BlockDownloadInitiate { key, size } => Some(Initiate {
                 size: *size,
                 crc: has_crc(frame),
+                block_size: FIRST_SEGMENT,
                 ..Initiate::of(*key, Direction::Download, Protocol::Block)
             }),
             _ => None,

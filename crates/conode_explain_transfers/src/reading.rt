@@ -6,6 +6,7 @@ ghost use Rattle.conode_explain_transfers.specs.Readings.{
   plain_reading,
   sub_block_reading,
   is_sender,
+  may_have_segment,
   awaits_segment,
   reading_of,
   answers_key,
@@ -136,13 +137,22 @@ impl Transfer {
         }
     }
 
+    // Whether a segment of a sub-block may come: inside a sub-block, and after the initiate request
+    // of a block download, of which the answer is missing in the recording.
+    fn may_have_segment(&self) -> bool
+        ensures { result ≡ may_have_segment self.now.stage self.now.direction self.now.protocol }
+    {
+        match self.stage {
+            Stage::SubBlock { last: _ } => true,
+            Stage::Initiated => self.is_download() && self.is_block(),
+            _ => false,
+        }
+    }
+
     fn awaits_segment(&self, side: Side) -> bool
         ensures { result ≡ awaits_segment self.now side }
     {
-        match self.stage {
-            Stage::SubBlock { last: _ } => self.is_sender(side),
-            _ => false,
-        }
+        self.may_have_segment() && self.is_sender(side)
     }
 }
 
