@@ -19,7 +19,7 @@ use Rattle.conode_show_text.specs.declared.service.Service.{Service}
 use Rattle.conode_show_text.specs.declared.values.Word.{Word}
 use Rattle.conode_show_text.specs.Entries.{has_sub_indices, is_mappable, type_text}
 use Rattle.conode_show_text.specs.Meanings.{mapped_key, said}
-use Rattle.conode_show_text.specs.Pdos.{entry_section, is_counted, is_pdo_cob_id, mapping_count, mapping_index, pdo_name, section_word, type_meaning}
+use Rattle.conode_show_text.specs.Pdos.{entry_section, has_inhibit_time, is_counted, is_pdo_cob_id, mapping_count, mapping_index, pdo_name, section_word, type_meaning}
 use Rattle.conode_show_text.specs.Services.{key_of, service_meaning, service_name, service_of}
 use Rattle.conode_show_text.specs.Values.{limit_number, type_of, value_number}
 
@@ -145,23 +145,31 @@ unfoldable pub mapping_tokens : Option ℕ → List TextSection → ℕ → List
 mapping_tokens node sections index =
     flat_map (counted_tokens node sections index (mapping_count node sections index)) sections
 
--- the COB-ID, transmission type and timers of a PDO
-abbrev pub pdo_members : Option ℕ → List TextSection → ℕ → TextSection → List Token
-pdo_members node sections index section =
-    text_member (codes "pdo") (pdo_name index) ++ number_member (codes "index") (pos index)
-    ++ said_member (codes "cobId") PdoCobId node section
-    ++ said_at_member (codes "transmissionType") (type_meaning index) node sections (record { index = index; sub = 2 })
-    ++ said_at_member (codes "inhibitTime") PdoInhibit node sections (record { index = index; sub = 3 })
-    ++ said_at_member (codes "eventTimer") EventTimer node sections (record { index = index; sub = 5 })
-
--- a PDO before what it maps
+-- a PDO before its timers: its COB-ID and transmission type
 unfoldable pub pdo_begin : Option ℕ → List TextSection → ℕ → TextSection → List Token
 pdo_begin node sections index section =
-    begin_object ∷ (pdo_members node sections index section ++ array_begin (codes "mapped"))
+    begin_object
+    ∷ (text_member (codes "pdo") (pdo_name index) ++ number_member (codes "index") (pos index)
+    ++ said_member (codes "cobId") PdoCobId node section
+    ++ said_at_member (codes "transmissionType") (type_meaning index) node sections (record { index = index; sub = 2 }))
+
+-- the inhibit time, where a PDO has one
+abbrev pub inhibit_member : Option ℕ → List TextSection → ℕ → List Token
+inhibit_member node sections index =
+    if has_inhibit_time index
+    then said_at_member (codes "inhibitTime") PdoInhibit node sections (record { index = index; sub = 3 })
+    else []
+
+-- the event timer, and the beginning of what it maps
+unfoldable pub timer_members : Option ℕ → List TextSection → ℕ → List Token
+timer_members node sections index =
+    said_at_member (codes "eventTimer") EventTimer node sections (record { index = index; sub = 5 })
+    ++ array_begin (codes "mapped")
 
 unfoldable pub pdo_tokens : Option ℕ → List TextSection → ℕ → TextSection → List Token
 pdo_tokens node sections index section =
-    pdo_begin node sections index section ++ mapping_tokens node sections (mapping_index index)
+    pdo_begin node sections index section ++ inhibit_member node sections index
+    ++ timer_members node sections index ++ mapping_tokens node sections (mapping_index index)
     ++ (end_array ∷ end_object ∷ [])
 
 abbrev pub pdo_with : Option ℕ → List TextSection → TextSection → SectionKind → List Token

@@ -6,12 +6,14 @@ ghost use Rattle.co_sheet_text.specs.Views.{section_view};
 ghost use Rattle.json.specs.Token.{begin_object};
 ghost use Rattle.conode_show.specs.JsonForm.{
   counted_tokens,
+  inhibit_member,
   mapped_members,
   mapped_tokens,
   mapping_tokens,
   pdo_begin,
   pdo_of,
   pdo_tokens,
+  timer_members,
 };
 ghost use Rattle.conode_text.specs.Appended.{Appended};
 
@@ -21,8 +23,8 @@ use co_sheet_text::{SectionKind, TextSection};
 use co_value::Key;
 use conode_json::Document;
 use conode_show_text::{
-    Content, Meaning, Word, is_counted, is_pdo_cob_id, mapped_key, mapping_count, section_word,
-    type_meaning,
+    Content, Meaning, Word, has_inhibit_time, is_counted, is_pdo_cob_id, mapped_key, mapping_count,
+    section_word, type_meaning,
 };
 
 fn begin_object(document: &mut Document)
@@ -109,7 +111,7 @@ fn put_mapping<'p>(
     }
 }
 
-// a PDO before what it maps: its COB-ID, transmission type and timers
+// a PDO before its timers: its COB-ID and transmission type
 #[tactic(auto, unfolding(crate::specs::JsonForm::pdo_begin))]
 fn put_pdo_begin<'p>(
     document: &mut Document,
@@ -123,8 +125,6 @@ fn put_pdo_begin<'p>(
         (section_view section.entry.now)) document.new }
 {
     let transmission = Key { index, sub: 2 };
-    let inhibit = Key { index, sub: 3 };
-    let timer = Key { index, sub: 5 };
     document.put(&[
         Part::BeginObject,
         Part::Shown(Member::Pdo, None, Content::Pdo(index)),
@@ -137,13 +137,46 @@ fn put_pdo_begin<'p>(
             sections,
             transmission,
         ),
-        Part::SaidAt(
-            Member::InhibitTime,
-            Meaning::PdoInhibit,
-            node,
-            sections,
-            inhibit,
-        ),
+    ]);
+}
+
+// the inhibit time, where a PDO has one
+#[tactic(auto, using(conode_text::proofs::Appending::nothing))]
+fn put_inhibit<'p>(
+    document: &mut Document,
+    node: Option<u8>,
+    sections: &'p [TextSection<'p, 'p>],
+    index: u16,
+)
+    ensures { Appended document.old
+        (inhibit_member node (map section_view sections.entry.now) index) document.new }
+{
+    if !has_inhibit_time(index) {
+        return;
+    }
+    let inhibit = Key { index, sub: 3 };
+    document.put(&[Part::SaidAt(
+        Member::InhibitTime,
+        Meaning::PdoInhibit,
+        node,
+        sections,
+        inhibit,
+    )]);
+}
+
+// the event timer, and the beginning of what a PDO maps
+#[tactic(auto, unfolding(crate::specs::JsonForm::timer_members))]
+fn put_timer<'p>(
+    document: &mut Document,
+    node: Option<u8>,
+    sections: &'p [TextSection<'p, 'p>],
+    index: u16,
+)
+    ensures { Appended document.old
+        (timer_members node (map section_view sections.entry.now) index) document.new }
+{
+    let timer = Key { index, sub: 5 };
+    document.put(&[
         Part::SaidAt(
             Member::EventTimer,
             Meaning::EventTimer,
@@ -168,6 +201,8 @@ fn put_pdo_tokens<'p>(
         (section_view section.entry.now)) document.new }
 {
     put_pdo_begin(document, node, sections, index, section);
+    put_inhibit(document, node, sections, index);
+    put_timer(document, node, sections, index);
     put_mapping(document, node, sections, index + 0x200);
     document.put(&[Part::EndArray, Part::EndObject]);
 }

@@ -7,14 +7,14 @@ use lib.Utf8.{encode}
 use Rattle.co_text.specs.Printed.{digits_text}
 use Rattle.co_value.specs.declared.data_type.DataType.TheVariants.{Integer16, Unsigned8, Unsigned16, Unsigned32, VisibleString, OctetString}
 use Rattle.conode_show_text.specs.declared.format.Format.TheVariants.{Text, Markdown}
-use Rattle.conode_show_text.specs.declared.meaning.Meaning.TheVariants.{PdoCobId, CobId, SyncCobId, Transmission, Reception, PdoInhibit, EventTimer, EmcyInhibit, Consumer, Producer, Mapped}
+use Rattle.conode_show_text.specs.declared.meaning.Meaning.TheVariants.{PdoCobId, CobId, SyncCobId, SyncPeriod, SyncWindow, SyncOverflow, TimeCobId, Transmission, Reception, PdoInhibit, EventTimer, EmcyInhibit, Consumer, Producer, Mapped}
 use Rattle.conode_show_text.specs.Numbers.{hex_text, in_parentheses, number_text}
 use Rattle.conode_show_text.specs.Texts.{plain_text}
 use Rattle.conode_show_text.specs.Layout.{Part, placed, line_of}
 use Rattle.conode_show_text.specs.declared.values.Word.{Word}
 use Rattle.conode_show_text.specs.Values.{sum_text, known_text, quoted, value_text, unnumbered_text, word_of}
-use Rattle.conode_show_text.specs.CobIds.{identifier_text, cob_id_text, pdo_cob_id_text, sync_text}
-use Rattle.conode_show_text.specs.Meanings.{meaning_text, word_text, transmission_text, reception_text, counted_syncs, millis_text, time_text, consumer_text, mapped_text}
+use Rattle.conode_show_text.specs.CobIds.{identifier_text, cob_id_text, pdo_cob_id_text, sync_text, time_cob_id_text}
+use Rattle.conode_show_text.specs.Meanings.{meaning_text, word_text, transmission_text, reception_text, counted_syncs, micros_text, millis_text, overflow_text, time_text, consumer_text, mapped_text}
 use Rattle.conode_show_text.specs.Pdos.{type_meaning}
 use Rattle.conode_show_text.specs.Entries.{type_name}
 
@@ -340,7 +340,7 @@ inhibit_off : meaning_text PdoInhibit (word 0) ≡ []
 unfolding time_text
 inhibit_off = refl
 
-inhibit : meaning_text PdoInhibit (word 105) ≡ codes "inhibit 10.5 ms"
+inhibit : meaning_text PdoInhibit (word 105) ≡ codes "10.5 ms"
 unfolding time_text millis_text digits
 inhibit = refl
 
@@ -348,7 +348,7 @@ timer_off : meaning_text EventTimer (word 0) ≡ []
 unfolding time_text
 timer_off = refl
 
-timer : meaning_text EventTimer (word 100) ≡ codes "event 100 ms"
+timer : meaning_text EventTimer (word 100) ≡ codes "100 ms"
 unfolding time_text millis_text digits
 timer = refl
 
@@ -367,6 +367,68 @@ producer_off = refl
 producer : meaning_text Producer (word 500) ≡ codes "every 500 ms"
 unfolding time_text millis_text digits
 producer = refl
+
+-- ---- SYNC and TIME
+
+no_period : meaning_text SyncPeriod (word 0) ≡ codes "none"
+unfolding micros_text
+no_period = refl
+
+one_micro : meaning_text SyncPeriod (word 1) ≡ codes "every 0.001 ms"
+unfolding micros_text digits
+one_micro = refl
+
+period : meaning_text SyncPeriod (word 12345) ≡ codes "every 12.345 ms"
+unfolding micros_text digits
+period = refl
+
+no_window : meaning_text SyncWindow (word 0) ≡ codes "none"
+unfolding micros_text
+no_window = refl
+
+window : meaning_text SyncWindow (word 2050) ≡ codes "2.050 ms"
+unfolding micros_text digits
+window = refl
+
+no_counter : meaning_text SyncOverflow (word 0) ≡ codes "no counter"
+unfolding overflow_text
+no_counter = refl
+
+overflow_1 : meaning_text SyncOverflow (word 1) ≡ codes "1: reserved"
+unfolding overflow_text digits
+overflow_1 = refl
+
+overflow_2 : meaning_text SyncOverflow (word 2) ≡ codes "counter from 1 to 2"
+unfolding overflow_text digits
+overflow_2 = refl
+
+overflow_240 : meaning_text SyncOverflow (word 240) ≡ codes "counter from 1 to 240"
+unfolding overflow_text digits
+overflow_240 = refl
+
+overflow_241 : meaning_text SyncOverflow (word 241) ≡ codes "241: reserved"
+unfolding overflow_text digits
+overflow_241 = refl
+
+time_of_nobody : meaning_text TimeCobId (word 0x100) ≡ codes "100h, not used"
+unfolding time_cob_id_text identifier_text hex_text digits
+time_of_nobody = refl
+
+time_consumed : meaning_text TimeCobId (word 0x80000100) ≡ codes "100h, consumed"
+unfolding time_cob_id_text identifier_text hex_text digits
+time_consumed = refl
+
+time_produced : meaning_text TimeCobId (word 0x40000100) ≡ codes "100h, produced"
+unfolding time_cob_id_text identifier_text hex_text digits
+time_produced = refl
+
+time_both : meaning_text TimeCobId (word 0xE0012345) ≡ codes "12345h, 29-bit, consumed and produced"
+unfolding time_cob_id_text identifier_text hex_text digits
+time_both = refl
+
+time_zero : meaning_text TimeCobId (word 0xC0000000) ≡ codes "0h, not used"
+unfolding time_cob_id_text identifier_text hex_text digits
+time_zero = refl
 
 -- ---- heartbeat consumers: node-IDs 0, 1, 127 and 128, no time, reserved bits
 

@@ -10,17 +10,17 @@ use Rattle.co_sheet_text.specs.declared.section_kind.SectionKind.{SectionKind}
 use Rattle.co_sheet_text.specs.declared.section_kind.SectionKind.TheVariants.{Object, SubIndex}
 use Rattle.co_sheet_text.specs.Sections.{TextSection, Property}
 use Rattle.conode_show_text.specs.declared.format.Format.TheVariants.{Text}
-use Rattle.conode_show_text.specs.declared.service.Service.TheVariants.{Sync, Emcy, EmcyInhibitTime, HeartbeatConsumer, HeartbeatProducer, SdoRequests, SdoResponses, ClientRequests, ClientResponses}
+use Rattle.conode_show_text.specs.declared.service.Service.TheVariants.{Sync, SyncPeriod, SyncWindow, SyncOverflow, Time, Emcy, EmcyInhibitTime, HeartbeatConsumer, HeartbeatProducer, SdoRequests, SdoResponses, ClientRequests, ClientResponses}
 use Rattle.conode_show_text.specs.Numbers.{hex_text, in_parentheses, number_text}
 use Rattle.conode_show_text.specs.Texts.{plain_text, property_text}
 use Rattle.conode_show_text.specs.Layout.{placed}
 use Rattle.conode_show_text.specs.Values.{default_text, known_text, limit_text, limits_text, property_value, sum_text, value_text}
 use Rattle.conode_show_text.specs.CobIds.{cob_id_text, identifier_text, pdo_cob_id_text}
-use Rattle.conode_show_text.specs.Meanings.{said, word_text}
+use Rattle.conode_show_text.specs.Meanings.{millis_text, said, time_text, word_text}
 use Rattle.conode_show_text.specs.declared.meaning.Meaning.TheVariants.{PdoCobId}
 use Rattle.conode_show_text.specs.Entries.{entry_line, entry_type, mappable_text, object_line, section_text, object_head, type_name, type_text}
 use Rattle.conode_show_text.specs.Services.{channel_name, service_name, service_of}
-use Rattle.conode_show_text.specs.Pdos.{is_counted, is_pdo_cob_id, mapping_count, pdo_name}
+use Rattle.conode_show_text.specs.Pdos.{inhibit_text, is_counted, is_pdo_cob_id, mapping_count, pdo_name, said_at}
 use Rattle.conode_show_text.specs.Document.{rank}
 
 abbrev key : ℕ → ℕ → Key
@@ -35,15 +35,21 @@ section kind properties = record { kind = kind; name = []; line = 1; properties 
 -- ---- entries and objects
 
 whole_entry : section_text Text None (section (SubIndex (key 0x2000 1)) (property (codes "ParameterName") (codes "Gain") ∷ property (codes "DataType") (codes "0x0003") ∷ property (codes "AccessType") (codes "rw") ∷ property (codes "PDOMapping") (codes "1") ∷ property (codes "DefaultValue") (codes "10") ∷ property (codes "LowLimit") (codes "0xFF9C") ∷ property (codes "HighLimit") (codes "100") ∷ []))
-    ≡ codes "2000:01 Gain                              INTEGER16  rw     PDO 10 (Ah)                -100..100\n"
+    ≡ codes "2000:01 Gain                          INTEGER16      rw     PDO 10 (Ah)                -100..100\n"
 unfolding entry_line placed property_text plain_text is_utf8 chars encode type_text entry_type type_name mappable_text default_text property_value value_text known_text number_text in_parentheses hex_text limits_text limit_text digits digits_text
 whole_entry = refl
 
-variable : section_text Text None (section (Object 0x1001) (property (codes "DataType") (codes "5") ∷ [])) ≡ codes "1001:00                                   UNSIGNED8\n"
+variable : section_text Text None (section (Object 0x1001) (property (codes "DataType") (codes "5") ∷ [])) ≡ codes "1001:00                               UNSIGNED8\n"
 unfolding entry_line object_head placed property_text plain_text is_utf8 chars encode type_text entry_type type_name mappable_text default_text property_value limits_text limit_text digits digits_text
 variable = refl
 
-object_of_records : section_text Text None (section (Object 0x1018) (property (codes "ObjectType") (codes "9") ∷ property (codes "ParameterName") (codes "Identity") ∷ [])) ≡ codes "1018    Identity                          RECORD\n"
+-- the longest name before a column, and the longest type: neither moves what is right of it
+long_name : section_text Text None (section (Object 0x1009) (property (codes "ParameterName") (codes "Manufacturer hardware version") ∷ property (codes "DataType") (codes "9") ∷ property (codes "AccessType") (codes "const") ∷ []))
+    ≡ codes "1009:00 Manufacturer hardware version VISIBLE_STRING const\n"
+unfolding entry_line object_head placed property_text plain_text is_utf8 chars encode type_text entry_type type_name mappable_text default_text property_value limits_text limit_text digits digits_text
+long_name = refl
+
+object_of_records : section_text Text None (section (Object 0x1018) (property (codes "ObjectType") (codes "9") ∷ property (codes "ParameterName") (codes "Identity") ∷ [])) ≡ codes "1018    Identity                      RECORD\n"
 unfolding object_head object_line placed property_text plain_text is_utf8 chars encode type_text digits_text
 object_of_records = refl
 
@@ -87,6 +93,24 @@ sync = refl
 
 sync_sub_1 : service_of (key 0x1005 1) ≡ None
 sync_sub_1 = refl
+
+sync_period : service_of (key 0x1006 0) ≡ Some SyncPeriod
+sync_period = refl
+
+sync_window : service_of (key 0x1007 0) ≡ Some SyncWindow
+sync_window = refl
+
+after_window : service_of (key 0x1008 0) ≡ None
+after_window = refl
+
+time : service_of (key 0x1012 0) ≡ Some Time
+time = refl
+
+sync_overflow : service_of (key 0x1019 0) ≡ Some SyncOverflow
+sync_overflow = refl
+
+sync_overflow_sub_1 : service_of (key 0x1019 1) ≡ None
+sync_overflow_sub_1 = refl
 
 emcy : service_of (key 0x1014 0) ≡ Some Emcy
 emcy = refl
@@ -179,6 +203,17 @@ tpdo_1 = refl
 tpdo_512 : pdo_name 0x19FF ≡ codes "TPDO 512"
 unfolding pdo_name digits
 tpdo_512 = refl
+
+-- sub-index 3: of an RPDO it isn't used, of a TPDO it is the inhibit time
+abbrev inhibit_at : ℕ → List ℕ
+inhibit_at index = inhibit_text None (section (SubIndex (key index 3)) (property (codes "DefaultValue") (codes "500") ∷ []) ∷ []) index
+
+last_rpdo_inhibit : inhibit_at 0x15FF ≡ []
+last_rpdo_inhibit = refl
+
+first_tpdo_inhibit : inhibit_at 0x1800 ≡ codes "50.0 ms"
+unfolding said_at said word_text time_text millis_text digits
+first_tpdo_inhibit = refl
 
 relative_cob_id : said PdoCobId None (section (SubIndex (key 0x1800 1)) (property (codes "DefaultValue") (codes "$NODEID+0x40000180") ∷ [])) ≡ codes "$NODEID+180h, enabled, no RTR"
 unfolding said word_text pdo_cob_id_text cob_id_text identifier_text hex_text digits

@@ -51,3 +51,14 @@ sync_name word =
 
 unfoldable pub sync_text : Word → List ℕ
 sync_text word = identifier_text word.number ++ sync_name word
+
+-- the COB-ID of TIME: with bit 31 the device consumes it, with bit 30 it produces it
+abbrev pub time_name : Word → List ℕ
+time_name word =
+    if is_not_used word then codes ", not used"
+    else if has_bit_31 word.number
+    then (if has_bit_30 word.number then codes ", consumed and produced" else codes ", consumed")
+    else if has_bit_30 word.number then codes ", produced" else codes ", not used"
+
+unfoldable pub time_cob_id_text : Word → List ℕ
+time_cob_id_text word = identifier_text word.number ++ time_name word

@@ -30,7 +30,7 @@ ordered sections = in_order (λ s t. nat_lt (rank s.kind) (rank t.kind)) section
 abbrev pub head_of : Chapter → Format → List ℕ
 head_of Entries Text = entries_head Text
 head_of Entries Markdown = codes "## Objects\n"
-head_of Pdos Text = codes "\nPDO     COB-ID, mapped                Transmission type, name           Timers\n"
+head_of Pdos Text = codes "\nPDO     COB-ID, mapped                Transmission type, name           Inhibit    Event timer\n"
 head_of Pdos Markdown =
     codes "\n## PDOs\n\n| PDO | COB-ID, mapped | Transmission type, name | Inhibit time | Event timer |\n| --- | --- | --- | --- | --- |\n"
 head_of Services Text = codes "\nEntry   Service                       Says\n"

@@ -71,7 +71,7 @@ abbrev pub entry_parts : Option ℕ → Key → TextSection → List Part
 entry_parts node key section =
     record { column = 0; text = key_text key }
     ∷ record { column = 8; text = property_text (codes "ParameterName") section }
-    ∷ record { column = 42; text = type_text section }
+    ∷ record { column = 38; text = type_text section }
     ∷ record { column = 53; text = property_text (codes "AccessType") section }
     ∷ record { column = 60; text = mappable_text section }
     ∷ record { column = 64; text = default_text node section }
@@ -85,14 +85,14 @@ abbrev pub object_parts : ℕ → TextSection → List Part
 object_parts index section =
     record { column = 0; text = digits_text 16 4 index }
     ∷ record { column = 8; text = property_text (codes "ParameterName") section }
-    ∷ record { column = 42; text = type_text section } ∷ []
+    ∷ record { column = 38; text = type_text section } ∷ []
 
 unfoldable pub object_line : ℕ → TextSection → List ℕ
 object_line index section = line_of Text (object_parts index section)
 
 -- the head of a table of entries
 abbrev pub entries_head : Format → List ℕ
-entries_head Text = codes "Entry   Name                              Type       Access PDO Default                Limits\n"
+entries_head Text = codes "Entry   Name                          Type           Access PDO Default                Limits\n"
 entries_head Markdown =
     codes "| Entry | Name | Type | Access | PDO | Default | Limits |\n| --- | --- | --- | --- | --- | --- | --- |\n"
 

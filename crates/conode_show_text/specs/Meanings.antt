@@ -5,10 +5,10 @@ use Rattle.co_value.specs.declared.key.Key.{Key}
 use Rattle.co_value.specs.KeyTexts.{key_text}
 use Rattle.co_sheet_text.specs.Sections.{TextSection}
 use Rattle.conode_show_text.specs.declared.meaning.Meaning.{Meaning}
-use Rattle.conode_show_text.specs.declared.meaning.Meaning.TheVariants.{PdoCobId, CobId, SyncCobId, Transmission, Reception, PdoInhibit, EventTimer, EmcyInhibit, Consumer, Producer, Mapped}
+use Rattle.conode_show_text.specs.declared.meaning.Meaning.TheVariants.{PdoCobId, CobId, SyncCobId, SyncPeriod, SyncWindow, SyncOverflow, TimeCobId, Transmission, Reception, PdoInhibit, EventTimer, EmcyInhibit, Consumer, Producer, Mapped}
 use Rattle.co_sheet.specs.Commissioning.{is_node_number}
 use Rattle.conode_show_text.specs.Names.{name_among}
-use Rattle.conode_show_text.specs.CobIds.{pdo_cob_id_text, cob_id_text, sync_text}
+use Rattle.conode_show_text.specs.CobIds.{pdo_cob_id_text, cob_id_text, sync_text, time_cob_id_text}
 use Rattle.conode_show_text.specs.Texts.{plain_text}
 use Rattle.conode_show_text.specs.declared.values.Word.{Word}
 use Rattle.conode_show_text.specs.Values.{word_of, value_of}
@@ -50,6 +50,22 @@ unfoldable pub time_text : List ℕ → List ℕ → Bool → ℕ → List ℕ
 time_text off before in_tenths n =
     if n == 0 then off else before ++ millis_text in_tenths n ++ codes " ms"
 
+-- a time in µs, printed in ms after the words `before`; 0: SYNC isn't sent by it, or there is no
+-- window (CiA 301, 7.5.2.6 and 7.5.2.7)
+unfoldable pub micros_text : List ℕ → ℕ → List ℕ
+micros_text before n =
+    if n == 0 then codes "none"
+    else before ++ decimal (n / 1000) ++ codes "." ++ decimal (n / 100 % 10) ++ decimal (n / 10 % 10)
+    ++ decimal (n % 10) ++ codes " ms"
+
+-- the SYNC counter overflow value: SYNC has no counter, or one from 1 to this value; 1 and those
+-- above 240 are reserved (CiA 301, 7.5.2.22)
+unfoldable pub overflow_text : ℕ → List ℕ
+overflow_text n =
+    if n == 0 then codes "no counter"
+    else if nat_le 2 n && nat_le n 240 then codes "counter from 1 to " ++ decimal n
+    else decimal n ++ codes ": reserved"
+
 -- a consumer heartbeat time: the node-ID in bits 23 to 16, below it the time in ms; bits 31 to 24
 -- are reserved. The entry isn't used if the time is 0, or the node-ID isn't 1 to 127
 abbrev pub is_consumer_used : ℕ → Bool
@@ -77,10 +93,14 @@ abbrev pub meaning_text : Meaning → Word → List ℕ
 meaning_text PdoCobId word = pdo_cob_id_text word
 meaning_text CobId word = cob_id_text word
 meaning_text SyncCobId word = sync_text word
+meaning_text SyncPeriod word = micros_text (codes "every ") word.number
+meaning_text SyncWindow word = micros_text [] word.number
+meaning_text SyncOverflow word = overflow_text word.number
+meaning_text TimeCobId word = time_cob_id_text word
 meaning_text Transmission word = transmission_text word.number
 meaning_text Reception word = reception_text word.number
-meaning_text PdoInhibit word = time_text [] (codes "inhibit ") true word.number
-meaning_text EventTimer word = time_text [] (codes "event ") false word.number
+meaning_text PdoInhibit word = time_text [] [] true word.number
+meaning_text EventTimer word = time_text [] [] false word.number
 meaning_text EmcyInhibit word = time_text (codes "none") [] true word.number
 meaning_text Consumer word = consumer_text word.number
 meaning_text Producer word = time_text (codes "off") (codes "every ") false word.number

@@ -41,14 +41,24 @@ entry_section sections key =
 unfoldable pub said_at : Meaning → Option ℕ → List TextSection → Key → List ℕ
 said_at meaning node sections key = option_map_or (said meaning node) (section_at (SubIndex key) sections) []
 
+-- whether a PDO has an inhibit time: sub-index 3 of an RPDO isn't used (CiA 301, 7.5.2.35)
+abbrev pub has_inhibit_time : ℕ → Bool
+has_inhibit_time index = is_within tpdo_communication index
+
+-- the inhibit time in words
+abbrev pub inhibit_text : Option ℕ → List TextSection → ℕ → List ℕ
+inhibit_text node sections index =
+    if has_inhibit_time index
+    then said_at PdoInhibit node sections (record { index = index; sub = 3 }) else []
+
 -- PDO, COB-ID, transmission type, inhibit time, event timer
 abbrev pub pdo_parts : Option ℕ → List TextSection → ℕ → TextSection → List Part
 pdo_parts node sections index section =
     record { column = 0; text = pdo_name index }
     ∷ record { column = 8; text = said PdoCobId node section }
     ∷ record { column = 38; text = said_at (type_meaning index) node sections (record { index = index; sub = 2 }) }
-    ∷ record { column = 72; text = said_at PdoInhibit node sections (record { index = index; sub = 3 }) }
-    ∷ record { column = 88; text = said_at EventTimer node sections (record { index = index; sub = 5 }) } ∷ []
+    ∷ record { column = 72; text = inhibit_text node sections index }
+    ∷ record { column = 83; text = said_at EventTimer node sections (record { index = index; sub = 5 }) } ∷ []
 
 unfoldable pub pdo_line : Format → Option ℕ → List TextSection → ℕ → TextSection → List ℕ
 pdo_line format node sections index section = line_of format (pdo_parts node sections index section)
@@ -69,7 +79,7 @@ mapped_parts node sections section =
     record { column = 0; text = [] }
     ∷ record { column = 8; text = said Mapped node section }
     ∷ record { column = 38; text = mapped_name node sections section }
-    ∷ record { column = 72; text = [] } ∷ record { column = 88; text = [] } ∷ []
+    ∷ record { column = 72; text = [] } ∷ record { column = 83; text = [] } ∷ []
 
 unfoldable pub mapped_line : Format → Option ℕ → List TextSection → TextSection → List ℕ
 mapped_line format node sections section = line_of format (mapped_parts node sections section)

@@ -1,4 +1,4 @@
--- SYNC, EMCY, heartbeats and SDO channels in words (CiA 301, 7.5.2).
+-- SYNC, TIME, EMCY, heartbeats and SDO channels in words (CiA 301, 7.5.2).
 use Rattle.std.specs.Prelude.{ℕ, ◌+◌, ◌-◌, ◌==◌, nat_le, ◌&&◌, if◌then◌else◌, List, [], ◌∷◌, ◌++◌, codes, decimal, Option, Some, None}
 use Rattle.std.specs.Option.{option_map_or}
 use Rattle.co_value.specs.declared.key.Key.{Key}
@@ -8,9 +8,9 @@ use Rattle.co_sheet_text.specs.declared.section_kind.SectionKind.TheVariants.{Ob
 use Rattle.co_sheet_text.specs.Sections.{TextSection}
 use Rattle.conode_show_text.specs.declared.format.Format.{Format}
 use Rattle.conode_show_text.specs.declared.meaning.Meaning.{Meaning}
-use Rattle.conode_show_text.specs.declared.meaning.Meaning.TheVariants.{CobId, SyncCobId, EmcyInhibit, Consumer, Producer}
+use Rattle.conode_show_text.specs.declared.meaning.Meaning.TheVariants.{CobId, SyncCobId, SyncPeriod as PeriodMeaning, SyncWindow as WindowMeaning, SyncOverflow as OverflowMeaning, TimeCobId, EmcyInhibit, Consumer, Producer}
 use Rattle.conode_show_text.specs.declared.service.Service.{Service}
-use Rattle.conode_show_text.specs.declared.service.Service.TheVariants.{Sync, Emcy, EmcyInhibitTime, HeartbeatConsumer, HeartbeatProducer, SdoRequests, SdoResponses, ClientRequests, ClientResponses}
+use Rattle.conode_show_text.specs.declared.service.Service.TheVariants.{Sync, SyncPeriod, SyncWindow, SyncOverflow, Time, Emcy, EmcyInhibitTime, HeartbeatConsumer, HeartbeatProducer, SdoRequests, SdoResponses, ClientRequests, ClientResponses}
 use Rattle.conode_show_text.specs.Layout.{Part, line_of}
 use Rattle.conode_show_text.specs.Meanings.{said}
 
@@ -18,10 +18,14 @@ use Rattle.conode_show_text.specs.Meanings.{said}
 abbrev pub service_of : Key → Option Service
 service_of key =
     if key.index == 0x1005 && key.sub == 0 then Some Sync
+    else if key.index == 0x1006 && key.sub == 0 then Some SyncPeriod
+    else if key.index == 0x1007 && key.sub == 0 then Some SyncWindow
+    else if key.index == 0x1012 && key.sub == 0 then Some Time
     else if key.index == 0x1014 && key.sub == 0 then Some Emcy
     else if key.index == 0x1015 && key.sub == 0 then Some EmcyInhibitTime
     else if key.index == 0x1016 && nat_le 1 key.sub then Some HeartbeatConsumer
     else if key.index == 0x1017 && key.sub == 0 then Some HeartbeatProducer
+    else if key.index == 0x1019 && key.sub == 0 then Some SyncOverflow
     else if nat_le 0x1200 key.index && nat_le key.index 0x127F && key.sub == 1 then Some (SdoRequests (key.index - 0x1200 + 1))
     else if nat_le 0x1200 key.index && nat_le key.index 0x127F && key.sub == 2 then Some (SdoResponses (key.index - 0x1200 + 1))
     else if nat_le 0x1280 key.index && nat_le key.index 0x12FF && key.sub == 1 then Some (ClientRequests (key.index - 0x1280 + 1))
@@ -35,6 +39,10 @@ channel_name end channel way = end ++ decimal channel ++ way
 -- the name of a service
 unfoldable pub service_name : Service → List ℕ
 service_name Sync = codes "SYNC"
+service_name SyncPeriod = codes "SYNC period"
+service_name SyncWindow = codes "SYNC window"
+service_name SyncOverflow = codes "SYNC counter overflow"
+service_name Time = codes "TIME"
 service_name Emcy = codes "EMCY"
 service_name EmcyInhibitTime = codes "EMCY inhibit time"
 service_name HeartbeatConsumer = codes "Heartbeat consumer"
@@ -47,6 +55,10 @@ service_name (ClientResponses channel) = channel_name (codes "SDO client ") chan
 -- the meaning of its number
 abbrev pub service_meaning : Service → Meaning
 service_meaning Sync = SyncCobId
+service_meaning SyncPeriod = PeriodMeaning
+service_meaning SyncWindow = WindowMeaning
+service_meaning SyncOverflow = OverflowMeaning
+service_meaning Time = TimeCobId
 service_meaning Emcy = CobId
 service_meaning EmcyInhibitTime = EmcyInhibit
 service_meaning HeartbeatConsumer = Consumer

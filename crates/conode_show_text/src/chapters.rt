@@ -24,7 +24,7 @@ pub enum Chapter {
     /// Entries and objects.
     Entries,
     Pdos,
-    /// SYNC, EMCY, heartbeats and SDO channels.
+    /// SYNC, TIME, EMCY, heartbeats and SDO channels.
     Services,
 }
 
@@ -35,7 +35,7 @@ fn head_of(chapter: Chapter, format: Format) -> &'static str
         (Chapter::Entries, Format::Text) => entries_head(Format::Text),
         (Chapter::Entries, Format::Markdown) => "## Objects\n",
         (Chapter::Pdos, Format::Text) =>
-            "\nPDO     COB-ID, mapped                Transmission type, name           Timers\n",
+            "\nPDO     COB-ID, mapped                Transmission type, name           Inhibit    Event timer\n",
         (Chapter::Pdos, Format::Markdown) =>
             "\n## PDOs\n\n| PDO | COB-ID, mapped | Transmission type, name | Inhibit time | Event timer |\n| --- | --- | --- | --- | --- |\n",
         (Chapter::Services, Format::Text) => "\nEntry   Service                       Says\n",

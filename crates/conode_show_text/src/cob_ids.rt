@@ -8,6 +8,7 @@ ghost use Rattle.conode_show_text.specs.CobIds.{
   is_not_used,
   pdo_cob_id_text,
   sync_name,
+  time_name,
   use_name,
 };
 
@@ -15,10 +16,10 @@ use crate::numbers::{push_words, words_if};
 use crate::values::Word;
 use std::alloc::AllocError;
 
-/// Bit 31: the object isn't enabled.
+/// Bit 31: the object isn't enabled; the device consumes TIME.
 const DISABLED: u64 = 0x8000_0000;
 
-/// Bit 30: no RTR for a PDO; the device produces SYNC.
+/// Bit 30: no RTR for a PDO; the device produces SYNC or TIME.
 const BIT_30: u64 = 0x4000_0000;
 
 /// Bit 29: the identifier has 29 bits.
@@ -93,5 +94,24 @@ pub(crate) fn sync_name(word: Word) -> &'static str
         ", produced"
     } else {
         ", not produced"
+    }
+}
+
+/// Whether the device consumes TIME (bit 31) and produces it (bit 30), in words.
+pub(crate) fn time_name(word: Word) -> &'static str
+    ensures { result.now ≡ time_name word }
+{
+    let is_consumed = word.number / DISABLED % 2 == 1;
+    let is_produced = word.number / BIT_30 % 2 == 1;
+    if is_not_used(word) {
+        ", not used"
+    } else if is_consumed && is_produced {
+        ", consumed and produced"
+    } else if is_consumed {
+        ", consumed"
+    } else if is_produced {
+        ", produced"
+    } else {
+        ", not used"
     }
 }

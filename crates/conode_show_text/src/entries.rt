@@ -94,7 +94,7 @@ fn push_entry_line<'p>(
         &[
             Cell(0, Content::Key(key)),
             Cell(8, Content::Property(b"ParameterName", section)),
-            Cell(42, Content::TypeOf(section)),
+            Cell(38, Content::TypeOf(section)),
             Cell(53, Content::Property(b"AccessType", section)),
             Cell(60, Content::Words(words_if(is_mappable(section), "PDO"))),
             Cell(64, Content::Default(section)),
@@ -109,7 +109,7 @@ pub(crate) fn entries_head(format: Format) -> &'static str
 {
     match format {
         Format::Text =>
-            "Entry   Name                              Type       Access PDO Default                Limits\n",
+            "Entry   Name                          Type           Access PDO Default                Limits\n",
         Format::Markdown =>
             "| Entry | Name | Type | Access | PDO | Default | Limits |\n| --- | --- | --- | --- | --- | --- | --- |\n",
     }
@@ -166,7 +166,7 @@ fn push_object_head<'p>(
             &[
                 Cell(0, Content::Index(index)),
                 Cell(8, Content::Property(b"ParameterName", section)),
-                Cell(42, Content::TypeOf(section)),
+                Cell(38, Content::TypeOf(section)),
             ],
         ),
         Format::Text => Ok(()),

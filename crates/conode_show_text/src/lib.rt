@@ -46,7 +46,8 @@ pub use format::Format;
 pub use meaning::{Meaning, mapped_key};
 pub use ordering::order;
 pub use pdos::{
-    entry_section, is_counted, is_pdo_cob_id, mapping_count, section_word, type_meaning,
+    entry_section, has_inhibit_time, is_counted, is_pdo_cob_id, mapping_count, section_word,
+    type_meaning,
 };
 pub use sections::node_for;
 pub use service::{Service, key_of};

@@ -11,6 +11,8 @@ ghost use Rattle.conode_show_text.specs.Meanings.{
   mapped_key,
   mapped_text,
   meaning_text,
+  micros_text,
+  overflow_text,
   reception_text,
   said,
   time_text,
@@ -19,7 +21,7 @@ ghost use Rattle.conode_show_text.specs.Meanings.{
   word_text,
 };
 
-use crate::cob_ids::{push_identifier, push_pdo_cob_id, sync_name, use_name};
+use crate::cob_ids::{push_identifier, push_pdo_cob_id, sync_name, time_name, use_name};
 use crate::names::name_among;
 use crate::numbers::{push_between, push_words, words_if};
 use crate::texts::push_plain;
@@ -37,6 +39,14 @@ pub enum Meaning {
     CobId,
     /// The COB-ID of SYNC.
     SyncCobId,
+    /// The communication cycle period, in µs.
+    SyncPeriod,
+    /// The synchronous window length, in µs.
+    SyncWindow,
+    /// The synchronous counter overflow value.
+    SyncOverflow,
+    /// The COB-ID of TIME.
+    TimeCobId,
     /// The transmission type of a TPDO.
     Transmission,
     /// The transmission type of an RPDO.
@@ -126,6 +136,34 @@ fn push_time(
     }
 }
 
+// a time in µs, printed in ms after the words `before`
+#[tactic(auto, unfolding(crate::specs::Meanings::micros_text))]
+fn push_micros(text: &mut String, before: &str, number: u64) -> Result<(), AllocError>
+    ensures { OnOk result
+        (string_bytes text.new ≡ string_bytes text.old ++ micros_text before.now number) }
+{
+    if number == 0 {
+        return push_words(text, "none");
+    }
+    let whole = number / 1000;
+    let tenths = number / 100 % 10;
+    let hundredths = number / 10 % 10;
+    let thousandths = number % 10;
+    write!(text, "{before}{whole}.{tenths}{hundredths}{thousandths} ms")
+}
+
+// the SYNC counter overflow value
+#[tactic(auto, unfolding(crate::specs::Meanings::overflow_text))]
+fn push_overflow(text: &mut String, number: u64) -> Result<(), AllocError>
+    ensures { OnOk result (string_bytes text.new ≡ string_bytes text.old ++ overflow_text number) }
+{
+    match number {
+        0 => push_words(text, "no counter"),
+        2..=240 => push_between(text, "counter from 1 to ", number, ""),
+        _ => push_between(text, "", number, ": reserved"),
+    }
+}
+
 // whether an entry of the heartbeat consumer is used: its time isn't 0, its node-ID 1 to 127
 fn is_consumer_used(number: u64) -> bool
     ensures { result ≡ is_consumer_used number }
@@ -178,7 +216,7 @@ fn push_mapped(text: &mut String, number: u64) -> Result<(), AllocError>
     write!(text, "{key}, {bits} bits")
 }
 
-#[tactic(auto, unfolding(crate::specs::CobIds::cob_id_text, crate::specs::CobIds::sync_text))]
+#[tactic(auto, unfolding(crate::specs::CobIds::cob_id_text, crate::specs::CobIds::sync_text, crate::specs::CobIds::time_cob_id_text))]
 fn push_meaning(text: &mut String, meaning: Meaning, word: Word) -> Result<(), AllocError>
     ensures { OnOk result
         (string_bytes text.new ≡ string_bytes text.old ++ meaning_text meaning word) }
@@ -187,10 +225,14 @@ fn push_meaning(text: &mut String, meaning: Meaning, word: Word) -> Result<(), A
         Meaning::PdoCobId => push_pdo_cob_id(text, word),
         Meaning::CobId => push_identifier(text, word.number, use_name(word)),
         Meaning::SyncCobId => push_identifier(text, word.number, sync_name(word)),
+        Meaning::SyncPeriod => push_micros(text, "every ", word.number),
+        Meaning::SyncWindow => push_micros(text, "", word.number),
+        Meaning::SyncOverflow => push_overflow(text, word.number),
+        Meaning::TimeCobId => push_identifier(text, word.number, time_name(word)),
         Meaning::Transmission => push_transmission(text, word.number),
         Meaning::Reception => push_reception(text, word.number),
-        Meaning::PdoInhibit => push_time(text, "", "inhibit ", true, word.number),
-        Meaning::EventTimer => push_time(text, "", "event ", false, word.number),
+        Meaning::PdoInhibit => push_time(text, "", "", true, word.number),
+        Meaning::EventTimer => push_time(text, "", "", false, word.number),
         Meaning::EmcyInhibit => push_time(text, "none", "", true, word.number),
         Meaning::Consumer => push_consumer(text, word.number),
         Meaning::Producer => push_time(text, "off", "every ", false, word.number),

@@ -7,6 +7,8 @@ ghost use Rattle.conode_show_text.specs.Cells.{cell_text};
 ghost use Rattle.conode_show_text.specs.Pdos.{
   counted_line,
   entry_section,
+  has_inhibit_time,
+  inhibit_text,
   is_counted,
   is_pdo_cob_id,
   mapped_lines,
@@ -74,6 +76,26 @@ fn said_at<'p>(meaning: Meaning, sections: &'p [TextSection<'p, 'p>], key: Key) 
     match section_at(sections, SectionKind::SubIndex(key)) {
         Some(section) => Content::Said(meaning, section),
         None => Content::Words(""),
+    }
+}
+
+/// Whether a PDO has an inhibit time, by the index of its communication parameter: sub-index 3 of
+/// an RPDO isn't used.
+pub fn has_inhibit_time(index: u16) -> bool
+    ensures { result ≡ has_inhibit_time index }
+{
+    IndexRange::TPDO_COMMUNICATION.contains(index)
+}
+
+// the inhibit time of a PDO
+fn inhibit_time<'p>(sections: &'p [TextSection<'p, 'p>], index: u16) -> Content<'p>
+    ensures { (node : Option ℕ) → cell_text node result
+        ≡ inhibit_text node (map section_view sections.entry.now) index }
+{
+    if has_inhibit_time(index) {
+        said_at(Meaning::PdoInhibit, sections, Key { index, sub: 3 })
+    } else {
+        Content::Words("")
     }
 }
 
@@ -177,7 +199,7 @@ fn push_if_counted<'p>(
             Cell(8, Content::Said(Meaning::Mapped, section)),
             Cell(38, mapped_name(node, sections, section)),
             Cell(72, Content::Words("")),
-            Cell(88, Content::Words("")),
+            Cell(83, Content::Words("")),
         ],
     )
 }
@@ -222,14 +244,13 @@ fn push_pdo_lines<'p>(
         (map section_view sections.entry.now) index (section_view section.entry.now)) }
 {
     let transmission = Key { index, sub: 2 };
-    let inhibit = Key { index, sub: 3 };
     let timer = Key { index, sub: 5 };
     let cells = [
         Cell(0, Content::Pdo(index)),
         Cell(8, Content::Said(Meaning::PdoCobId, section)),
         Cell(38, said_at(type_meaning(index), sections, transmission)),
-        Cell(72, said_at(Meaning::PdoInhibit, sections, inhibit)),
-        Cell(88, said_at(Meaning::EventTimer, sections, timer)),
+        Cell(72, inhibit_time(sections, index)),
+        Cell(83, said_at(Meaning::EventTimer, sections, timer)),
     ];
     attempt!(push_line(text, line, part, format, node, &cells));
     let mapping = index + 0x200;

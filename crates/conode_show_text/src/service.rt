@@ -1,4 +1,4 @@
-//! SYNC, EMCY, heartbeats and SDO channels in words (CiA 301, 7.5.2).
+//! SYNC, TIME, EMCY, heartbeats and SDO channels in words (CiA 301, 7.5.2).
 
 ghost use Rattle.std.specs.Prelude.{◌≡◌, ◌++◌, OnOk, string_bytes};
 ghost use Rattle.co_sheet_text.specs.Views.{section_view};
@@ -23,6 +23,13 @@ use std::alloc::AllocError;
 #[derive(Clone, Copy)]
 pub enum Service {
     Sync,
+    /// The communication cycle period.
+    SyncPeriod,
+    /// The synchronous window length.
+    SyncWindow,
+    /// The synchronous counter overflow value.
+    SyncOverflow,
+    Time,
     Emcy,
     EmcyInhibitTime,
     HeartbeatConsumer,
@@ -45,10 +52,14 @@ impl Service {
     {
         match (key.index, key.sub) {
             (0x1005, 0) => Some(Service::Sync),
+            (0x1006, 0) => Some(Service::SyncPeriod),
+            (0x1007, 0) => Some(Service::SyncWindow),
+            (0x1012, 0) => Some(Service::Time),
             (0x1014, 0) => Some(Service::Emcy),
             (0x1015, 0) => Some(Service::EmcyInhibitTime),
             (0x1016, sub) if 1 <= sub => Some(Service::HeartbeatConsumer),
             (0x1017, 0) => Some(Service::HeartbeatProducer),
+            (0x1019, 0) => Some(Service::SyncOverflow),
             (index @ 0x1200..=0x127F, 1) => Some(Service::SdoRequests(index - 0x1200 + 1)),
             (index @ 0x1200..=0x127F, 2) => Some(Service::SdoResponses(index - 0x1200 + 1)),
             (index @ 0x1280..=0x12FF, 1) => Some(Service::ClientRequests(index - 0x1280 + 1)),
@@ -63,6 +74,10 @@ impl Service {
     {
         match self {
             Service::Sync => Meaning::SyncCobId,
+            Service::SyncPeriod => Meaning::SyncPeriod,
+            Service::SyncWindow => Meaning::SyncWindow,
+            Service::SyncOverflow => Meaning::SyncOverflow,
+            Service::Time => Meaning::TimeCobId,
             Service::Emcy
             | Service::SdoRequests(_)
             | Service::SdoResponses(_)
@@ -90,6 +105,10 @@ pub(crate) fn push_service_name(text: &mut String, service: Service) -> Result<(
 {
     match service {
         Service::Sync => push_words(text, "SYNC"),
+        Service::SyncPeriod => push_words(text, "SYNC period"),
+        Service::SyncWindow => push_words(text, "SYNC window"),
+        Service::SyncOverflow => push_words(text, "SYNC counter overflow"),
+        Service::Time => push_words(text, "TIME"),
         Service::Emcy => push_words(text, "EMCY"),
         Service::EmcyInhibitTime => push_words(text, "EMCY inhibit time"),
         Service::HeartbeatConsumer => push_words(text, "Heartbeat consumer"),

@@ -319,7 +319,7 @@ compare_with_a_sheet : asked_after compare_command (codes "compare") (codes "s" 
 unfolding words_on_literals
 compare_with_a_sheet = refl
 
-compare_with_options : asked_after compare_command (codes "compare") (codes "s" ∷ codes "--node=5" ∷ codes "t" ∷ codes "--interface" ∷ codes "can0" ∷ codes "--log=trc" ∷ codes "--format=html" ∷ codes "--held=2001:00,2010:00" ∷ codes "--strings" ∷ codes "65535" ∷ codes "--domains=0" ∷ codes "--choices" ∷ codes "--learned" ∷ codes "--tolerance" ∷ codes "0" ∷ codes "--drift=100" ∷ codes "--answer=4294967295" ∷ codes "--boot=1" ∷ codes "--time=65535" ∷ [])
+compare_with_options : asked_after compare_command (codes "compare") (codes "s" ∷ codes "--node=5" ∷ codes "t" ∷ codes "--interface" ∷ codes "can0" ∷ codes "--log=trc" ∷ codes "--format=text" ∷ codes "--held=2001:00,2010:00" ∷ codes "--strings" ∷ codes "65535" ∷ codes "--domains=0" ∷ codes "--choices" ∷ codes "--learned" ∷ codes "--tolerance" ∷ codes "0" ∷ codes "--drift=100" ∷ codes "--answer=4294967295" ∷ codes "--boot=1" ∷ codes "--time=65535" ∷ [])
     ≡ Some (compare (record {
       sheet = codes "s";
       trace = codes "t";
@@ -330,11 +330,22 @@ compare_with_options : asked_after compare_command (codes "compare") (codes "s" 
       choices = true;
       learned = true;
       form = log_form.Trc;
-      report_as = report_form.Html;
+      report_as = report_form.Text;
       timing = record { tolerance = 0; drift = 100; answer = 4294967295; boot = 1; time = Some 65535 };
     }))
 unfolding words_on_literals
 compare_with_options = refl
+
+-- lines that a document doesn't have, in each document, and each of the two options in one
+compare_lines_in_documents : map (λ format. fault_after compare_command (codes "compare") (codes "s" ∷ codes "t" ∷ codes "--choices" ∷ codes "--learned" ∷ codes "--format" ∷ format ∷ [])) (codes "text" ∷ codes "json" ∷ codes "junit" ∷ codes "html" ∷ [])
+    ≡ [] ∷ (kind.InvalidValue ∷ []) ∷ (kind.InvalidValue ∷ []) ∷ (kind.InvalidValue ∷ []) ∷ []
+unfolding words_on_literals
+compare_lines_in_documents = refl
+
+compare_document_of_one : map (λ word. fault_after compare_command (codes "compare") (codes "s" ∷ codes "t" ∷ codes "--format=json" ∷ word)) ((codes "--choices" ∷ []) ∷ (codes "--learned" ∷ []) ∷ [] ∷ [])
+    ≡ (kind.InvalidValue ∷ []) ∷ (kind.InvalidValue ∷ []) ∷ [] ∷ []
+unfolding words_on_literals
+compare_document_of_one = refl
 
 compare_with_too_much_drift : fault_of compare_command (codes "compare" ∷ codes "s" ∷ codes "t" ∷ codes "--drift=101" ∷ []) ≡ kind.ValueValidation ∷ []
 unfolding words_on_literals

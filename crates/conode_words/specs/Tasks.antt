@@ -1,5 +1,5 @@
 -- What the words of a command line ask for.
-use Rattle.std.specs.Prelude.{◌^◌, ◌&&◌, ◌||◌, false, ℕ, Bool, List, [], ◌∷◌, map, codes, Option, Some, None, nat_lt, is_none, option_map, option_and_then, if◌then◌else◌}
+use Rattle.std.specs.Prelude.{◌^◌, ◌&&◌, ◌||◌, not, true, false, ℕ, Bool, List, [], ◌∷◌, map, codes, Option, Some, None, nat_lt, is_none, option_map, option_and_then, if◌then◌else◌}
 use Rattle.std.specs.Option.{option_copied, option_map_or}
 use Rattle.std.specs.Str.{bytes_eq}
 use Rattle.std.specs.Str.Parse.{digits_value, without_leading_plus}
@@ -20,6 +20,7 @@ use Rattle.conode_words.specs.declared.tasks.LeadingZeros.{LeadingZeros}
 use Rattle.conode_words.specs.declared.tasks.LinesAs.{LinesAs}
 use Rattle.conode_words.specs.declared.tasks.OnlyWords.{OnlyWords}
 use Rattle.conode_words.specs.declared.tasks.ReportAs.{ReportAs}
+use Rattle.conode_words.specs.declared.tasks.ReportAs.TheVariants as report_form
 use Rattle.conode_words.specs.declared.tasks.Stamps.{Stamps}
 use Rattle.conode_words.specs.declared.tasks.TimingWords.{TimingWords}
 use Rattle.conode_words.specs.declared.tasks.RoomWords.{RoomWords}
@@ -420,9 +421,19 @@ is_other_stats rows = is_none (lines_as_for rows) || is_none (log_form_for rows)
 unfoldable pub is_other_explain : List Row → Bool
 is_other_explain rows = (is_none (stamps_for rows) || is_none (colours_for rows)) || is_other_stats rows
 
--- the same for `compare`: its format, the log's form
+-- whether `compare` is asked for lines that only its text has, in a document
+abbrev pub is_text : Option ReportAs → Bool
+is_text (Some report_form.Text) = true
+is_text other = false
+
+unfoldable pub asks_document_for_lines : List Row → Bool
+asks_document_for_lines rows =
+    not (is_text (report_as_for rows)) && (is_used (codes "choices") rows || is_used (codes "learned") rows)
+
+-- the same for `compare`: its format, the log's form, and lines that only its text has
 unfoldable pub is_other_compare : List Row → Bool
-is_other_compare rows = is_none (report_as_for rows) || is_none (log_form_for rows)
+is_other_compare rows =
+    (is_none (report_as_for rows) || is_none (log_form_for rows)) || asks_document_for_lines rows
 
 -- the same for each subcommand: also the mode of `loop`, the form of `show`, the leading zeros of
 -- `adapt`, and the log's form of `convert`

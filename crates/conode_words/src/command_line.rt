@@ -7,6 +7,7 @@ ghost use Rattle.conode_words.specs.Fields.{AsksFor};
 ghost use Rattle.conode_words.specs.Tasks.{
   asked_by,
   asked_of,
+  asks_document_for_lines,
   has_other_word,
   is_other,
   is_other_compare,
@@ -23,9 +24,9 @@ use crate::choices::{
     stamps_for, zeros_for,
 };
 use crate::commands::conode_command;
-use crate::found::is;
+use crate::found::{is, is_used};
 use crate::help;
-use crate::tasks::Task;
+use crate::tasks::{ReportAs, Task};
 use clap::error::ErrorKind;
 use clap::{ArgMatches, Command, Error};
 use std::alloc::{AllocError, Global};
@@ -65,13 +66,24 @@ fn other_explain(found: &ArgMatches<'_>) -> Option<&'static str>
     stamps.or(colours).or(other_stats(found))
 }
 
+// whether `compare` is asked for lines that only its text has, in a document
+#[tactic(auto, unfolding(crate::specs::Tasks::asks_document_for_lines))]
+fn asks_document_for_lines(found: &ArgMatches<'_>) -> bool
+    ensures { result ≡ asks_document_for_lines (rows_of (found_of found.now)) }
+{
+    let is_text = matches!(report_as_for(found), Some(ReportAs::Text));
+    !is_text && (is_used(found, "choices") || is_used(found, "learned"))
+}
+
 // the same for the words of `compare`
 #[tactic(auto, unfolding(crate::specs::Tasks::is_other_compare))]
 fn other_compare(found: &ArgMatches<'_>) -> Option<&'static str>
     ensures { is_some result ≡ is_other_compare (rows_of (found_of found.now)) }
 {
     let report_as = said_if(report_as_for(found).is_none(), help::REPORTS_AS);
-    report_as.or(said_if(log_form_for(found).is_none(), help::LOG_FORMS))
+    let form = said_if(log_form_for(found).is_none(), help::LOG_FORMS);
+    let lines = said_if(asks_document_for_lines(found), help::TEXT_LINES);
+    report_as.or(form).or(lines)
 }
 
 // the same for the words of this subcommand

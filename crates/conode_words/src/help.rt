@@ -161,9 +161,10 @@ pub const SHOWN: &str = "\
 Prints the object dictionary of a sheet: a line for each entry, by index and
 sub-index, with its name, type, access, whether it may be mapped into a PDO, its
 default (for a DCF its value, then the default) and its limits. Then each PDO in
-words, with what it maps, and SDO channels, SYNC, EMCY and heartbeats. Numbers
-are in both bases, as `1000 (3E8h)`. With --node, or in a DCF with a node-ID,
-`$NODEID+600h` has its value beside it.
+words, with what it maps, and SDO channels, SYNC, TIME, EMCY and heartbeats.
+Numbers are in both bases, as `1000 (3E8h)`. With --node, or in a DCF with a
+node-ID, `$NODEID+600h` has its value beside it. Compact forms are written out.
+`-` as SHEET is standard input.
 
   conode show sensor.eds > new.txt; diff old.txt new.txt
 
@@ -305,6 +306,9 @@ is wrong.";
 /// The message about an unknown format of `compare`.
 pub const REPORTS_AS: &str = "invalid value for '--format <FORMAT>': text, json, junit or html";
 
+/// The message about lines of `compare` that a document doesn't have.
+pub const TEXT_LINES: &str = "'--choices' and '--learned' need '--format text'";
+
 /// What `compare` prints.
 pub const COMPARED: &str = "\
 Compares a recorded device with what CiA 301 prescribes for its data sheet, and
@@ -315,7 +319,8 @@ answer or a boot-up. An entry that --held names, an integer as 2001:00, has to
 show the number that was written to it last. With --strings and --domains no
 string or domain from 2000h on may take more bytes. With --time no transfer may
 be aborted as timed out before. --choices lists what the device chose where CiA
-301 leaves a choice, --learned at the end the numbers that SDO transfers showed.
+301 leaves a choice, --learned at the end the numbers that SDO transfers showed;
+both need --format text.
 
   conode compare sensor.eds drive.log --node 5
   conode compare sensor.eds drive.log --node 5 --held 2001:00,2010:00

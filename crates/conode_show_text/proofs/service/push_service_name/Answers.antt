@@ -5,6 +5,22 @@ pub returns-in-Sync : goal.returns-in-Sync
 unfolding service_name
 returns-in-Sync c = rw c.in-Sync.is c.push_words.ensures
 
+pub returns-in-SyncPeriod : goal.returns-in-SyncPeriod
+unfolding service_name
+returns-in-SyncPeriod c = rw c.in-SyncPeriod.is c.push_words-in-SyncPeriod.ensures
+
+pub returns-in-SyncWindow : goal.returns-in-SyncWindow
+unfolding service_name
+returns-in-SyncWindow c = rw c.in-SyncWindow.is c.push_words-in-SyncWindow.ensures
+
+pub returns-in-SyncOverflow : goal.returns-in-SyncOverflow
+unfolding service_name
+returns-in-SyncOverflow c = rw c.in-SyncOverflow.is c.push_words-in-SyncOverflow.ensures
+
+pub returns-in-Time : goal.returns-in-Time
+unfolding service_name
+returns-in-Time c = rw c.in-Time.is c.push_words-in-Time.ensures
+
 pub returns-in-Emcy : goal.returns-in-Emcy
 unfolding service_name
 returns-in-Emcy c = rw c.in-Emcy.is c.push_words-in-Emcy.ensures
