@@ -2,7 +2,7 @@
 use Rattle.std.proofs.Common.{◌≡◌, ℕ, true, false, [], Option, Some, None, refl}
 use Rattle.conode_compare_pdos.specs.declared.parameters.Parameters.{Parameters}
 use Rattle.conode_compare_pdos.specs.declared.pdos.Pdos.{Pdos}
-use Rattle.conode_compare_pdos.specs.Followed.{sighting, unknown_pdos}
+use Rattle.conode_compare_pdos.specs.Followed.{framed, sighting, unknown_pdos}
 use Rattle.conode_compare_pdos.specs.Tpdos.{booted_tpdo}
 use Rattle.conode_compare_rules.specs.declared.entries.Entries.{Entries}
 use Rattle.conode_compare_rules.specs.declared.entries.Facts.{Facts}
@@ -133,7 +133,7 @@ unfolding findings_at progress_with begun after_emergency emergency_findings fou
 said_once = refl
 
 tpdo_once : found_of (progress_with subject waiting 2040006 (Process 0x185 4)) 2500000 (Process 0x185 4) ≡ None
-unfolding findings_at progress_with begun after_process process_findings moment_at sighting found late_finding overdue_by is_missing
+unfolding findings_at progress_with begun after_process process_findings moment_at framed sighting found late_finding overdue_by is_missing
 tpdo_once = refl
 
 heartbeat_once : found_of (progress_with subject waiting 2040006 emergency) 2500000 (Control 5) ≡ None
