@@ -33,7 +33,7 @@ use Rattle.conode_explain_transfers.specs.declared.kinds.What.TheVariants as wha
 use Rattle.conode_explain_transfers.specs.declared.stage.Stage.{Stage}
 use Rattle.conode_explain_transfers.specs.declared.stage.Stage.TheVariants.{AllAcknowledged, BlockEnded, BlockInitiated, Confirmed, DownloadConfirmed, DownloadSent, Initiated, SubBlock, UploadAsked, UploadTaken}
 use Rattle.conode_explain_transfers.specs.declared.transfer.Transfer.{Transfer}
-use Rattle.conode_explain_transfers.specs.BlockTurns.{acknowledged, acknowledged_at, block_ended, block_segment_at, crc_in, end_confirmed, end_confirmed_at, is_block, next_sub_block as after_sub_block, upload_started_at}
+use Rattle.conode_explain_transfers.specs.BlockTurns.{acknowledged, acknowledged_at, block_ended, crc_in, end_confirmed, end_confirmed_at, is_block, next_sub_block as after_sub_block, upload_started_at}
 use Rattle.conode_explain_transfers.specs.Data.{data_with}
 use Rattle.conode_explain_transfers.specs.Digests.{counted, digest_of}
 use Rattle.conode_explain_transfers.specs.Endings.{size_fault, verdict}
