@@ -63,9 +63,13 @@ abbrev pub channel_words : Option ChannelIds → List ℕ
 channel_words None = []
 channel_words (Some ids) = codes " channel " ++ digits_text 16 3 ids.request ++ codes "/" ++ digits_text 16 3 ids.answer
 
--- the node, its channel where that isn't the default one, what was transferred, the value of the entry
--- where no frame's line has it, how it ended, and a note where our rules refuse it
+-- what was transferred, the value of the entry where no frame's line has it, how it ended, and a note
+-- where our rules refuse it
+unfoldable pub transfer_words : Names → ℕ → Ended → List ℕ
+transfer_words names node e =
+    transfer_text e (name_bytes names node e.key) ++ end_value names node e ++ end_text e (ending_words e.ending) ++ refusal_note names node e
+
+-- with its node, and its channel where that isn't the default one
 unfoldable pub ended_words : Names → ℕ → Option ChannelIds → Ended → List ℕ
 ended_words names node ids e =
-    codes "node " ++ decimal node ++ channel_words ids ++ codes "  " ++ transfer_text e (name_bytes names node e.key)
-    ++ end_value names node e ++ end_text e (ending_words e.ending) ++ refusal_note names node e
+    codes "node " ++ decimal node ++ channel_words ids ++ codes "  " ++ transfer_words names node e

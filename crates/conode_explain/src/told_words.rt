@@ -14,6 +14,7 @@ ghost use Rattle.conode_explain.specs.ToldWords.{
   part_words,
   name_in,
   told_words,
+  transfer_words,
 };
 
 use crate::abort_words::words_of;
@@ -139,6 +140,23 @@ fn push_channel(said: &mut String, ids: Option<ChannelIds>) -> Result<(), AllocE
     push_identifier(said, ids.answer)
 }
 
+// what was transferred, and how it ended
+#[tactic(auto, unfolding(crate::specs::ToldWords::transfer_words))]
+fn push_transfer_words(
+    said: &mut String,
+    names: Names<'_, '_>,
+    node: u8,
+    ended: &Ended,
+) -> Result<(), AllocError>
+    ensures { OnOk result (string_bytes said.new
+        ≡ string_bytes said.old ++ transfer_words (names_view names.entry) node ended.now) }
+{
+    attempt!(push_transfer(said, ended, name_of(names, node, ended.key)));
+    attempt!(push_end_value(said, names, node, ended));
+    attempt!(push_end(said, ended, ending_words(ended.ending)));
+    push_refusal(said, names, node, ended)
+}
+
 /// Sets `said` to what is said of a node's transfer that ended; `ids` are those of its channel,
 /// where that isn't the default one. On an `Err` memory ran out, and it is incomplete.
 #[tactic(auto, unfolding(crate::specs::ToldWords::ended_words))]
@@ -157,8 +175,5 @@ pub(crate) fn set_ended_words(
     attempt!(push_decimal(said, node as u64));
     attempt!(push_channel(said, ids));
     attempt!(said.push_str("  "));
-    attempt!(push_transfer(said, ended, name_of(names, node, ended.key)));
-    attempt!(push_end_value(said, names, node, ended));
-    attempt!(push_end(said, ended, ending_words(ended.ending)));
-    push_refusal(said, names, node, ended)
+    push_transfer_words(said, names, node, ended)
 }

@@ -10,6 +10,7 @@ use Rattle.co_profile.specs.declared.access.Access.TheVariants.{Ro, Wo, Rw, Rwr,
 use Rattle.co_sheet.specs.Limits.{absent}
 use Rattle.co_sheet.specs.Content.{Row}
 use Rattle.co_sheet_changes.specs.Names.{Names, entry_of}
+use Rattle.conode_text.specs.Filled.{filled}
 use Rattle.conode_explain_transfers.specs.declared.ended.Ended.{Ended}
 use Rattle.conode_explain_transfers.specs.declared.ended.Ending.{Ending}
 use Rattle.conode_explain_transfers.specs.declared.ended.Ending.TheVariants.{Done, Aborted, Unanswered, Repeated, Interrupted, Unfinished, Irregular, SizeDiffers, CrcDiffers}
@@ -191,9 +192,9 @@ words : map refusal_words (NotInSheet ∷ ReadOnly ∷ OtherLength ∷ AboveHigh
 words = refl
 
 noted : refusal_note (names (row 0x2001 Unsigned8 Ro None None)) 5 (ended Download Expedited (Done false) 1 (1 ∷ [])) ≡ codes " (our rules refuse: read only)"
-unfolding refusal_note refusal_of entry_of
+unfolding refusal_of entry_of filled
 noted = refl
 
 not_noted : refusal_note (names (row 0x2001 Unsigned8 Rw None None)) 5 (ended Download Expedited (Done false) 1 (1 ∷ [])) ≡ []
-unfolding refusal_note refusal_of entry_of
+unfolding refusal_of entry_of filled
 not_noted = refl

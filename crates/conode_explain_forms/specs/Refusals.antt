@@ -1,7 +1,7 @@
 -- Why our own server would have refused a download that a device acknowledged, by its data sheet: the
 -- first of the rules that applies (CiA 301, 7.2.4.3.17). The device has decided, so that the download
 -- counts all the same.
-use Rattle.std.specs.Prelude.{ℕ, ◌==◌, Bool, true, false, ◌&&◌, ◌||◌, if◌then◌else◌, ℤ, int_lt, List, [], ◌++◌, length, take, codes, Option, Some, None, option_and_then}
+use Rattle.std.specs.Prelude.{ℕ, ◌==◌, Bool, true, false, ◌&&◌, ◌||◌, if◌then◌else◌, ℤ, int_lt, List, [], ◌∷◌, length, take, codes, Option, Some, None, option_and_then}
 use Rattle.std.specs.Option.{option_map_or}
 use Rattle.co_value.specs.Numbers.{number_of}
 use Rattle.co_value.specs.Types.{width_of}
@@ -10,6 +10,7 @@ use Rattle.co_profile.specs.declared.access.Access.TheVariants.{Ro, Constant}
 use Rattle.co_profile.specs.Indices.{is_within, sdo_server}
 use Rattle.co_sheet.specs.Content.{Row}
 use Rattle.co_sheet_changes.specs.Names.{Names, are_for, entry_of}
+use Rattle.conode_text.specs.Filled.{filled}
 use Rattle.conode_explain_transfers.specs.declared.ended.Ended.{Ended}
 use Rattle.conode_explain_transfers.specs.declared.kinds.Direction.{Direction}
 use Rattle.conode_explain_transfers.specs.declared.kinds.Direction.TheVariants.{Download}
@@ -86,9 +87,8 @@ refusal_words OtherLength = codes "other length than the type's"
 refusal_words AboveHighLimit = codes "above the high limit"
 refusal_words BelowLowLimit = codes "below the low limit"
 
-abbrev pub note_of : Option Refusal → List ℕ
-note_of None = []
-note_of (Some refusal) = codes " (our rules refuse: " ++ refusal_words refusal ++ codes ")"
+abbrev pub note_text : List ℕ → List ℕ
+note_text words = filled (codes " (our rules refuse: %)") (words ∷ [])
 
-unfoldable pub refusal_note : Names → ℕ → Ended → List ℕ
-refusal_note names node e = note_of (refusal_of names node e)
+abbrev pub refusal_note : Names → ℕ → Ended → List ℕ
+refusal_note names node e = option_map_or (λ refusal. note_text (refusal_words refusal)) (refusal_of names node e) []

@@ -2,6 +2,7 @@
 
 ghost use Rattle.std.specs.Prelude.{◌≡◌, ◌++◌, OnOk, option_map, string_bytes};
 ghost use Rattle.std.specs.Option.{option_copied};
+ghost use Rattle.co_value.specs.Types.{width_of};
 ghost use Rattle.co_sheet.specs.SheetViews.{row_view};
 ghost use Rattle.co_sheet_changes.specs.Names.{are_for, names_view};
 ghost use Rattle.conode_explain_forms.specs.Refusals.{
@@ -13,6 +14,7 @@ ghost use Rattle.conode_explain_forms.specs.Refusals.{
   is_read_only,
   is_unwritable,
   limit_refusal,
+  note_text,
   number_bytes,
   number_refusal,
   refusal_note,
@@ -28,6 +30,7 @@ use co_sheet::EntryRow;
 use co_sheet_changes::Names;
 use co_value::from_bytes;
 use conode_explain_transfers::{Direction, Ended};
+use conode_text::{Value, push_filled};
 use std::alloc::AllocError;
 
 /// Why our own server would have refused a download, by the data sheet of the device.
@@ -188,9 +191,14 @@ impl Refusal {
     }
 }
 
+fn push_note(text: &mut String, words: &str) -> Result<(), AllocError>
+    ensures { OnOk result (string_bytes text.new ≡ string_bytes text.old ++ note_text words.now) }
+{
+    push_filled(text, " (our rules refuse: %)", &[Value::Words(words)])
+}
+
 /// Appends a note to a node's download that is done and that our own server would have refused, as
 /// ` (our rules refuse: read only)`. On an `Err` memory ran out, and a part of it may be there.
-#[tactic(auto, unfolding(crate::specs::Refusals::refusal_note))]
 pub fn push_refusal(
     text: &mut String,
     names: Names<'_, '_>,
@@ -200,10 +208,8 @@ pub fn push_refusal(
     ensures { OnOk result (string_bytes text.new
         ≡ string_bytes text.old ++ refusal_note (names_view names.entry) node ended.now) }
 {
-    let Some(refusal) = refusal_of(names, node, ended) else {
-        return Ok(());
-    };
-    attempt!(text.push_str(" (our rules refuse: "));
-    attempt!(text.push_str(refusal.words()));
-    text.push_str(")")
+    match refusal_of(names, node, ended) {
+        Some(refusal) => push_note(text, refusal.words()),
+        None => Ok(()),
+    }
 }
