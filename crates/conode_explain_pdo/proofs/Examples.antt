@@ -19,7 +19,7 @@ use Rattle.conode_explain_pdo.specs.declared.entry_bits.EntryBits.{EntryBits}
 use Rattle.conode_explain_pdo.specs.EntryBits.{entry_bits, place_from, shown_bits}
 use Rattle.conode_explain_services.specs.Codes.{code_words, known_class, single_words}
 use Rattle.conode_explain_services.specs.Drives.{command_words, controlword_words, drive_words, meaning_at, mode_words, state_words, statusword_words, word_text}
-use Rattle.conode_explain_pdo.specs.KnownEntries.{is_node_drive, known_text}
+use Rattle.conode_explain_pdo.specs.KnownEntries.{Device, is_node_drive, known_text}
 use Rattle.conode_text.specs.Filled.{filled}
 use Rattle.conode_explain_pdo.specs.Mappings.{addressed_text, addressing_word, bits_at, data_text, mapped_text, missing_text, more_parts, more_text, multiplexed_data, multiplexed_text, part_bytes, part_text, parts_text, short_text}
 use Rattle.conode_explain_pdo.specs.CobIds.{has_identifier, is_of, may_be_pdo, node_with}
@@ -28,7 +28,7 @@ use Rattle.conode_explain_entries.specs.declared.state.Value.{Value}
 use Rattle.conode_explain_entries.specs.declared.state.Value.TheVariants.{Assumed, Seen, Saved, Unknown}
 use Rattle.conode_explain_entries.specs.Histories.{assumed_values}
 use Rattle.conode_explain_pdo.specs.Buses.{Bus}
-use Rattle.conode_explain_pdo.specs.InForce.{data_in_force, mapping_in_force, raw_text, shown_text, words_in_force}
+use Rattle.conode_explain_pdo.specs.InForce.{data_in_force, device_at, mapping_in_force, raw_text, shown_text, words_in_force}
 use Rattle.conode_explain_pdo.specs.Claims.{claims_with, sheet_claim, sheets_claims, shown_claim}
 use Rattle.conode_explain_pdo.specs.Known.{KnownSheet, known_sheet, names_for}
 use Rattle.conode_explain_pdo.specs.Pdos.{more_pdos, pdo_front, pdo_text, pdos_text}
@@ -83,15 +83,19 @@ names = names_with (
     row 0x2001 1 Integer16 absent (codes "T") ∷ row 0x2001 2 Unsigned16 absent (codes "H") ∷ row 0x2002 0 Boolean absent (codes "B") ∷ []
     )
 
+-- of a device whose type the recording doesn't show
+abbrev of_sheet : Names → Device
+of_sheet its_names = record { names = its_names; shown_type = None }
+
 abbrev data_of : List ℕ → List ℕ → List ℕ
-data_of words bytes = mapped_text names 5 words bytes
+data_of words bytes = mapped_text (of_sheet names) 5 words bytes
 
 two_values : data_of (0x20010110 ∷ 0x20010210 ∷ []) (0xE8 ∷ 0x03 ∷ 0x10 ∷ 0x27 ∷ []) ≡ codes "T 2001:01 = 1000; H 2001:02 = 10000"
 unfolding mapped_text parts_text more_parts part_text part_bytes short_text more_text filled entry_of known_text meaning_at entry_text value_text number_text digits digits_text is_utf8 chars encode
 two_values = refl
 
 -- of a sheet that was adapted: a letter of a UNICODE_STRING
-original : mapped_text (record (names_with (row 0x2003 0 OctetString absent (codes "U") ∷ [])) { originals = λ line. if line == 1 then Some (codes "0x000B") else None }) 5
+original : mapped_text (of_sheet (record (names_with (row 0x2003 0 OctetString absent (codes "U") ∷ [])) { originals = λ line. if line == 1 then Some (codes "0x000B") else None })) 5
     (0x20030010 ∷ []) (0x41 ∷ 0x00 ∷ []) ≡ codes "U 2003:00 = \"A\""
 unfolding mapped_text parts_text more_parts part_text part_bytes short_text more_text filled entry_of known_text meaning_at entry_text value_text characters_text pair_text unit_text digits digits_text is_utf8 chars encode
 original = refl
@@ -136,9 +140,9 @@ one_more = refl
 -- a statusword, and a mode of operation, of a device of this type
 abbrev drive : ℕ → List ℕ → List ℕ → List ℕ
 drive device_type words bytes =
-    mapped_text (names_with (
+    mapped_text (of_sheet (names_with (
     row 0x1000 0 Unsigned32 (number (pos device_type)) (codes "D") ∷ row 0x6041 0 Unsigned16 absent (codes "S") ∷ row 0x6061 0 Unsigned8 absent (codes "M") ∷ []
-    )) 5 words bytes
+    ))) 5 words bytes
 
 in_words : drive 0x00020192 (0x60410010 ∷ 0x60610008 ∷ []) (0x37 ∷ 0x04 ∷ 0x08 ∷ []) ≡ codes "S 6041:00 = 1079 (operation enabled, target reached); M 6061:00 = 8 (cyclic synchronous position)"
 unfolding mapped_text parts_text more_parts part_text part_bytes short_text more_text filled entry_of known_text is_node_drive drive_words meaning_at word_text statusword_words state_words mode_words entry_text value_text number_text digits digits_text is_utf8 chars encode
@@ -155,14 +159,30 @@ unfolding mapped_text parts_text more_parts part_text part_bytes short_text more
 part_of_it = refl
 
 -- without a device type
-no_type : mapped_text (names_with (row 0x6041 0 Unsigned16 absent (codes "S") ∷ [])) 5 (0x60410010 ∷ []) (0x37 ∷ 0x04 ∷ []) ≡ codes "S 6041:00 = 1079"
+no_type : mapped_text (of_sheet (names_with (row 0x6041 0 Unsigned16 absent (codes "S") ∷ []))) 5 (0x60410010 ∷ []) (0x37 ∷ 0x04 ∷ []) ≡ codes "S 6041:00 = 1079"
 unfolding mapped_text parts_text more_parts part_text part_bytes short_text more_text filled entry_of known_text meaning_at is_node_drive entry_text value_text number_text digits digits_text is_utf8 chars encode
 no_type = refl
+
+-- of a device type that the recording shows, in place of the sheet's
+abbrev with_type : Option ℕ → ℕ → List ℕ
+with_type shown_type device_type =
+    mapped_text (record {
+      names = names_with (row 0x1000 0 Unsigned32 (number (pos device_type)) (codes "D") ∷ row 0x6041 0 Unsigned16 absent (codes "S") ∷ []);
+      shown_type = shown_type;
+    }) 5 (0x60410010 ∷ []) (0x37 ∷ 0x04 ∷ [])
+
+shown_drive : with_type (Some 0x00020192) 0x00020191 ≡ codes "S 6041:00 = 1079 (operation enabled, target reached)"
+unfolding mapped_text parts_text more_parts part_text part_bytes short_text more_text filled entry_of known_text is_node_drive drive_words meaning_at word_text statusword_words state_words entry_text value_text number_text digits digits_text is_utf8 chars encode
+shown_drive = refl
+
+shown_other : with_type (Some 0x00020191) 0x00020192 ≡ codes "S 6041:00 = 1079"
+unfolding mapped_text parts_text more_parts part_text part_bytes short_text more_text filled entry_of known_text meaning_at is_node_drive entry_text value_text number_text digits digits_text is_utf8 chars encode
+shown_other = refl
 
 -- ---- counts
 
 abbrev counted : ℕ → List ℕ → List ℕ
-counted count bytes = data_text names 5 (record { count = count; words = 0x20020008 ∷ 0x20020008 ∷ [] }) bytes
+counted count bytes = data_text (of_sheet names) 5 (record { count = count; words = 0x20020008 ∷ 0x20020008 ∷ [] }) bytes
 
 nothing_mapped : counted 0 (1 ∷ []) ≡ []
 unfolding data_text
@@ -346,6 +366,19 @@ of_another = refl
 on_another_bus : is_one (names_with []) (record (shown 0x1800 (Seen 0x190) [] false) { interface = record { items = codes "can1" } } ∷ []) 0x190 ≡ false
 unfolding claims_with sheets_claims sheet_claim shown_claim sheet_pdos pdos_in
 on_another_bus = refl
+
+-- the device type of a node, of which the recording shows one
+abbrev type_at : List Value → ℕ → Option ℕ
+type_at values node = (device_at (bus_with [] (shown 0x1000 Assumed values false ∷ [])) node).shown_type
+
+type_of_5 : type_at (Seen 0x00020192 ∷ []) 5 ≡ Some 0x00020192
+type_of_5 = refl
+
+type_of_6 : type_at (Seen 0x00020192 ∷ []) 6 ≡ None
+type_of_6 = refl
+
+no_type_shown : type_at (Unknown ∷ []) 5 ≡ None
+no_type_shown = refl
 
 -- a restricted identifier is none of a PDO
 restricted : is_one (names_with []) (shown 0x1800 (Seen 0x585) [] false ∷ []) 0x585 ≡ false

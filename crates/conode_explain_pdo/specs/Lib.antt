@@ -9,5 +9,7 @@ pub mod Known
 pub mod KnownEntries
 pub mod Mappings
 pub mod Pdos
+pub mod ServiceIds
+pub mod SheetServices
 pub mod Sheets
 pub mod Types

@@ -4,8 +4,15 @@ ghost use Rattle.std.specs.Prelude.{◌≡◌, ◌++◌, OnOk, string_bytes};
 ghost use Rattle.co_sheet.specs.SheetViews.{row_view};
 ghost use Rattle.co_sheet_changes.specs.Names.{names_view};
 ghost use Rattle.conode_explain_values.specs.Values.{HasBits};
-ghost use Rattle.conode_explain_pdo.specs.KnownEntries.{is_node_drive, known_text, shows_meaning};
+ghost use Rattle.conode_explain_pdo.specs.KnownEntries.{
+  device_view,
+  is_node_drive,
+  known_text,
+  shows_meaning,
+  type_of_device,
+};
 
+use crate::device::Device;
 use crate::sheet::number_of;
 use crate::value_type::type_in;
 use co_sheet::EntryRow;
@@ -21,21 +28,34 @@ const DEVICE_TYPE: Key = Key {
     sub: 0,
 };
 
-#[tactic(auto, unfolding(crate::specs::KnownEntries::is_node_drive))]
-fn is_node_drive(names: Names<'_, '_>, node: u8) -> bool
-    ensures { result ≡ is_node_drive (names_view names.entry) node }
+// the device type that the recording shows, else the one that the sheet begins with
+fn type_of_device(shown: Option<u32>, names: Names<'_, '_>, node: u8) -> Option<u32>
+    ensures { result ≡ type_of_device shown (names_view names.entry) node }
 {
+    if let Some(shown) = shown {
+        return Some(shown);
+    }
     match names.entry(node, DEVICE_TYPE) {
-        Some(row) => is_drive(number_of(row.default)),
+        Some(row) => Some(number_of(row.default)),
+        None => None,
+    }
+}
+
+#[tactic(auto, unfolding(crate::specs::KnownEntries::is_node_drive))]
+fn is_node_drive(device: Device<'_, '_>, node: u8) -> bool
+    ensures { result ≡ is_node_drive (device_view device.entry) node }
+{
+    match type_of_device(device.shown_type, device.names, node) {
+        Some(device_type) => is_drive(device_type),
         None => false,
     }
 }
 
 // The sheet is asked last, since few entries have a meaning.
-fn shows_meaning(names: Names<'_, '_>, node: u8, key: Key, bits: usize) -> bool
-    ensures { result ≡ shows_meaning (names_view names.entry) node key bits }
+fn shows_meaning(device: Device<'_, '_>, node: u8, key: Key, bits: usize) -> bool
+    ensures { result ≡ shows_meaning (device_view device.entry) node key bits }
 {
-    has_meaning(key) && bits % 8 == 0 && is_node_drive(names, node)
+    has_meaning(key) && bits % 8 == 0 && is_node_drive(device, node)
 }
 
 /// Appends an entry of a node's sheet with its value, and where the device is a drive what that
@@ -44,7 +64,7 @@ fn shows_meaning(names: Names<'_, '_>, node: u8, key: Key, bits: usize) -> bool
 #[tactic(auto, unfolding(crate::specs::KnownEntries::known_text))]
 pub fn push_known(
     text: &mut String,
-    names: Names<'_, '_>,
+    device: Device<'_, '_>,
     node: u8,
     key: Key,
     row: &EntryRow<'_>,
@@ -53,11 +73,11 @@ pub fn push_known(
 ) -> Result<(), AllocError>
     requires { HasBits bits bytes.now }
     ensures { OnOk result (string_bytes text.new ≡ string_bytes text.old
-        ++ known_text (names_view names.entry) node key (row_view row.now) bits bytes.now) }
+        ++ known_text (device_view device.entry) node key (row_view row.now) bits bytes.now) }
 {
-    let value_type = type_in(names, row);
+    let value_type = type_in(device.names, row);
     attempt!(push_entry(text, shown_name(row), key, value_type, bits, bytes));
-    if shows_meaning(names, node, key, bits) {
+    if shows_meaning(device, node, key, bits) {
         return push_drive(text, key, bytes);
     }
     Ok(())
