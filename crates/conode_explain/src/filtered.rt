@@ -41,15 +41,22 @@ fn first_node(claims: &[Claim]) -> Option<u8>
 fn service_subject(service: NamedService, subject: Subject) -> Subject
     ensures { result ≡ service_subject service subject }
 {
-    let (kind, node) = match service {
-        NamedService::Sync => (Kind::Sync, None),
-        NamedService::Time => (Kind::Other, None),
-        NamedService::Emergency { node } => (Kind::Emergency, Some(node)),
-    };
-    Subject {
-        id: subject.id,
-        kind,
-        node,
+    match service {
+        NamedService::Sync => Subject {
+            id: subject.id,
+            kind: Kind::Sync,
+            node: None,
+        },
+        NamedService::Time => Subject {
+            id: subject.id,
+            kind: Kind::Other,
+            node: None,
+        },
+        NamedService::Emergency { node } => Subject {
+            id: subject.id,
+            kind: Kind::Emergency,
+            node: Some(node),
+        },
     }
 }
 

@@ -1,6 +1,6 @@
 -- The data of PDOs, evaluated on both sides of each edge.
 use Rattle.std.proofs.Common.{◌≡◌, ℕ, Bool, true, false, [], ◌∷◌, List, Option, Some, None, refl, pos}
-use Rattle.std.specs.Prelude.{codes, length, not, ◌==◌, if◌then◌else◌}
+use Rattle.std.specs.Prelude.{codes, length, map, not, ◌==◌, if◌then◌else◌}
 use Rattle.std.specs.Fmt.{digits}
 use Rattle.std.specs.Str.{is_utf8, chars}
 use lib.Utf8.{encode}
@@ -22,6 +22,8 @@ use Rattle.conode_explain_services.specs.Drives.{command_words, controlword_word
 use Rattle.conode_explain_pdo.specs.KnownEntries.{Device, is_node_drive, known_text}
 use Rattle.conode_text.specs.Filled.{filled}
 use Rattle.conode_explain_pdo.specs.Mappings.{addressed_text, addressing_word, bits_at, data_text, mapped_text, missing_text, more_parts, more_text, multiplexed_data, multiplexed_text, part_bytes, part_text, parts_text, short_text}
+use Rattle.co_value.specs.declared.key.Key.{Key}
+use Rattle.conode_explain_pdo.specs.CobIdWords.{cob_id_words, has_cob_id}
 use Rattle.conode_explain_pdo.specs.CobIds.{has_identifier, is_of, may_be_pdo, node_with}
 use Rattle.conode_explain_entries.specs.declared.entries.ShownPdo.{ShownPdo}
 use Rattle.conode_explain_entries.specs.declared.state.Value.{Value}
@@ -178,6 +180,32 @@ shown_drive = refl
 shown_other : with_type (Some 0x00020191) 0x00020192 ≡ codes "S 6041:00 = 1079"
 unfolding mapped_text parts_text more_parts part_text part_bytes short_text more_text filled entry_of known_text meaning_at is_node_drive entry_text value_text number_text digits digits_text is_utf8 chars encode
 shown_other = refl
+
+-- ---- COB-IDs
+
+abbrev cob_id_at : ℕ → ℕ → ℕ → ℕ → List ℕ
+cob_id_at index sub low high = cob_id_words (record { index = index; sub = sub }) 32 (low ∷ 0x01 ∷ 0 ∷ high ∷ [])
+
+valid : cob_id_at 0x1800 1 0x85 0x40 ≡ codes " (40000185)"
+unfolding digits_text
+valid = refl
+
+disabled_words_of : map (λ index. cob_id_at index 0 0x85 0x80) (0x1005 ∷ 0x1012 ∷ 0x1014 ∷ []) ≡ codes " (80000185)" ∷ codes " (80000185)" ∷ codes " (80000185, disabled)" ∷ []
+unfolding digits_text
+disabled_words_of = refl
+
+-- which entries are COB-IDs, and which sub-indices beside
+are_cob_ids : map {A = Key} (λ key. has_cob_id key) (record { index = 0x1400; sub = 1 } ∷ record { index = 0x15FF; sub = 1 } ∷ record { index = 0x19FF; sub = 1 } ∷ record { index = 0x1200; sub = 1 } ∷ record { index = 0x12FF; sub = 2 } ∷ [])
+    ≡ true ∷ true ∷ true ∷ true ∷ true ∷ []
+are_cob_ids = refl
+
+are_none : map {A = Key} (λ key. has_cob_id key) (record { index = 0x1400; sub = 2 } ∷ record { index = 0x1600; sub = 1 } ∷ record { index = 0x1200; sub = 3 } ∷ record { index = 0x1300; sub = 1 } ∷ record { index = 0x1014; sub = 1 } ∷ record { index = 0x11FF; sub = 1 } ∷ [])
+    ≡ false ∷ false ∷ false ∷ false ∷ false ∷ false ∷ []
+are_none = refl
+
+-- a part of one has no words
+part_of_a_cob_id : cob_id_words (record { index = 0x1014; sub = 0 }) 31 (0x85 ∷ 0 ∷ 0 ∷ 0 ∷ []) ≡ []
+part_of_a_cob_id = refl
 
 -- ---- counts
 

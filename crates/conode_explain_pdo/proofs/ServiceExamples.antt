@@ -13,7 +13,7 @@ use Rattle.conode_explain_entries.specs.Histories.{assumed_values}
 use Rattle.conode_explain_pdo.specs.declared.service_ids.NamedService.{NamedService}
 use Rattle.conode_explain_pdo.specs.declared.service_ids.NamedService.TheVariants.{Sync, Time, Emergency}
 use Rattle.conode_explain_pdo.specs.Known.{KnownSheet}
-use Rattle.conode_explain_pdo.specs.ServiceIds.{names_id, service_by_sheet, service_by_shown, service_with, service_word, word_of}
+use Rattle.conode_explain_pdo.specs.ServiceIds.{names_id, service_by_sheet, service_by_shown, service_with, service_word}
 use Rattle.conode_explain_pdo.specs.SheetServices.{is_service_index, service_in_row, sheet_services}
 
 -- ---- a COB-ID
@@ -78,16 +78,16 @@ abbrev by_default : Row
 by_default = row 0x1014 0 (node_id 0x80)
 
 own_emergencies : map (found (own (by_default ∷ []) ∷ []) []) (0x084 ∷ 0x085 ∷ 0x086 ∷ []) ≡ None ∷ Some (Emergency 5) ∷ None ∷ []
-unfolding service_with service_by_sheet service_word word_of sheet_services service_in_row
+unfolding service_with service_by_sheet service_word sheet_services service_in_row
 own_emergencies = refl
 
 -- of no node are those of 080h, and those of 100h
 all_emergencies : map (found (common (by_default ∷ []) ∷ []) []) (0x080 ∷ 0x081 ∷ 0x0FF ∷ 0x100 ∷ []) ≡ None ∷ Some (Emergency 1) ∷ Some (Emergency 127) ∷ None ∷ []
-unfolding service_with service_by_sheet service_word word_of sheet_services service_in_row
+unfolding service_with service_by_sheet service_word sheet_services service_in_row
 all_emergencies = refl
 
 moved : map (found (own (row 0x1014 0 (number (pos 0x1C5)) ∷ []) ∷ []) []) (0x085 ∷ 0x1C5 ∷ []) ≡ None ∷ Some (Emergency 5) ∷ []
-unfolding service_with service_by_sheet service_word word_of sheet_services service_in_row
+unfolding service_with service_by_sheet service_word sheet_services service_in_row
 moved = refl
 
 no_emergencies : found (own (row 0x1014 0 (number (pos 0x80000085)) ∷ []) ∷ []) [] 0x085 ≡ None
@@ -109,24 +109,24 @@ of_a_channel = refl
 
 -- SYNC and TIME, of one node and of all
 syncs : map (found (own (row 0x1005 0 (number (pos 0x40000090)) ∷ []) ∷ []) []) (0x080 ∷ 0x090 ∷ []) ≡ None ∷ Some Sync ∷ []
-unfolding service_with service_by_sheet service_word word_of sheet_services service_in_row
+unfolding service_with service_by_sheet service_word sheet_services service_in_row
 syncs = refl
 
 common_sync : map (found (common (row 0x1005 0 (number (pos 0x80)) ∷ []) ∷ []) []) (0x080 ∷ 0x081 ∷ []) ≡ Some Sync ∷ None ∷ []
-unfolding service_with service_by_sheet service_word word_of sheet_services service_in_row
+unfolding service_with service_by_sheet service_word sheet_services service_in_row
 common_sync = refl
 
 times : map (found (common (row 0x1012 0 (number (pos 0x80000100)) ∷ []) ∷ []) []) (0x0FF ∷ 0x100 ∷ []) ≡ None ∷ Some Time ∷ []
-unfolding service_with service_by_sheet service_word word_of sheet_services service_in_row
+unfolding service_with service_by_sheet service_word sheet_services service_in_row
 times = refl
 
 -- a node's own sheet counts, whatever one for all nodes has; and one for the interface
 own_sheet : map (found (own [] ∷ common (by_default ∷ []) ∷ []) []) (0x085 ∷ 0x086 ∷ []) ≡ None ∷ Some (Emergency 6) ∷ []
-unfolding service_with service_by_sheet service_word word_of sheet_services service_in_row
+unfolding service_with service_by_sheet service_word sheet_services service_in_row
 own_sheet = refl
 
 interfaces : map (λ interface. found (sheet_on (Some interface) (Some 5) (by_default ∷ []) ∷ []) [] 0x085) (codes "can0" ∷ codes "can1" ∷ []) ≡ Some (Emergency 5) ∷ None ∷ []
-unfolding service_with service_by_sheet service_word word_of sheet_services service_in_row
+unfolding service_with service_by_sheet service_word sheet_services service_in_row
 interfaces = refl
 
 -- ---- by the recording
@@ -146,32 +146,32 @@ after value id =
     map (λ sheets. found sheets (shown (codes "can0") 0x1014 value ∷ []) id) ([] ∷ (own (by_default ∷ []) ∷ []) ∷ [])
 
 seen_there : after (Seen 0x1C5) 0x1C5 ≡ Some (Emergency 5) ∷ Some (Emergency 5) ∷ []
-unfolding service_with service_by_sheet service_by_shown service_word word_of sheet_services service_in_row
+unfolding service_with service_by_sheet service_by_shown service_word sheet_services service_in_row
 seen_there = refl
 
 saved_there : after (Saved 0x1C5) 0x1C5 ≡ Some (Emergency 5) ∷ Some (Emergency 5) ∷ []
-unfolding service_with service_by_sheet service_by_shown service_word word_of sheet_services service_in_row
+unfolding service_with service_by_sheet service_by_shown service_word sheet_services service_in_row
 saved_there = refl
 
 no_more_here : after (Seen 0x1C5) 0x085 ≡ None ∷ None ∷ []
-unfolding service_with service_by_sheet service_by_shown service_word word_of sheet_services service_in_row
+unfolding service_with service_by_sheet service_by_shown service_word sheet_services service_in_row
 no_more_here = refl
 
 disabled : after (Seen 0x80000085) 0x085 ≡ None ∷ None ∷ []
-unfolding service_with service_by_sheet service_by_shown service_word word_of sheet_services service_in_row
+unfolding service_with service_by_sheet service_by_shown service_word sheet_services service_in_row
 disabled = refl
 
 unknown : after Unknown 0x085 ≡ None ∷ None ∷ []
-unfolding service_with service_by_sheet service_by_shown service_word word_of sheet_services service_in_row
+unfolding service_with service_by_sheet service_by_shown service_word sheet_services service_in_row
 unknown = refl
 
 nothing_shown_yet : after Assumed 0x085 ≡ None ∷ Some (Emergency 5) ∷ []
-unfolding service_with service_by_sheet service_by_shown service_word word_of sheet_services service_in_row
+unfolding service_with service_by_sheet service_by_shown service_word sheet_services service_in_row
 nothing_shown_yet = refl
 
 -- SYNC of a node that has another one than all
 other_sync : map (found (common (row 0x1005 0 (number (pos 0x80)) ∷ []) ∷ []) (shown (codes "can0") 0x1005 (Seen 0x90) ∷ [])) (0x080 ∷ 0x090 ∷ 0x091 ∷ []) ≡ Some Sync ∷ Some Sync ∷ None ∷ []
-unfolding service_with service_by_sheet service_by_shown service_word word_of sheet_services service_in_row
+unfolding service_with service_by_sheet service_by_shown service_word sheet_services service_in_row
 other_sync = refl
 
 -- an identifier that CiA 301 restricts; on this bus and on another one; another entry of a node

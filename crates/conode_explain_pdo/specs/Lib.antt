@@ -1,6 +1,7 @@
 pub mod Buses
 pub mod ChannelWords
 pub mod Claims
+pub mod CobIdWords
 pub mod CobIds
 pub mod Content
 pub mod EntryBits

@@ -4,6 +4,8 @@ use Rattle.std.specs.Prelude.{ℕ, ◌/◌, ◌%◌, ◌^◌, ◌==◌, nat_lt, 
 use Rattle.std.specs.Option.{option_map_or}
 use Rattle.std.specs.Str.{bytes_eq}
 use Rattle.conode_explain_entries.specs.declared.entries.ShownPdo.{ShownPdo}
+use Rattle.conode_explain_entries.specs.declared.state.Value.{Value}
+use Rattle.conode_explain_entries.specs.declared.state.Value.TheVariants.{Seen, Saved}
 use Rattle.conode_explain_pdo.specs.declared.service_ids.NamedService.{NamedService}
 use Rattle.conode_explain_pdo.specs.declared.service_ids.NamedService.TheVariants.{Sync, Time, Emergency}
 use Rattle.conode_explain_pdo.specs.declared.sheet_services.SheetService.{SheetService}
@@ -36,7 +38,7 @@ service_of index node = if index == 0x1005 then Sync else (if index == 0x1012 th
 -- ---- what a node's entry has
 
 -- by a sheet's COB-IDs
-unfoldable pub word_of : List SheetService → ℕ → ℕ → Option ℕ
+abbrev pub word_of : List SheetService → ℕ → ℕ → Option ℕ
 word_of services index node =
     option_map (λ service. word_for service.cob_id node) (find (λ service. service.index == index) services)
 
@@ -79,12 +81,17 @@ service_on bus id sheet =
 
 -- ---- by the recording
 
--- an entry that is shown, on this bus, names it
+-- a COB-ID that is shown names it
+abbrev pub shows_id : ℕ → Value → ℕ → Bool
+shows_id index (Seen word) id = names_id index word id
+shows_id index (Saved word) id = names_id index word id
+shows_id index _ id = false
+
+-- and is on this bus
 abbrev pub shows_service : Bus → ℕ → ShownPdo → Bool
 shows_service bus id shown =
     is_service_index shown.index
-    && (option_map_or (λ word. names_id shown.index word id) (number_by None (value_at shown.state.now.mapping 0)) false
-    && bytes_eq shown.interface.items bus.interface)
+    && (shows_id shown.index (value_at shown.state.now.mapping 0) id && bytes_eq shown.interface.items bus.interface)
 
 unfoldable pub service_by_shown : Bus → ℕ → ShownPdo → Option NamedService
 service_by_shown bus id shown = if shows_service bus id shown then Some (service_of shown.index shown.node) else None

@@ -1,4 +1,5 @@
-//! An entry of a node's sheet with its value, and of a drive what the value means (CiA 402).
+//! An entry of a node's sheet with its value, and what that means: of a drive (CiA 402), and of a
+//! COB-ID.
 
 ghost use Rattle.std.specs.Prelude.{◌≡◌, ◌++◌, OnOk, string_bytes};
 ghost use Rattle.co_sheet.specs.SheetViews.{row_view};
@@ -12,6 +13,7 @@ ghost use Rattle.conode_explain_pdo.specs.KnownEntries.{
   type_of_device,
 };
 
+use crate::cob_id_words::push_cob_id;
 use crate::device::Device;
 use crate::sheet::number_of;
 use crate::value_type::type_in;
@@ -59,8 +61,8 @@ fn shows_meaning(device: Device<'_, '_>, node: u8, key: Key, bits: usize) -> boo
 }
 
 /// Appends an entry of a node's sheet with its value, and where the device is a drive what that
-/// means: `Statusword 6041:00 = 1079 (operation enabled, target reached)`. On an `Err` memory ran
-/// out, and a part of it may be there.
+/// means: `Statusword 6041:00 = 1079 (operation enabled, target reached)`; of a COB-ID its
+/// hexadecimal digits. On an `Err` memory ran out, and a part of it may be there.
 #[tactic(auto, unfolding(crate::specs::KnownEntries::known_text))]
 pub fn push_known(
     text: &mut String,
@@ -80,5 +82,5 @@ pub fn push_known(
     if shows_meaning(device, node, key, bits) {
         return push_drive(text, key, bytes);
     }
-    Ok(())
+    push_cob_id(text, key, bits, bytes)
 }

@@ -26,6 +26,7 @@ mod bus;
 mod channel_words;
 mod claim;
 mod cob_id;
+mod cob_id_words;
 mod device;
 mod entry_bits;
 mod in_force;

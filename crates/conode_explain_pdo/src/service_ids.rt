@@ -1,9 +1,7 @@
 //! Which of SYNC, TIME and the emergencies a frame is, by the data sheets and by what the recording
 //! shows.
 
-ghost use Rattle.std.specs.Prelude.{◌≡◌, ◌<◌, None, false, filter_map, map};
-ghost use Rattle.std.specs.Option.{option_map_or};
-ghost use Rattle.conode_explain_pdo.specs.InForce.{number_by};
+ghost use Rattle.std.specs.Prelude.{◌≡◌, ◌<◌, filter_map, map};
 ghost use Rattle.conode_explain_pdo.specs.Buses.{bus_view};
 ghost use Rattle.conode_explain_pdo.specs.Known.{known_view, services_for};
 ghost use Rattle.conode_explain_pdo.specs.ServiceIds.{
@@ -21,6 +19,7 @@ ghost use Rattle.conode_explain_pdo.specs.ServiceIds.{
   service_on,
   service_with,
   service_word,
+  shows_id,
   shows_service,
   word_of,
 };
@@ -83,7 +82,6 @@ fn service_of(index: u16, node: u8) -> NamedService
 }
 
 // the COB-ID of an index among those of a sheet, for a node
-#[tactic(auto, unfolding(crate::specs::ServiceIds::word_of))]
 fn word_of(services: &[SheetService], index: u16, node: u8) -> Option<u64>
     ensures { result ≡ word_of services.now index node }
 {
@@ -95,13 +93,14 @@ fn word_of(services: &[SheetService], index: u16, node: u8) -> Option<u64>
     None
 }
 
-fn services_for<'k>(bus: Bus<'k, '_, '_, '_, '_>, node: u8) -> &'k [SheetService]
-    ensures { result.now
-        ≡ services_for (bus_view bus.entry).sheets (bus_view bus.entry).interface node }
+// the COB-ID of the sheet that is for a node
+fn sheet_word(bus: Bus<'_, '_, '_, '_, '_>, node: u8, index: u16) -> Option<u64>
+    ensures { result ≡ word_of
+        (services_for (bus_view bus.entry).sheets (bus_view bus.entry).interface node) index node }
 {
     match sheet_for(bus.sheets, bus.interface, node) {
-        Some(sheet) => sheet.services.as_slice(),
-        None => &[],
+        Some(sheet) => word_of(sheet.services.as_slice(), index, node),
+        None => None,
     }
 }
 
@@ -110,7 +109,7 @@ fn service_word(bus: Bus<'_, '_, '_, '_, '_>, node: u8, index: u16) -> Option<u6
     ensures { result ≡ service_word (bus_view bus.entry) node index }
 {
     match shown_at(bus, node, Key { index, sub: 0 }) {
-        Value::Assumed => word_of(services_for(bus, node), index, node),
+        Value::Assumed => sheet_word(bus, node, index),
         Value::Seen { number } => Some(number as u64),
         Value::Saved { number } => Some(number as u64),
         Value::Unknown => None,
@@ -211,7 +210,7 @@ fn service_in_sheets(bus: Bus<'_, '_, '_, '_, '_>, id: u16) -> Option<NamedServi
 }
 
 fn shows_id(index: u16, value: Value, id: u16) -> bool
-    ensures { result ≡ option_map_or (λ word. names_id index word id) (number_by None value) false }
+    ensures { result ≡ shows_id index value id }
 {
     match value {
         Value::Seen { number } => names_id(index, number as u64, id),
