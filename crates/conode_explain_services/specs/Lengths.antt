@@ -1,5 +1,5 @@
 -- Frames whose number of bytes isn't that of their service (CiA 301, 7.2.4 to 7.2.8; CiA 305).
-use Rattle.std.specs.Prelude.{ℕ, ◌%◌, ◌==◌, nat_lt, Bool, not, ◌&&◌, if◌then◌else◌, List, [], ◌++◌, codes, decimal, length, Option, Some, None, option_and_then}
+use Rattle.std.specs.Prelude.{ℕ, ◌%◌, ◌==◌, nat_lt, Bool, ◌&&◌, if◌then◌else◌, List, [], ◌++◌, codes, decimal, length, Option, Some, None, option_and_then}
 use Rattle.co_frame.specs.FrameContent.{FrameContent}
 use Rattle.conode_explain_services.specs.declared.lengths.Fixed.{Fixed}
 use Rattle.conode_explain_services.specs.declared.lengths.Fixed.TheVariants.{Nmt, Sync, Emergency, Time, SdoAnswer, SdoRequest, ErrorControl, Lss}
