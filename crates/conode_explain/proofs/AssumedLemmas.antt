@@ -1,5 +1,5 @@
 -- What a PDO of the pre-defined connection set says, of which no more is known.
-use Rattle.std.proofs.Common.{◌≡◌, ℕ, ◌-◌, ◌*◌, ◌/◌, ◌%◌, ◌<◌, ◌≤◌, true, false, List, [], ◌∷◌, ◌++◌, None, ltb, eqb, length, refl, sym, ap, ◌∙◌, append_assoc, arith}
+use Rattle.std.proofs.Common.{◌≡◌, ℕ, ◌-◌, ◌*◌, ◌/◌, ◌%◌, ◌<◌, ◌≤◌, Bool, true, false, List, [], ◌∷◌, ◌++◌, None, ltb, eqb, length, refl, sym, ap, ◌∙◌, append_assoc, arith}
 use Rattle.std.specs.Prelude.{◌&&◌, codes, decimal, not}
 use Rattle.std.specs.Fmt.{digits}
 use Rattle.std.specs.Option.{option_map_or}
@@ -14,6 +14,7 @@ use Rattle.co_frame.specs.FrameContent.{FrameContent}
 use Rattle.conode_explain_pdo.specs.declared.claim.Claim.{Claim}
 use Rattle.conode_explain_pdo.specs.Buses.{Bus, names_at}
 use Rattle.conode_explain_services.specs.declared.last.Last.{Last}
+use Rattle.conode_explain_services.specs.Lengths.{fixed_at}
 use Rattle.conode_explain_services.specs.Reserved.{is_reserved}
 use Rattle.conode_explain_services.specs.Services.{service_words, state_words}
 use Rattle.conode_explain.specs.AbortWords.{abort_words}
@@ -38,7 +39,7 @@ module _ (id : ℕ) (bytes : List ℕ) (low : 0x180 < id) (high : id < 0x580) wh
 
   -- it has no service of those that have words of their own
   no_service : (last : Last) → service_words last (record { id = id; bytes = bytes }) ≡ None
-  unfolding service_words
+  unfolding service_words fixed_at
   no_service last =
       let emergency : (ltb 0x080 id && ltb id 0x100) ≡ false = grind (arith, nat_tests, low) in
       let control : (ltb 0x700 id && ltb id 0x780) ≡ false = grind (arith, nat_tests, high) in
@@ -46,7 +47,11 @@ module _ (id : ℕ) (bytes : List ℕ) (low : 0x180 < id) (high : id < 0x580) wh
       let request : eqb id 0x7E5 ≡ false = grind (arith, nat_tests, high) in
       let answer : eqb id 0x7E4 ≡ false = grind (arith, nat_tests, high) in
       let free : is_reserved id ≡ false = grind (arith, nat_tests, low, high) in
-      rw (emergency, control, time, free, request, answer) refl
+      let command : eqb id 0 ≡ false = grind (arith, nat_tests, low) in
+      let sync : eqb id 0x080 ≡ false = grind (arith, nat_tests, low) in
+      let of_client : (ltb 0x600 id && ltb id 0x680) ≡ false = grind (arith, nat_tests, high) in
+      let of_server : (ltb 0x580 id && ltb id 0x600) ≡ false = grind (arith, nat_tests, high) in
+      rw (emergency, control, time, free, request, answer, command, sync, of_client, of_server) refl
 
   no_abort : abort_words (record { id = id; bytes = bytes }) ≡ []
   unfolding abort_words
@@ -57,7 +62,8 @@ module _ (id : ℕ) (bytes : List ℕ) (low : 0x180 < id) (high : id < 0x580) wh
   no_state last =
       let command : eqb id 0 ≡ false = grind (arith, nat_tests, low) in
       let control : (ltb 0x700 id && ltb id 0x780) ≡ false = grind (arith, nat_tests, high) in
-      rw (command, control) refl
+      let sync : eqb id 0x080 ≡ false = grind (arith, nat_tests, low) in
+      rw (command, control, sync) refl
 
   -- its text is that of its service
   by_service : (names : Names) → eqb (id % 128) 0 ≡ false
@@ -83,16 +89,17 @@ by_step names node step bytes low high =
     (λ f. by_test (eqb step 9) (λ t. let is : step ≡ 9 = eqb-true step 9 t in rw is refl)
     (λ g. let is : step ≡ 10 = grind (arith, nat_tests, a, b, c, d, e, f, g) in rw is refl)))))))
 
-plain : (names : Names) (last : Last) (id : ℕ) (bytes : List ℕ) → is_default_pdo id ≡ true → plain_words names last (record { id = id; bytes = bytes }) ≡ assumed_words id
+plain : (names : Names) (named : Bool) (last : Last) (id : ℕ) (bytes : List ℕ) → is_default_pdo id ≡ true
+    → assumed_mark named id ++ plain_words names last (record { id = id; bytes = bytes }) ≡ assumed_words id
 unfolding assumed_words
-plain names last id bytes is =
+plain names named last id bytes is =
     let over = above id is in
     let under = below id is in
     let low : 3 ≤ id / 128 = omega (arith, over) in
     let high : id / 128 ≤ 10 = omega (arith, under) in
     let base : id - id % 128 ≡ 128 * (id / 128) = omega arith in
     let frame : FrameContent = record { id = id; bytes = bytes } in
-    let mark : assumed_mark id ≡ codes "~" = rw is refl in
+    let mark : assumed_mark named id ≡ codes "~" = rw is refl in
     let rest : abort_words frame ++ state_words last frame ≡ [] =
     ap (λ (words : List ℕ). words ++ state_words last frame) (no_abort id bytes over under) ∙ no_state id bytes over under last in
     let text : text_of_frame names frame ++ (abort_words frame ++ state_words last frame) ≡ option_map_or (service_text names (id % 128) bytes) (service_at (128 * (id / 128))) unknown_text =
@@ -100,17 +107,15 @@ plain names last id bytes is =
     ∙ append-nil (text_of_frame names frame)
     ∙ by_service id bytes over under names (of_node_there id is)
     ∙ ap (λ (n : ℕ). option_map_or (service_text names (id % 128) bytes) (service_at n) unknown_text) base in
-    append_assoc (assumed_mark id ++ text_of_frame names frame) (abort_words frame) (state_words last frame)
-    ∙ append_assoc (assumed_mark id) (text_of_frame names frame) (abort_words frame ++ state_words last frame)
-    ∙ ap (λ (words : List ℕ). words ++ (text_of_frame names frame ++ (abort_words frame ++ state_words last frame))) mark
-    ∙ ap (λ (words : List ℕ). codes "~" ++ words) text
+    ap (λ (words : List ℕ). words ++ plain_words names last frame) mark
+    ∙ ap (λ (words : List ℕ). codes "~" ++ words) (append_assoc (text_of_frame names frame) (abort_words frame) (state_words last frame) ∙ text)
     ∙ by_step names (id % 128) (id / 128) bytes low high
 
-pub assumed : (bus : Bus) (last : Last) (id : ℕ) (bytes : List ℕ) → is_default_pdo id ≡ true
-    → assumed_words id ≡ frame_words bus [] last (record { id = id; bytes = bytes })
+pub assumed : (bus : Bus) (named : Bool) (last : Last) (id : ℕ) (bytes : List ℕ) → is_default_pdo id ≡ true
+    → assumed_words id ≡ frame_words bus [] named last (record { id = id; bytes = bytes })
 unfolding frame_words transfer_words other_words served_words
-assumed bus last id bytes is =
-    rw (no_transfer id bytes (above id is) (below id is), no_service id bytes (above id is) (below id is) last) (sym (plain (names_at bus (id % 128)) last id bytes is))
+assumed bus named last id bytes is =
+    rw (no_transfer id bytes (above id is) (below id is), no_service id bytes (above id is) (below id is) last) (sym (plain (names_at bus (id % 128)) named last id bytes is))
 
 pub none_there : (claims : List Claim) → length claims < 1 → claims ≡ []
 none_there [] few = refl

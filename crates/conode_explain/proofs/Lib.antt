@@ -6,5 +6,6 @@ pub mod NodeExamples
 pub mod ServiceLemmas
 pub mod SheetExamples
 pub mod TellingLemmas
+mod WhoseExamples
 pub mod WriteLemmas
 pub mod WriteSets

@@ -17,23 +17,28 @@ frame id content = record { micros = 5; interface = codes "can0"; id = id; conte
 abbrev emergency : List ℕ
 emergency = 0x10 ∷ 0x81 ∷ 0x11 ∷ 0 ∷ 0 ∷ 0 ∷ 0 ∷ 0 ∷ []
 
-register_kept : nodes_with [] (frame (Base 0x085) (Data emergency)) ≡ new_node (codes "can0") 5 (record { register = Some 0x11; guarding = NotSeen; state = Unknown }) ∷ []
+register_kept : nodes_with [] (Base 0x085) (frame (Base 0x085) (Data emergency)) ≡ new_node (codes "can0") 5 (record { register = Some 0x11; guarding = NotSeen; state = Unknown }) ∷ []
 unfolding nodes_with nodes_after noted last_of last_of_node
 register_kept = refl
 
-request_kept : nodes_with [] (frame (Base 0x705) (Remote 1)) ≡ new_node (codes "can0") 5 (record { register = None; guarding = Requested None; state = Unknown }) ∷ []
+request_kept : nodes_with [] (Base 0x705) (frame (Base 0x705) (Remote 1)) ≡ new_node (codes "can0") 5 (record { register = None; guarding = Requested None; state = Unknown }) ∷ []
 unfolding nodes_with nodes_asked noted last_of last_of_node
 request_kept = refl
 
 -- with an identifier of 29 bits, as an error frame, and as a CAN FD frame
-others_pass : nodes_with [] (frame (Extended 0x085) (Data emergency)) ≡ []
+others_pass : nodes_with [] (Extended 0x085) (frame (Extended 0x085) (Data emergency)) ≡ []
 unfolding nodes_with
 others_pass = refl
 
-error_passes : nodes_with [] (frame (Error 0x085) (Data emergency)) ≡ []
+error_passes : nodes_with [] (Error 0x085) (frame (Error 0x085) (Data emergency)) ≡ []
 unfolding nodes_with
 error_passes = refl
 
-fd_passes : nodes_with [] (frame (Base 0x085) (Fd 0 emergency)) ≡ []
+fd_passes : nodes_with [] (Base 0x085) (frame (Base 0x085) (Fd 0 emergency)) ≡ []
 unfolding nodes_with
 fd_passes = refl
+
+-- of a service that has another identifier
+read_as_another : nodes_with [] (Base 0x085) (frame (Base 0x1C5) (Data emergency)) ≡ new_node (codes "can0") 5 (record { register = Some 0x11; guarding = NotSeen; state = Unknown }) ∷ []
+unfolding nodes_with nodes_after noted last_of last_of_node
+read_as_another = refl

@@ -19,6 +19,7 @@ sheet interface node line = record {
   interface = interface;
   names = record { sheet = None; only = node; originals = λ l. Some (line ∷ []) };
   pdos = [];
+  services = [];
 }
 
 abbrev for_all : KnownSheet

@@ -51,6 +51,8 @@ use Rattle.conode_explain.specs.LogLines.{line_at}
 use Rattle.conode_explain.specs.Filtered.{is_news, lasts_told, shows_end, shows_frame, subject_by}
 use Rattle.conode_explain.specs.Nodes.{last_at, nodes_with, packed_of}
 use Rattle.conode_explain.specs.ToldWords.{ended_words, told_words}
+use Rattle.conode_explain.specs.declared.whose.Whose.{Whose}
+use Rattle.conode_explain.specs.Whose.{is_named, read_by, whose_of}
 use Rattle.conode_explain_forms.specs.declared.tones.Tone.{Tone}
 use Rattle.conode_explain_forms.specs.Places.{place_of, read_as}
 use Rattle.conode_explain_forms.specs.Tones.{data_of, ending_tone, frame_tone, toned}
@@ -131,23 +133,25 @@ signal_lines form so_far bus claims frame told =
     if has_one value form.signals.now
     then signal_line form.stamps (times_at so_far frame.micros) value form.signals.now ∷ [] else []
 
--- what a frame says: on a channel other than a default one what it would on the default one
-abbrev pub words_at : Bus → List Claim → Option Place → List Node → Record → Option Told → List ℕ
-words_at bus claims place nodes frame told =
-    told_words bus claims (last_at nodes frame) (read_as place frame.id) frame.content told
+-- what a frame says: on a channel other than a default one what it would on the default one, and so
+-- of a service that has another identifier
+abbrev pub words_at : Bus → List Claim → Whose → List Node → Record → Option Told → List ℕ
+words_at bus claims whose nodes frame told =
+    let id = read_by whose frame.id in
+    told_words bus claims (is_named whose) (last_at nodes id frame) id frame.content told
 
 -- the line of a frame: of a table, where signals are asked for
-abbrev pub line_of : Layout → Bus → List Claim → Option Place → List Node → SoFar → List Said → Record → Option Told → List (List ℕ)
-line_of form bus claims place nodes so_far lasts frame told =
+abbrev pub line_of : Layout → Bus → List Claim → Whose → List Node → SoFar → List Said → Record → Option Told → List (List ℕ)
+line_of form bus claims whose nodes so_far lasts frame told =
     if length form.signals.now == 0
-    then news_lines form so_far lasts (subject_by place claims frame) frame (words_at bus claims place nodes frame told)
+    then news_lines form so_far lasts (subject_by whose claims frame) frame (words_at bus claims whose nodes frame told)
     else signal_lines form so_far bus claims frame told
 
 -- where it is asked for
-unfoldable pub first_lines : Layout → Bus → List Claim → Option Place → List Node → SoFar → List Said → Record → Option Told → List (List ℕ)
-first_lines form bus claims place nodes so_far lasts frame told =
-    if shows_frame form so_far (subject_by place claims frame) frame.micros
-    then line_of form bus claims place nodes so_far lasts frame told else []
+unfoldable pub first_lines : Layout → Bus → List Claim → Whose → List Node → SoFar → List Said → Record → Option Told → List (List ℕ)
+first_lines form bus claims whose nodes so_far lasts frame told =
+    if shows_frame form so_far (subject_by whose claims frame) frame.micros
+    then line_of form bus claims whose nodes so_far lasts frame told else []
 
 -- the line of a transfer of a node that ended, as text, perhaps in the colour of its tone, or as an
 -- object of JSON
@@ -210,19 +214,19 @@ further_after further interface (Some told) = further_booted further interface t
 -- last frames of its node had this
 abbrev pub lines_with : Layout → List KnownSheet → Bus → List Claim → Option Place → List Node → SoFar → List Said → List FurtherChannel → Record → Option Told → List (List ℕ)
 lines_with form sheets bus claims place nodes so_far lasts further frame told =
-    first_lines form bus claims place nodes so_far lasts frame told ++ end_lines form sheets so_far place further frame told
+    first_lines form bus claims (whose_of bus place claims frame) nodes so_far lasts frame told ++ end_lines form sheets so_far place further frame told
 
 -- and what was said last after it: in a table nothing is
-abbrev pub lasts_of : Layout → Bus → List Claim → Option Place → List Node → List Said → Record → Option Told → List Said
-lasts_of form bus claims place nodes lasts frame told =
+abbrev pub lasts_of : Layout → Bus → List Claim → Whose → List Node → List Said → Record → Option Told → List Said
+lasts_of form bus claims whose nodes lasts frame told =
     if length form.signals.now == 0
-    then lasts_told form lasts (subject_by place claims frame) frame (words_at bus claims place nodes frame told) else lasts
+    then lasts_told form lasts (subject_by whose claims frame) frame (words_at bus claims whose nodes frame told) else lasts
 
 -- a frame whose line isn't asked for doesn't count
-unfoldable pub lasts_with : Layout → Bus → List Claim → Option Place → List Node → SoFar → List Said → Record → Option Told → List Said
-lasts_with form bus claims place nodes so_far lasts frame told =
-    if shows_frame form so_far (subject_by place claims frame) frame.micros
-    then lasts_of form bus claims place nodes lasts frame told else lasts
+unfoldable pub lasts_with : Layout → Bus → List Claim → Whose → List Node → SoFar → List Said → Record → Option Told → List Said
+lasts_with form bus claims whose nodes so_far lasts frame told =
+    if shows_frame form so_far (subject_by whose claims frame) frame.micros
+    then lasts_of form bus claims whose nodes lasts frame told else lasts
 
 -- the lines of a frame of which its SDO channel says this
 unfoldable pub lines_by : Layout → List KnownSheet → Progress → Option Place → Record → Option Told → List (List ℕ)
@@ -234,12 +238,14 @@ lines_by form sheets progress place frame told =
 unfoldable pub progress_by : Layout → List KnownSheet → Progress → Option Place → Record → Option Told → Progress
 progress_by form sheets progress place frame told =
     let bus = bus_of sheets progress.entries frame in
+    let claims = claims_at bus (read_as place frame.id) in
+    let whose = whose_of bus place claims frame in
     record {
       seen = seen_with progress.seen frame.micros frame.interface;
       channels = progress.channels;
       further = further_after progress.further frame.interface told;
-      nodes = nodes_with progress.nodes frame;
-      lasts = lasts_with form bus (claims_at bus (read_as place frame.id)) place progress.nodes progress.seen progress.lasts frame told;
+      nodes = nodes_with progress.nodes (read_by whose frame.id) frame;
+      lasts = lasts_with form bus claims whose progress.nodes progress.seen progress.lasts frame told;
       entries = entries_with progress.entries frame.interface told;
     }
 

@@ -3,18 +3,21 @@ use Rattle.std.specs.Prelude.{ℕ, ◌==◌, Bool, true, false, not, ◌&&◌, �
 use Rattle.conode_record.specs.declared.line.Record.{Record}
 use Rattle.conode_explain_filter.specs.Changes.{Said, is_new, kept}
 use Rattle.conode_explain_filter.specs.declared.kind.Kind.{Kind}
-use Rattle.conode_explain_filter.specs.declared.kind.Kind.TheVariants.{Sdo, Pdo, Heartbeat, Sync}
+use Rattle.conode_explain_filter.specs.declared.kind.Kind.TheVariants.{Sdo, Pdo, Heartbeat, Emergency, Sync, Other}
 use Rattle.conode_explain_entries.specs.declared.further.ChannelIds.{ChannelIds}
-use Rattle.conode_explain_entries.specs.declared.further.Place.{Place}
 use Rattle.conode_explain_filter.specs.declared.filter.Filter.{Filter}
 use Rattle.conode_explain_filter.specs.declared.subject.Subject.{Subject}
 use Rattle.conode_explain_filter.specs.Filters.{passes, passes_transfer}
 use Rattle.conode_explain_filter.specs.Subjects.{subject_of}
 use Rattle.conode_explain_forms.specs.Tones.{data_of}
 use Rattle.conode_explain_pdo.specs.declared.claim.Claim.{Claim}
+use Rattle.conode_explain_pdo.specs.declared.service_ids.NamedService.{NamedService}
+use Rattle.conode_explain_pdo.specs.declared.service_ids.NamedService.TheVariants as services
 use Rattle.conode_explain_text.specs.declared.so_far.Times.{Times}
 use Rattle.conode_explain_text.specs.SoFar.{SoFar, times_at}
 use Rattle.conode_explain.specs.declared.progress.Layout.{Layout}
+use Rattle.conode_explain.specs.declared.whose.Whose.{Whose}
+use Rattle.conode_explain.specs.declared.whose.Whose.TheVariants.{Channel, Service, Unnamed}
 
 -- the node of the first of the PDOs that a frame is
 abbrev pub first_node : List Claim → Option ℕ
@@ -25,10 +28,17 @@ first_node (claim ∷ claims) = Some claim.node
 abbrev pub subject_in : List Claim → Record → Subject
 subject_in claims frame = subject_of (first_node claims) frame.id frame.content
 
+-- of a service that a COB-ID names
+abbrev pub service_subject : NamedService → Subject → Subject
+service_subject services.Sync subject = record subject { kind = Sync; node = None }
+service_subject services.Time subject = record subject { kind = Other; node = None }
+service_subject (services.Emergency node) subject = record subject { kind = Emergency; node = Some node }
+
 -- on an SDO channel other than a default one: of its server
-abbrev pub subject_by : Option Place → List Claim → Record → Subject
-subject_by None claims frame = subject_in claims frame
-subject_by (Some place) claims frame = record (subject_in claims frame) { kind = Sdo; node = Some place.node }
+abbrev pub subject_by : Whose → List Claim → Record → Subject
+subject_by (Channel place) claims frame = record (subject_in claims frame) { kind = Sdo; node = Some place.node }
+subject_by (Service service) claims frame = service_subject service (subject_in claims frame)
+subject_by Unnamed claims frame = subject_in claims frame
 
 -- a frame at a stamp passes the filter
 unfoldable pub passes_frame : Layout → SoFar → Subject → ℕ → Bool

@@ -1,5 +1,5 @@
 -- What a frame says.
-use Rattle.std.specs.Prelude.{ℕ, ◌/◌, ◌%◌, ◌==◌, nat_lt, Bool, not, ◌&&◌, if◌then◌else◌, List, [], ◌∷◌, ◌++◌, codes, decimal, unwrap_or}
+use Rattle.std.specs.Prelude.{ℕ, ◌/◌, ◌%◌, ◌==◌, nat_lt, Bool, not, ◌&&◌, ◌||◌, if◌then◌else◌, List, [], ◌∷◌, ◌++◌, codes, decimal, unwrap_or}
 use Rattle.co_sheet_changes.specs.Names.{Names}
 use Rattle.conode_decode.specs.Texts.{text_of_frame}
 use Rattle.conode_record.specs.declared.content.Content.{Content}
@@ -19,30 +19,33 @@ use Rattle.conode_explain_services.specs.Services.{remote_words, service_words, 
 abbrev pub is_default_pdo : ℕ → Bool
 is_default_pdo id = (nat_lt 0x180 id && nat_lt id 0x580) && not (id % 0x80 == 0)
 
--- that set may not be in force: no sheet and no transfer said whose the identifier is
-abbrev pub assumed_mark : ℕ → List ℕ
-assumed_mark id = if is_default_pdo id then codes "~" else []
+-- an identifier of SYNC, of emergencies or of TIME in that set
+abbrev pub is_default_service : ℕ → Bool
+is_default_service id = nat_lt 0x07F id && nat_lt id 0x101
+
+-- that set may not be in force: no sheet and no transfer says whose the identifier is
+abbrev pub assumed_mark : Bool → ℕ → List ℕ
+assumed_mark named id = if is_default_pdo id || (is_default_service id && not named) then codes "~" else []
 
 -- the text of a frame, what an abort's code means, and the NMT state of its node
 abbrev pub plain_words : Names → Last → FrameContent → List ℕ
-plain_words names last frame =
-    assumed_mark frame.id ++ text_of_frame names frame ++ abort_words frame ++ state_words last frame
+plain_words names last frame = text_of_frame names frame ++ abort_words frame ++ state_words last frame
 
 -- by its service, where the last frames of its node had this, else by its text
 unfoldable pub served_words : Names → Last → FrameContent → List ℕ
 served_words names last frame = unwrap_or (service_words last frame) (plain_words names last frame)
 
--- as the PDOs that have its identifier, else by its service or its text, of the node of the
--- pre-defined connection set
-unfoldable pub other_words : Bus → List Claim → Last → FrameContent → List ℕ
-other_words bus [] last frame = served_words (names_at bus (frame.id % 128)) last frame
-other_words bus (claim ∷ claims) last frame = pdos_text bus frame.bytes (claim ∷ claims)
+-- as the PDOs that have its identifier, else by its service or its text, with the identifier of the
+-- pre-defined connection set; whether a COB-ID names it
+unfoldable pub other_words : Bus → List Claim → Bool → Last → FrameContent → List ℕ
+other_words bus [] named last frame = assumed_mark named frame.id ++ served_words (names_at bus (frame.id % 128)) last frame
+other_words bus (claim ∷ claims) named last frame = pdos_text bus frame.bytes (claim ∷ claims)
 
 -- what a frame with an identifier of 11 bits says: the entry of an expedited transfer with its
 -- value, where the sheet has the entry; else the entries of PDOs with theirs, or its text
-unfoldable pub frame_words : Bus → List Claim → Last → FrameContent → List ℕ
-frame_words bus claims last frame =
-    unwrap_or (transfer_words bus frame) (other_words bus claims last frame)
+unfoldable pub frame_words : Bus → List Claim → Bool → Last → FrameContent → List ℕ
+frame_words bus claims named last frame =
+    unwrap_or (transfer_words bus frame) (other_words bus claims named last frame)
 
 -- a PDO of that set of which no more is known: its number, by its identifier in steps of 128, and its node
 abbrev pub assumed_front : ℕ → List ℕ
@@ -59,10 +62,10 @@ unfoldable pub assumed_words : ℕ → List ℕ
 assumed_words id = assumed_front (id / 128) ++ decimal (id % 128)
 
 -- what data say, by the identifier
-abbrev pub data_words : Bus → List Claim → Last → Identifier → List ℕ → List ℕ
-data_words bus claims last (Base id) bytes = frame_words bus claims last (record { id = id; bytes = bytes })
-data_words bus claims last (Extended id) bytes = codes "frame with an identifier of 29 bits"
-data_words bus claims last (Error class) bytes = codes "error frame"
+abbrev pub data_words : Bus → List Claim → Bool → Last → Identifier → List ℕ → List ℕ
+data_words bus claims named last (Base id) bytes = frame_words bus claims named last (record { id = id; bytes = bytes })
+data_words bus claims named last (Extended id) bytes = codes "frame with an identifier of 29 bits"
+data_words bus claims named last (Error class) bytes = codes "error frame"
 
 -- what a remote frame says, by the identifier
 abbrev pub remote_content : Identifier → List ℕ
@@ -71,7 +74,7 @@ remote_content (Extended id) = codes "remote frame"
 remote_content (Error class) = codes "remote frame"
 
 -- what a frame says, where the last frames of its node had this
-unfoldable pub words_of_content : Bus → List Claim → Last → Identifier → Content → List ℕ
-words_of_content bus claims last id (Data bytes) = data_words bus claims last id bytes
-words_of_content bus claims last id (Remote count) = remote_content id
-words_of_content bus claims last id (Fd flags bytes) = codes "CAN FD frame"
+unfoldable pub words_of_content : Bus → List Claim → Bool → Last → Identifier → Content → List ℕ
+words_of_content bus claims named last id (Data bytes) = data_words bus claims named last id bytes
+words_of_content bus claims named last id (Remote count) = remote_content id
+words_of_content bus claims named last id (Fd flags bytes) = codes "CAN FD frame"

@@ -9,3 +9,4 @@ pub mod Sheets
 pub mod Taking
 pub mod ToldWords
 pub mod Transfers
+pub mod Whose

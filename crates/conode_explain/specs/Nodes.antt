@@ -21,8 +21,9 @@ abbrev pub last_in : List Node → List ℕ → Option FrameContent → Last
 last_in nodes interface (Some frame) = last_for nodes interface frame
 last_in nodes interface None = nothing_seen
 
-unfoldable pub last_at : List Node → Record → Last
-last_at nodes frame = last_in nodes frame.interface (packed_of frame.id frame.content)
+-- read as one with this identifier
+unfoldable pub last_at : List Node → Identifier → Record → Last
+last_at nodes id frame = last_in nodes frame.interface (packed_of id frame.content)
 
 -- the nodes after a frame with an identifier of 11 bits: a CAN FD frame doesn't count
 abbrev pub nodes_of_base : List Node → List ℕ → ℕ → Content → List Node
@@ -36,5 +37,5 @@ nodes_in nodes interface (Base id) content = nodes_of_base nodes interface id co
 nodes_in nodes interface (Extended id) content = nodes
 nodes_in nodes interface (Error class) content = nodes
 
-unfoldable pub nodes_with : List Node → Record → List Node
-nodes_with nodes frame = nodes_in nodes frame.interface frame.id frame.content
+unfoldable pub nodes_with : List Node → Identifier → Record → List Node
+nodes_with nodes id frame = nodes_in nodes frame.interface id frame.content

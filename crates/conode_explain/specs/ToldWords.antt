@@ -1,5 +1,5 @@
 -- What is said of SDO transfers: of their frames, and of those that ended.
-use Rattle.std.specs.Prelude.{ℕ, List, [], ◌++◌, codes, decimal, Option, Some, None, option_and_then, unwrap_or}
+use Rattle.std.specs.Prelude.{ℕ, Bool, List, [], ◌++◌, codes, decimal, Option, Some, None, option_and_then, unwrap_or}
 use Rattle.co_value.specs.declared.key.Key.{Key}
 use Rattle.co_sheet_changes.specs.Names.{Names, entry_of, shown_name}
 use Rattle.co_text.specs.Printed.{digits_text}
@@ -33,23 +33,23 @@ name_in names node None = []
 name_in names node (Some key) = name_bytes names node key
 
 -- a segment of a sub-block has its number, every other frame its own text
-abbrev pub part_front : Bus → List Claim → Last → Identifier → Content → ℕ → Side → Option ℕ → List ℕ
-part_front bus claims last id content node side None = words_of_content bus claims last id content
-part_front bus claims last id content node side (Some number) = segment_text side node number
+abbrev pub part_front : Bus → List Claim → Bool → Last → Identifier → Content → ℕ → Side → Option ℕ → List ℕ
+part_front bus claims named last id content node side None = words_of_content bus claims named last id content
+part_front bus claims named last id content node side (Some number) = segment_text side node number
 
-unfoldable pub part_words : Bus → List Claim → Last → Identifier → Content → ℕ → Part → List ℕ
-part_words bus claims last id content node part =
-    part_front bus claims last id content node part.side (segment_number part.what) ++ after_text part.what part.of (name_in (names_at bus node) node part.of)
+unfoldable pub part_words : Bus → List Claim → Bool → Last → Identifier → Content → ℕ → Part → List ℕ
+part_words bus claims named last id content node part =
+    part_front bus claims named last id content node part.side (segment_number part.what) ++ after_text part.what part.of (name_in (names_at bus node) node part.of)
 
-abbrev pub words_in : Bus → List Claim → Last → Identifier → Content → ℕ → Option Part → List ℕ
-words_in bus claims last id content node None = words_of_content bus claims last id content
-words_in bus claims last id content node (Some part) = part_words bus claims last id content node part
+abbrev pub words_in : Bus → List Claim → Bool → Last → Identifier → Content → ℕ → Option Part → List ℕ
+words_in bus claims named last id content node None = words_of_content bus claims named last id content
+words_in bus claims named last id content node (Some part) = part_words bus claims named last id content node part
 
 -- what a frame says that is read as one with this identifier, by what its SDO channel says about it,
 -- where the last frames of its node had this
-abbrev pub told_words : Bus → List Claim → Last → Identifier → Content → Option Told → List ℕ
-told_words bus claims last id content None = words_of_content bus claims last id content
-told_words bus claims last id content (Some told) = words_in bus claims last id content told.node told.part
+abbrev pub told_words : Bus → List Claim → Bool → Last → Identifier → Content → Option Told → List ℕ
+told_words bus claims named last id content None = words_of_content bus claims named last id content
+told_words bus claims named last id content (Some told) = words_in bus claims named last id content told.node told.part
 
 -- ---- transfers that ended
 

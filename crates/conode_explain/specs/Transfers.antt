@@ -12,10 +12,11 @@ use Rattle.co_frame.specs.declared.sdo_response.SdoResponse.TheVariants.{UploadE
 use Rattle.co_frame.specs.SdoRequests.{request_in}
 use Rattle.co_frame.specs.SdoResponses.{response_in}
 use Rattle.co_sheet.specs.Content.{Row}
-use Rattle.co_sheet_changes.specs.Names.{Names, entry_of}
+use Rattle.co_sheet_changes.specs.Names.{entry_of}
 use Rattle.conode_explain.specs.declared.transfer.Transfer.{Transfer}
-use Rattle.conode_explain_pdo.specs.Buses.{Bus, names_at}
-use Rattle.conode_explain_pdo.specs.KnownEntries.{known_text}
+use Rattle.conode_explain_pdo.specs.Buses.{Bus}
+use Rattle.conode_explain_pdo.specs.InForce.{device_at}
+use Rattle.conode_explain_pdo.specs.KnownEntries.{Device, known_text}
 
 -- ---- which frame is one
 
@@ -57,15 +58,15 @@ front_of transfer =
     else service_text (codes "SDO answer node ") transfer.node (codes " upload: ")
 
 -- the entry of a transfer with its value, in its type, and of a drive what that means
-unfoldable pub transfer_text : Names → Transfer → Row → List ℕ
-transfer_text names transfer row =
+unfoldable pub transfer_text : Device → Transfer → Row → List ℕ
+transfer_text device transfer row =
     let bytes = value_bytes row.data_type transfer.content in
-    front_of transfer ++ known_text names transfer.node transfer.key row (8 * length bytes) bytes
+    front_of transfer ++ known_text device transfer.node transfer.key row (8 * length bytes) bytes
 
 -- where the node's sheet has the entry
-abbrev pub entry_words : Names → Transfer → Option (List ℕ)
-entry_words names transfer = option_map (transfer_text names transfer) (entry_of names transfer.node transfer.key)
+abbrev pub entry_words : Device → Transfer → Option (List ℕ)
+entry_words device transfer = option_map (transfer_text device transfer) (entry_of device.names transfer.node transfer.key)
 
 -- what a frame says of the entry of an expedited transfer
 unfoldable pub transfer_words : Bus → FrameContent → Option (List ℕ)
-transfer_words bus frame = option_and_then (λ transfer. entry_words (names_at bus transfer.node) transfer) (transfer_in frame)
+transfer_words bus frame = option_and_then (λ transfer. entry_words (device_at bus transfer.node) transfer) (transfer_in frame)

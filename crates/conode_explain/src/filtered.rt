@@ -12,16 +12,18 @@ ghost use Rattle.conode_explain.specs.Filtered.{
   passes_end,
   passes_frame,
   repeats,
+  service_subject,
   shows_end,
   shows_frame,
   subject_by,
 };
 
 use crate::progress::Layout;
-use conode_explain_entries::{ChannelIds, Place};
+use crate::whose::Whose;
+use conode_explain_entries::ChannelIds;
 use conode_explain_filter::{Filter, Kind, Lasts, Subject, Written};
 use conode_explain_forms::data_of;
-use conode_explain_pdo::Claim;
+use conode_explain_pdo::{Claim, NamedService};
 use conode_explain_text::{Seen, Times};
 use conode_record::Record;
 use std::alloc::AllocError;
@@ -35,54 +37,80 @@ fn first_node(claims: &[Claim]) -> Option<u8>
     }
 }
 
-/// The kind and the node of a frame that is these PDOs; on an SDO channel other than a default one
-/// of its server.
-pub(crate) fn subject_by(place: Option<Place>, claims: &[Claim], frame: &Record<'_>) -> Subject
-    requires { IsIdentifier frame.now.id }
-    ensures { result ≡ subject_by place claims.now frame.now }
+// of a service that a COB-ID names
+fn service_subject(service: NamedService, subject: Subject) -> Subject
+    ensures { result ≡ service_subject service subject }
 {
-    let mut subject = Subject::of(first_node(claims), frame);
-    if let Some(place) = place {
-        subject.kind = Kind::Sdo;
-        subject.node = Some(place.node);
+    match service {
+        NamedService::Sync => Subject {
+            id: subject.id,
+            kind: Kind::Sync,
+            node: None,
+        },
+        NamedService::Time => Subject {
+            id: subject.id,
+            kind: Kind::Other,
+            node: None,
+        },
+        NamedService::Emergency { node } => Subject {
+            id: subject.id,
+            kind: Kind::Emergency,
+            node: Some(node),
+        },
     }
-    subject
+}
+
+/// The kind and the node of a frame that is these PDOs; on an SDO channel other than a default one
+/// of its server; of a service that a COB-ID names by that.
+pub(crate) fn subject_by(whose: Whose, claims: &[Claim], frame: &Record<'_>) -> Subject
+    requires { IsIdentifier frame.now.id }
+    ensures { result ≡ subject_by whose claims.now frame.now }
+{
+    let subject = Subject::of(first_node(claims), frame);
+    match whose {
+        Whose::Channel(place) => Subject {
+            id: subject.id,
+            kind: Kind::Sdo,
+            node: Some(place.node),
+        },
+        Whose::Service(service) => service_subject(service, subject),
+        Whose::Unnamed => subject,
+    }
 }
 
 #[tactic(auto, unfolding(crate::specs::Filtered::passes_frame))]
 fn passes_frame(
     form: &Layout<'_>,
     seen: &Seen,
-    place: Option<Place>,
+    whose: Whose,
     claims: &[Claim],
     frame: &Record<'_>,
 ) -> bool
     requires { IsIdentifier frame.now.id }
     ensures { result ≡ passes_frame form.now seen.now
-        (subject_by place claims.now frame.now) frame.now.micros }
+        (subject_by whose claims.now frame.now) frame.now.micros }
 {
     // in most cases there is none, and nothing of the frame is looked at
     if form.filter.is_open() {
         return true;
     }
-    let subject = subject_by(place, claims, frame);
+    let subject = subject_by(whose, claims, frame);
     form.filter.passes(&subject, seen.times(frame.micros))
 }
 
-/// Whether the line of a frame that is these PDOs is printed; `place` is its SDO channel, where
-/// that isn't a default one.
+/// Whether the line of a frame that is these PDOs is printed; `whose` it is, if it is none.
 pub(crate) fn shows_frame(
     form: &Layout<'_>,
     seen: &Seen,
-    place: Option<Place>,
+    whose: Whose,
     claims: &[Claim],
     frame: &Record<'_>,
 ) -> bool
     requires { IsIdentifier frame.now.id }
     ensures { result ≡ shows_frame form.now seen.now
-        (subject_by place claims.now frame.now) frame.now.micros }
+        (subject_by whose claims.now frame.now) frame.now.micros }
 {
-    !form.transfers && passes_frame(form, seen, place, claims, frame)
+    !form.transfers && passes_frame(form, seen, whose, claims, frame)
 }
 
 // whether a filter passes a frame with an identifier of an SDO channel other than a default one
@@ -133,16 +161,11 @@ fn repeats(kind: Kind) -> bool
     matches!(kind, Kind::Pdo | Kind::Heartbeat | Kind::Sync)
 }
 
-fn is_repeating(
-    form: &Layout<'_>,
-    place: Option<Place>,
-    claims: &[Claim],
-    frame: &Record<'_>,
-) -> bool
+fn is_repeating(form: &Layout<'_>, whose: Whose, claims: &[Claim], frame: &Record<'_>) -> bool
     requires { IsIdentifier frame.now.id }
-    ensures { result ≡ is_repeating form.now (subject_by place claims.now frame.now) }
+    ensures { result ≡ is_repeating form.now (subject_by whose claims.now frame.now) }
 {
-    form.changes && repeats(subject_by(place, claims, frame).kind)
+    form.changes && repeats(subject_by(whose, claims, frame).kind)
 }
 
 /// Whether a frame that is these PDOs and says these words has a line. Where only changes are asked
@@ -152,21 +175,21 @@ fn is_repeating(
 pub(crate) fn is_news(
     lasts: &mut Lasts,
     form: &Layout<'_>,
-    place: Option<Place>,
+    whose: Whose,
     claims: &[Claim],
     frame: &Record<'_>,
     words: &[u8],
 ) -> Result<bool, AllocError>
     requires { IsIdentifier frame.now.id }
     ensures news { IfOk result (λ news. news ≡ is_news form.now lasts.old
-        (subject_by place claims.now frame.now) frame.now words.now) }
+        (subject_by whose claims.now frame.now) frame.now words.now) }
     ensures lasts { OnOk result (lasts.new ≡ lasts_told form.now lasts.old
-        (subject_by place claims.now frame.now) frame.now words.now) }
+        (subject_by whose claims.now frame.now) frame.now words.now) }
 {
-    if !is_repeating(form, place, claims, frame) {
+    if !is_repeating(form, whose, claims, frame) {
         return Ok(true);
     }
-    let subject = subject_by(place, claims, frame);
+    let subject = subject_by(whose, claims, frame);
     let data = data_of(&frame.content);
     lasts.take(
         frame.interface.bytes(),

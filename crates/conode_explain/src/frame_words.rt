@@ -4,12 +4,15 @@ ghost use Rattle.std.specs.Prelude.{◌≡◌, ◌++◌, ◌<◌, true, OnOk, st
 ghost use Rattle.co_sheet_changes.specs.Names.{names_view};
 ghost use Rattle.conode_explain_pdo.specs.Buses.{bus_view};
 ghost use Rattle.conode_record.specs.Grammar.{IsIdentifier};
+ghost use Rattle.conode_record.specs.declared.fields.Identifier.TheVariants.{Base};
 ghost use Rattle.conode_explain.specs.Nodes.{last_at};
 ghost use Rattle.conode_explain.specs.FrameWords.{
   assumed_front,
+  assumed_mark,
   assumed_words,
   frame_words,
   is_default_pdo,
+  is_default_service,
   other_words,
   plain_words,
   served_words,
@@ -35,6 +38,22 @@ fn is_default_pdo(id: u16) -> bool
     (0x180 < id && id < 0x580) && id % 0x80 != 0
 }
 
+fn is_default_service(id: u16) -> bool
+    ensures { result ≡ is_default_service id }
+{
+    0x07F < id && id < 0x101
+}
+
+fn assumed_mark(named: bool, id: u16) -> &'static str
+    ensures { result.now ≡ assumed_mark named id }
+{
+    if is_default_pdo(id) || (is_default_service(id) && !named) {
+        "~"
+    } else {
+        ""
+    }
+}
+
 // the text of a frame, what an abort's code means, and the NMT state of its node
 fn push_plain_words(
     said: &mut String,
@@ -45,7 +64,6 @@ fn push_plain_words(
     ensures { OnOk result (string_bytes said.new
         ≡ string_bytes said.old ++ plain_words (names_view names.entry) last.now frame.now) }
 {
-    attempt!(said.push_str(if is_default_pdo(frame.id()) { "~" } else { "" }));
     attempt!(push_text(said, names, frame));
     attempt!(push_abort_words(said, frame));
     push_state(said, *last, frame)
@@ -74,14 +92,18 @@ fn push_other_words(
     said: &mut String,
     bus: Bus<'_, '_, '_, '_, '_>,
     claims: &[Claim],
+    named: bool,
     last: &Last,
     frame: &Frame,
 ) -> Result<(), AllocError>
-    ensures { OnOk result (string_bytes said.new
-        ≡ string_bytes said.old ++ other_words (bus_view bus.entry) claims.now last.now frame.now) }
+    ensures { OnOk result (string_bytes said.new ≡ string_bytes said.old
+        ++ other_words (bus_view bus.entry) claims.now named last.now frame.now) }
 {
     match claims {
-        [] => push_served_words(said, bus.names((frame.id() % 128) as u8), last, frame),
+        [] => {
+            attempt!(said.push_str(assumed_mark(named, frame.id())));
+            push_served_words(said, bus.names((frame.id() % 128) as u8), last, frame)
+        }
         _ => push_pdos(said, bus, frame.bytes(), claims),
     }
 }
@@ -93,19 +115,20 @@ fn push_frame_words(
     said: &mut String,
     bus: Bus<'_, '_, '_, '_, '_>,
     claims: &[Claim],
+    named: bool,
     last: &Last,
     frame: &Frame,
 ) -> Result<(), AllocError>
-    ensures { OnOk result (string_bytes said.new
-        ≡ string_bytes said.old ++ frame_words (bus_view bus.entry) claims.now last.now frame.now) }
+    ensures { OnOk result (string_bytes said.new ≡ string_bytes said.old
+        ++ frame_words (bus_view bus.entry) claims.now named last.now frame.now) }
 {
     if let Some(transfer) = transfer_in(frame) {
-        let names = bus.names(transfer.node);
-        if let Some(row) = names.entry(transfer.node, transfer.key) {
-            return push_transfer(said, names, &transfer, row);
+        let device = bus.device(transfer.node);
+        if let Some(row) = device.names.entry(transfer.node, transfer.key) {
+            return push_transfer(said, device, &transfer, row);
         }
     }
-    push_other_words(said, bus, claims, last, frame)
+    push_other_words(said, bus, claims, named, last, frame)
 }
 
 fn assumed_front(step: u16) -> &'static str
@@ -136,6 +159,7 @@ fn push_base_words(
     said: &mut String,
     bus: Bus<'_, '_, '_, '_, '_>,
     claims: &[Claim],
+    named: bool,
     nodes: &Nodes,
     id: u16,
     bytes: &PackedBytes,
@@ -144,22 +168,22 @@ fn push_base_words(
     requires id { id < 2048 }
     requires of { IsIdentifier frame.now.id }
     ensures { OnOk result (string_bytes said.new ≡ string_bytes said.old
-        ++ frame_words (bus_view bus.entry) claims.now (last_at nodes.now frame.now)
+        ++ frame_words (bus_view bus.entry) claims.now named (last_at nodes.now (Base id) frame.now)
         (record { id = id; bytes = bytes.now })) }
 {
     match claims {
         // most frames of most recordings
         [] if is_default_pdo(id) => push_assumed_words(said, id),
         _ => {
-            let last = last_of(nodes, frame);
-            push_frame_words(said, bus, claims, &last, &Frame::packed(id, bytes))
+            let last = last_of(nodes, Identifier::Base(id), frame);
+            push_frame_words(said, bus, claims, named, &last, &Frame::packed(id, bytes))
         }
     }
 }
 
 /// Sets `said` to what a frame says that is read as one with this identifier; `claims` are the PDOs
-/// that it is, `nodes` have what the last frames of its node had. On an `Err` memory ran out, and
-/// it is incomplete.
+/// that it is, `named` is whether a COB-ID of a channel or of a service has its identifier, `nodes`
+/// have what the last frames of its node had. On an `Err` memory ran out, and it is incomplete.
 // inlined, so that no copy of `bus` is made for the words of most frames, which don't look at it
 #[inline(always)]
 #[tactic(auto, unfolding(crate::specs::FrameWords::words_of_content))]
@@ -167,6 +191,7 @@ pub(crate) fn set_words(
     said: &mut String,
     bus: Bus<'_, '_, '_, '_, '_>,
     claims: &[Claim],
+    named: bool,
     nodes: &Nodes,
     id: Identifier,
     frame: &Record<'_>,
@@ -174,12 +199,12 @@ pub(crate) fn set_words(
     requires id { IsIdentifier id }
     requires of { IsIdentifier frame.now.id }
     ensures { OnOk result (string_bytes said.new ≡ words_of_content (bus_view bus.entry)
-        claims.now (last_at nodes.now frame.now) id frame.now.content) }
+        claims.now named (last_at nodes.now id frame.now) id frame.now.content) }
 {
     said.clear();
     match (&frame.content, id) {
         (Content::Data(bytes), Identifier::Base(id)) => {
-            push_base_words(said, bus, claims, nodes, id, bytes, frame)
+            push_base_words(said, bus, claims, named, nodes, id, bytes, frame)
         }
         (Content::Data(_), Identifier::Extended(_)) => {
             said.push_str("frame with an identifier of 29 bits")

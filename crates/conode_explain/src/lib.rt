@@ -55,6 +55,7 @@ mod sheets;
 mod step;
 mod told_words;
 mod transfer;
+mod whose;
 mod writes;
 
 pub use conode_explain_text::StampForm;

@@ -84,13 +84,14 @@ pub(crate) fn may_be_told(id: Identifier) -> bool
     }
 }
 
-// Notes what a frame has of its node, where that is of an emergency or of error control.
+// Notes what a frame that is read as one with this identifier has of its node, where that is of an
+// emergency or of error control.
 #[tactic(auto, unfolding(crate::specs::Nodes::nodes_with))]
-fn note_node(nodes: &mut Nodes, frame: &Record<'_>) -> Result<(), AllocError>
-    requires { IsIdentifier frame.now.id }
-    ensures { OnOk result (nodes.new ≡ nodes_with nodes.old frame.now) }
+fn note_node(nodes: &mut Nodes, id: Identifier, frame: &Record<'_>) -> Result<(), AllocError>
+    requires { IsIdentifier id }
+    ensures { OnOk result (nodes.new ≡ nodes_with nodes.old id frame.now) }
 {
-    let Identifier::Base(id) = frame.id else {
+    let Identifier::Base(id) = id else {
         return Ok(());
     };
     let name = frame.interface.bytes();
@@ -135,25 +136,25 @@ fn or_boot_up(frame: &Frame, told: Option<Told>) -> Option<Told>
     })
 }
 
-// a data frame with an identifier of 11 bits
-fn packed(frame: &Record<'_>) -> Option<Frame>
-    requires { IsIdentifier frame.now.id }
-    ensures { result ≡ packed_of frame.now.id frame.now.content }
+// a data frame that is read as one with an identifier of 11 bits
+fn packed(id: Identifier, frame: &Record<'_>) -> Option<Frame>
+    requires { IsIdentifier id }
+    ensures { result ≡ packed_of id frame.now.content }
 {
-    match (frame.id, &frame.content) {
+    match (id, &frame.content) {
         (Identifier::Base(id), Content::Data(bytes)) => Some(Frame::packed(id, bytes)),
         _ => None,
     }
 }
 
-/// What the last frames of the node of a data frame had; nothing where its identifier has 29 bits,
-/// and of every other frame.
+/// What the last frames of the node of a data frame had that is read as one with this identifier;
+/// nothing where that has 29 bits, and of every other frame.
 #[tactic(auto, unfolding(crate::specs::Nodes::last_at))]
-pub(crate) fn last_of(nodes: &Nodes, frame: &Record<'_>) -> Last
-    requires { IsIdentifier frame.now.id }
-    ensures { result ≡ last_at nodes.now frame.now }
+pub(crate) fn last_of(nodes: &Nodes, id: Identifier, frame: &Record<'_>) -> Last
+    requires { IsIdentifier id }
+    ensures { result ≡ last_at nodes.now id frame.now }
 {
-    match packed(frame) {
+    match packed(id, frame) {
         Some(packed) => nodes.last_for(frame.interface.bytes(), &packed),
         None => Last::new(),
     }
@@ -168,7 +169,7 @@ fn tell(channels: &mut Channels, frame: &Record<'_>) -> Result<Option<Told>, All
     ensures channels { OnOk result
         (channels.new ≡ (telling_of channels.old frame.now).tracks) }
 {
-    let Some(packed) = packed(frame) else {
+    let Some(packed) = packed(frame.id, frame) else {
         return Ok(None);
     };
     let name = frame.interface.bytes();
@@ -189,7 +190,7 @@ fn tell_further(
     ensures channels { OnOk result
         (further.new ≡ (further_of further.old frame.now place).channels) }
 {
-    let Some(packed) = packed(frame) else {
+    let Some(packed) = packed(frame.id, frame) else {
         return Ok(None);
     };
     further.take(frame.interface.bytes(), place, frame.micros, &packed)
@@ -234,10 +235,16 @@ impl Progress {
         }
     }
 
-    /// Adds a frame: its stamp, its interface, what it has of its node, and what it shows of
-    /// entries by `told`, which its SDO channel says about it. On an `Err` memory ran out.
-    pub(crate) fn add(&mut self, frame: &Record<'_>, told: &Option<Told>) -> Result<(), AllocError>
-        requires { IsIdentifier frame.now.id }
+    /// Adds a frame that is read as one with this identifier: its stamp, its interface, what it has
+    /// of its node, and what it shows of entries by `told`, which its SDO channel says about it. On
+    /// an `Err` memory ran out.
+    pub(crate) fn add(
+        &mut self,
+        frame: &Record<'_>,
+        id: Identifier,
+        told: &Option<Told>,
+    ) -> Result<(), AllocError>
+        requires { IsIdentifier id }
         ensures seen { OnOk result (self.new.seen
             ≡ seen_with self.old.seen frame.now.micros frame.now.interface) }
         ensures channels { OnOk result (self.new.channels ≡ self.old.channels) }
@@ -246,10 +253,10 @@ impl Progress {
         ensures lasts { OnOk result (self.new.lasts ≡ self.old.lasts) }
         ensures entries { OnOk result (self.new.entries
             ≡ entries_with self.old.entries frame.now.interface told.now) }
-        ensures nodes { OnOk result (self.new.nodes ≡ nodes_with self.old.nodes frame.now) }
+        ensures nodes { OnOk result (self.new.nodes ≡ nodes_with self.old.nodes id frame.now) }
     {
         self.seen.add(frame);
-        attempt!(note_node(&mut self.nodes, frame));
+        attempt!(note_node(&mut self.nodes, id, frame));
         let name = frame.interface.bytes();
         boot_further(&mut self.further, name, told);
         self.entries.take(name, told)

@@ -60,6 +60,7 @@ fn set_part_words(
     said: &mut String,
     bus: Bus<'_, '_, '_, '_, '_>,
     claims: &[Claim],
+    named: bool,
     nodes: &Nodes,
     id: Identifier,
     frame: &Record<'_>,
@@ -69,12 +70,12 @@ fn set_part_words(
     requires id { IsIdentifier id }
     requires of { IsIdentifier frame.now.id }
     ensures { OnOk result (string_bytes said.new
-        ≡ part_words (bus_view bus.entry) claims.now (last_at nodes.now frame.now) id
+        ≡ part_words (bus_view bus.entry) claims.now named (last_at nodes.now id frame.now) id
         frame.now.content node part) }
 {
     let name = name_in(bus.names(node), node, part.of);
     let Some(number) = segment_number(part.what) else {
-        attempt!(set_words(said, bus, claims, nodes, id, frame));
+        attempt!(set_words(said, bus, claims, named, nodes, id, frame));
         return push_after(said, part.what, part.of, name);
     };
     said.clear();
@@ -83,12 +84,14 @@ fn set_part_words(
 }
 
 /// Sets `said` to what a frame says that is read as one with this identifier; `claims` are the PDOs
-/// that it is, `nodes` have what the last frames of its node had, `told` is what its SDO channel
-/// says about it. On an `Err` memory ran out, and it is incomplete.
+/// that it is, `named` is whether a COB-ID of a channel or of a service has its identifier, `nodes`
+/// have what the last frames of its node had, `told` is what its SDO channel says about it. On an
+/// `Err` memory ran out, and it is incomplete.
 pub(crate) fn set_told_words(
     said: &mut String,
     bus: Bus<'_, '_, '_, '_, '_>,
     claims: &[Claim],
+    named: bool,
     nodes: &Nodes,
     id: Identifier,
     frame: &Record<'_>,
@@ -97,16 +100,16 @@ pub(crate) fn set_told_words(
     requires id { IsIdentifier id }
     requires of { IsIdentifier frame.now.id }
     ensures { OnOk result (string_bytes said.new
-        ≡ told_words (bus_view bus.entry) claims.now (last_at nodes.now frame.now) id
+        ≡ told_words (bus_view bus.entry) claims.now named (last_at nodes.now id frame.now) id
         frame.now.content told.now) }
 {
     let Some(told) = told else {
-        return set_words(said, bus, claims, nodes, id, frame);
+        return set_words(said, bus, claims, named, nodes, id, frame);
     };
     let Some(part) = told.part else {
-        return set_words(said, bus, claims, nodes, id, frame);
+        return set_words(said, bus, claims, named, nodes, id, frame);
     };
-    set_part_words(said, bus, claims, nodes, id, frame, told.node, part)
+    set_part_words(said, bus, claims, named, nodes, id, frame, told.node, part)
 }
 
 // what the code of an abort means

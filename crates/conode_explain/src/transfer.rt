@@ -2,7 +2,7 @@
 
 ghost use Rattle.std.specs.Prelude.{◌≡◌, ◌++◌, ◌≤◌, OnOk, length, string_bytes};
 ghost use Rattle.co_sheet.specs.SheetViews.{row_view};
-ghost use Rattle.co_sheet_changes.specs.Names.{names_view};
+ghost use Rattle.conode_explain_pdo.specs.KnownEntries.{device_view};
 ghost use Rattle.conode_explain.specs.Transfers.{
   download_in,
   front_of,
@@ -17,10 +17,9 @@ ghost use Rattle.conode_explain.specs.Transfers.{
 
 use co_frame::{ExpeditedData, Frame, SdoRequest, SdoResponse};
 use co_sheet::EntryRow;
-use co_sheet_changes::Names;
 use co_text::push_decimal;
 use co_value::{DataType, Key};
-use conode_explain_pdo::push_known;
+use conode_explain_pdo::{Device, push_known};
 use std::alloc::AllocError;
 
 /// An expedited transfer, by the frame that has its value.
@@ -135,19 +134,19 @@ fn push_front(text: &mut String, transfer: &Transfer) -> Result<(), AllocError>
 #[tactic(auto, unfolding(crate::specs::Transfers::transfer_text))]
 pub(crate) fn push_transfer(
     text: &mut String,
-    names: Names<'_, '_>,
+    device: Device<'_, '_>,
     transfer: &Transfer,
     row: &EntryRow<'_>,
 ) -> Result<(), AllocError>
     ensures { OnOk result (string_bytes text.new
         ≡ string_bytes text.old
-        ++ transfer_text (names_view names.entry) transfer.now (row_view row.now)) }
+        ++ transfer_text (device_view device.entry) transfer.now (row_view row.now)) }
 {
     let bytes = value_bytes(row.data_type, &transfer.content);
     attempt!(push_front(text, transfer));
     push_known(
         text,
-        names,
+        device,
         transfer.node,
         transfer.key,
         row,

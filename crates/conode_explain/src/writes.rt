@@ -29,6 +29,7 @@ use crate::filtered::{is_news, shows_frame, subject_by};
 use crate::progress::{Layout, LineFormat, Progress, may_be_told};
 use crate::settings::Settings;
 use crate::told_words::set_told_words;
+use crate::whose::{Whose, is_named, read_by, whose_of};
 use conode_explain_entries::{Entries, Place};
 use conode_explain_filter::Lasts;
 use conode_explain_forms::{
@@ -83,24 +84,23 @@ fn set_claims(
 }
 
 // Sets the line to that of a frame of which this is said, in the colour of a tone or as an object
-// of JSON; `claims` are the PDOs that the frame is, `place` is its SDO channel, where that isn't a
-// default one. Apart from lines without colours, which need neither tone nor kind and less room on
-// the stack.
+// of JSON; `claims` are the PDOs that the frame is, `whose` it is, if it is none. Apart from lines
+// without colours, which need neither tone nor kind and less room on the stack.
 #[inline(never)]
 #[tactic(auto, unfolding(crate::specs::Explained::frame_line))]
 fn set_other_line(
     room: &mut Room,
     form: &Layout<'_>,
     seen: &Seen,
-    place: Option<Place>,
+    whose: Whose,
     claims: &[Claim],
     frame: &Record<'_>,
 ) -> Result<(), AllocError>
     requires { IsIdentifier frame.now.id }
     ensures { OnOk result (room.new.line.items ≡ frame_line form.now seen.now
-        (subject_by place claims.now frame.now) frame.now (string_bytes room.old.said)) }
+        (subject_by whose claims.now frame.now) frame.now (string_bytes room.old.said)) }
 {
-    let subject = subject_by(place, claims, frame);
+    let subject = subject_by(whose, claims, frame);
     match form.format {
         LineFormat::Text => {
             attempt!(set_line(
@@ -135,13 +135,13 @@ fn set_frame_line(
     room: &mut Room,
     form: &Layout<'_>,
     seen: &Seen,
-    place: Option<Place>,
+    whose: Whose,
     claims: &[Claim],
     frame: &Record<'_>,
 ) -> Result<(), AllocError>
     requires { IsIdentifier frame.now.id }
     ensures { OnOk result (room.new.line.items ≡ frame_line form.now seen.now
-        (subject_by place claims.now frame.now) frame.now (string_bytes room.old.said)) }
+        (subject_by whose claims.now frame.now) frame.now (string_bytes room.old.said)) }
 {
     match form.format {
         LineFormat::Text if !form.colours => set_line(
@@ -152,13 +152,12 @@ fn set_frame_line(
             frame,
             room.said.as_bytes(),
         ),
-        _ => set_other_line(room, form, seen, place, claims, frame),
+        _ => set_other_line(room, form, seen, whose, claims, frame),
     }
 }
 
 // Writes the line of a frame that is asked for, if it says something new; `claims` are the PDOs
-// that it is, `place` is its SDO channel, where that isn't a default one, `nodes` have what the
-// last frames of its node had.
+// that it is, `whose` it is, if it is none, `nodes` have what the last frames of its node had.
 #[tactic(auto, using(crate::proofs::WriteSets::one_line))]
 fn write_news<W: Write>(
     room: &mut Room,
@@ -167,7 +166,7 @@ fn write_news<W: Write>(
     lasts: &mut Lasts,
     bus: Bus<'_, '_, '_, '_, '_>,
     claims: &[Claim],
-    place: Option<Place>,
+    whose: Whose,
     nodes: &Nodes,
     frame: &Record<'_>,
     told: &Option<Told>,
@@ -175,26 +174,27 @@ fn write_news<W: Write>(
 ) -> Result<(), CmdFault>
     requires { IsIdentifier frame.now.id }
     ensures lines { OnOk result (WritesLines (W.contents out.old) (W.contents out.new)
-        (news_lines form.now seen.now lasts.old (subject_by place claims.now frame.now) frame.now
-        (words_at (bus_view bus.entry) claims.now place nodes.now frame.now told.now))) }
+        (news_lines form.now seen.now lasts.old (subject_by whose claims.now frame.now) frame.now
+        (words_at (bus_view bus.entry) claims.now whose nodes.now frame.now told.now))) }
     ensures lasts { OnOk result (lasts.new ≡ lasts_told form.now lasts.old
-        (subject_by place claims.now frame.now) frame.now
-        (words_at (bus_view bus.entry) claims.now place nodes.now frame.now told.now)) }
+        (subject_by whose claims.now frame.now) frame.now
+        (words_at (bus_view bus.entry) claims.now whose nodes.now frame.now told.now)) }
 {
     attempt_in_memory!(set_told_words(
         &mut room.said,
         bus,
         claims,
+        is_named(whose),
         nodes,
-        read_as(place, frame.id),
+        read_by(whose, frame.id),
         frame,
         told,
     ));
     let words = room.said.as_bytes();
-    if !attempt_value_in_memory!(is_news(lasts, form, place, claims, frame, words)) {
+    if !attempt_value_in_memory!(is_news(lasts, form, whose, claims, frame, words)) {
         return Ok(());
     }
-    attempt_in_memory!(set_frame_line(room, form, seen, place, claims, frame));
+    attempt_in_memory!(set_frame_line(room, form, seen, whose, claims, frame));
     hand_over(room.line.as_slice(), out)
 }
 
@@ -239,7 +239,7 @@ fn write_first<W: Write>(
     lasts: &mut Lasts,
     bus: Bus<'_, '_, '_, '_, '_>,
     claims: &[Claim],
-    place: Option<Place>,
+    whose: Whose,
     nodes: &Nodes,
     frame: &Record<'_>,
     told: &Option<Told>,
@@ -247,18 +247,18 @@ fn write_first<W: Write>(
 ) -> Result<(), CmdFault>
     requires { IsIdentifier frame.now.id }
     ensures lines { OnOk result (WritesLines (W.contents out.old) (W.contents out.new)
-        (first_lines form.now (bus_view bus.entry) claims.now place nodes.now seen.now lasts.old
+        (first_lines form.now (bus_view bus.entry) claims.now whose nodes.now seen.now lasts.old
         frame.now told.now)) }
     ensures lasts { OnOk result (lasts.new
-        ≡ lasts_with form.now (bus_view bus.entry) claims.now place nodes.now seen.now lasts.old
+        ≡ lasts_with form.now (bus_view bus.entry) claims.now whose nodes.now seen.now lasts.old
         frame.now told.now) }
 {
-    if !shows_frame(form, seen, place, claims, frame) {
+    if !shows_frame(form, seen, whose, claims, frame) {
         return Ok(());
     }
     if form.signals.is_empty() {
         return write_news(
-            room, form, seen, lasts, bus, claims, place, nodes, frame, told, out,
+            room, form, seen, lasts, bus, claims, whose, nodes, frame, told, out,
         );
     }
     write_signals(&mut room.text, form, seen, bus, claims, frame, told, out)
@@ -304,6 +304,7 @@ fn write_by<W: Write>(
 {
     let bus = bus_of(settings, &progress.entries, frame);
     attempt_in_memory!(set_claims(claims, bus, read_as(place, frame.id)));
+    let whose = whose_of(bus, place, claims.as_slice(), frame);
     attempt!(write_first(
         room,
         &settings.form,
@@ -311,7 +312,7 @@ fn write_by<W: Write>(
         &mut progress.lasts,
         bus,
         claims.as_slice(),
-        place,
+        whose,
         &progress.nodes,
         frame,
         told,
@@ -327,7 +328,7 @@ fn write_by<W: Write>(
         told,
         out,
     ));
-    attempt_in_memory!(progress.add(frame, told));
+    attempt_in_memory!(progress.add(frame, read_by(whose, frame.id), told));
     Ok(())
 }
 

@@ -1,6 +1,6 @@
 -- What entries have, evaluated on both sides of each edge.
 use Rattle.std.proofs.Common.{◌≡◌, ℕ, Bool, true, false, List, [], ◌∷◌, Some, None, refl}
-use Rattle.std.specs.Prelude.{codes, map, slice_index_or}
+use Rattle.std.specs.Prelude.{codes, is_some, map, slice_index_or}
 use Rattle.co_value.specs.declared.key.Key.{Key}
 use Rattle.conode_explain_transfers.specs.declared.ended.Ending.TheVariants as endings
 use Rattle.conode_explain_transfers.specs.declared.kinds.Direction.TheVariants.{Download, Upload}
@@ -202,6 +202,21 @@ unknown_comes_back : word_after (BootedUp ∷ Saved ∷ Written (tpdo1 1) None �
 unfolding assumed_values
 unknown_comes_back = refl
 
+-- the device type stays over a boot-up, the COB-ID of SYNC doesn't
+abbrev after_read : ℕ → List Event → Value
+after_read index events = slice_index_or (state_after (map happening events) (codes "can0") 5 index).now.mapping 0 values.Unknown
+
+abbrev read_at : ℕ → Event
+read_at index = Read (record { index = index; part = Mapping 0 }) 0x192
+
+device_type : map (λ index. after_read index (BootedUp ∷ read_at index ∷ [])) (0x1000 ∷ 0x1005 ∷ []) ≡ values.Seen 0x192 ∷ values.Assumed ∷ []
+unfolding assumed_values
+device_type = refl
+
+before_a_boot_up : after_read 0x1005 (read_at 0x1005 ∷ []) ≡ values.Seen 0x192
+unfolding assumed_values
+before_a_boot_up = refl
+
 -- ---- of other nodes and interfaces
 
 other_node : state_after (happening word_written ∷ []) (codes "can0") 6 0x1800 ≡ nothing_shown
@@ -268,7 +283,29 @@ above_64 = refl
 above_mappings : entry_of (key 0x1C00 0) ≡ None
 above_mappings = refl
 
+-- the device type, SYNC, TIME, emergencies; and beside them
+abbrev is_kept : ℕ → ℕ → Bool
+is_kept index sub = is_some (entry_of (key index sub))
+
+services : map (λ index. is_kept index 0) (0x1000 ∷ 0x1005 ∷ 0x1012 ∷ 0x1014 ∷ []) ≡ true ∷ true ∷ true ∷ true ∷ []
+services = refl
+
+emergencies : entry_of (key 0x1014 0) ≡ Some (record { index = 0x1014; part = Mapping 0 })
+emergencies = refl
+
+beside_services : map (λ index. is_kept index 0) (0x0FFF ∷ 0x1001 ∷ 0x1004 ∷ 0x1006 ∷ 0x1011 ∷ 0x1013 ∷ 0x1015 ∷ [])
+    ≡ false ∷ false ∷ false ∷ false ∷ false ∷ false ∷ false ∷ []
+beside_services = refl
+
+no_sub_indices : map (λ index. is_kept index 1) (0x1000 ∷ 0x1005 ∷ 0x1012 ∷ 0x1014 ∷ []) ≡ false ∷ false ∷ false ∷ false ∷ []
+no_sub_indices = refl
+
 -- ---- what transfers show
+
+-- the COB-ID of emergencies has four bytes
+four_bytes : event_by Download (endings.Done false) (key 0x1014 0) (0x85 ∷ 0x00 ∷ 0x00 ∷ 0x80 ∷ [])
+    ≡ Some (Written (record { index = 0x1014; part = Mapping 0 }) (Some 0x80000085))
+four_bytes = refl
 
 -- 20010110h, the lowest byte first
 downloaded : event_by Download (endings.Done false) (key 0x1A00 1) (0x10 ∷ 0x01 ∷ 0x01 ∷ 0x20 ∷ []) ≡ Some word_written

@@ -14,7 +14,7 @@ use Rattle.conode_explain_entries.specs.declared.event.Event.{Event}
 use Rattle.conode_explain_entries.specs.declared.event.Event.TheVariants.{Written, Read, BootedUp, Saved, Restored}
 use Rattle.conode_explain_entries.specs.declared.event.PdoEntry.{PdoEntry}
 use Rattle.conode_explain_entries.specs.declared.state.PdoState.{PdoState}
-use Rattle.conode_explain_entries.specs.Histories.{assumed_values, nothing_shown, state_with, stored_values}
+use Rattle.conode_explain_entries.specs.Histories.{assumed_values, is_constant, nothing_shown, state_with, stored_values}
 use Rattle.conode_explain_entries.specs.Tables.{Happening, added, added_at, index_shown, is_at, is_followed_in, is_of, most_pdos, new_pdo, pdo_with, shown_in, state_after, table_after, table_with}
 
 -- ---- tests
@@ -153,7 +153,7 @@ quiet : (table : List ShownPdo) (i : List ℕ) (n k : ℕ) (e : Event) → list_
     → list_any (is_of i n k) (added table i n e) ≡ false → state_with nothing_shown k e ≡ nothing_shown
 quiet table i n k (Written of number) outside free h = quiet_write k of number (other_shown table i n k of.index outside free h)
 quiet table i n k (Read of number) outside free h = quiet_read k of number (other_shown table i n k of.index outside free h)
-quiet table i n k BootedUp outside free h = refl
+quiet table i n k BootedUp outside free h = by_test (is_constant k) (λ stays. rw stays refl) (λ changes. rw changes refl)
 quiet table i n k Saved outside free h = quiet_save k
 quiet table i n k Restored outside free h = refl
 

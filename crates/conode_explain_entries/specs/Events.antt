@@ -1,5 +1,5 @@
 -- What happens to the entries of a node, by what is known about its frames.
-use Rattle.std.specs.Prelude.{ℕ, ◌-◌, ◌==◌, nat_le, Bool, true, false, ◌&&◌, ◌||◌, if◌then◌else◌, List, take, codes, Option, Some, None, option_map}
+use Rattle.std.specs.Prelude.{ℕ, ◌-◌, ◌==◌, nat_le, Bool, true, false, not, ◌&&◌, ◌||◌, if◌then◌else◌, List, take, codes, Option, Some, None, option_map}
 use Rattle.std.specs.Str.{bytes_eq}
 use Rattle.co_profile.specs.Indices.{is_within, pdo_cob_id, restore_parameters, rpdo_communication, rpdo_mapping, store_parameters, tpdo_communication, tpdo_mapping}
 use Rattle.co_value.specs.declared.key.Key.{Key}
@@ -31,19 +31,26 @@ is_mapping key = nat_le key.sub 64 && (is_within tpdo_mapping key.index || is_wi
 abbrev pub is_channel : Key → Bool
 is_channel key = (nat_le 1 key.sub && nat_le key.sub 3) && (nat_le 0x1201 key.index && nat_le key.index 0x12FF)
 
+-- the device type, and the COB-IDs of SYNC, TIME and emergencies, each an UNSIGNED32 without
+-- sub-indices (CiA 301, 7.5.2.1, 7.5.2.5, 7.5.2.15 and 7.5.2.17)
+abbrev pub is_service : Key → Bool
+is_service key =
+    (key.sub == 0) && ((key.index == 0x1000) || ((key.index == 0x1005) || ((key.index == 0x1012) || (key.index == 0x1014))))
+
 -- the entry of a PDO that a key is; its mapping parameter has an index that is 200h more than that
--- of its communication parameter. An SDO channel's is kept by its sub-index, as one of a mapping
+-- of its communication parameter. An SDO channel's and a service's are kept by their sub-index, as one
+-- of a mapping
 abbrev pub entry_of : Key → Option PdoEntry
 entry_of key =
     if is_cob_id key then Some (record { index = key.index; part = CobId })
     else (if is_mapping key then Some (record { index = key.index - 0x200; part = Mapping key.sub })
-    else (if is_channel key then Some (record { index = key.index; part = Mapping key.sub }) else None))
+    else (if is_channel key || is_service key then Some (record { index = key.index; part = Mapping key.sub }) else None))
 
 -- ---- transfers that ended
 
--- sub-index 0 is an UNSIGNED8, the others are UNSIGNED32
+-- sub-index 0 of a mapping is an UNSIGNED8, the others are UNSIGNED32
 abbrev pub number_width : Key → ℕ
-number_width key = if key.sub == 0 then 1 else 4
+number_width key = if (key.sub == 0) && not (is_service key) then 1 else 4
 
 abbrev pub number_in : Key → List ℕ → ℕ
 number_in key bytes = unsigned_of (take (number_width key) bytes)

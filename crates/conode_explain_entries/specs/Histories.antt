@@ -70,6 +70,10 @@ stored_value value = value
 abbrev pub stored_values : PdoValues → PdoValues
 stored_values old = record { cob_id = stored_value old.cob_id; mapping = map stored_value old.mapping }
 
+-- the device type is a constant, which no boot-up changes (CiA 301, 7.5.2.1)
+abbrev pub is_constant : ℕ → Bool
+is_constant index = index == 0x1000
+
 -- ---- all events
 
 -- what the entries of a PDO have after an event of its node (CiA 301, 7.5.2.13 and 7.5.2.14)
@@ -77,7 +81,8 @@ abbrev pub state_with : PdoState → ℕ → Event → PdoState
 state_with state index (Written of number) = if of.index == index then state_written state of.part number else state
 state_with state index (Read of number) = if of.index == index then state_read state of.part number else state
 -- a boot-up puts back what was stored, and what the sheet says where nothing was
-state_with state index BootedUp = record { now = state.stored; stored = state.stored; is_being_changed = false }
+state_with state index BootedUp =
+    if is_constant index then state else record { now = state.stored; stored = state.stored; is_being_changed = false }
 -- what they have is stored
 state_with state index Saved = record { now = state.now; stored = stored_values state.now; is_being_changed = state.is_being_changed }
 -- what the sheet says comes back

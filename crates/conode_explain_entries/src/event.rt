@@ -12,6 +12,7 @@ ghost use Rattle.conode_explain_entries.specs.Events.{
   is_load,
   is_mapping,
   is_save,
+  is_service,
   is_unclear,
   number_in,
   number_width,
@@ -30,14 +31,16 @@ use conode_explain_transfers::{Direction, Ended, Ending, Told};
 pub enum PdoPart {
     /// Its COB-ID: sub-index 1 of its communication parameter.
     CobId,
-    /// A sub-index of its mapping parameter, 0 to 64; of an SDO channel's parameter 1 to 3.
+    /// A sub-index of its mapping parameter, 0 to 64; of an SDO channel's parameter 1 to 3; 0 of the
+    /// device type, and of the COB-IDs of SYNC, TIME and emergencies.
     Mapping { sub: u8 },
 }
 
-/// An entry of a PDO, or of an SDO channel.
+/// An entry of a PDO, of an SDO channel, or of one of the services SYNC, TIME and emergency; or the
+/// device type.
 #[derive(Clone, Copy)]
 pub struct PdoEntry {
-    /// The index of the PDO's communication parameter, or of the channel's parameter.
+    /// The index of the PDO's communication parameter, of the channel's parameter, or of the entry.
     pub index: u16,
     /// Which of its entries.
     pub part: PdoPart,
@@ -82,6 +85,15 @@ fn is_channel(key: Key) -> bool
     (1 <= key.sub && key.sub <= 3) && (0x1201 <= key.index && key.index <= 0x12FF)
 }
 
+// the device type, and the COB-IDs of SYNC, TIME and emergencies
+fn is_service(key: Key) -> bool
+    ensures { result ≡ is_service key }
+{
+    key.sub == 0
+        && (key.index == 0x1000
+            || (key.index == 0x1005 || (key.index == 0x1012 || key.index == 0x1014)))
+}
+
 fn entry_of(key: Key) -> Option<PdoEntry>
     ensures { result ≡ entry_of key }
 {
@@ -97,7 +109,7 @@ fn entry_of(key: Key) -> Option<PdoEntry>
             part: PdoPart::Mapping { sub: key.sub },
         });
     }
-    if is_channel(key) {
+    if is_channel(key) || is_service(key) {
         return Some(PdoEntry {
             index: key.index,
             part: PdoPart::Mapping { sub: key.sub },
@@ -109,7 +121,11 @@ fn entry_of(key: Key) -> Option<PdoEntry>
 fn number_width(key: Key) -> usize
     ensures { result ≡ number_width key }
 {
-    if key.sub == 0 { 1 } else { 4 }
+    if key.sub == 0 && !is_service(key) {
+        1
+    } else {
+        4
+    }
 }
 
 // the first bytes, at most four

@@ -5,6 +5,7 @@ ghost use Rattle.conode_explain_entries.specs.Histories.{
   assumed_values,
   changes_read,
   changes_written,
+  is_constant,
   is_no_count,
   nothing_shown,
   shown_value,
@@ -103,6 +104,12 @@ fn changes_read(changes: bool, part: PdoPart, number: u32) -> bool
     }
 }
 
+fn is_constant(index: u16) -> bool
+    ensures { result ≡ is_constant index }
+{
+    index == 0x1000
+}
+
 impl PdoValues {
     // what the data sheet says is assumed
     #[tactic(auto, unfolding(crate::specs::Histories::assumed_values))]
@@ -187,6 +194,7 @@ impl PdoState {
             Event::Written { of, number } if of.index == index => self.written(of.part, number),
             Event::Read { of, number } if of.index == index => self.read(of.part, number),
             Event::Written { of: _, number: _ } | Event::Read { of: _, number: _ } => self,
+            Event::BootedUp if is_constant(index) => self,
             Event::BootedUp => PdoState {
                 now: self.stored,
                 stored: self.stored,

@@ -226,6 +226,7 @@ sheet only name = record {
     cob_id = record { word = 0x185; with_node = false };
     mapping = record { count = 2; words = 0x20020001 ∷ 0x20010110 ∷ [] };
   } ∷ [];
+  services = [];
 }
 
 abbrev bus : Bus
@@ -305,11 +306,12 @@ lacking interface only = record {
     originals = λ line. None;
   };
   pdos = [];
+  services = [];
 }
 
 -- the sheet for an interface
 abbrev on : List ℕ → KnownSheet → KnownSheet
-on interface known = record { interface = Some interface; names = known.names; pdos = known.pdos }
+on interface known = record known { interface = Some interface }
 
 abbrev name_in : List KnownSheet → Option (List ℕ)
 name_in sheets = option_and_then (λ found. found.name) (row_of sheets signal)

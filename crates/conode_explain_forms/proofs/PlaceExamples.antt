@@ -55,6 +55,7 @@ sheet only rows = record {
     originals = λ line. None;
   };
   pdos = [];
+  services = [];
 }
 
 abbrev bus : List KnownSheet → List ShownPdo → Bus

@@ -1,6 +1,6 @@
 -- The data of PDOs, evaluated on both sides of each edge.
 use Rattle.std.proofs.Common.{◌≡◌, ℕ, Bool, true, false, [], ◌∷◌, List, Option, Some, None, refl, pos}
-use Rattle.std.specs.Prelude.{codes, length, not, ◌==◌, if◌then◌else◌}
+use Rattle.std.specs.Prelude.{codes, length, map, not, ◌==◌, if◌then◌else◌}
 use Rattle.std.specs.Fmt.{digits}
 use Rattle.std.specs.Str.{is_utf8, chars}
 use lib.Utf8.{encode}
@@ -19,16 +19,18 @@ use Rattle.conode_explain_pdo.specs.declared.entry_bits.EntryBits.{EntryBits}
 use Rattle.conode_explain_pdo.specs.EntryBits.{entry_bits, place_from, shown_bits}
 use Rattle.conode_explain_services.specs.Codes.{code_words, known_class, single_words}
 use Rattle.conode_explain_services.specs.Drives.{command_words, controlword_words, drive_words, meaning_at, mode_words, state_words, statusword_words, word_text}
-use Rattle.conode_explain_pdo.specs.KnownEntries.{is_node_drive, known_text}
+use Rattle.conode_explain_pdo.specs.KnownEntries.{Device, is_node_drive, known_text}
 use Rattle.conode_text.specs.Filled.{filled}
 use Rattle.conode_explain_pdo.specs.Mappings.{addressed_text, addressing_word, bits_at, data_text, mapped_text, missing_text, more_parts, more_text, multiplexed_data, multiplexed_text, part_bytes, part_text, parts_text, short_text}
+use Rattle.co_value.specs.declared.key.Key.{Key}
+use Rattle.conode_explain_pdo.specs.CobIdWords.{cob_id_words, has_cob_id}
 use Rattle.conode_explain_pdo.specs.CobIds.{has_identifier, is_of, may_be_pdo, node_with}
 use Rattle.conode_explain_entries.specs.declared.entries.ShownPdo.{ShownPdo}
 use Rattle.conode_explain_entries.specs.declared.state.Value.{Value}
 use Rattle.conode_explain_entries.specs.declared.state.Value.TheVariants.{Assumed, Seen, Saved, Unknown}
 use Rattle.conode_explain_entries.specs.Histories.{assumed_values}
 use Rattle.conode_explain_pdo.specs.Buses.{Bus}
-use Rattle.conode_explain_pdo.specs.InForce.{data_in_force, mapping_in_force, raw_text, shown_text, words_in_force}
+use Rattle.conode_explain_pdo.specs.InForce.{data_in_force, device_at, mapping_in_force, raw_text, shown_text, words_in_force}
 use Rattle.conode_explain_pdo.specs.Claims.{claims_with, sheet_claim, sheets_claims, shown_claim}
 use Rattle.conode_explain_pdo.specs.Known.{KnownSheet, known_sheet, names_for}
 use Rattle.conode_explain_pdo.specs.Pdos.{more_pdos, pdo_front, pdo_text, pdos_text}
@@ -83,15 +85,19 @@ names = names_with (
     row 0x2001 1 Integer16 absent (codes "T") ∷ row 0x2001 2 Unsigned16 absent (codes "H") ∷ row 0x2002 0 Boolean absent (codes "B") ∷ []
     )
 
+-- of a device whose type the recording doesn't show
+abbrev of_sheet : Names → Device
+of_sheet its_names = record { names = its_names; shown_type = None }
+
 abbrev data_of : List ℕ → List ℕ → List ℕ
-data_of words bytes = mapped_text names 5 words bytes
+data_of words bytes = mapped_text (of_sheet names) 5 words bytes
 
 two_values : data_of (0x20010110 ∷ 0x20010210 ∷ []) (0xE8 ∷ 0x03 ∷ 0x10 ∷ 0x27 ∷ []) ≡ codes "T 2001:01 = 1000; H 2001:02 = 10000"
 unfolding mapped_text parts_text more_parts part_text part_bytes short_text more_text filled entry_of known_text meaning_at entry_text value_text number_text digits digits_text is_utf8 chars encode
 two_values = refl
 
 -- of a sheet that was adapted: a letter of a UNICODE_STRING
-original : mapped_text (record (names_with (row 0x2003 0 OctetString absent (codes "U") ∷ [])) { originals = λ line. if line == 1 then Some (codes "0x000B") else None }) 5
+original : mapped_text (of_sheet (record (names_with (row 0x2003 0 OctetString absent (codes "U") ∷ [])) { originals = λ line. if line == 1 then Some (codes "0x000B") else None })) 5
     (0x20030010 ∷ []) (0x41 ∷ 0x00 ∷ []) ≡ codes "U 2003:00 = \"A\""
 unfolding mapped_text parts_text more_parts part_text part_bytes short_text more_text filled entry_of known_text meaning_at entry_text value_text characters_text pair_text unit_text digits digits_text is_utf8 chars encode
 original = refl
@@ -136,9 +142,9 @@ one_more = refl
 -- a statusword, and a mode of operation, of a device of this type
 abbrev drive : ℕ → List ℕ → List ℕ → List ℕ
 drive device_type words bytes =
-    mapped_text (names_with (
+    mapped_text (of_sheet (names_with (
     row 0x1000 0 Unsigned32 (number (pos device_type)) (codes "D") ∷ row 0x6041 0 Unsigned16 absent (codes "S") ∷ row 0x6061 0 Unsigned8 absent (codes "M") ∷ []
-    )) 5 words bytes
+    ))) 5 words bytes
 
 in_words : drive 0x00020192 (0x60410010 ∷ 0x60610008 ∷ []) (0x37 ∷ 0x04 ∷ 0x08 ∷ []) ≡ codes "S 6041:00 = 1079 (operation enabled, target reached); M 6061:00 = 8 (cyclic synchronous position)"
 unfolding mapped_text parts_text more_parts part_text part_bytes short_text more_text filled entry_of known_text is_node_drive drive_words meaning_at word_text statusword_words state_words mode_words entry_text value_text number_text digits digits_text is_utf8 chars encode
@@ -155,14 +161,56 @@ unfolding mapped_text parts_text more_parts part_text part_bytes short_text more
 part_of_it = refl
 
 -- without a device type
-no_type : mapped_text (names_with (row 0x6041 0 Unsigned16 absent (codes "S") ∷ [])) 5 (0x60410010 ∷ []) (0x37 ∷ 0x04 ∷ []) ≡ codes "S 6041:00 = 1079"
+no_type : mapped_text (of_sheet (names_with (row 0x6041 0 Unsigned16 absent (codes "S") ∷ []))) 5 (0x60410010 ∷ []) (0x37 ∷ 0x04 ∷ []) ≡ codes "S 6041:00 = 1079"
 unfolding mapped_text parts_text more_parts part_text part_bytes short_text more_text filled entry_of known_text meaning_at is_node_drive entry_text value_text number_text digits digits_text is_utf8 chars encode
 no_type = refl
+
+-- of a device type that the recording shows, in place of the sheet's
+abbrev with_type : Option ℕ → ℕ → List ℕ
+with_type shown_type device_type =
+    mapped_text (record {
+      names = names_with (row 0x1000 0 Unsigned32 (number (pos device_type)) (codes "D") ∷ row 0x6041 0 Unsigned16 absent (codes "S") ∷ []);
+      shown_type = shown_type;
+    }) 5 (0x60410010 ∷ []) (0x37 ∷ 0x04 ∷ [])
+
+shown_drive : with_type (Some 0x00020192) 0x00020191 ≡ codes "S 6041:00 = 1079 (operation enabled, target reached)"
+unfolding mapped_text parts_text more_parts part_text part_bytes short_text more_text filled entry_of known_text is_node_drive drive_words meaning_at word_text statusword_words state_words entry_text value_text number_text digits digits_text is_utf8 chars encode
+shown_drive = refl
+
+shown_other : with_type (Some 0x00020191) 0x00020192 ≡ codes "S 6041:00 = 1079"
+unfolding mapped_text parts_text more_parts part_text part_bytes short_text more_text filled entry_of known_text meaning_at is_node_drive entry_text value_text number_text digits digits_text is_utf8 chars encode
+shown_other = refl
+
+-- ---- COB-IDs
+
+abbrev cob_id_at : ℕ → ℕ → ℕ → ℕ → List ℕ
+cob_id_at index sub low high = cob_id_words (record { index = index; sub = sub }) 32 (low ∷ 0x01 ∷ 0 ∷ high ∷ [])
+
+valid : cob_id_at 0x1800 1 0x85 0x40 ≡ codes " (40000185)"
+unfolding digits_text
+valid = refl
+
+disabled_words_of : map (λ index. cob_id_at index 0 0x85 0x80) (0x1005 ∷ 0x1012 ∷ 0x1014 ∷ []) ≡ codes " (80000185)" ∷ codes " (80000185)" ∷ codes " (80000185, disabled)" ∷ []
+unfolding digits_text
+disabled_words_of = refl
+
+-- which entries are COB-IDs, and which sub-indices beside
+are_cob_ids : map {A = Key} (λ key. has_cob_id key) (record { index = 0x1400; sub = 1 } ∷ record { index = 0x15FF; sub = 1 } ∷ record { index = 0x19FF; sub = 1 } ∷ record { index = 0x1200; sub = 1 } ∷ record { index = 0x12FF; sub = 2 } ∷ [])
+    ≡ true ∷ true ∷ true ∷ true ∷ true ∷ []
+are_cob_ids = refl
+
+are_none : map {A = Key} (λ key. has_cob_id key) (record { index = 0x1400; sub = 2 } ∷ record { index = 0x1600; sub = 1 } ∷ record { index = 0x1200; sub = 3 } ∷ record { index = 0x1300; sub = 1 } ∷ record { index = 0x1014; sub = 1 } ∷ record { index = 0x11FF; sub = 1 } ∷ [])
+    ≡ false ∷ false ∷ false ∷ false ∷ false ∷ false ∷ []
+are_none = refl
+
+-- a part of one has no words
+part_of_a_cob_id : cob_id_words (record { index = 0x1014; sub = 0 }) 31 (0x85 ∷ 0 ∷ 0 ∷ 0 ∷ []) ≡ []
+part_of_a_cob_id = refl
 
 -- ---- counts
 
 abbrev counted : ℕ → List ℕ → List ℕ
-counted count bytes = data_text names 5 (record { count = count; words = 0x20020008 ∷ 0x20020008 ∷ [] }) bytes
+counted count bytes = data_text (of_sheet names) 5 (record { count = count; words = 0x20020008 ∷ 0x20020008 ∷ [] }) bytes
 
 nothing_mapped : counted 0 (1 ∷ []) ≡ []
 unfolding data_text
@@ -346,6 +394,19 @@ of_another = refl
 on_another_bus : is_one (names_with []) (record (shown 0x1800 (Seen 0x190) [] false) { interface = record { items = codes "can1" } } ∷ []) 0x190 ≡ false
 unfolding claims_with sheets_claims sheet_claim shown_claim sheet_pdos pdos_in
 on_another_bus = refl
+
+-- the device type of a node, of which the recording shows one
+abbrev type_at : List Value → ℕ → Option ℕ
+type_at values node = (device_at (bus_with [] (shown 0x1000 Assumed values false ∷ [])) node).shown_type
+
+type_of_5 : type_at (Seen 0x00020192 ∷ []) 5 ≡ Some 0x00020192
+type_of_5 = refl
+
+type_of_6 : type_at (Seen 0x00020192 ∷ []) 6 ≡ None
+type_of_6 = refl
+
+no_type_shown : type_at (Unknown ∷ []) 5 ≡ None
+no_type_shown = refl
 
 -- a restricted identifier is none of a PDO
 restricted : is_one (names_with []) (shown 0x1800 (Seen 0x585) [] false ∷ []) 0x585 ≡ false

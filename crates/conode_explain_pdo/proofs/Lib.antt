@@ -3,4 +3,5 @@ pub mod Examples
 pub mod NoClaims
 pub mod Parts
 pub mod Pieces
+mod ServiceExamples
 pub mod Words

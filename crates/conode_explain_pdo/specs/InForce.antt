@@ -3,7 +3,6 @@ use Rattle.std.specs.Prelude.{ℕ, zero, suc, ◌+◌, ◌%◌, ◌==◌, nat_le
 use Rattle.std.specs.List.{flat_map, list_all}
 use Rattle.std.specs.Option.{option_map_or}
 use Rattle.co_text.specs.Printed.{byte_text}
-use Rattle.co_sheet_changes.specs.Names.{Names}
 use Rattle.conode_explain_entries.specs.declared.state.PdoState.{PdoState}
 use Rattle.conode_explain_entries.specs.declared.state.Value.{Value}
 use Rattle.conode_explain_entries.specs.declared.state.Value.TheVariants.{Assumed, Seen, Saved, Unknown}
@@ -15,6 +14,7 @@ use Rattle.conode_explain_pdo.specs.declared.sheet.SheetPdo.{SheetPdo}
 use Rattle.conode_explain_pdo.specs.Buses.{Bus, names_at}
 use Rattle.conode_explain_pdo.specs.Content.{Mapping}
 use Rattle.conode_explain_pdo.specs.Known.{pdos_for}
+use Rattle.conode_explain_pdo.specs.KnownEntries.{Device}
 use Rattle.conode_explain_pdo.specs.Mappings.{data_text}
 
 -- what the recording shows of the entries of a node's PDO, if it shows one
@@ -37,6 +37,19 @@ is_from Transfer (Seen number) = true
 is_from Store (Saved number) = true
 is_from origin value = false
 
+-- what a sub-index has
+abbrev pub value_at : List Value → ℕ → Value
+value_at values sub = slice_index_or values sub Assumed
+
+-- the device type that is shown
+abbrev pub type_shown : Option PdoState → Option ℕ
+type_shown None = None
+type_shown (Some state) = number_by None (value_at state.now.mapping 0)
+
+-- what is known of a node's device
+abbrev pub device_at : Bus → ℕ → Device
+device_at bus node = record { names = names_at bus node; shown_type = type_shown (state_at bus node 0x1000) }
+
 -- ---- the mapping of the sheet
 
 -- that of the PDO with this communication parameter
@@ -55,10 +68,6 @@ abbrev pub sheet_word : Option Mapping → ℕ → Option ℕ
 sheet_word sheet place = option_and_then (λ mapping. if_there (slice_index mapping.words place)) sheet
 
 -- ---- the mapping in force, by what its sub-indices have and by that of the sheet
-
--- what a sub-index has
-abbrev pub value_at : List Value → ℕ → Value
-value_at values sub = slice_index_or values sub Assumed
 
 -- the number of entries that are mapped
 abbrev pub count_in_force : List Value → Option Mapping → Option ℕ
@@ -112,23 +121,23 @@ unfoldable pub raw_text : List ℕ → List ℕ → List ℕ
 raw_text bytes why = codes ":" ++ digits_of bytes ++ filled (codes " (%)") (why ∷ [])
 
 -- by the mapping in force
-abbrev pub known_text : Names → ℕ → List ℕ → List Value → Mapping → List ℕ
-known_text names node bytes values mapping = origin_text values (word_count mapping.count) ++ data_text names node mapping bytes
+abbrev pub known_text : Device → ℕ → List ℕ → List Value → Mapping → List ℕ
+known_text device node bytes values mapping = origin_text values (word_count mapping.count) ++ data_text device node mapping bytes
 
 -- the recording shows an entry of the PDO
-unfoldable pub shown_text : Names → ℕ → List ℕ → Option Mapping → PdoState → List ℕ
-shown_text names node bytes sheet state =
+unfoldable pub shown_text : Device → ℕ → List ℕ → Option Mapping → PdoState → List ℕ
+shown_text device node bytes sheet state =
     if state.is_being_changed then raw_text bytes (codes "mapping is being changed")
-    else option_map_or (known_text names node bytes state.now.mapping) (mapping_in_force state.now.mapping sheet)
+    else option_map_or (known_text device node bytes state.now.mapping) (mapping_in_force state.now.mapping sheet)
     (raw_text bytes (codes "mapping is unknown"))
 
 -- it shows none: the mapping is the sheet's
-abbrev pub assumed_text : Names → ℕ → List ℕ → Option Mapping → List ℕ
-assumed_text names node bytes sheet =
-    option_map_or (λ mapping. data_text names node mapping bytes) sheet (raw_text bytes (codes "mapping is unknown"))
+abbrev pub assumed_text : Device → ℕ → List ℕ → Option Mapping → List ℕ
+assumed_text device node bytes sheet =
+    option_map_or (λ mapping. data_text device node mapping bytes) sheet (raw_text bytes (codes "mapping is unknown"))
 
 -- the data of a node's PDO
 unfoldable pub data_in_force : Bus → ℕ → ℕ → List ℕ → List ℕ
 data_in_force bus node index bytes =
-    option_map_or (shown_text (names_at bus node) node bytes (sheet_mapping bus node index)) (state_at bus node index)
-    (assumed_text (names_at bus node) node bytes (sheet_mapping bus node index))
+    option_map_or (shown_text (device_at bus node) node bytes (sheet_mapping bus node index)) (state_at bus node index)
+    (assumed_text (device_at bus node) node bytes (sheet_mapping bus node index))

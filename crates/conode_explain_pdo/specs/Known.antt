@@ -5,25 +5,30 @@ use Rattle.std.specs.Str.{bytes_eq}
 use Rattle.co_sheet_changes.specs.Names.{Names, are_for, names_view}
 use Rattle.conode_explain_pdo.specs.declared.known_sheet.KnownSheet.{KnownSheet as KnownSheetOfCode}
 use Rattle.conode_explain_pdo.specs.declared.sheet.SheetPdo.{SheetPdo}
+use Rattle.conode_explain_pdo.specs.declared.sheet_services.SheetService.{SheetService}
 use Rattle.conode_explain_pdo.specs.Sheets.{sheet_pdos}
+use Rattle.conode_explain_pdo.specs.SheetServices.{sheet_services}
 
--- a data sheet, the node and the interface that it is for (every one where there is none), and its
--- PDOs
+-- a data sheet, the node and the interface that it is for (every one where there is none), its PDOs,
+-- and its COB-IDs of SYNC, TIME and emergencies
 pub record KnownSheet : Type 0 where
   pub interface : Option (List ℕ)
   pub names : Names
   pub pdos : List SheetPdo
+  pub services : List SheetService
 
 abbrev pub known_view : KnownSheetOfCode → KnownSheet
 known_view sheet = record {
   interface = option_copied sheet.interface;
   names = names_view sheet.names;
   pdos = sheet.pdos.items;
+  services = sheet.services.items;
 }
 
--- a data sheet with its PDOs
+-- a data sheet with both
 abbrev pub known_sheet : Option (List ℕ) → Names → KnownSheet
-known_sheet interface names = record { interface = interface; names = names; pdos = sheet_pdos names }
+known_sheet interface names =
+    record { interface = interface; names = names; pdos = sheet_pdos names; services = sheet_services names }
 
 -- it is for an interface
 abbrev pub is_on : List ℕ → KnownSheet → Bool
@@ -48,3 +53,7 @@ names_for sheets interface node = option_map_or (λ sheet. sheet.names) (sheet_f
 -- the PDOs of a node's data sheet
 abbrev pub pdos_for : List KnownSheet → List ℕ → ℕ → List SheetPdo
 pdos_for sheets interface node = option_map_or (λ sheet. sheet.pdos) (sheet_for sheets interface node) []
+
+-- the COB-IDs of its services
+abbrev pub services_for : List KnownSheet → List ℕ → ℕ → List SheetService
+services_for sheets interface node = option_map_or (λ sheet. sheet.services) (sheet_for sheets interface node) []

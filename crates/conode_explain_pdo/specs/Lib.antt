@@ -1,6 +1,7 @@
 pub mod Buses
 pub mod ChannelWords
 pub mod Claims
+pub mod CobIdWords
 pub mod CobIds
 pub mod Content
 pub mod EntryBits
@@ -9,5 +10,7 @@ pub mod Known
 pub mod KnownEntries
 pub mod Mappings
 pub mod Pdos
+pub mod ServiceIds
+pub mod SheetServices
 pub mod Sheets
 pub mod Types

@@ -7,10 +7,10 @@ use Rattle.co_value.specs.declared.key.Key.{Key}
 use Rattle.co_value.specs.KeyTexts.{key_text}
 use Rattle.co_value.specs.Numbers.{low_bytes, unsigned_of}
 use Rattle.co_sheet.specs.Content.{Row}
-use Rattle.co_sheet_changes.specs.Names.{Names, entry_of}
+use Rattle.co_sheet_changes.specs.Names.{entry_of}
 use Rattle.conode_text.specs.Filled.{filled}
 use Rattle.conode_explain_pdo.specs.Content.{Mapping}
-use Rattle.conode_explain_pdo.specs.KnownEntries.{known_text}
+use Rattle.conode_explain_pdo.specs.KnownEntries.{Device, known_text}
 
 -- ---- a word of a mapping: index, sub-index and length in bits
 
@@ -44,31 +44,31 @@ abbrev pub is_gap : Key → Bool
 is_gap key = (nat_lt 0 key.index && nat_lt key.index 0x20) && (key.sub == 0)
 
 -- an entry of a node's sheet with the bits at the offset
-abbrev pub value_part : Names → ℕ → Key → List ℕ → ℕ → ℕ → Row → List ℕ
-value_part names node key bytes offset bits row = known_text names node key row bits (part_bytes bytes offset bits)
+abbrev pub value_part : Device → ℕ → Key → List ℕ → ℕ → ℕ → Row → List ℕ
+value_part device node key bytes offset bits row = known_text device node key row bits (part_bytes bytes offset bits)
 
 -- an entry that the sheet lacks
 unfoldable pub missing_text : Key → List ℕ
 missing_text key = filled (codes "% (not in sheet)") (key_text key ∷ [])
 
 -- what a word says of the data from an offset on
-unfoldable pub part_text : Names → ℕ → List ℕ → ℕ → ℕ → List ℕ
-part_text names node bytes offset word =
+unfoldable pub part_text : Device → ℕ → List ℕ → ℕ → ℕ → List ℕ
+part_text device node bytes offset word =
     if is_gap (word_key word) then codes "-"
-    else option_map_or (value_part names node (word_key word) bytes offset (word_bits word))
-    (entry_of names node (word_key word)) (missing_text (word_key word))
+    else option_map_or (value_part device node (word_key word) bytes offset (word_bits word))
+    (entry_of device.names node (word_key word)) (missing_text (word_key word))
 
 -- the parts one after another from an offset on, each after a semicolon
-unfoldable pub more_parts : Names → ℕ → List ℕ → ℕ → List ℕ → List ℕ
-more_parts names node bytes offset [] = []
-more_parts names node bytes offset (word ∷ words) =
-    codes "; " ++ part_text names node bytes offset word ++ more_parts names node bytes (offset + word_bits word) words
+unfoldable pub more_parts : Device → ℕ → List ℕ → ℕ → List ℕ → List ℕ
+more_parts device node bytes offset [] = []
+more_parts device node bytes offset (word ∷ words) =
+    codes "; " ++ part_text device node bytes offset word ++ more_parts device node bytes (offset + word_bits word) words
 
 -- all parts
-unfoldable pub parts_text : Names → ℕ → List ℕ → List ℕ → List ℕ
-parts_text names node bytes [] = []
-parts_text names node bytes (word ∷ words) =
-    part_text names node bytes 0 word ++ more_parts names node bytes (word_bits word) words
+unfoldable pub parts_text : Device → ℕ → List ℕ → List ℕ → List ℕ
+parts_text device node bytes [] = []
+parts_text device node bytes (word ∷ words) =
+    part_text device node bytes 0 word ++ more_parts device node bytes (word_bits word) words
 
 -- ---- all data
 
@@ -85,10 +85,10 @@ unfoldable pub more_text : ℕ → ℕ → List ℕ
 more_text count mapped =
     if nat_lt mapped count then filled (codes "; +%%") (decimal (count - mapped) ∷ unit_of (count - mapped) ∷ []) else []
 
-unfoldable pub mapped_text : Names → ℕ → List ℕ → List ℕ → List ℕ
-mapped_text names node words bytes =
+unfoldable pub mapped_text : Device → ℕ → List ℕ → List ℕ → List ℕ
+mapped_text device node words bytes =
     if nat_lt (length bytes) (bytes_for (total_bits words)) then short_text (length bytes) (bytes_for (total_bits words))
-    else parts_text names node bytes words ++ more_text (length bytes) (bytes_for (total_bits words))
+    else parts_text device node bytes words ++ more_text (length bytes) (bytes_for (total_bits words))
 
 -- a multiplexed PDO: its destination or source, the node, the key, four bytes (CiA 301, 7.2.2.5)
 abbrev pub multiplexed_key : List ℕ → Key
@@ -113,8 +113,8 @@ multiplexed_data bytes = if length bytes == 8 then multiplexed_text bytes else s
 
 -- data by the mapping in force: by its count 1 to 64 entries, FEh or FFh multiplexed, else nothing
 -- is known of them
-unfoldable pub data_text : Names → ℕ → Mapping → List ℕ → List ℕ
-data_text names node mapping bytes =
+unfoldable pub data_text : Device → ℕ → Mapping → List ℕ → List ℕ
+data_text device node mapping bytes =
     if mapping.count == 0 then []
-    else (if nat_le mapping.count 64 then codes ": " ++ mapped_text names node (take mapping.count mapping.words) bytes
+    else (if nat_le mapping.count 64 then codes ": " ++ mapped_text device node (take mapping.count mapping.words) bytes
     else (if nat_le 0xFE mapping.count then codes ": " ++ multiplexed_data bytes else []))

@@ -26,7 +26,8 @@ fn sheet_number(names: Names<'_, '_>, node: u8, key: Key) -> Option<u64>
     Some(cob_id.word_for(node as u64))
 }
 
-fn shown_at(bus: Bus<'_, '_, '_, '_, '_>, node: u8, key: Key) -> Value
+/// What the recording shows of an entry that is kept by its sub-index.
+pub(crate) fn shown_at(bus: Bus<'_, '_, '_, '_, '_>, node: u8, key: Key) -> Value
     ensures { result ≡ shown_in (state_at (bus_view bus.entry) node key.index) key.sub }
 {
     match bus.state(node, key.index) {

@@ -60,14 +60,14 @@ pub fn has_identifier(word: u64, id: u16) -> bool
     (word < 0x8000_0000 && word / 0x2000_0000 % 2 == 0) && word % 0x800 == id as u64
 }
 
-fn is_node(node: u64) -> bool
+pub(crate) fn is_node(node: u64) -> bool
     ensures { result ≡ is_node node }
 {
     1 <= node && node <= 127
 }
 
 impl SheetCobId {
-    fn node_for(self, only: Option<u8>, id: u16) -> u64
+    pub(crate) fn node_for(self, only: Option<u8>, id: u16) -> u64
         ensures node { result ≡ node_for only self id }
         ensures few { result < 65536 }
     {

@@ -3,12 +3,13 @@
 ghost use Rattle.std.specs.Prelude.{◌≡◌, ◌+◌, ◌≤◌, ◌++◌, OnOk, length, option_map, slice_index, slice_index_or, string_bytes, take};
 ghost use Rattle.std.specs.List.{list_all};
 ghost use Rattle.std.specs.Option.{option_copied};
-ghost use Rattle.co_sheet_changes.specs.Names.{names_view};
 ghost use Rattle.conode_explain_pdo.specs.Buses.{bus_view};
+ghost use Rattle.conode_explain_pdo.specs.KnownEntries.{device_view};
 ghost use Rattle.conode_explain_pdo.specs.InForce.{
   assumed_text,
   count_in_force,
   data_in_force,
+  device_at,
   digits_of,
   if_there,
   is_from,
@@ -24,6 +25,7 @@ ghost use Rattle.conode_explain_pdo.specs.InForce.{
   sheet_word,
   shown_text,
   state_at,
+  type_shown,
   value_at,
   word_count,
   word_in_force,
@@ -31,11 +33,11 @@ ghost use Rattle.conode_explain_pdo.specs.InForce.{
 };
 
 use crate::bus::Bus;
+use crate::device::Device;
 use crate::known::sheet_for;
 use crate::mapping::{Mapping, push_data};
 use crate::sheet::SheetPdo;
 use arrayvec::ArrayVec;
-use co_sheet_changes::Names;
 use co_text::push_bytes;
 use conode_explain_entries::{PdoState, Value};
 use conode_text::{Value as Filling, push_filled};
@@ -80,6 +82,30 @@ impl<'e> Bus<'_, 'e, '_, '_, '_> {
         ensures { option_copied result ≡ state_at (bus_view self.entry) node index }
     {
         self.entries.state(self.interface, node, index)
+    }
+}
+
+/// The index of the device type (CiA 301, 7.5.2.1).
+const DEVICE_TYPE: u16 = 0x1000;
+
+fn type_shown(state: Option<&PdoState>) -> Option<u32>
+    ensures { result ≡ type_shown (option_copied state.entry) }
+{
+    match state {
+        Some(state) => number_by(None, value_at(&state.now.mapping, 0)),
+        None => None,
+    }
+}
+
+impl<'s, 'a> Bus<'_, '_, '_, 's, 'a> {
+    /// What is known of a node's device.
+    pub fn device(self, node: u8) -> Device<'s, 'a>
+        ensures { device_view result ≡ device_at (bus_view self.entry) node }
+    {
+        Device {
+            names: self.names(node),
+            shown_type: type_shown(self.state(node, DEVICE_TYPE)),
+        }
     }
 }
 
@@ -272,24 +298,24 @@ fn push_raw(text: &mut String, bytes: &[u8], why: &str) -> Result<(), AllocError
 // by the sheet's mapping: the recording shows nothing of it
 fn push_assumed(
     text: &mut String,
-    names: Names<'_, '_>,
+    device: Device<'_, '_>,
     node: u8,
     sheet: Option<&Mapping>,
     bytes: &[u8],
 ) -> Result<(), AllocError>
     requires { length bytes.now ≤ 8 }
     ensures { OnOk result (string_bytes text.new ≡ string_bytes text.old
-        ++ assumed_text (names_view names.entry) node bytes.now (option_copied sheet.entry)) }
+        ++ assumed_text (device_view device.entry) node bytes.now (option_copied sheet.entry)) }
 {
     match sheet {
-        Some(mapping) => push_data(text, names, node, mapping, bytes),
+        Some(mapping) => push_data(text, device, node, mapping, bytes),
         None => push_raw(text, bytes, "mapping is unknown"),
     }
 }
 
 fn push_known(
     text: &mut String,
-    names: Names<'_, '_>,
+    device: Device<'_, '_>,
     node: u8,
     values: &[Value],
     mapping: &Mapping,
@@ -297,18 +323,18 @@ fn push_known(
 ) -> Result<(), AllocError>
     requires { length bytes.now ≤ 8 }
     ensures { OnOk result (string_bytes text.new ≡ string_bytes text.old
-        ++ known_text (names_view names.entry) node bytes.now values.now mapping.now) }
+        ++ known_text (device_view device.entry) node bytes.now values.now mapping.now) }
 {
     let count = word_count(mapping.count) as usize;
     attempt!(text.push_str(origin_words(first_values(values, count + 1))));
-    push_data(text, names, node, mapping, bytes)
+    push_data(text, device, node, mapping, bytes)
 }
 
 // by the mapping of which the recording shows something
 #[tactic(auto, unfolding(crate::specs::InForce::shown_text))]
 fn push_shown(
     text: &mut String,
-    names: Names<'_, '_>,
+    device: Device<'_, '_>,
     node: u8,
     sheet: Option<&Mapping>,
     state: &PdoState,
@@ -316,14 +342,14 @@ fn push_shown(
 ) -> Result<(), AllocError>
     requires { length bytes.now ≤ 8 }
     ensures { OnOk result (string_bytes text.new ≡ string_bytes text.old
-        ++ shown_text (names_view names.entry) node bytes.now (option_copied sheet.entry) state.entry.now) }
+        ++ shown_text (device_view device.entry) node bytes.now (option_copied sheet.entry) state.entry.now) }
 {
     if state.is_being_changed {
         return push_raw(text, bytes, "mapping is being changed");
     }
     let values = state.now.mapping.as_slice();
     match mapping_in_force(values, sheet) {
-        Some(mapping) => push_known(text, names, node, values, &mapping, bytes),
+        Some(mapping) => push_known(text, device, node, values, &mapping, bytes),
         None => push_raw(text, bytes, "mapping is unknown"),
     }
 }
@@ -344,10 +370,10 @@ pub(crate) fn push_data_in_force(
     ensures { OnOk result (string_bytes text.new
         ≡ string_bytes text.old ++ data_in_force (bus_view bus.entry) node index bytes.now) }
 {
-    let names = bus.names(node);
+    let device = bus.device(node);
     let sheet = sheet_mapping(bus, node, index);
     match bus.state(node, index) {
-        Some(state) => push_shown(text, names, node, sheet, state, bytes),
-        None => push_assumed(text, names, node, sheet, bytes),
+        Some(state) => push_shown(text, device, node, sheet, state, bytes),
+        None => push_assumed(text, device, node, sheet, bytes),
     }
 }

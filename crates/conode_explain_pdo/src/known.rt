@@ -7,6 +7,7 @@ ghost use Rattle.conode_explain_pdo.specs.Known.{fits, is_on, known_sheet, known
 
 use crate::known_sheet::KnownSheet;
 use crate::sheet::sheet_pdos;
+use crate::sheet_services::sheet_services;
 use co_sheet_changes::Names;
 use std::alloc::{AllocError, Global};
 
@@ -31,10 +32,12 @@ impl<'s, 'a> KnownSheet<'s, 'a> {
             ≡ known_sheet (option_copied interface.entry) (names_view names.entry)) }
     {
         let pdos = attempt_value!(sheet_pdos(alloc, names));
+        let services = attempt_value!(sheet_services(alloc, names));
         Ok(KnownSheet {
             interface,
             names,
             pdos,
+            services,
         })
     }
 

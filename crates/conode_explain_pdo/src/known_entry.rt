@@ -1,11 +1,20 @@
-//! An entry of a node's sheet with its value, and of a drive what the value means (CiA 402).
+//! An entry of a node's sheet with its value, and what that means: of a drive (CiA 402), and of a
+//! COB-ID.
 
 ghost use Rattle.std.specs.Prelude.{◌≡◌, ◌++◌, OnOk, string_bytes};
 ghost use Rattle.co_sheet.specs.SheetViews.{row_view};
 ghost use Rattle.co_sheet_changes.specs.Names.{names_view};
 ghost use Rattle.conode_explain_values.specs.Values.{HasBits};
-ghost use Rattle.conode_explain_pdo.specs.KnownEntries.{is_node_drive, known_text, shows_meaning};
+ghost use Rattle.conode_explain_pdo.specs.KnownEntries.{
+  device_view,
+  is_node_drive,
+  known_text,
+  shows_meaning,
+  type_of_device,
+};
 
+use crate::cob_id_words::push_cob_id;
+use crate::device::Device;
 use crate::sheet::number_of;
 use crate::value_type::type_in;
 use co_sheet::EntryRow;
@@ -21,30 +30,43 @@ const DEVICE_TYPE: Key = Key {
     sub: 0,
 };
 
-#[tactic(auto, unfolding(crate::specs::KnownEntries::is_node_drive))]
-fn is_node_drive(names: Names<'_, '_>, node: u8) -> bool
-    ensures { result ≡ is_node_drive (names_view names.entry) node }
+// the device type that the recording shows, else the one that the sheet begins with
+fn type_of_device(shown: Option<u32>, names: Names<'_, '_>, node: u8) -> Option<u32>
+    ensures { result ≡ type_of_device shown (names_view names.entry) node }
 {
+    if let Some(shown) = shown {
+        return Some(shown);
+    }
     match names.entry(node, DEVICE_TYPE) {
-        Some(row) => is_drive(number_of(row.default)),
+        Some(row) => Some(number_of(row.default)),
+        None => None,
+    }
+}
+
+#[tactic(auto, unfolding(crate::specs::KnownEntries::is_node_drive))]
+fn is_node_drive(device: Device<'_, '_>, node: u8) -> bool
+    ensures { result ≡ is_node_drive (device_view device.entry) node }
+{
+    match type_of_device(device.shown_type, device.names, node) {
+        Some(device_type) => is_drive(device_type),
         None => false,
     }
 }
 
 // The sheet is asked last, since few entries have a meaning.
-fn shows_meaning(names: Names<'_, '_>, node: u8, key: Key, bits: usize) -> bool
-    ensures { result ≡ shows_meaning (names_view names.entry) node key bits }
+fn shows_meaning(device: Device<'_, '_>, node: u8, key: Key, bits: usize) -> bool
+    ensures { result ≡ shows_meaning (device_view device.entry) node key bits }
 {
-    has_meaning(key) && bits % 8 == 0 && is_node_drive(names, node)
+    has_meaning(key) && bits % 8 == 0 && is_node_drive(device, node)
 }
 
 /// Appends an entry of a node's sheet with its value, and where the device is a drive what that
-/// means: `Statusword 6041:00 = 1079 (operation enabled, target reached)`. On an `Err` memory ran
-/// out, and a part of it may be there.
+/// means: `Statusword 6041:00 = 1079 (operation enabled, target reached)`; of a COB-ID its
+/// hexadecimal digits. On an `Err` memory ran out, and a part of it may be there.
 #[tactic(auto, unfolding(crate::specs::KnownEntries::known_text))]
 pub fn push_known(
     text: &mut String,
-    names: Names<'_, '_>,
+    device: Device<'_, '_>,
     node: u8,
     key: Key,
     row: &EntryRow<'_>,
@@ -53,12 +75,12 @@ pub fn push_known(
 ) -> Result<(), AllocError>
     requires { HasBits bits bytes.now }
     ensures { OnOk result (string_bytes text.new ≡ string_bytes text.old
-        ++ known_text (names_view names.entry) node key (row_view row.now) bits bytes.now) }
+        ++ known_text (device_view device.entry) node key (row_view row.now) bits bytes.now) }
 {
-    let value_type = type_in(names, row);
+    let value_type = type_in(device.names, row);
     attempt!(push_entry(text, shown_name(row), key, value_type, bits, bytes));
-    if shows_meaning(names, node, key, bits) {
+    if shows_meaning(device, node, key, bits) {
         return push_drive(text, key, bytes);
     }
-    Ok(())
+    push_cob_id(text, key, bits, bytes)
 }

@@ -3,11 +3,13 @@
 ghost use Rattle.std.specs.Prelude.{◌≡◌};
 ghost use Rattle.co_sheet_changes.specs.Names.{names_view};
 ghost use Rattle.conode_explain_pdo.specs.Sheets.{sheet_pdos};
+ghost use Rattle.conode_explain_pdo.specs.SheetServices.{sheet_services};
 
 use crate::sheet::SheetPdo;
+use crate::sheet_services::SheetService;
 use co_sheet_changes::Names;
 
-/// A data sheet with its PDOs, and the nodes and the interface that it is for.
+/// A data sheet with its PDOs and COB-IDs, and the nodes and the interface that it is for.
 #[derive(Drop)]
 pub struct KnownSheet<'s, 'a> {
     /// The name of the interface; `None`: each.
@@ -16,6 +18,10 @@ pub struct KnownSheet<'s, 'a> {
     pub names: Names<'s, 'a>,
     /// Its PDOs.
     pub pdos: Vec<SheetPdo>,
+    /// Its COB-IDs of SYNC, TIME and emergencies.
+    pub services: Vec<SheetService>,
     // its PDOs are those of the data sheet
     ghost its_pdos: { pdos.items ≡ sheet_pdos (names_view names) },
+    // and so are these COB-IDs
+    ghost its_services: { services.items ≡ sheet_services (names_view names) },
 }

@@ -3,7 +3,7 @@
 
 ghost use Rattle.std.specs.Prelude.{◌≡◌, ◌+◌, ◌*◌, ◌/◌, ◌%◌, ◌^◌, ◌++◌, ◌≤◌, [], OnOk, length, string_bytes, take};
 ghost use Rattle.co_value.specs.Numbers.{low_bytes, unsigned_of};
-ghost use Rattle.co_sheet_changes.specs.Names.{names_view};
+ghost use Rattle.conode_explain_pdo.specs.KnownEntries.{device_view};
 ghost use Rattle.conode_explain_values.specs.Values.{HasBits};
 ghost use Rattle.conode_explain_pdo.specs.Mappings.{
   addressed_text,
@@ -27,9 +27,9 @@ ghost use Rattle.conode_explain_pdo.specs.Mappings.{
   word_key,
 };
 
+use crate::device::Device;
 use crate::known_entry::push_known;
 use arrayvec::ArrayVec;
-use co_sheet_changes::Names;
 use co_text::push_bytes;
 use co_value::{Key, read_u16, unsigned_of};
 use conode_text::{Value, push_filled};
@@ -135,7 +135,7 @@ fn push_missing(text: &mut String, key: Key) -> Result<(), AllocError>
 #[tactic(auto, unfolding(crate::specs::Mappings::part_text))]
 fn push_part(
     text: &mut String,
-    names: Names<'_, '_>,
+    device: Device<'_, '_>,
     node: u8,
     bytes: &[u8],
     offset: usize,
@@ -144,17 +144,17 @@ fn push_part(
     requires few { length bytes.now ≤ 8 }
     requires within { offset + word_bits word ≤ 64 }
     ensures { OnOk result (string_bytes text.new ≡ string_bytes text.old
-        ++ part_text (names_view names.entry) node bytes.now offset word) }
+        ++ part_text (device_view device.entry) node bytes.now offset word) }
 {
     let key = word_key(word);
     if is_gap(key) {
         return text.push_str("-");
     }
-    match names.entry(node, key) {
+    match device.names.entry(node, key) {
         Some(row) => {
             let bits = word_bits(word);
             let part = part_bytes(bytes, offset, bits);
-            push_known(text, names, node, key, row, bits, part.as_slice())
+            push_known(text, device, node, key, row, bits, part.as_slice())
         }
         None => push_missing(text, key),
     }
@@ -164,7 +164,7 @@ fn push_part(
 #[tactic(auto, unfolding(crate::specs::Mappings::more_parts))]
 fn push_more_parts(
     text: &mut String,
-    names: Names<'_, '_>,
+    device: Device<'_, '_>,
     node: u8,
     bytes: &[u8],
     start: usize,
@@ -173,12 +173,12 @@ fn push_more_parts(
     requires few { length bytes.now ≤ 8 }
     requires within { start + total_bits words.now ≤ 64 }
     ensures { OnOk result (string_bytes text.new ≡ string_bytes text.old
-        ++ more_parts (names_view names.entry) node bytes.now start words.now) }
+        ++ more_parts (device_view device.entry) node bytes.now start words.now) }
 {
     let mut offset = start;
     for word in words {
         attempt!(text.push_str("; "));
-        attempt!(push_part(text, names, node, bytes, offset, *word));
+        attempt!(push_part(text, device, node, bytes, offset, *word));
         offset += word_bits(*word);
     }
     Ok(())
@@ -188,7 +188,7 @@ fn push_more_parts(
 #[tactic(auto, unfolding(crate::specs::Mappings::parts_text))]
 fn push_parts(
     text: &mut String,
-    names: Names<'_, '_>,
+    device: Device<'_, '_>,
     node: u8,
     bytes: &[u8],
     words: &[u32],
@@ -196,13 +196,13 @@ fn push_parts(
     requires few { length bytes.now ≤ 8 }
     requires within { total_bits words.now ≤ 64 }
     ensures { OnOk result (string_bytes text.new ≡ string_bytes text.old
-        ++ parts_text (names_view names.entry) node bytes.now words.now) }
+        ++ parts_text (device_view device.entry) node bytes.now words.now) }
 {
     match words {
         [] => Ok(()),
         [word, more @ ..] => {
-            attempt!(push_part(text, names, node, bytes, 0, *word));
-            push_more_parts(text, names, node, bytes, word_bits(*word), more)
+            attempt!(push_part(text, device, node, bytes, 0, *word));
+            push_more_parts(text, device, node, bytes, word_bits(*word), more)
         }
     }
 }
@@ -248,7 +248,7 @@ fn push_more(text: &mut String, count: usize, mapped: usize) -> Result<(), Alloc
 #[tactic(auto, unfolding(crate::specs::Mappings::mapped_text))]
 fn push_mapped(
     text: &mut String,
-    names: Names<'_, '_>,
+    device: Device<'_, '_>,
     node: u8,
     words: &[u32],
     bytes: &[u8],
@@ -256,13 +256,13 @@ fn push_mapped(
     requires words { length words.now ≤ 64 }
     requires few { length bytes.now ≤ 8 }
     ensures { OnOk result (string_bytes text.new ≡ string_bytes text.old
-        ++ mapped_text (names_view names.entry) node words.now bytes.now) }
+        ++ mapped_text (device_view device.entry) node words.now bytes.now) }
 {
     let mapped = (total_bits(words) + 7) / 8;
     if bytes.len() < mapped {
         return push_short(text, bytes.len(), mapped);
     }
-    attempt!(push_parts(text, names, node, bytes, words));
+    attempt!(push_parts(text, device, node, bytes, words));
     push_more(text, bytes.len(), mapped)
 }
 
@@ -334,7 +334,7 @@ fn push_multiplexed_data(text: &mut String, bytes: &[u8]) -> Result<(), AllocErr
 #[tactic(auto, unfolding(crate::specs::Mappings::data_text))]
 pub fn push_data(
     text: &mut String,
-    names: Names<'_, '_>,
+    device: Device<'_, '_>,
     node: u8,
     mapping: &Mapping,
     bytes: &[u8],
@@ -342,7 +342,7 @@ pub fn push_data(
     requires { length bytes.now ≤ 8 }
     // Each entry is shown with the bits at its offset in this mapping.
     ensures { OnOk result (string_bytes text.new ≡ string_bytes text.old
-        ++ data_text (names_view names.entry) node mapping.now bytes.now) }
+        ++ data_text (device_view device.entry) node mapping.now bytes.now) }
 {
     let count = mapping.count as usize;
     if count == 0 || (count > 64 && count < 0xFE) {
@@ -353,5 +353,5 @@ pub fn push_data(
         return push_multiplexed_data(text, bytes);
     }
     let words = mapping.words.as_slice();
-    push_mapped(text, names, node, &words[..count.min(words.len())], bytes)
+    push_mapped(text, device, node, &words[..count.min(words.len())], bytes)
 }

@@ -1,6 +1,6 @@
 -- What services say, computed from the definitions on both sides of each edge.
 use Rattle.std.proofs.Common.{◌≡◌, ℕ, true, false, List, [], ◌∷◌, refl, Some, None, map}
-use Rattle.std.specs.Prelude.{codes, Option}
+use Rattle.std.specs.Prelude.{codes, replicate, Option}
 use Rattle.std.specs.Fmt.{digits}
 use Rattle.co_text.specs.Printed.{digits_text}
 use Rattle.conode_text.specs.Filled.{filled}
@@ -11,6 +11,7 @@ use Rattle.conode_explain_services.specs.declared.last.Last.{Last}
 use Rattle.conode_explain_services.specs.Codes.{class_words, code_words, known_class, single_words}
 use Rattle.conode_explain_services.specs.Emergencies.{emergency_words}
 use Rattle.conode_explain_services.specs.Guardings.{guarding_answer_words, guarding_request_words, state_words}
+use Rattle.conode_explain_services.specs.Lengths.{fixed_at, odd_length}
 use Rattle.conode_explain_services.specs.Lss.{answer_parameter, answer_words, lss_answer_words, lss_request_words, lss_text, failure_text, mode_words, node_failure, outcome_text, parameter_text, part_text, part_words, rate_words, request_parameter, request_words, scan_text, store_failure, timing_failure, timing_text}
 use Rattle.conode_explain_services.specs.Nodes.{nothing_seen}
 use Rattle.conode_explain_services.specs.Registers.{bit_text, bit_word, bits_text, register_text}
@@ -121,21 +122,22 @@ eight a b c d e f g h = a ∷ b ∷ c ∷ d ∷ e ∷ f ∷ g ∷ h ∷ []
 
 emergency : says nothing_seen 0x085 (eight 0x10 0x82 0x11 0x01 0x02 0x03 0x04 0xFF)
     ≡ Some (codes "EMCY node 5 code 8210 (protocol error: PDO not processed due to length error) register 11 (generic, communication) manufacturer 01020304FF")
-unfolding service_words emergency_words code_words known_class single_words register_text bits_text bit_text bit_word digits_text digits filled
+unfolding service_words fixed_at emergency_words code_words known_class single_words register_text bits_text bit_text bit_word digits_text digits filled
 emergency = refl
 
 next_emergency : says (record { register = Some 0x11; guarding = NotSeen; state = Unknown }) 0x0FF (eight 0 0 0 0 0 0 0 0)
     ≡ Some (codes "EMCY node 127 code 0000 (error reset or no error) register 00 (no error; went: generic, communication) manufacturer 0000000000")
-unfolding service_words emergency_words code_words known_class single_words register_text bits_text bit_text bit_word digits_text digits filled
+unfolding service_words fixed_at emergency_words code_words known_class single_words register_text bits_text bit_text bit_word digits_text digits filled
 next_emergency = refl
 
 -- identifiers beside, and seven bytes
-no_emergencies : map (λ id. says nothing_seen id (eight 0 0 0 0 0 0 0 0)) (0x080 ∷ 0x100 ∷ []) ≡ None ∷ None ∷ []
-unfolding service_words
+no_emergencies : map (λ id. says nothing_seen id (eight 0 0 0 0 0 0 0 0)) (0x080 ∷ 0x100 ∷ [])
+    ≡ Some (codes "SYNC (length 8 in place of 0 or 1)") ∷ Some (codes "TIME (length 8 in place of 6)") ∷ []
+unfolding service_words fixed_at odd_length digits
 no_emergencies = refl
 
-short_emergency : says nothing_seen 0x085 (0 ∷ 0 ∷ 0 ∷ 0 ∷ 0 ∷ 0 ∷ 0 ∷ []) ≡ None
-unfolding service_words
+short_emergency : says nothing_seen 0x085 (0 ∷ 0 ∷ 0 ∷ 0 ∷ 0 ∷ 0 ∷ 0 ∷ []) ≡ Some (codes "EMCY node 5 (length 7 in place of 8)")
+unfolding service_words fixed_at odd_length digits
 short_emergency = refl
 
 -- ---- node guarding
@@ -144,12 +146,12 @@ short_emergency = refl
 toggled : map (λ byte. says nothing_seen 0x705 (byte ∷ [])) (0x84 ∷ 0x85 ∷ 0xFF ∷ 0x80 ∷ 0x83 ∷ 0x86 ∷ 0xFE ∷ [])
     ≡ Some (codes "guarding answer node 5 stopped toggle 1") ∷ Some (codes "guarding answer node 5 operational toggle 1")
     ∷ Some (codes "guarding answer node 5 pre-operational toggle 1") ∷ None ∷ None ∷ None ∷ None ∷ []
-unfolding service_words guarding_answer_words state_words digits filled
+unfolding service_words fixed_at guarding_answer_words state_words digits filled
 toggled = refl
 
 -- without it they are heartbeats, unless the node is guarded
 heartbeats : map (λ byte. says nothing_seen 0x705 (byte ∷ [])) (0x00 ∷ 0x04 ∷ 0x05 ∷ 0x7F ∷ []) ≡ None ∷ None ∷ None ∷ None ∷ []
-unfolding service_words
+unfolding service_words fixed_at
 heartbeats = refl
 
 abbrev guarded : Guarding → Last
@@ -157,38 +159,38 @@ guarded guarding = record { register = None; guarding = guarding; state = Unknow
 
 answers : map (λ byte. says (guarded (Requested None)) 0x77F (byte ∷ [])) (0x00 ∷ 0x04 ∷ 0x85 ∷ [])
     ≡ None ∷ Some (codes "guarding answer node 127 stopped toggle 0") ∷ Some (codes "guarding answer node 127 operational toggle 1") ∷ []
-unfolding service_words guarding_answer_words state_words digits filled
+unfolding service_words fixed_at guarding_answer_words state_words digits filled
 answers = refl
 
 awaited_one : map (λ byte. says (guarded (Requested (Some true))) 0x701 (byte ∷ [])) (0x05 ∷ 0x85 ∷ [])
     ≡ Some (codes "guarding answer node 1 operational toggle 0 (1 is awaited)") ∷ Some (codes "guarding answer node 1 operational toggle 1") ∷ []
-unfolding service_words guarding_answer_words state_words digits filled
+unfolding service_words fixed_at guarding_answer_words state_words digits filled
 awaited_one = refl
 
 awaited_zero : map (λ byte. says (guarded (Requested (Some false))) 0x701 (byte ∷ [])) (0x7F ∷ 0xFF ∷ [])
     ≡ Some (codes "guarding answer node 1 pre-operational toggle 0") ∷ Some (codes "guarding answer node 1 pre-operational toggle 1 (0 is awaited)") ∷ []
-unfolding service_words guarding_answer_words state_words digits filled
+unfolding service_words fixed_at guarding_answer_words state_words digits filled
 awaited_zero = refl
 
 -- without a request that was recorded: the next answer, or the one before again, which without the toggle bit is a heartbeat
 next_answers : map (λ guarding. says (guarded guarding) 0x701 (0x05 ∷ [])) (Answered false ∷ Answered true ∷ BootedUp ∷ [])
     ≡ Some (codes "guarding answer node 1 operational toggle 0") ∷ None ∷ None ∷ []
-unfolding service_words guarding_answer_words state_words digits filled
+unfolding service_words fixed_at guarding_answer_words state_words digits filled
 next_answers = refl
 
 next_toggled : map (λ guarding. says (guarded guarding) 0x701 (0x85 ∷ [])) (Answered false ∷ Answered true ∷ BootedUp ∷ [])
     ≡ Some (codes "guarding answer node 1 operational toggle 1 (0 is awaited)") ∷ Some (codes "guarding answer node 1 operational toggle 1")
     ∷ Some (codes "guarding answer node 1 operational toggle 1 (0 is awaited)") ∷ []
-unfolding service_words guarding_answer_words state_words digits filled
+unfolding service_words fixed_at guarding_answer_words state_words digits filled
 next_toggled = refl
 
 -- identifiers beside, and two bytes; 780h is reserved
 no_answers : map (λ id. says nothing_seen id (0x85 ∷ [])) (0x700 ∷ 0x780 ∷ []) ≡ None ∷ Some reserved_words ∷ []
-unfolding service_words
+unfolding service_words fixed_at
 no_answers = refl
 
-long_answer : says nothing_seen 0x705 (0x85 ∷ 0 ∷ []) ≡ None
-unfolding service_words
+long_answer : says nothing_seen 0x705 (0x85 ∷ 0 ∷ []) ≡ Some (codes "error control node 5 (length 2 in place of 1)")
+unfolding service_words fixed_at odd_length digits
 long_answer = refl
 
 remote : map remote_words (0x700 ∷ 0x701 ∷ 0x77F ∷ 0x780 ∷ [])
@@ -199,19 +201,30 @@ remote = refl
 -- ---- TIME: 43,200,000 ms on day 2; the first ms of 1984; five and seven bytes, and an identifier beside
 
 noon : says nothing_seen 0x100 (0x00 ∷ 0x2E ∷ 0x93 ∷ 0x02 ∷ 0x02 ∷ 0x00 ∷ []) ≡ Some (codes "TIME 1984-01-03 12:00:00.000")
-unfolding service_words time_words value_text moment_text ms_text date_text time_of_day_text date_of date_in_year day_of_year year_of_cycle digits digits_text filled
+unfolding service_words fixed_at time_words value_text moment_text ms_text date_text time_of_day_text date_of date_in_year day_of_year year_of_cycle digits digits_text filled
 noon = refl
 
 first_moment : says nothing_seen 0x100 (0x01 ∷ 0x00 ∷ 0x00 ∷ 0xF0 ∷ 0x00 ∷ 0x00 ∷ []) ≡ Some (codes "TIME 1984-01-01 00:00:00.001")
-unfolding service_words time_words value_text moment_text ms_text date_text time_of_day_text date_of date_in_year day_of_year year_of_cycle digits digits_text filled
+unfolding service_words fixed_at time_words value_text moment_text ms_text date_text time_of_day_text date_of date_in_year day_of_year year_of_cycle digits digits_text filled
 first_moment = refl
 
-no_times : map (says nothing_seen 0x100) ((0 ∷ 0 ∷ 0 ∷ 0 ∷ 0 ∷ []) ∷ (0 ∷ 0 ∷ 0 ∷ 0 ∷ 0 ∷ 0 ∷ 0 ∷ []) ∷ []) ≡ None ∷ None ∷ []
-unfolding service_words
+-- the last ms of a day, and the next one
+last_moment : says nothing_seen 0x100 (0xFF ∷ 0x5B ∷ 0x26 ∷ 0x05 ∷ 0x00 ∷ 0x00 ∷ []) ≡ Some (codes "TIME 1984-01-01 23:59:59.999")
+unfolding service_words fixed_at time_words value_text moment_text ms_text date_text time_of_day_text date_of date_in_year day_of_year year_of_cycle digits digits_text filled
+last_moment = refl
+
+past_the_day : says nothing_seen 0x100 (0x00 ∷ 0x5C ∷ 0x26 ∷ 0x05 ∷ 0x00 ∷ 0x00 ∷ []) ≡ Some (codes "TIME 1984-01-01 24:00:00.000 (past the end of the day)")
+unfolding service_words fixed_at time_words value_text moment_text ms_text date_text time_of_day_text date_of date_in_year day_of_year year_of_cycle digits digits_text filled
+past_the_day = refl
+
+no_times : map (says nothing_seen 0x100) ((0 ∷ 0 ∷ 0 ∷ 0 ∷ 0 ∷ []) ∷ (0 ∷ 0 ∷ 0 ∷ 0 ∷ 0 ∷ 0 ∷ 0 ∷ []) ∷ [])
+    ≡ Some (codes "TIME (length 5 in place of 6)") ∷ Some (codes "TIME (length 7 in place of 6)") ∷ []
+unfolding service_words fixed_at odd_length digits
 no_times = refl
 
-beside_time : map (λ id. says nothing_seen id (0 ∷ 0 ∷ 0 ∷ 0 ∷ 0 ∷ 0 ∷ [])) (0x0FF ∷ 0x101 ∷ []) ≡ None ∷ Some reserved_words ∷ []
-unfolding service_words
+beside_time : map (λ id. says nothing_seen id (0 ∷ 0 ∷ 0 ∷ 0 ∷ 0 ∷ 0 ∷ [])) (0x0FF ∷ 0x101 ∷ [])
+    ≡ Some (codes "EMCY node 127 (length 6 in place of 8)") ∷ Some reserved_words ∷ []
+unfolding service_words fixed_at odd_length digits
 beside_time = refl
 
 -- ---- LSS
@@ -223,7 +236,7 @@ abbrev tells : List ℕ → List ℕ
 tells bytes = lss_answer_words bytes
 
 requests : says nothing_seen 0x7E5 (eight 0x04 1 0 0 0 0 0 0) ≡ Some (codes "LSS request switch state global configuration")
-unfolding service_words lss_text request_words request_parameter parameter_text mode_words filled
+unfolding service_words fixed_at lss_text request_words request_parameter parameter_text mode_words filled
 requests = refl
 
 modes : map (λ mode. asks (eight 0x04 mode 0 0 0 0 0 0)) (0 ∷ 2 ∷ [])
@@ -296,7 +309,7 @@ unfolding lss_text request_words request_parameter parameter_text scan_text part
 revision_part = refl
 
 lss_answer : says nothing_seen 0x7E4 (eight 0x11 0 0 0 0 0 0 0) ≡ Some (codes "LSS answer configure node-ID done")
-unfolding service_words lss_text answer_words answer_parameter parameter_text outcome_text filled
+unfolding service_words fixed_at lss_text answer_words answer_parameter parameter_text outcome_text filled
 lss_answer = refl
 
 failures : map (λ specifier. tells (eight specifier 1 9 0 0 0 0 0)) (0x11 ∷ 0x13 ∷ 0x17 ∷ [])
@@ -331,8 +344,9 @@ unfolding lss_text answer_words answer_parameter parameter_text filled
 told = refl
 
 -- seven bytes are no command
-short_commands : map (λ id. says nothing_seen id (0x17 ∷ 0 ∷ 0 ∷ 0 ∷ 0 ∷ 0 ∷ 0 ∷ [])) (0x7E4 ∷ 0x7E5 ∷ []) ≡ None ∷ None ∷ []
-unfolding service_words
+short_commands : map (λ id. says nothing_seen id (0x17 ∷ 0 ∷ 0 ∷ 0 ∷ 0 ∷ 0 ∷ 0 ∷ [])) (0x7E4 ∷ 0x7E5 ∷ [])
+    ≡ Some (codes "LSS (length 7 in place of 8)") ∷ Some (codes "LSS (length 7 in place of 8)") ∷ []
+unfolding service_words fixed_at odd_length digits
 short_commands = refl
 
 -- ---- reserved identifiers
@@ -346,5 +360,39 @@ not_reserved : map is_reserved (0x000 ∷ 0x080 ∷ 0x100 ∷ 0x181 ∷ 0x6DF �
 not_reserved = refl
 
 says_reserved : map (λ id. says nothing_seen id []) (0x07F ∷ 0x181 ∷ []) ≡ Some (codes "identifier that CiA 301 reserves") ∷ None ∷ []
-unfolding service_words reserved_words filled
+unfolding service_words fixed_at reserved_words filled
 says_reserved = refl
+
+-- ---- lengths: on both sides of what each service has
+
+abbrev zeros : ℕ → List ℕ
+zeros count = replicate count 0
+
+abbrev odd : ℕ → ℕ → Option (List ℕ)
+odd id count = says nothing_seen id (zeros count)
+
+syncs : map (odd 0x080) (0 ∷ 1 ∷ 2 ∷ []) ≡ None ∷ None ∷ Some (codes "SYNC (length 2 in place of 0 or 1)") ∷ []
+unfolding service_words fixed_at odd_length digits
+syncs = refl
+
+commands : map (odd 0x000) (1 ∷ 2 ∷ 3 ∷ []) ≡ Some (codes "NMT (length 1 in place of 2)") ∷ None ∷ Some (codes "NMT (length 3 in place of 2)") ∷ []
+unfolding service_words fixed_at odd_length digits
+commands = refl
+
+control : map (odd 0x77F) (0 ∷ 1 ∷ 2 ∷ []) ≡ Some (codes "error control node 127 (length 0 in place of 1)") ∷ None ∷ Some (codes "error control node 127 (length 2 in place of 1)") ∷ []
+unfolding service_words fixed_at odd_length digits
+control = refl
+
+transfers : map (λ id. odd id 7) (0x580 ∷ 0x581 ∷ 0x5FF ∷ 0x600 ∷ 0x601 ∷ 0x67F ∷ 0x680 ∷ [])
+    ≡ None ∷ Some (codes "SDO answer node 1 (length 7 in place of 8)") ∷ Some (codes "SDO answer node 127 (length 7 in place of 8)")
+    ∷ None ∷ Some (codes "SDO request node 1 (length 7 in place of 8)") ∷ Some (codes "SDO request node 127 (length 7 in place of 8)") ∷ None ∷ []
+unfolding service_words fixed_at odd_length digits
+transfers = refl
+
+whole_transfers : map (λ id. odd id 8) (0x581 ∷ 0x601 ∷ []) ≡ None ∷ None ∷ []
+unfolding service_words fixed_at
+whole_transfers = refl
+
+no_length : map (λ id. odd id 3) (0x181 ∷ 0x700 ∷ []) ≡ None ∷ None ∷ []
+unfolding service_words fixed_at
+no_length = refl

@@ -65,3 +65,17 @@ command_to_all = refl
 control : map (λ id. says (Commanded Stopped) id (5 ∷ [])) (0x700 ∷ 0x701 ∷ 0x77F ∷ 0x780 ∷ []) ≡ [] ∷ codes " (stopped commanded)" ∷ codes " (stopped commanded)" ∷ [] ∷ []
 unfolding state_words shown_words found_words state_at
 control = refl
+
+-- SYNC: counters on both sides of each edge; without one; and of another identifier
+counters : map (λ counter. says Unknown 0x080 (counter ∷ [])) (0 ∷ 1 ∷ 240 ∷ 241 ∷ 255 ∷ [])
+    ≡ codes " (a counter is 1 to 240)" ∷ [] ∷ [] ∷ codes " (a counter is 1 to 240)" ∷ codes " (a counter is 1 to 240)" ∷ []
+unfolding state_words
+counters = refl
+
+no_counter : says Unknown 0x080 [] ≡ []
+unfolding state_words
+no_counter = refl
+
+no_sync : says Unknown 0x081 (0 ∷ []) ≡ []
+unfolding state_words
+no_sync = refl

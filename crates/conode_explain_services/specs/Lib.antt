@@ -2,6 +2,7 @@ pub mod Codes
 pub mod Drives
 pub mod Emergencies
 pub mod Guardings
+pub mod Lengths
 pub mod Lss
 pub mod NmtStates
 pub mod Nodes

@@ -1,6 +1,6 @@
 -- What a frame says by its service, where the text of `conode decode` says less or nothing (CiA
 -- 301, 7.3.3; CiA 305).
-use Rattle.std.specs.Prelude.{ℕ, ◌-◌, ◌==◌, ◌&&◌, Bool, if◌then◌else◌, List, [], codes, length, slice_index, take, drop, Option, Some, None}
+use Rattle.std.specs.Prelude.{ℕ, ◌-◌, ◌==◌, nat_lt, ◌&&◌, ◌||◌, Bool, if◌then◌else◌, List, [], codes, length, slice_index, take, drop, Option, Some, None}
 use Rattle.co_frame.specs.FrameContent.{FrameContent}
 use Rattle.co_frame.specs.declared.emergency.Emergency.{Emergency}
 use Rattle.co_value.specs.Numbers.{unsigned_of}
@@ -10,6 +10,7 @@ use Rattle.conode_explain_services.specs.Guardings.{guarding_answer_words, guard
 use Rattle.conode_explain_services.specs.Lss.{lss_answer_words, lss_request_words}
 use Rattle.conode_explain_services.specs.Nodes.{is_emergency, is_error_control, is_error_control_id}
 use Rattle.conode_explain_services.specs.NmtStates.{found_words, is_command, shown_words}
+use Rattle.conode_explain_services.specs.Lengths.{length_words}
 use Rattle.conode_explain_services.specs.Times.{time_words}
 use Rattle.conode_explain_services.specs.Reserved.{is_reserved, lss_answer_id, lss_request_id, reserved_words}
 
@@ -42,14 +43,23 @@ service_words last frame =
     else (if is_time frame then Some (time_words frame.bytes)
     else (if is_lss lss_request_id frame then Some (lss_request_words frame.bytes)
     else (if is_lss lss_answer_id frame then Some (lss_answer_words frame.bytes)
-    else (if is_reserved frame.id then Some reserved_words else None)))))
+    else (if is_reserved frame.id then Some reserved_words else length_words frame)))))
+
+-- a counter of SYNC is 1 to 240 (CiA 301, 7.2.5)
+abbrev pub is_odd_counter : ℕ → Bool
+is_odd_counter counter = (counter == 0) || nat_lt 240 counter
+
+abbrev pub is_odd_sync : FrameContent → Bool
+is_odd_sync frame = (frame.id == 0x080) && ((length frame.bytes == 1) && is_odd_counter (slice_index frame.bytes 0))
 
 -- after the text of a data frame: of a command for one node the state in which it finds the node, of
--- error control the state that was commanded, where it shows another one
+-- error control the state that was commanded, where it shows another one; of SYNC that its counter is
+-- none
 unfoldable pub state_words : Last → FrameContent → List ℕ
 state_words last frame =
     if is_command frame then (if slice_index frame.bytes 1 == 0 then [] else found_words last.state)
-    else (if is_error_control frame then shown_words last.state (slice_index frame.bytes 0) else [])
+    else (if is_error_control frame then shown_words last.state (slice_index frame.bytes 0)
+    else (if is_odd_sync frame then codes " (a counter is 1 to 240)" else []))
 
 -- what a remote frame says
 unfoldable pub remote_words : ℕ → List ℕ

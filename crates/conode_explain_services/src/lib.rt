@@ -19,6 +19,7 @@ mod emergencies;
 mod guarding;
 mod guardings;
 mod last;
+mod lengths;
 mod lss;
 mod lss_commands;
 mod nmt_state;

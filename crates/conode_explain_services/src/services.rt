@@ -4,6 +4,8 @@ ghost use Rattle.std.specs.Prelude.{◌≡◌, ◌++◌, ◌<◌, [], OnOk, IfOk
 ghost use Rattle.conode_explain_services.specs.Services.{
   is_guarding,
   is_lss,
+  is_odd_counter,
+  is_odd_sync,
   is_time,
   remote_words,
   service_words,
@@ -13,6 +15,7 @@ ghost use Rattle.conode_explain_services.specs.Services.{
 use crate::emergencies::push_emergency;
 use crate::guardings::{is_answer, push_answer, push_request};
 use crate::last::Last;
+use crate::lengths::{has_odd_length, push_length};
 use crate::lss::{push_lss_answer, push_lss_request};
 use crate::nmt_states::{found_words, is_command, push_shown};
 use crate::nodes::{is_emergency, is_error_control, is_error_control_id};
@@ -50,6 +53,7 @@ fn is_said(last: Last, frame: &Frame) -> bool
         || is_lss(LSS_REQUEST, frame)
         || is_lss(LSS_ANSWER, frame)
         || is_reserved(frame.id())
+        || has_odd_length(frame)
 }
 
 // appends it
@@ -80,7 +84,7 @@ fn push_said(text: &mut String, last: Last, frame: &Frame) -> Result<(), AllocEr
     if is_reserved(frame.id()) {
         return text.push_str(reserved_words());
     }
-    Ok(())
+    push_length(text, frame)
 }
 
 /// Appends what a data frame says by its service; `last` is what the last frames of its node had.
@@ -98,10 +102,22 @@ pub fn push_service(text: &mut String, last: Last, frame: &Frame) -> Result<bool
     Ok(true)
 }
 
+fn is_odd_counter(counter: u8) -> bool
+    ensures { result ≡ is_odd_counter counter }
+{
+    counter == 0 || counter > 240
+}
+
+fn is_odd_sync(frame: &Frame) -> bool
+    ensures { result ≡ is_odd_sync frame.now }
+{
+    frame.id() == 0x080 && (frame.bytes().len() == 1 && is_odd_counter(frame.bytes()[0]))
+}
+
 /// Appends what the NMT state of its node is, after the text of a data frame: of a command for one
 /// node the state in which it finds the node, ` (pre-operational seen)`; of error control the state
-/// that was commanded, where it shows another one; nothing of every other frame. On an `Err` memory
-/// ran out, and a part of it may be there.
+/// that was commanded, where it shows another one; of SYNC that its counter isn't 1 to 240; nothing of
+/// every other frame. On an `Err` memory ran out, and a part of it may be there.
 #[tactic(auto, unfolding(crate::specs::Services::state_words))]
 pub fn push_state(text: &mut String, last: Last, frame: &Frame) -> Result<(), AllocError>
     ensures { OnOk result
@@ -116,6 +132,9 @@ pub fn push_state(text: &mut String, last: Last, frame: &Frame) -> Result<(), Al
     }
     if is_error_control(frame) {
         return push_shown(text, last.state, bytes[0]);
+    }
+    if is_odd_sync(frame) {
+        return text.push_str(" (a counter is 1 to 240)");
     }
     Ok(())
 }

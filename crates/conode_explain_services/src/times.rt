@@ -1,12 +1,21 @@
 //! TIME (CiA 301, 7.2.6).
 
 ghost use Rattle.std.specs.Prelude.{◌≡◌, ◌++◌, OnOk, length, string_bytes};
-ghost use Rattle.conode_explain_services.specs.Times.{time_words};
+ghost use Rattle.conode_explain_services.specs.Times.{is_past_day, time_words};
 
+use co_value::unsigned_of;
 use conode_explain_values::{ValueType, push_value};
 use std::alloc::AllocError;
 
-/// Appends a TIME as its date and time. On an `Err` memory ran out, and a part of it may be there.
+// a day has 86,400,000 ms; 28 bits have more
+fn is_past_day(bytes: &[u8]) -> bool
+    requires { length bytes.now ≡ 6 }
+    ensures { result ≡ is_past_day bytes.now }
+{
+    unsigned_of(&bytes[..4]) % 0x1000_0000 > 86_399_999
+}
+
+/// Appends a TIME as its date and time; of a time past the end of the day that it is. On an `Err` memory ran out, and a part of it may be there.
 #[tactic(auto, unfolding(crate::specs::Times::time_words))]
 pub(crate) fn push_time(text: &mut String, bytes: &[u8]) -> Result<(), AllocError>
     requires { length bytes.now ≡ 6 }
@@ -14,5 +23,10 @@ pub(crate) fn push_time(text: &mut String, bytes: &[u8]) -> Result<(), AllocErro
         (string_bytes text.new ≡ string_bytes text.old ++ time_words bytes.now) }
 {
     attempt!(text.push_str("TIME "));
-    push_value(text, ValueType::TimeOfDay, 48, bytes)
+    attempt!(push_value(text, ValueType::TimeOfDay, 48, bytes));
+    text.push_str(if is_past_day(bytes) {
+        " (past the end of the day)"
+    } else {
+        ""
+    })
 }

@@ -1,6 +1,6 @@
 use Rattle.std.proofs.Common.{◌≡◌, ◌+◌, ◌++◌, drop}
 use Rattle.std.specs.Prelude.{string_bytes}
-use Rattle.co_sheet_changes.specs.Names.{names_view}
+use Rattle.conode_explain_pdo.specs.KnownEntries.{device_view}
 use Rattle.conode_explain_pdo.specs.Mappings.{more_parts, total_bits}
 use Rattle.conode_explain_pdo.proofs.mapping.push_more_parts.Given as goal
 
@@ -8,7 +8,7 @@ use Rattle.conode_explain_pdo.proofs.mapping.push_more_parts.Given as goal
 abbrev pub invariant-loop-word : goal.invariant-loop-word
 invariant-loop-word l =
     record {
-      text : string_bytes l.text ++ more_parts (names_view l.names) l.node l.bytes l.offset (drop l.word-index l.words)
-          ≡ string_bytes l.fn.text ++ more_parts (names_view l.names) l.node l.bytes l.start l.words;
+      text : string_bytes l.text ++ more_parts (device_view l.device) l.node l.bytes l.offset (drop l.word-index l.words)
+          ≡ string_bytes l.fn.text ++ more_parts (device_view l.device) l.node l.bytes l.start l.words;
       bits : l.offset + total_bits (drop l.word-index l.words) ≡ l.start + total_bits l.words;
     }

@@ -1,0 +1,118 @@
+//! Whose a frame is by the COB-IDs of data sheets and of the recording, other than a PDO's.
+
+ghost use Rattle.std.specs.Prelude.{◌≡◌, ◌<◌};
+ghost use Rattle.conode_record.specs.Grammar.{IsIdentifier};
+ghost use Rattle.conode_explain_pdo.specs.Buses.{bus_view};
+ghost use Rattle.conode_explain.specs.Whose.{
+  by_service,
+  default_id,
+  is_named,
+  read_by,
+  service_in,
+  whose_free,
+  whose_of,
+};
+
+use conode_explain_entries::Place;
+use conode_explain_forms::read_as;
+use conode_explain_pdo::{Bus, Claim, NamedService, service_with};
+use conode_record::{Content, Identifier, Record};
+
+/// Whose a frame is that is no PDO.
+#[derive(Clone, Copy)]
+pub(crate) enum Whose {
+    /// Of an SDO channel other than a default one.
+    Channel(Place),
+    /// Of a service whose COB-ID has its identifier.
+    Service(NamedService),
+    /// No such COB-ID has its identifier: it is of the pre-defined connection set, or of none.
+    Unnamed,
+}
+
+fn service_in(
+    bus: Bus<'_, '_, '_, '_, '_>,
+    id: Identifier,
+    content: &Content<'_>,
+) -> Option<NamedService>
+    ensures { result ≡ service_in (bus_view bus.entry) id content.now }
+{
+    match (id, content) {
+        (Identifier::Base(id), Content::Data(_)) => service_with(bus, id),
+        _ => None,
+    }
+}
+
+fn by_service(service: Option<NamedService>) -> Whose
+    ensures { result ≡ by_service service }
+{
+    match service {
+        Some(service) => Whose::Service(service),
+        None => Whose::Unnamed,
+    }
+}
+
+fn whose_free(
+    bus: Bus<'_, '_, '_, '_, '_>,
+    claims: &[Claim],
+    id: Identifier,
+    content: &Content<'_>,
+) -> Whose
+    ensures { result ≡ whose_free (bus_view bus.entry) claims.now id content.now }
+{
+    match claims {
+        [] => by_service(service_in(bus, id, content)),
+        _ => Whose::Unnamed,
+    }
+}
+
+/// Whose a frame is: of its SDO channel, where that isn't a default one; else, if it is none of
+/// these PDOs, of the service that has its identifier.
+#[tactic(auto, unfolding(crate::specs::Whose::whose_of))]
+pub(crate) fn whose_of(
+    bus: Bus<'_, '_, '_, '_, '_>,
+    place: Option<Place>,
+    claims: &[Claim],
+    frame: &Record<'_>,
+) -> Whose
+    ensures { result ≡ whose_of (bus_view bus.entry) place claims.now frame.now }
+{
+    match place {
+        Some(place) => Whose::Channel(place),
+        None => whose_free(bus, claims, frame.id, &frame.content),
+    }
+}
+
+/// Whether a COB-ID of a channel or of a service has the identifier.
+pub(crate) fn is_named(whose: Whose) -> bool
+    ensures { result ≡ is_named whose }
+{
+    match whose {
+        Whose::Channel(_) | Whose::Service(_) => true,
+        Whose::Unnamed => false,
+    }
+}
+
+fn default_id(service: NamedService) -> u16
+    ensures id { result ≡ default_id service }
+    ensures few { result < 2048 }
+{
+    match service {
+        NamedService::Sync => 0x080,
+        NamedService::Time => 0x100,
+        NamedService::Emergency { node } => 0x080 + node as u16,
+    }
+}
+
+/// The identifier as which a frame is read: that of its channel or service in the pre-defined
+/// connection set.
+pub(crate) fn read_by(whose: Whose, id: Identifier) -> Identifier
+    requires { IsIdentifier id }
+    ensures id { result ≡ read_by whose id }
+    ensures is { IsIdentifier result }
+{
+    match whose {
+        Whose::Channel(place) => read_as(Some(place), id),
+        Whose::Service(service) => Identifier::Base(default_id(service)),
+        Whose::Unnamed => id,
+    }
+}
