@@ -10,7 +10,7 @@ use Rattle.co_sheet_text.specs.Sections.{Property, TextSection}
 use Rattle.co_sheet_text.specs.declared.section_kind.SectionKind.TheVariants.{Object}
 use Rattle.co_dict_build.specs.declared.build_fault.BuildFault.TheVariants.{NodeId, ValueRange, BadCobId, PdoPair, BadMapping, TooMany}
 use Rattle.co_dict_faults.specs.declared.mapping_fault.MappingReason.TheVariants.{Missing}
-use Rattle.conode_lint.specs.declared.mark.OtherFormat.TheVariants.{Xml, EtherNetIp}
+use Rattle.conode_lint.specs.declared.mark.OtherFormat.TheVariants.{Xml, EtherNetIp, Utf16}
 use Rattle.conode_lint.specs.declared.mark.Subject.TheVariants.{Build, Mapping}
 use Rattle.conode_lint.specs.Allowed.{passes_by}
 use Rattle.conode_lint.specs.BuildLines.{build_line, entry_line, marks_with, value_line}
@@ -77,6 +77,12 @@ fronts = refl
 xml : other_format (codes "; a" ∷ codes "  <iso15745ProfileContainer>" ∷ []) ≡ Some Xml
 unfolding other_format has_line
 xml = refl
+
+-- either order of bytes; of the first line alone
+utf16 : other_format ((0xFF ∷ 0xFE ∷ codes "[") ∷ codes "<?xml" ∷ []) ∷ other_format ((0xFE ∷ 0xFF ∷ []) ∷ []) ∷ other_format ((0xFF ∷ 0xFF ∷ []) ∷ []) ∷ other_format ((0xFF ∷ []) ∷ []) ∷ other_format (codes ";" ∷ (0xFF ∷ 0xFE ∷ []) ∷ []) ∷ other_format [] ∷ []
+    ≡ Some Utf16 ∷ Some Utf16 ∷ None ∷ None ∷ None ∷ None ∷ []
+unfolding other_format has_line
+utf16 = refl
 
 -- both lines, in any order; one of them alone is none
 ethernet_ip : other_format (codes "VendCode = 1;" ∷ codes "[device]" ∷ []) ≡ Some EtherNetIp

@@ -1,6 +1,7 @@
 -- The marks of a text, put together.
-use Rattle.std.proofs.Common.{◌≡◌, ◌∙◌, ℕ, ◌<◌, ◌≤◌, Bool, cond, List, [], ◌++◌, map, length, Option, Some, None, IfSome, refl, sym, ap, subst, append_assoc, arith, rules}
+use Rattle.std.proofs.Common.{◌≡◌, ◌∙◌, ℕ, ◌<◌, ◌≤◌, Bool, false, ltb, cond, List, [], ◌++◌, map, length, Option, Some, None, IfSome, refl, sym, ap, subst, append_assoc, arith, rules}
 use Rattle.std.proofs.lemmas.Bool.{lt-ltb}
+use Rattle.std.proofs.lemmas.Bool.Decides.{nat_tests}
 use Rattle.std.proofs.lemmas.List.{append-nil}
 use Rattle.co_sheet_rows.specs.declared.fault.SheetFault.{SheetFault}
 use Rattle.co_sheet.specs.Content.{SheetContent}
@@ -21,7 +22,7 @@ use Rattle.conode_lint.specs.declared.marks.Checks.{Checks}
 use Rattle.conode_lint.specs.BuildLines.{built_marks, marks_with}
 use Rattle.co_sheet_warnings.specs.Lines.{text_lines}
 use Rattle.conode_lint.specs.Linted.{IsLinted, IsMadeOf, left}
-use Rattle.conode_lint.specs.Marks.{IsFound, IsMarked, fault_mark, node_for, sheet_marks, sheet_of, text_marks, warning_mark}
+use Rattle.conode_lint.specs.Marks.{IsFound, IsMarked, fault_mark, node_for, sheet_marks, sheet_of, text_marks, text_sections, warning_mark}
 
 -- of all faults of a build
 pub plan_marks : (sheet : SheetContent) (sections : List TextSection) (plan : Plan) (faults : List BuildFault) (mappings : List MappingFault) → faults ≡ build_faults_of plan → mappings ≡ mapping_faults_of plan
@@ -84,16 +85,28 @@ marked_large text checks faults sheet marks is_sheet small large is =
     }
 
 -- what is left of what is found, made into findings
-pub made_from : (lines : List (List ℕ)) (checks : Checks) (found marks marks_made : List Mark) (made : Linted)
-    → marks ≡ left lines checks found → marks_made ≡ marks → IsMadeOf lines marks_made made → IsMadeOf lines (left lines checks found) made
-made_from lines checks found marks marks_made made is_marks is_marks_made is_made = subst (λ (l : List Mark). IsMadeOf lines l made) (is_marks_made ∙ is_marks) is_made
+pub made_from : (lines : List (List ℕ)) (sections : List TextSection) (checks : Checks) (found marks marks_made : List Mark) (made : Linted)
+    → marks ≡ left lines checks found → marks_made ≡ marks → IsMadeOf lines sections marks_made made → IsMadeOf lines sections (left lines checks found) made
+made_from lines sections checks found marks marks_made made is_marks is_marks_made is_made =
+    subst (λ (l : List Mark). IsMadeOf lines sections l made) (is_marks_made ∙ is_marks) is_made
 
 -- a text linted
-pub linted_from : (text : List ℕ) (checks : Checks) (lines : List (List ℕ)) (found found_left : List Mark) (made : Linted) → IsFound text checks found
-    → lines ≡ text_lines text → found_left ≡ found → IsMadeOf lines (left lines checks found_left) made → IsLinted text checks made
-linted_from text checks lines found found_left made is_found is_lines is_found_left is_made =
+pub linted_from : (text : List ℕ) (checks : Checks) (lines : List (List ℕ)) (sections : List TextSection) (found found_left : List Mark) (made : Linted) → IsFound text checks found
+    → lines ≡ text_lines text → sections ≡ text_sections text → found_left ≡ found → IsMadeOf lines sections (left lines checks found_left) made → IsLinted text checks made
+linted_from text checks lines sections found found_left made is_found is_lines is_sections is_found_left is_made =
+    let of_found = subst (λ (l : List Mark). IsMadeOf lines sections (left lines checks l) made) is_found_left is_made in
+    let of_sections = subst (λ (l : List TextSection). IsMadeOf lines l (left lines checks found) made) is_sections of_found in
     record {
       found = found;
       is_found = is_found;
-      made = subst (λ (l : List (List ℕ)). IsMadeOf l (left l checks found) made) is_lines (subst (λ (l : List Mark). IsMadeOf lines (left lines checks l) made) is_found_left is_made);
+      made = subst (λ (l : List (List ℕ)). IsMadeOf l (text_sections text) (left l checks found) made) is_lines of_sections;
     }
+
+-- the sections of a text that is too large, and of any other
+pub none_in_large : (text : List ℕ) → 1048576 < length text → [] ≡ text_sections text
+none_in_large text large = ap (λ (b : Bool). cond b [] (sections_read (lines_of text))) (sym (lt-ltb 1048576 (length text) large))
+
+pub read_in_others : (text : List ℕ) → length text ≤ 1048576 → text_sections text ≡ sections_read (lines_of text)
+read_in_others text small =
+    let test : ltb 1048576 (length text) ≡ false = grind (arith, nat_tests) in
+    ap (λ (b : Bool). cond b [] (sections_read (lines_of text))) test

@@ -1,17 +1,19 @@
 -- The words about a text that is no data sheet of CANopen.
 use Rattle.std.specs.Prelude.{List, ℕ, codes}
 use Rattle.conode_lint.specs.declared.mark.OtherFormat.{OtherFormat}
-use Rattle.conode_lint.specs.declared.mark.OtherFormat.TheVariants.{Xml, EtherNetIp}
+use Rattle.conode_lint.specs.declared.mark.OtherFormat.TheVariants.{Xml, EtherNetIp, Utf16}
 
 -- what it is
 abbrev pub format_meaning : OtherFormat → List ℕ
 format_meaning Xml = codes "this is XML, as an XDD (CiA 311) is, and no EDS"
 format_meaning EtherNetIp = codes "this is an EDS of EtherNet/IP, and none of CANopen"
+format_meaning Utf16 = codes "this is in UTF-16, and an EDS is in ASCII"
 
 -- what to do
 abbrev pub format_fix : OtherFormat → List ℕ
 format_fix Xml = codes "export it as an EDS"
 format_fix EtherNetIp = codes "ask the vendor for the EDS of its CANopen device"
+format_fix Utf16 = codes "save it as UTF-8"
 
 abbrev pub format_subject : List ℕ
 format_subject = codes "CiA 306-1, structure of an EDS"

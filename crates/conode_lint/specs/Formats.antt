@@ -1,10 +1,10 @@
 -- Which texts with faults are of another format, and no data sheet of CANopen.
-use Rattle.std.specs.Prelude.{ℕ, nat_le, Bool, ◌&&◌, ◌||◌, if◌then◌else◌, List, length, take, codes, Option, Some, None}
-use Rattle.std.specs.List.{list_any}
+use Rattle.std.specs.Prelude.{ℕ, nat_eq, nat_le, Bool, false, ◌&&◌, ◌||◌, if◌then◌else◌, List, [], ◌∷◌, length, take, codes, Option, Some, None}
+use Rattle.std.specs.List.{list_any, starts_with}
 use Rattle.co_sheet_text.specs.Text.{same_name, trim}
 use Rattle.co_sheet_warnings.specs.Lines.{text_lines}
 use Rattle.conode_lint.specs.declared.mark.OtherFormat.{OtherFormat}
-use Rattle.conode_lint.specs.declared.mark.OtherFormat.TheVariants.{Xml, EtherNetIp}
+use Rattle.conode_lint.specs.declared.mark.OtherFormat.TheVariants.{Xml, EtherNetIp, Utf16}
 
 -- a line begins with a word, in any case of letters
 abbrev pub begins_with : List ℕ → List ℕ → Bool
@@ -15,10 +15,20 @@ begins_with word line =
 unfoldable pub has_line : List (List ℕ) → List ℕ → Bool
 has_line lines word = list_any (λ line. begins_with word (trim line)) lines
 
--- XML, as an XDD (CiA 311); an EDS of EtherNet/IP
+-- the first line begins with a byte order mark of UTF-16 (Unicode), of either order
+abbrev pub is_utf16 : List ℕ → Bool
+is_utf16 line =
+    starts_with nat_eq line (0xFF ∷ 0xFE ∷ []) || starts_with nat_eq line (0xFE ∷ 0xFF ∷ [])
+
+abbrev pub begins_in_utf16 : List (List ℕ) → Bool
+begins_in_utf16 [] = false
+begins_in_utf16 (line ∷ lines) = is_utf16 line
+
+-- a text in UTF-16; XML, as an XDD (CiA 311); an EDS of EtherNet/IP
 unfoldable pub other_format : List (List ℕ) → Option OtherFormat
 other_format lines =
-    if has_line lines (codes "<?xml") || has_line lines (codes "<ISO15745") then Some Xml
+    if begins_in_utf16 lines then Some Utf16
+    else if has_line lines (codes "<?xml") || has_line lines (codes "<ISO15745") then Some Xml
     else if has_line lines (codes "[Device]") && has_line lines (codes "VendCode")
     then Some EtherNetIp
     else None

@@ -1,5 +1,6 @@
 -- The lines of a text, and what is found at them.
 use Rattle.std.specs.Prelude.{ℕ, ◌==◌, ◌-◌, if◌then◌else◌, List, [], take, get_or}
+use Rattle.co_sheet_text.specs.Sections.{TextSection}
 use Rattle.conode_lint_text.specs.declared.finding.About.{About}
 use Rattle.conode_lint_text.specs.declared.finding.Finding.{Finding}
 use Rattle.conode_lint_text.specs.declared.finding.Place.{Place}
@@ -36,12 +37,12 @@ seen finding = record {
   text = finding.text.now;
 }
 
--- the finding of a mark, among these lines
-unfoldable pub finding_of : List (List ℕ) → Mark → Seen
-finding_of lines mark = record {
+-- the finding of a mark, among these lines and sections
+unfoldable pub finding_of : List (List ℕ) → List TextSection → Mark → Seen
+finding_of lines sections mark = record {
   line = mark.line;
   place = words.place_of mark.subject;
-  about = words.about_of mark.subject;
+  about = words.about_of sections mark.line (line_at lines mark.line) mark.subject;
   severity = words.severity_of mark.subject;
   name = words.name_of mark.subject;
   meaning = words.meaning_of mark;

@@ -3,6 +3,7 @@ use Rattle.std.specs.Prelude.{◌≡◌, ℕ, ◌-◌, Bool, ◌&&◌, List, len
 use Rattle.std.specs.List.{list_any}
 use Rattle.co_sheet.specs.Accepted.{first_fault}
 use Rattle.co_sheet.specs.Content.{SheetContent}
+use Rattle.co_sheet_text.specs.Sections.{TextSection}
 use Rattle.co_dict_build.specs.Built.{plan_of}
 use Rattle.co_dict_build.specs.BuildFaults.{build_fault}
 use Rattle.co_dict_build.specs.Capacities.{Limits}
@@ -13,7 +14,7 @@ use Rattle.conode_lint.specs.declared.marks.Checks.{Checks}
 use Rattle.conode_lint.specs.Allowed.{error_count, is_error, kept, names_in, passes_by}
 use Rattle.co_sheet_warnings.specs.Lines.{text_lines}
 use Rattle.conode_lint.specs.Found.{finding_of, seen}
-use Rattle.conode_lint.specs.Marks.{IsFound, node_for, sheet_of}
+use Rattle.conode_lint.specs.Marks.{IsFound, node_for, text_sections, sheet_of}
 use Rattle.conode_lint.specs.Words.{severity_of}
 
 -- the marks whose names neither the command line nor the sheet allows
@@ -22,8 +23,10 @@ left lines checks found =
     kept (passes_by (map (λ name. name.now) checks.allowed.now) (names_in lines)) found
 
 -- the findings of the first 1,000 marks, and the counts of all of them
-pub record IsMadeOf (lines : List (List ℕ)) (marks : List Mark) (linted : Linted) : Type 0 where
-  pub findings : map seen linted.findings.items ≡ map (finding_of lines) (take 1000 marks)
+pub record IsMadeOf (lines : List (List ℕ)) (sections : List TextSection) (marks : List Mark)
+    (linted : Linted) : Type 0 where
+  pub findings :
+    map seen linted.findings.items ≡ map (finding_of lines sections) (take 1000 marks)
   pub errors : linted.errors ≡ error_count marks
   pub warnings : linted.warnings ≡ length marks - linted.errors
   pub more : linted.more ≡ length marks - 1000
@@ -32,7 +35,8 @@ pub record IsMadeOf (lines : List (List ℕ)) (marks : List Mark) (linted : Lint
 pub record IsLinted (text : List ℕ) (checks : Checks) (linted : Linted) : Type 0 where
   pub found : List Mark
   pub is_found : IsFound text checks found
-  pub made : IsMadeOf (text_lines text) (left (text_lines text) checks found) linted
+  pub made :
+    IsMadeOf (text_lines text) (text_sections text) (left (text_lines text) checks found) linted
 
 -- ---- what they say about a text
 

@@ -40,7 +40,9 @@ mapping_fix NotMappable = codes "set PDOMapping=1 for that entry, or map another
 mapping_fix NoNumber = codes "map an entry of a numeric type"
 mapping_fix BelowProfile = codes "map an entry from 2000h on"
 mapping_fix WrongAccess = codes "an RPDO maps rw, rww and wo, a TPDO ro, rw, rwr and const"
-mapping_fix OneBit = codes "give the length as 8 bits (08h), for a BOOLEAN too"
+mapping_fix OneBit =
+    codes
+    "give the length as 8 bits (08h), for a BOOLEAN too; conode adapt --force empties the mapping"
 mapping_fix WrongLength = codes "give 8 bits for each byte of the type of that entry"
 
 -- the subject of the standard

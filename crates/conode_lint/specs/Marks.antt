@@ -1,5 +1,5 @@
 -- What is marked at the lines of a text.
-use Rattle.std.specs.Prelude.{◌≡◌, ℕ, List, [], ◌∷◌, ◌++◌, map, Contains, Option, Some, None, option_and_then}
+use Rattle.std.specs.Prelude.{◌≡◌, ℕ, nat_lt, if◌then◌else◌, List, [], ◌∷◌, ◌++◌, length, map, Contains, Option, Some, None, option_and_then}
 use Rattle.std.specs.List.Sorted.{IsNonDecreasingBy, IsPermutation, IsStableByKey, IsStrictlySortedBy}
 use Rattle.std.specs.Ordering.{nat_cmp}
 use Rattle.std.specs.Option.{option_map_or, option_or}
@@ -34,6 +34,11 @@ warning_mark warning = record { line = warning.line; subject = Warning warning.k
 -- the mark of a text of another format
 abbrev pub format_mark : OtherFormat → Mark
 format_mark format = record { line = 1; subject = Format format }
+
+-- the sections of a text in spite of its lines at fault; one that is too large isn't read
+abbrev pub text_sections : List ℕ → List TextSection
+text_sections text =
+    if nat_lt 1048576 (length text) then [] else sections_read (lines_of text)
 
 -- ---- why no dictionary can be built
 

@@ -5,7 +5,11 @@ use Rattle.co_sheet_rows.specs.FaultTexts.{fault_name}
 use Rattle.co_sheet_rows.specs.declared.fault.FaultKind.{FaultKind}
 use Rattle.co_sheet_rows.specs.declared.fault.FaultKind.TheVariants as fault
 use Rattle.co_sheet_faults.specs.FaultWords as faults
+use Rattle.co_sheet_text.specs.Sections.{TextSection}
 use Rattle.co_sheet_warnings.specs.WarningWords as warnings
+use Rattle.co_sheet_warnings.specs.declared.warning.WarningKind.{WarningKind}
+use Rattle.co_sheet_warnings.specs.declared.warning.WarningKind.TheVariants as warning
+use Rattle.conode_lint_text.specs.Facts as facts
 use Rattle.conode_lint_text.specs.declared.finding.About.{About}
 use Rattle.conode_lint_text.specs.declared.finding.About.TheVariants as about
 use Rattle.conode_lint_text.specs.declared.finding.Place.{Place}
@@ -51,17 +55,51 @@ place_of (Build fault) = build_place fault
 place_of (Mapping fault) = Value
 place_of other = Beginning
 
-abbrev pub about_of : Subject → About
-about_of (Build fault) = build_about fault
-about_of (Mapping fault) = mapping_about fault
-about_of other = about.Line
+-- what it is about, at a line with this text among these sections: what the line alone doesn't show
+abbrev pub fault_about : List TextSection → ℕ → List ℕ → FaultKind → About
+fault_about sections line text fault.BadList = facts.bad_list line sections
+fault_about sections line text fault.ListedTwice = facts.listed_twice sections text
+fault_about sections line text fault.MissingKey = facts.missing_key line sections
+fault_about sections line text fault.DuplicateKey = facts.duplicate_key line sections text
+fault_about sections line text fault.DuplicateSection = facts.duplicate_section sections text
+fault_about sections line text other = about.Line
+
+abbrev pub warning_about : List TextSection → ℕ → List ℕ → WarningKind → About
+warning_about sections line text warning.SubNumber = facts.sub_number line sections text
+warning_about sections line text warning.SubIndex0 = facts.sub_index_0 line sections text
+warning_about sections line text warning.FileInfoKeys = facts.file_info line
+warning_about sections line text warning.DeviceInfoKeys = facts.device_info line
+warning_about sections line text warning.PdoCount = facts.pdo_count sections text
+warning_about sections line text warning.IdentityNumber = facts.identity_number sections text
+warning_about sections line text (warning.MisspeltKey known) = about.Misspelt
+warning_about sections line text other = about.Line
+
+abbrev pub about_of : List TextSection → ℕ → List ℕ → Subject → About
+about_of sections line text (Fault kind) = fault_about sections line text kind
+about_of sections line text (Build fault) = build_about fault
+about_of sections line text (Mapping fault) = mapping_about fault
+about_of sections line text (Warning kind) = warning_about sections line text kind
+about_of sections line text (Format format) = about.Line
+
+-- how to fix it: what `conode adapt` mends, by that; of a misspelt key what is wrong asks for the one
+-- that is meant
+abbrev pub fault_fix : FaultKind → List ℕ
+fault_fix fault.LeftOutType =
+    codes "run conode adapt, which gives it a supported type; or take the object out of its list"
+fault_fix fault.CompactForm =
+    codes "run conode adapt, or have the sheet's editor write each sub-index as a section of its own"
+fault_fix kind = faults.fix_of kind
+
+abbrev pub warning_fix : WarningKind → List ℕ
+warning_fix (warning.MisspeltKey known) = codes "write the key as the standard has it"
+warning_fix kind = warnings.fix_of kind
 
 abbrev pub fix_of : Subject → List ℕ
 fix_of (Format format) = format_fix format
-fix_of (Fault kind) = faults.fix_of kind
+fix_of (Fault kind) = fault_fix kind
 fix_of (Build fault) = build_fix fault
 fix_of (Mapping fault) = mapping_fix fault.reason
-fix_of (Warning kind) = warnings.fix_of kind
+fix_of (Warning kind) = warning_fix kind
 
 abbrev pub subject_of : Subject → List ℕ
 subject_of (Format format) = format_subject
@@ -70,13 +108,17 @@ subject_of (Build fault) = build_subject fault
 subject_of (Mapping fault) = mapping_subject
 subject_of (Warning kind) = warnings.subject_of kind
 
+abbrev pub warning_meaning : WarningKind → List ℕ
+warning_meaning (warning.MisspeltKey known) = warnings.fix_of (warning.MisspeltKey known)
+warning_meaning kind = warnings.meaning_of kind
+
 -- what is wrong, at a line, or 0 if no line is to blame
 abbrev pub meaning_at : ℕ → Subject → List ℕ
 meaning_at line (Format format) = format_meaning format
 meaning_at line (Fault kind) = faults.meaning_of (record { kind = kind; line = line })
 meaning_at line (Build fault) = build_meaning fault
 meaning_at line (Mapping fault) = mapping_meaning fault.reason
-meaning_at line (Warning kind) = warnings.meaning_of kind
+meaning_at line (Warning kind) = warning_meaning kind
 
 abbrev pub meaning_of : Mark → List ℕ
 meaning_of mark = meaning_at mark.line mark.subject

@@ -12,6 +12,7 @@ pub fn format_meaning(format: OtherFormat) -> &'static str
     match format {
         OtherFormat::Xml => "this is XML, as an XDD (CiA 311) is, and no EDS",
         OtherFormat::EtherNetIp => "this is an EDS of EtherNet/IP, and none of CANopen",
+        OtherFormat::Utf16 => "this is in UTF-16, and an EDS is in ASCII",
     }
 }
 
@@ -22,5 +23,6 @@ pub(crate) fn format_fix(format: OtherFormat) -> &'static str
     match format {
         OtherFormat::Xml => "export it as an EDS",
         OtherFormat::EtherNetIp => "ask the vendor for the EDS of its CANopen device",
+        OtherFormat::Utf16 => "save it as UTF-8",
     }
 }

@@ -1,16 +1,23 @@
 //! Linting a text.
 
-ghost use Rattle.std.specs.Prelude.{◌≡◌, [], map, take, IfOk, OnOk};
+ghost use Rattle.std.specs.Prelude.{◌≡◌, ◌≤◌, [], length, map, take, IfOk, OnOk};
+ghost use Rattle.co_sheet_text.specs.LinesAtFault.{sections_read};
+ghost use Rattle.co_sheet_text.specs.Text.{lines_of};
+ghost use Rattle.co_sheet_text.specs.Views.{section_view};
 ghost use Rattle.co_sheet_warnings.specs.Lines.{text_lines};
 ghost use Rattle.conode_lint.specs.Allowed.{error_count, is_error};
 ghost use Rattle.conode_lint.specs.Found.{finding_of, seen};
 ghost use Rattle.conode_lint.specs.Linted.{IsLinted, IsMadeOf, left};
+ghost use Rattle.conode_lint.specs.Marks.{text_sections};
 
 use crate::allowed::{add_kept, add_names};
 use crate::lines::line_at;
 use crate::mark::Mark;
 use crate::marks::{Checks, add_marks_of};
 use crate::words::{about_of, fix_of, meaning_of, name_of, place_of, severity_of, subject_of};
+use co_sheet::GREATEST_SIZE;
+use co_sheet_faults::read_sections;
+use co_sheet_text::{ParsedText, TextSection};
 use co_sheet_warnings::text_lines;
 use conode_lint_text::{Finding, Severity};
 use std::alloc::{AllocError, Global};
@@ -33,19 +40,21 @@ pub struct Linted<'a> {
 
 // the finding of a mark
 #[tactic(auto, unfolding(crate::specs::Found::finding_of))]
-fn finding_of<'a>(lines: &[&'a [u8]], mark: Mark) -> Finding<'a>
-    ensures { seen result ≡ finding_of (map (λ line. line.now) lines.now) mark }
+fn finding_of<'a>(lines: &[&'a [u8]], sections: &[TextSection<'_, '_>], mark: Mark) -> Finding<'a>
+    ensures { seen result ≡ finding_of (map (λ line. line.now) lines.now)
+        (map section_view sections.now) mark }
 {
+    let text = line_at(lines, mark.line);
     Finding {
         line: mark.line,
         place: place_of(mark.subject),
-        about: about_of(mark.subject),
+        about: about_of(sections, mark, text),
         severity: severity_of(mark.subject),
         name: name_of(mark.subject),
         meaning: meaning_of(mark),
         fix: fix_of(mark.subject),
         subject: subject_of(mark.subject),
-        text: line_at(lines, mark.line),
+        text,
     }
 }
 
@@ -53,14 +62,15 @@ fn finding_of<'a>(lines: &[&'a [u8]], mark: Mark) -> Finding<'a>
 fn add_findings<'a>(
     findings: &mut Vec<Finding<'a>>,
     lines: &[&'a [u8]],
+    sections: &[TextSection<'_, '_>],
     marks: &[Mark],
 ) -> Result<(), AllocError>
     requires { findings.old.items ≡ [] }
-    ensures { OnOk result (map seen findings.new.items
-        ≡ map (finding_of (map (λ line. line.now) lines.now)) marks.now) }
+    ensures { OnOk result (map seen findings.new.items ≡ map (finding_of
+        (map (λ line. line.now) lines.now) (map section_view sections.now)) marks.now) }
 {
     for mark in marks {
-        attempt_in_memory!(findings.push(finding_of(lines, *mark)));
+        attempt_in_memory!(findings.push(finding_of(lines, sections, *mark)));
     }
     Ok(())
 }
@@ -117,12 +127,18 @@ fn add_left(
 }
 
 // the findings of these marks, none of which is allowed
-fn made_of<'a>(alloc: Global, lines: &[&'a [u8]], marks: &[Mark]) -> Result<Linted<'a>, AllocError>
-    ensures { IfOk result (IsMadeOf (map (λ line. line.now) lines.now) marks.now) }
+fn made_of<'a>(
+    alloc: Global,
+    lines: &[&'a [u8]],
+    sections: &[TextSection<'_, '_>],
+    marks: &[Mark],
+) -> Result<Linted<'a>, AllocError>
+    ensures { IfOk result (IsMadeOf (map (λ line. line.now) lines.now)
+        (map section_view sections.now) marks.now) }
 {
     let errors = error_count(marks);
     let mut findings = Vec::new(alloc);
-    match add_findings(&mut findings, lines, first_marks(marks)) {
+    match add_findings(&mut findings, lines, sections, first_marks(marks)) {
         Ok(()) => Ok(Linted {
             findings,
             errors,
@@ -137,21 +153,61 @@ fn made_of<'a>(alloc: Global, lines: &[&'a [u8]], marks: &[Mark]) -> Result<Lint
 fn linted_of<'a>(
     alloc: Global,
     lines: &[&'a [u8]],
+    sections: &[TextSection<'_, '_>],
     checks: &Checks<'_>,
     found: &[Mark],
 ) -> Result<Linted<'a>, AllocError>
     ensures { IfOk result (IsMadeOf (map (λ line. line.now) lines.now)
+        (map section_view sections.now)
         (left (map (λ line. line.now) lines.now) checks.now found.now)) }
 {
     let mut marks = Vec::new(alloc);
     match add_left(alloc, &mut marks, lines, checks, found) {
-        Ok(()) => made_of(alloc, lines, marks.as_slice()),
+        Ok(()) => made_of(alloc, lines, sections, marks.as_slice()),
         Err(fault) => Err(fault),
     }
 }
 
-// what is found in a text with these lines
-fn linted_in<'a>(
+// what is found in a text with these lines and sections
+fn linted_in<'s, 'a>(
+    alloc: Global,
+    text: &'a [u8],
+    lines: &'s [&'a [u8]],
+    sections: &'s [TextSection<'s, 'a>],
+    checks: &Checks<'_>,
+) -> Result<Linted<'a>, AllocError>
+    requires lines { map (λ line. line.now) lines.now ≡ text_lines text.now }
+    requires sections { map section_view sections.now ≡ text_sections text.now }
+    ensures { IfOk result (IsLinted text.now checks.now) }
+{
+    let mut found = Vec::new(alloc);
+    match add_marks_of(alloc, &mut found, text, lines, sections, checks) {
+        Ok(()) => linted_of(alloc, lines, sections, checks, found.as_slice()),
+        Err(fault) => Err(fault),
+    }
+}
+
+// what is found in a text with these lines, parsed
+fn linted_parsed<'s, 'a>(
+    alloc: Global,
+    text: &'a [u8],
+    lines: &'s [&'a [u8]],
+    parsed: &'s ParsedText<'a>,
+    checks: &Checks<'_>,
+) -> Result<Linted<'a>, AllocError>
+    requires size { length text.now ≤ 1048576 }
+    requires lines { map (λ line. line.now) lines.now ≡ text_lines text.now }
+    requires parsed { parsed.now ≡ sections_read (lines_of text.now) }
+    ensures { IfOk result (IsLinted text.now checks.now) }
+{
+    match parsed.sections(alloc) {
+        Ok(sections) => linted_in(alloc, text, lines, sections.as_slice(), checks),
+        Err(fault) => Err(fault),
+    }
+}
+
+// what is found in a text with these lines; one that is too large has no sections
+fn linted_lines<'a>(
     alloc: Global,
     text: &'a [u8],
     lines: &[&'a [u8]],
@@ -160,9 +216,11 @@ fn linted_in<'a>(
     requires { map (λ line. line.now) lines.now ≡ text_lines text.now }
     ensures { IfOk result (IsLinted text.now checks.now) }
 {
-    let mut found = Vec::new(alloc);
-    match add_marks_of(alloc, &mut found, text, lines, checks) {
-        Ok(()) => linted_of(alloc, lines, checks, found.as_slice()),
+    if text.len() > GREATEST_SIZE {
+        return linted_in(alloc, text, lines, &[], checks);
+    }
+    match read_sections(alloc, text) {
+        Ok(parsed) => linted_parsed(alloc, text, lines, &parsed, checks),
         Err(fault) => Err(fault),
     }
 }
@@ -178,7 +236,7 @@ pub fn lint_text<'a>(
     ensures { IfOk result (IsLinted text.now checks.now) }
 {
     match text_lines(alloc, text) {
-        Ok(lines) => linted_in(alloc, text, lines.as_slice(), checks),
+        Ok(lines) => linted_lines(alloc, text, lines.as_slice(), checks),
         Err(fault) => Err(fault),
     }
 }

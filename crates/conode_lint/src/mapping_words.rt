@@ -74,7 +74,7 @@ const FIXES: [&str; 11] = [
     "map an entry of a numeric type",
     "map an entry from 2000h on",
     "an RPDO maps rw, rww and wo, a TPDO ro, rw, rwr and const",
-    "give the length as 8 bits (08h), for a BOOLEAN too",
+    "give the length as 8 bits (08h), for a BOOLEAN too; conode adapt --force empties the mapping",
     "give 8 bits for each byte of the type of that entry",
 ];
 

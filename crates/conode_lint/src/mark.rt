@@ -12,6 +12,8 @@ pub enum OtherFormat {
     Xml,
     /// An EDS of EtherNet/IP.
     EtherNetIp,
+    /// A text in UTF-16, by its byte order mark.
+    Utf16,
 }
 
 /// What is found.

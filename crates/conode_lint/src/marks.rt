@@ -19,6 +19,7 @@ ghost use Rattle.conode_lint.specs.Marks.{
   node_for,
   sheet_marks,
   sheet_of,
+  text_sections,
   warning_mark,
 };
 
@@ -27,8 +28,8 @@ use crate::mark::{Mark, OtherFormat, Subject};
 use crate::other_format::other_format;
 use co_dict_build::Limits;
 use co_sheet::{FaultKind, GREATEST_SIZE, Sheet, SheetFault, read};
-use co_sheet_faults::{all_faults, find_faults, read_sections};
-use co_sheet_text::{ParsedText, TextSection};
+use co_sheet_faults::{all_faults, find_faults};
+use co_sheet_text::TextSection;
 use co_sheet_warnings::{Warning, find_warnings};
 use std::alloc::{AllocError, Global};
 
@@ -174,61 +175,6 @@ fn add_marks<'s, 'a>(
     add_suspicious(alloc, marks, text, lines, sections, checks)
 }
 
-// adds the marks of a text with these lines, parsed, to none
-fn add_parsed<'a>(
-    alloc: Global,
-    marks: &mut Vec<Mark>,
-    text: &'a [u8],
-    lines: &[&'a [u8]],
-    parsed: &ParsedText<'a>,
-    sheet: &Option<Sheet<'_>>,
-    faults: &[SheetFault],
-    checks: &Checks<'_>,
-) -> Result<(), AllocError>
-    requires none { marks.old.items ≡ [] }
-    requires size { length text.now ≤ 1048576 }
-    requires lines { map (λ line. line.now) lines.now ≡ text_lines text.now }
-    requires parsed { parsed.now ≡ sections_read (lines_of text.now) }
-    requires sheet { sheet.now ≡ sheet_of text.now }
-    ensures { OnOk result (IsMarked text.now checks.now faults.now marks.new.items) }
-{
-    match parsed.sections(alloc) {
-        Ok(sections) => add_marks(
-            alloc,
-            marks,
-            text,
-            lines,
-            sections.as_slice(),
-            sheet,
-            faults,
-            checks,
-        ),
-        Err(fault) => Err(fault),
-    }
-}
-
-// adds the marks of a text with these lines to none
-fn add_marked<'a>(
-    alloc: Global,
-    marks: &mut Vec<Mark>,
-    text: &'a [u8],
-    lines: &[&'a [u8]],
-    sheet: &Option<Sheet<'_>>,
-    faults: &[SheetFault],
-    checks: &Checks<'_>,
-) -> Result<(), AllocError>
-    requires none { marks.old.items ≡ [] }
-    requires size { length text.now ≤ 1048576 }
-    requires lines { map (λ line. line.now) lines.now ≡ text_lines text.now }
-    requires sheet { sheet.now ≡ sheet_of text.now }
-    ensures { OnOk result (IsMarked text.now checks.now faults.now marks.new.items) }
-{
-    match read_sections(alloc, text) {
-        Ok(parsed) => add_parsed(alloc, marks, text, lines, &parsed, sheet, faults, checks),
-        Err(fault) => Err(fault),
-    }
-}
-
 // adds the marks of a text that is too large to be read to none: only that fault
 fn add_large(
     marks: &mut Vec<Mark>,
@@ -277,17 +223,19 @@ fn add_format(marks: &mut Vec<Mark>, format: OtherFormat) -> Result<(), AllocErr
 
 // adds what is found in a text with these lines and faults to none: only the format, if it is
 // another one, else all
-fn add_found<'a>(
+fn add_found<'s, 'a>(
     alloc: Global,
     marks: &mut Vec<Mark>,
     text: &'a [u8],
-    lines: &[&'a [u8]],
+    lines: &'s [&'a [u8]],
+    sections: &'s [TextSection<'s, 'a>],
     sheet: &Option<Sheet<'_>>,
     faults: &[SheetFault],
     checks: &Checks<'_>,
 ) -> Result<(), AllocError>
     requires none { marks.old.items ≡ [] }
     requires lines { map (λ line. line.now) lines.now ≡ text_lines text.now }
+    requires sections { map section_view sections.now ≡ text_sections text.now }
     requires sheet { sheet.now ≡ sheet_of text.now }
     requires small { IfSome sheet.now (λ _. length text.now ≤ 1048576) }
     ensures { OnOk result (IsFoundIn text.now checks.now faults.now marks.new.items
@@ -300,46 +248,59 @@ fn add_found<'a>(
         attempt!(add_large(marks, text, sheet, faults, checks));
         return put_by_line(marks);
     }
-    attempt!(add_marked(alloc, marks, text, lines, sheet, faults, checks));
+    attempt!(add_marks(alloc, marks, text, lines, sections, sheet, faults, checks));
     put_by_line(marks)
 }
 
-// adds what is found in a text with these lines and this sheet to none
-fn add_of_sheet<'a>(
+// adds what is found in a text with these lines and sections and this sheet to none
+fn add_of_sheet<'s, 'a>(
     alloc: Global,
     marks: &mut Vec<Mark>,
     text: &'a [u8],
-    lines: &[&'a [u8]],
+    lines: &'s [&'a [u8]],
+    sections: &'s [TextSection<'s, 'a>],
     sheet: &Option<Sheet<'_>>,
     checks: &Checks<'_>,
 ) -> Result<(), AllocError>
     requires none { marks.old.items ≡ [] }
     requires lines { map (λ line. line.now) lines.now ≡ text_lines text.now }
+    requires sections { map section_view sections.now ≡ text_sections text.now }
     requires sheet { sheet.now ≡ sheet_of text.now }
     requires small { IfSome sheet.now (λ _. length text.now ≤ 1048576) }
     ensures { OnOk result (IsFound text.now checks.now marks.new.items) }
 {
     match faults_of(alloc, text, sheet) {
-        Ok(faults) => add_found(alloc, marks, text, lines, sheet, faults.as_slice(), checks),
+        Ok(faults) => add_found(
+            alloc,
+            marks,
+            text,
+            lines,
+            sections,
+            sheet,
+            faults.as_slice(),
+            checks,
+        ),
         Err(fault) => Err(fault),
     }
 }
 
-/// Adds everything that is found in a text with these lines, by line, to no marks. For a text with
-/// faults that is of another format, only that is found. `Err`: out of memory.
-pub(crate) fn add_marks_of<'a>(
+/// Adds everything that is found in a text with these lines and sections, by line, to no marks. For
+/// a text with faults that is of another format, only that is found. `Err`: out of memory.
+pub(crate) fn add_marks_of<'s, 'a>(
     alloc: Global,
     marks: &mut Vec<Mark>,
     text: &'a [u8],
-    lines: &[&'a [u8]],
+    lines: &'s [&'a [u8]],
+    sections: &'s [TextSection<'s, 'a>],
     checks: &Checks<'_>,
 ) -> Result<(), AllocError>
     requires none { marks.old.items ≡ [] }
     requires lines { map (λ line. line.now) lines.now ≡ text_lines text.now }
+    requires sections { map section_view sections.now ≡ text_sections text.now }
     ensures { OnOk result (IsFound text.now checks.now marks.new.items) }
 {
     match sheet_of(alloc, text) {
-        Ok(sheet) => add_of_sheet(alloc, marks, text, lines, &sheet, checks),
+        Ok(sheet) => add_of_sheet(alloc, marks, text, lines, sections, &sheet, checks),
         Err(fault) => Err(fault),
     }
 }

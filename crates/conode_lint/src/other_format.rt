@@ -1,7 +1,14 @@
 //! Texts of another format.
 
 ghost use Rattle.std.specs.Prelude.{◌≡◌, map, IfOk};
-ghost use Rattle.conode_lint.specs.Formats.{begins_with, has_line, other_format, text_format};
+ghost use Rattle.conode_lint.specs.Formats.{
+  begins_in_utf16,
+  begins_with,
+  has_line,
+  is_utf16,
+  other_format,
+  text_format,
+};
 
 use crate::mark::OtherFormat;
 use co_sheet_text::{same_name, trim};
@@ -27,12 +34,30 @@ fn has_line(lines: &[&[u8]], word: &[u8]) -> bool
     false
 }
 
+// whether a line begins with a byte order mark of UTF-16
+fn is_utf16(line: &[u8]) -> bool
+    ensures { result ≡ is_utf16 line.now }
+{
+    matches!(line, [0xFF, 0xFE, ..] | [0xFE, 0xFF, ..])
+}
+
+fn begins_in_utf16(lines: &[&[u8]]) -> bool
+    ensures { result ≡ begins_in_utf16 (map (λ line. line.now) lines.now) }
+{
+    match lines {
+        [first, ..] => is_utf16(first),
+        _ => false,
+    }
+}
+
 /// The format of a text with faults, if it is no data sheet of CANopen.
 #[tactic(auto, unfolding(crate::specs::Formats::other_format))]
 pub(crate) fn other_format(lines: &[&[u8]]) -> Option<OtherFormat>
     ensures { result ≡ other_format (map (λ line. line.now) lines.now) }
 {
-    if has_line(lines, b"<?xml") || has_line(lines, b"<ISO15745") {
+    if begins_in_utf16(lines) {
+        Some(OtherFormat::Utf16)
+    } else if has_line(lines, b"<?xml") || has_line(lines, b"<ISO15745") {
         Some(OtherFormat::Xml)
     } else if has_line(lines, b"[Device]") && has_line(lines, b"VendCode") {
         Some(OtherFormat::EtherNetIp)

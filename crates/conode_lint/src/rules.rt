@@ -65,17 +65,17 @@ static SUBJECTS: [Subject; 50] = [
     Subject::Warning(WarningKind::LineEnds),
 ];
 
-// the rule of a kind; how to fix a misspelt key doesn't say which key is meant
+// the rule of a kind; what is wrong with a misspelt key doesn't ask for the one that is meant
 fn rule_of(subject: Subject) -> Rule<'static> {
-    let fix = match subject {
-        Subject::Warning(WarningKind::MisspeltKey(_)) => "write the key as the standard has it",
-        _ => fix_of(subject),
+    let meaning = match subject {
+        Subject::Warning(kind) => co_sheet_warnings::meaning_of(kind),
+        _ => meaning_of(Mark { line: 1, subject }),
     };
     Rule {
         name: name_of(subject),
         severity: severity_of(subject),
-        meaning: meaning_of(Mark { line: 1, subject }),
-        fix,
+        meaning,
+        fix: fix_of(subject),
         subject: subject_of(subject),
     }
 }

@@ -1,8 +1,11 @@
 //! The words about what is found.
 
-ghost use Rattle.std.specs.Prelude.{◌≡◌};
+ghost use Rattle.std.specs.Prelude.{◌≡◌, map};
+ghost use Rattle.co_sheet_text.specs.Views.{section_view};
 ghost use Rattle.conode_lint.specs.Words.{
   about_of,
+  fault_about,
+  fault_fix,
   fault_place,
   fix_of,
   meaning_of,
@@ -10,6 +13,9 @@ ghost use Rattle.conode_lint.specs.Words.{
   place_of,
   severity_of,
   subject_of,
+  warning_about,
+  warning_fix,
+  warning_meaning,
 };
 
 use crate::build_words::{build_about, build_fix, build_meaning, build_place, build_subject};
@@ -17,7 +23,12 @@ use crate::format_words::{format_fix, format_meaning};
 use crate::mapping_words::{mapping_about, mapping_fix, mapping_meaning};
 use crate::mark::{Mark, Subject};
 use co_sheet_faults::{FaultKind, SheetFault};
-use conode_lint_text::{About, Place, Severity};
+use co_sheet_text::TextSection;
+use co_sheet_warnings::WarningKind;
+use conode_lint_text::{
+    About, Place, Severity, bad_list, device_info, duplicate_key, duplicate_section, file_info,
+    identity_number, listed_twice, missing_key, pdo_count, sub_index_0, sub_number,
+};
 
 /// Its name, as `BadList`.
 pub(crate) fn name_of(subject: Subject) -> &'static str
@@ -74,14 +85,59 @@ pub(crate) fn place_of(subject: Subject) -> Place
     }
 }
 
-/// What it is about, if the line doesn't show it.
-pub(crate) fn about_of(subject: Subject) -> About
-    ensures { result ≡ about_of subject }
+fn fault_about(sections: &[TextSection<'_, '_>], line: usize, text: &[u8], kind: FaultKind) -> About
+    ensures { result ≡ fault_about (map section_view sections.now) line text.now kind }
 {
-    match subject {
+    match kind {
+        FaultKind::BadList => bad_list(sections, line),
+        FaultKind::ListedTwice => listed_twice(sections, text),
+        FaultKind::MissingKey => missing_key(sections, line),
+        FaultKind::DuplicateKey => duplicate_key(sections, line, text),
+        FaultKind::DuplicateSection => duplicate_section(sections, text),
+        _ => About::Line,
+    }
+}
+
+fn warning_about(
+    sections: &[TextSection<'_, '_>],
+    line: usize,
+    text: &[u8],
+    kind: WarningKind,
+) -> About
+    ensures { result ≡ warning_about (map section_view sections.now) line text.now kind }
+{
+    match kind {
+        WarningKind::SubNumber => sub_number(sections, line, text),
+        WarningKind::SubIndex0 => sub_index_0(sections, line, text),
+        WarningKind::FileInfoKeys => file_info(line),
+        WarningKind::DeviceInfoKeys => device_info(line),
+        WarningKind::PdoCount => pdo_count(sections, text),
+        WarningKind::IdentityNumber => identity_number(sections, text),
+        WarningKind::MisspeltKey(_) => About::Misspelt,
+        _ => About::Line,
+    }
+}
+
+/// What it is about, if its line alone, which has this text, doesn't show it.
+pub(crate) fn about_of(sections: &[TextSection<'_, '_>], mark: Mark, text: &[u8]) -> About
+    ensures { result ≡ about_of (map section_view sections.now) mark.line text.now mark.subject }
+{
+    match mark.subject {
+        Subject::Fault(kind) => fault_about(sections, mark.line, text, kind),
         Subject::Build(fault) => build_about(fault),
         Subject::Mapping(fault) => mapping_about(fault),
-        Subject::Format(_) | Subject::Fault(_) | Subject::Warning(_) => About::Line,
+        Subject::Warning(kind) => warning_about(sections, mark.line, text, kind),
+        Subject::Format(_) => About::Line,
+    }
+}
+
+// of a misspelt key, the question for the one that is meant
+fn warning_meaning(kind: WarningKind) -> &'static str
+    ensures { result.now ≡ warning_meaning kind }
+{
+    match kind {
+        WarningKind::MisspeltKey(_) => co_sheet_warnings::fix_of(kind),
+        _ => co_sheet_warnings::meaning_of(kind),
     }
 }
 
@@ -100,7 +156,32 @@ pub(crate) fn meaning_of(mark: Mark) -> &'static str
         }
         Subject::Build(fault) => build_meaning(fault),
         Subject::Mapping(fault) => mapping_meaning(fault.reason),
-        Subject::Warning(kind) => co_sheet_warnings::meaning_of(kind),
+        Subject::Warning(kind) => warning_meaning(kind),
+    }
+}
+
+// what `conode adapt` mends, by that
+fn fault_fix(kind: FaultKind) -> &'static str
+    ensures { result.now ≡ fault_fix kind }
+{
+    match kind {
+        FaultKind::LeftOutType => {
+            "run conode adapt, which gives it a supported type; or take the object out of its list"
+        }
+        FaultKind::CompactForm => {
+            "run conode adapt, or have the sheet's editor write each sub-index as a section of its \
+            own"
+        }
+        _ => co_sheet_faults::fix_of(kind),
+    }
+}
+
+fn warning_fix(kind: WarningKind) -> &'static str
+    ensures { result.now ≡ warning_fix kind }
+{
+    match kind {
+        WarningKind::MisspeltKey(_) => "write the key as the standard has it",
+        _ => co_sheet_warnings::fix_of(kind),
     }
 }
 
@@ -110,10 +191,10 @@ pub(crate) fn fix_of(subject: Subject) -> &'static str
 {
     match subject {
         Subject::Format(format) => format_fix(format),
-        Subject::Fault(kind) => co_sheet_faults::fix_of(kind),
+        Subject::Fault(kind) => fault_fix(kind),
         Subject::Build(fault) => build_fix(fault),
         Subject::Mapping(fault) => mapping_fix(fault.reason),
-        Subject::Warning(kind) => co_sheet_warnings::fix_of(kind),
+        Subject::Warning(kind) => warning_fix(kind),
     }
 }
 

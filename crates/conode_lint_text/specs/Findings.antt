@@ -5,8 +5,9 @@ use Rattle.co_text.specs.Printed.{digits_text}
 use Rattle.conode_text.specs.Filled.{filled}
 use Rattle.conode_json.specs.Characters.{characters_of}
 use Rattle.conode_lint_text.specs.Characters.{blanks}
+use Rattle.conode_lint_text.specs.FactTexts.{fact_text}
 use Rattle.conode_lint_text.specs.declared.finding.About.{About}
-use Rattle.conode_lint_text.specs.declared.finding.About.TheVariants.{Line, Object, Entry, Bits}
+use Rattle.conode_lint_text.specs.declared.finding.About.TheVariants.{Line, Object, Entry, Bits, FirstAt, Misspelt, Fact}
 use Rattle.conode_lint_text.specs.declared.finding.Finding.{Finding}
 use Rattle.conode_lint_text.specs.declared.finding.Place.{Place}
 use Rattle.conode_lint_text.specs.declared.finding.Place.TheVariants.{Beginning, Value}
@@ -36,7 +37,8 @@ column_of finding =
     if finding.line == 0 then 0 else place_in finding.place (characters_of finding.text.now) + 1
 
 -- what is wrong, after what it is about if the line doesn't show that: an object, an entry, or an entry
--- with how many bits a mapping maps
+-- with how many bits a mapping maps; of what comes twice with the first one's line; of a misspelt key,
+-- what is meant; or else what the sheet has there
 unfoldable pub about_message : About → List ℕ → List ℕ
 about_message Line meaning = meaning
 about_message (Object index) meaning = filled (codes "%: %") (digits_text 16 4 index ∷ meaning ∷ [])
@@ -44,6 +46,10 @@ about_message (Entry index sub_index) meaning =
     filled (codes "%:%: %") (digits_text 16 4 index ∷ digits_text 16 2 sub_index ∷ meaning ∷ [])
 about_message (Bits index bits) meaning =
     filled (codes "%:00: % bits in all: %") (digits_text 16 4 index ∷ decimal bits ∷ meaning ∷ [])
+about_message (FirstAt line) meaning =
+    filled (codes "%, first at line %") (meaning ∷ decimal line ∷ [])
+about_message Misspelt meaning = filled (codes "the standard has no such key: %") (meaning ∷ [])
+about_message (Fact fact) meaning = fact_text fact
 
 -- what is wrong
 unfoldable pub message_of : Finding → List ℕ

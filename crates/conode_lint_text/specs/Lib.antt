@@ -1,4 +1,6 @@
 pub mod Characters
+pub mod FactTexts
+pub mod Facts
 pub mod Findings
 pub mod TextForm
 pub mod Members

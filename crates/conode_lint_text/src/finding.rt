@@ -1,5 +1,7 @@
 //! What `lint` finds.
 
+use crate::fact::Fact;
+
 /// The severity of a finding.
 #[derive(Clone, Copy)]
 pub enum Severity {
@@ -29,6 +31,12 @@ pub enum About {
     Entry(u16, u8),
     /// The count of a PDO's mapping, by the index of the mapping, and how many bits it maps in all.
     Bits(u16, u16),
+    /// What comes a second time, by the line of the first.
+    FirstAt(usize),
+    /// A key that the standard doesn't have; what is wrong asks for the one that is meant.
+    Misspelt,
+    /// What the sheet has there, which is said in place of what is wrong.
+    Fact(Fact),
 }
 
 /// What is found at a line of a file.

@@ -13,6 +13,8 @@ macro_rules! attempt {
 
 mod characters;
 mod column;
+mod fact;
+mod facts;
 mod finding;
 mod json_form;
 mod member;
@@ -22,6 +24,11 @@ mod sarif_form;
 mod text_form;
 mod words;
 
+pub use fact::Fact;
+pub use facts::{
+    bad_list, device_info, duplicate_key, duplicate_section, file_info, identity_number,
+    listed_twice, missing_key, pdo_count, sub_index_0, sub_number,
+};
 pub use finding::{About, Finding, Place, Rule, Severity};
 pub use json_form::{put_document_end, put_document_head, put_file};
 pub use sarif_form::{put_log_end, put_log_head, put_results};

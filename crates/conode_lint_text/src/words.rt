@@ -3,6 +3,7 @@
 ghost use Rattle.std.specs.Prelude.{◌≡◌, ◌++◌, OnOk, string_bytes};
 ghost use Rattle.conode_lint_text.specs.Findings.{about_message, help_of, message_of, severity_name};
 
+use crate::fact::push_fact;
 use crate::finding::{About, Finding, Severity};
 use conode_text::{Value, push_filled};
 use std::alloc::AllocError;
@@ -47,6 +48,17 @@ fn push_about(text: &mut String, about: About, meaning: &str) -> Result<(), Allo
                 Value::Words(meaning),
             ],
         ),
+        About::FirstAt(line) => push_filled(
+            text,
+            "%, first at line %",
+            &[Value::Words(meaning), Value::Number(line as u64)],
+        ),
+        About::Misspelt => push_filled(
+            text,
+            "the standard has no such key: %",
+            &[Value::Words(meaning)],
+        ),
+        About::Fact(fact) => push_fact(text, fact),
     }
 }
 

@@ -1,0 +1,136 @@
+-- What a sheet has where a finding is, evaluated.
+use Rattle.std.proofs.Common.{◌≡◌, ℕ, List, [], ◌∷◌, codes, refl}
+use Rattle.std.specs.Fmt.{digits}
+use Rattle.conode_text.specs.Filled.{filled}
+use Rattle.co_sheet_text.specs.declared.section_kind.SectionKind.{SectionKind}
+use Rattle.co_sheet_text.specs.declared.section_kind.SectionKind.TheVariants.{MandatoryObjects, OptionalObjects, ManufacturerObjects, Object, SubIndex}
+use Rattle.co_sheet_text.specs.Sections.{Property, TextSection}
+use Rattle.conode_lint_text.specs.declared.finding.About.{About}
+use Rattle.conode_lint_text.specs.declared.finding.About.TheVariants.{Line, FirstAt, Misspelt, Fact}
+use Rattle.conode_lint_text.specs.declared.fact.Fact.TheVariants as fact
+use Rattle.conode_lint_text.specs.FactTexts.{count_text, fact_text}
+use Rattle.conode_lint_text.specs.Facts.{bad_list, count_fact, device_info, duplicate_key, duplicate_section, file_info, identity_number, list_fact, listed_twice, missing_key, pdo_count, sub_index_0, sub_number}
+use Rattle.conode_lint_text.specs.Findings.{about_message}
+
+-- ---- the sentences
+
+lists : fact_text fact.NoCount ∷ fact_text (fact.ListGap 7 6 3) ∷ fact_text (fact.ListCount 3 2) ∷ fact_text fact.HighIndex ∷ []
+    ≡ codes "the list has no SupportedObjects" ∷ codes "the list counts 7 objects and has 6: key 3 is missing"
+    ∷ codes "the list counts 3 objects and has 2 of the keys 1 to 3" ∷ codes "an index of the list is above 0xFFFF" ∷ []
+unfolding fact_text count_text filled digits
+lists = refl
+
+keys : fact_text fact.NoType ∷ fact_text fact.NoAccess ∷ fact_text fact.NoTypeOrAccess ∷ []
+    ≡ codes "the entry has no DataType" ∷ codes "the entry has no AccessType" ∷ codes "the entry has neither DataType nor AccessType" ∷ []
+unfolding fact_text
+keys = refl
+
+infos : fact_text fact.NoFileInfo ∷ fact_text fact.FileInfoLacks ∷ fact_text fact.NoDeviceInfo ∷ fact_text fact.DeviceInfoLacks ∷ []
+    ≡ codes "there is no section [FileInfo]" ∷ codes "FileInfo lacks a key that it has to have"
+    ∷ codes "there is no section [DeviceInfo]" ∷ codes "DeviceInfo lacks a key that it has to have" ∷ []
+unfolding fact_text
+infos = refl
+
+counts : fact_text (fact.SubNumber 3 4) ∷ fact_text (fact.NoSubNumber 4) ∷ fact_text (fact.SubIndex0 2 4) ∷ []
+    ≡ codes "SubNumber is 3, and the number of the object's sub-index sections is 4"
+    ∷ codes "SubNumber is no number, and the number of the object's sub-index sections is 4"
+    ∷ codes "sub-index 0 is 2, and the highest sub-index of the object is 4" ∷ []
+unfolding fact_text count_text filled digits
+counts = refl
+
+device : fact_text (fact.RpdoCount 1 0) ∷ fact_text (fact.TpdoCount 2 4) ∷ fact_text (fact.Identity 5 61858) ∷ []
+    ≡ codes "NrOfRXPDO is 1, and the number of the sheet's RPDOs is 0" ∷ codes "NrOfTXPDO is 2, and the number of the sheet's TPDOs is 4"
+    ∷ codes "the number is 5, and that of the identity object is 61858" ∷ []
+unfolding fact_text count_text filled digits
+device = refl
+
+with_meaning : about_message (FirstAt 40) (codes "m") ∷ about_message Misspelt (codes "did you mean A") ∷ about_message (Fact fact.NoType) (codes "m") ∷ []
+    ≡ codes "m, first at line 40" ∷ codes "the standard has no such key: did you mean A" ∷ codes "the entry has no DataType" ∷ []
+unfolding about_message fact_text filled digits
+with_meaning = refl
+
+-- ---- the sections of a sheet, each with its line, and their properties at the lines after it
+
+abbrev property : ℕ → List ℕ → List ℕ → Property
+property line name value = record { name = name; value = value; line = line }
+
+abbrev section : ℕ → SectionKind → List Property → TextSection
+section line kind properties = record { kind = kind; name = []; line = line; properties = properties }
+
+-- the key 2 is missing
+abbrev mandatory : TextSection
+mandatory = section 1 MandatoryObjects
+    (property 2 (codes "SupportedObjects") (codes "3") ∷ property 3 (codes "1") (codes "0x1000")
+    ∷ property 4 (codes "3") (codes "0x1001") ∷ property 5 (codes "4") (codes "0x1018") ∷ [])
+
+-- the index isn't one
+abbrev optional : TextSection
+optional = section 10 OptionalObjects
+    (property 11 (codes "supportedobjects") (codes "1") ∷ property 12 (codes "1") (codes "0x10000") ∷ [])
+
+abbrev manufacturer : TextSection
+manufacturer = section 20 ManufacturerObjects (property 21 (codes "1") (codes "0x2000") ∷ [])
+
+abbrev sections : List TextSection
+sections =
+    mandatory ∷ optional ∷ manufacturer
+    ∷ section 30 (Object 0x1000) (property 31 (codes "DataType") (codes "7") ∷ [])
+    ∷ section 40 (Object 0x1001) (property 41 (codes "accesstype") (codes "ro") ∷ [])
+    ∷ section 50 (Object 0x1018) []
+    ∷ section 60 (SubIndex (record { index = 0x1018; sub = 0 })) []
+    ∷ section 70 (SubIndex (record { index = 0x1018; sub = 1 })) (property 71 (codes "DefaultValue") (codes "0x12") ∷ [])
+    ∷ section 80 (SubIndex (record { index = 0x1018; sub = 2 })) (property 81 (codes "DefaultValue") (codes "3") ∷ property 82 (codes "ParameterValue") (codes "4") ∷ [])
+    ∷ section 90 (SubIndex (record { index = 0x1018; sub = 255 })) []
+    ∷ section 100 (Object 0x1400) [] ∷ section 110 (Object 0x15FF) [] ∷ section 120 (Object 0x1600) [] ∷ section 130 (Object 0x1800) [] ∷ []
+
+-- of a line where no section begins, nothing
+bad_lists : bad_list 1 sections ∷ bad_list 10 sections ∷ bad_list 20 sections ∷ bad_list 2 sections ∷ []
+    ≡ Fact (fact.ListGap 3 2 2) ∷ Fact fact.HighIndex ∷ Fact fact.NoCount ∷ Line ∷ []
+bad_lists = refl
+
+-- 2, 1 and then 4: the key after them isn't known from their order
+other_order : list_fact (section 1 MandatoryObjects
+    (property 2 (codes "SupportedObjects") (codes "4") ∷ property 3 (codes "2") (codes "0x1000") ∷ property 4 (codes "1") (codes "0x1001") ∷ property 5 (codes "4") (codes "0x1018") ∷ []))
+    ≡ Fact (fact.ListCount 4 3)
+other_order = refl
+
+-- more than 65,535 objects are too many, though each has its key
+too_many : count_fact 65536 [] 65536 ≡ Line
+too_many = refl
+
+missing_keys : missing_key 30 sections ∷ missing_key 40 sections ∷ missing_key 50 sections ∷ missing_key 31 sections ∷ []
+    ≡ Fact fact.NoAccess ∷ Fact fact.NoType ∷ Fact fact.NoTypeOrAccess ∷ Line ∷ []
+missing_keys = refl
+
+-- in the section that the line is in; in any case of letters
+duplicate_keys : duplicate_key 35 sections (codes " datatype = 8") ∷ duplicate_key 45 sections (codes "AccessType=rw") ∷ duplicate_key 45 sections (codes "DataType=7") ∷ []
+    ≡ FirstAt 31 ∷ FirstAt 41 ∷ Line ∷ []
+duplicate_keys = refl
+
+-- in any spelling of the index
+duplicate_sections : duplicate_section sections (codes "[1018]") ∷ duplicate_section sections (codes " [ 1018SUB01 ] ; again") ∷ duplicate_section sections (codes "[2000]") ∷ []
+    ≡ FirstAt 50 ∷ FirstAt 70 ∷ Line ∷ []
+duplicate_sections = refl
+
+-- the key 4 of the first list is past its count, and the third list has none
+listed : listed_twice sections (codes "5=4096") ∷ listed_twice sections (codes "5=0x1001") ∷ listed_twice sections (codes "5=0x1018") ∷ listed_twice sections (codes "5=0x2000") ∷ []
+    ≡ FirstAt 3 ∷ FirstAt 4 ∷ Line ∷ Line ∷ []
+listed = refl
+
+-- 1018h has four sub-index sections; of those FFh isn't counted as the highest
+sub_indices : sub_number 55 sections (codes "SubNumber=3") ∷ sub_number 55 sections (codes "SubNumber=x") ∷ sub_number 65 sections (codes "SubNumber=3") ∷ sub_index_0 65 sections (codes "DefaultValue=4") ∷ []
+    ≡ Fact (fact.SubNumber 3 4) ∷ Fact (fact.NoSubNumber 4) ∷ Line ∷ Fact (fact.SubIndex0 4 2) ∷ []
+sub_indices = refl
+
+-- 1400h and 15FFh; 1800h
+pdo_counts : pdo_count sections (codes "NrOfRxPdo=3") ∷ pdo_count sections (codes "NrOfTXPDO = 0x10") ∷ pdo_count sections (codes "NrOfTXPDO=") ∷ []
+    ≡ Fact (fact.RpdoCount 3 2) ∷ Fact (fact.TpdoCount 16 1) ∷ Line ∷ []
+pdo_counts = refl
+
+infos_at : file_info 0 ∷ file_info 1 ∷ device_info 0 ∷ device_info 1 ∷ [] ≡ Fact fact.NoFileInfo ∷ Fact fact.FileInfoLacks ∷ Fact fact.NoDeviceInfo ∷ Fact fact.DeviceInfoLacks ∷ []
+infos_at = refl
+
+-- DefaultValue, ParameterValue before it, and a sub-index that isn't there
+identities : identity_number sections (codes "VendorNumber=1") ∷ identity_number sections (codes "productnumber=1") ∷ identity_number sections (codes "RevisionNumber=1") ∷ []
+    ≡ Fact (fact.Identity 1 18) ∷ Fact (fact.Identity 1 4) ∷ Line ∷ []
+identities = refl

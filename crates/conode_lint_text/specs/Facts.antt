@@ -1,0 +1,267 @@
+-- What a sheet has where a finding is (CiA 306-1, structure of an EDS, object lists, object
+-- description, device information): its sections as they are read in spite of lines at fault, and
+-- the text of the finding's line.
+use Rattle.std.specs.Prelude.{ℕ, ◌+◌, ◌==◌, nat_lt, nat_le, max, fold, Bool, true, false, ◌&&◌, if◌then◌else◌, List, [], ◌∷◌, drop, find, count_by, codes, Option, Some, None, is_some, option_and_then, option_map}
+use Rattle.std.specs.List.{list_any, before_first, after_first}
+use Rattle.std.specs.Option.{option_map_or, option_or}
+use Rattle.std.specs.Result.{result_ok}
+use Rattle.co_sheet_text.specs.declared.section_kind.SectionKind.{SectionKind}
+use Rattle.co_sheet_text.specs.declared.section_kind.SectionKind.TheVariants.{Object, SubIndex}
+use Rattle.co_sheet_text.specs.Names.{is_list, kind_of, number_in}
+use Rattle.co_sheet_text.specs.Numerals.{is_number_in, unsigned_number}
+use Rattle.co_sheet_text.specs.Properties.{number_at, property_number}
+use Rattle.co_sheet_text.specs.Sections.{Property, TextSection, is_bracket, is_equals, property_at, section_at}
+use Rattle.co_sheet_text.specs.Text.{same_name, trim}
+use Rattle.conode_lint_text.specs.declared.fact.Fact.{Fact as SheetFact}
+use Rattle.conode_lint_text.specs.declared.fact.Fact.TheVariants as fact
+use Rattle.conode_lint_text.specs.declared.finding.About.{About}
+use Rattle.conode_lint_text.specs.declared.finding.About.TheVariants.{Line, FirstAt, Fact}
+
+-- ---- sections
+
+-- the section that begins at a line
+abbrev pub section_on : ℕ → List TextSection → Option TextSection
+section_on line sections = find (λ s. s.line == line) sections
+
+-- the section that a line is in: the last that begins before it
+abbrev pub last_before : ℕ → Option TextSection → List TextSection → Option TextSection
+last_before line last sections =
+    fold (λ found s. if nat_lt s.line line then Some s else found) last sections
+
+abbrev pub section_before : ℕ → List TextSection → Option TextSection
+section_before line sections = last_before line None sections
+
+-- ---- the key on a line: its name, and the number of its value
+
+abbrev pub key_name : List ℕ → List ℕ
+key_name text = if list_any is_equals text then trim (before_first is_equals text) else []
+
+abbrev pub key_number : List ℕ → Option ℕ
+key_number text =
+    if list_any is_equals text
+    then result_ok (unsigned_number (trim (after_first is_equals text))) else None
+
+-- ---- object lists
+
+-- a key that is a number up to this one
+abbrev pub is_key_to : ℕ → List ℕ → Bool
+is_key_to most name = is_number_in 10 name && nat_le (number_in 10 name) most
+
+abbrev pub key_count : ℕ → List Property → ℕ
+key_count most properties = count_by (λ k. is_key_to most k.name) properties
+
+-- the key after 1, 2, 3 and so on, as far as they come one after another
+abbrev pub is_key_at : ℕ → List ℕ → Bool
+is_key_at place name = is_number_in 10 name && (number_in 10 name == place)
+
+abbrev pub next_from : ℕ → List Property → ℕ
+next_from first properties =
+    fold (λ next k. if is_key_at next k.name then next + 1 else next) first properties
+
+abbrev pub next_key : List Property → ℕ
+next_key properties = next_from 1 properties
+
+-- whether a key is there
+abbrev pub has_key : ℕ → List Property → Bool
+has_key place properties = list_any (λ k. is_key_at place k.name) properties
+
+-- a list that counts so many objects, and has so many keys of them, where one is missing: the first,
+-- unless keys come in another order
+abbrev pub gap_fact : ℕ → ℕ → List Property → ℕ → About
+gap_fact counted has properties next =
+    if has_key next properties then Fact (fact.ListCount counted has)
+    else Fact (fact.ListGap counted has next)
+
+-- or where an index is too high
+abbrev pub count_fact : ℕ → List Property → ℕ → About
+count_fact counted properties has =
+    if nat_lt has counted then gap_fact counted has properties (next_key properties)
+    else if nat_lt 65535 counted then Line
+    else Fact fact.HighIndex
+
+abbrev pub counted_fact : TextSection → ℕ → About
+counted_fact list counted =
+    count_fact counted list.properties (key_count counted list.properties)
+
+abbrev pub list_fact : TextSection → About
+list_fact list =
+    option_map_or (counted_fact list) (number_at (codes "SupportedObjects") list)
+    (Fact fact.NoCount)
+
+-- of the BadList of the section at a line
+abbrev pub bad_list : ℕ → List TextSection → About
+bad_list line sections = option_map_or list_fact (section_on line sections) Line
+
+-- the line where a list names an index
+abbrev pub is_number : ℕ → Option ℕ → Bool
+is_number n number = option_map_or (λ m. m == n) number false
+
+abbrev pub names_index : ℕ → ℕ → Property → Bool
+names_index index counted k = is_number index (property_number k) && is_key_to counted k.name
+
+abbrev pub listed_in : ℕ → ℕ → List Property → Option ℕ
+listed_in index counted properties =
+    option_map (λ k. k.line) (find (names_index index counted) properties)
+
+abbrev pub list_line : ℕ → TextSection → Option ℕ
+list_line index s =
+    if is_list s.kind
+    then option_and_then (λ counted. listed_in index counted s.properties)
+    (number_at (codes "SupportedObjects") s) else None
+
+-- the first line where the lists name an index
+abbrev pub listed_line : ℕ → List TextSection → Option ℕ
+listed_line index [] = None
+listed_line index (s ∷ sections) = option_or (list_line index s) (listed_line index sections)
+
+-- of the ListedTwice of a line
+abbrev pub first_listed : List TextSection → ℕ → About
+first_listed sections index = option_map_or (λ line. FirstAt line) (listed_line index sections) Line
+
+abbrev pub listed_twice : List TextSection → List ℕ → About
+listed_twice sections text = option_map_or (first_listed sections) (key_number text) Line
+
+-- ---- keys and sections
+
+-- of an entry that has DataType or AccessType, or not
+abbrev pub key_fact : Bool → Bool → About
+key_fact false false = Fact fact.NoTypeOrAccess
+key_fact false true = Fact fact.NoType
+key_fact true false = Fact fact.NoAccess
+key_fact true true = Line
+
+abbrev pub entry_fact : TextSection → About
+entry_fact s =
+    key_fact (is_some (property_at (codes "DataType") s))
+    (is_some (property_at (codes "AccessType") s))
+
+-- of the MissingKey of the section at a line
+abbrev pub missing_key : ℕ → List TextSection → About
+missing_key line sections = option_map_or entry_fact (section_on line sections) Line
+
+-- of the DuplicateKey of a line
+abbrev pub first_key : List ℕ → TextSection → About
+first_key name s = option_map_or (λ k. FirstAt k.line) (property_at name s) Line
+
+abbrev pub duplicate_key : ℕ → List TextSection → List ℕ → About
+duplicate_key line sections text =
+    option_map_or (first_key (key_name text)) (section_before line sections) Line
+
+-- of the DuplicateSection of a line: what is between `[` and `]` is the section's name
+abbrev pub section_name : List ℕ → List ℕ
+section_name text =
+    if list_any is_bracket (drop 1 (trim text))
+    then trim (before_first is_bracket (drop 1 (trim text))) else []
+
+abbrev pub section_kind : List ℕ → SectionKind
+section_kind text = kind_of (section_name text)
+
+abbrev pub first_section : TextSection → About
+first_section s = FirstAt s.line
+
+abbrev pub duplicate_section : List TextSection → List ℕ → About
+duplicate_section sections text =
+    option_map_or first_section (section_at (section_kind text) sections) Line
+
+-- ---- sub-indices
+
+-- the number of an object's sub-index sections
+abbrev pub is_sub_index_of : ℕ → SectionKind → Bool
+is_sub_index_of index (SubIndex key) = key.index == index
+is_sub_index_of index other = false
+
+abbrev pub sub_index_count : ℕ → List TextSection → ℕ
+sub_index_count index sections = count_by (λ s. is_sub_index_of index s.kind) sections
+
+-- of the SubNumber of a line
+abbrev pub sub_number_fact : Option ℕ → ℕ → About
+sub_number_fact (Some number) has = Fact (fact.SubNumber number has)
+sub_number_fact None has = Fact (fact.NoSubNumber has)
+
+abbrev pub sub_number_of : List TextSection → Option ℕ → SectionKind → About
+sub_number_of sections number (Object index) =
+    sub_number_fact number (sub_index_count index sections)
+sub_number_of sections number other = Line
+
+abbrev pub sub_number : ℕ → List TextSection → List ℕ → About
+sub_number line sections text =
+    option_map_or (λ s. sub_number_of sections (key_number text) s.kind)
+    (section_before line sections) Line
+
+-- the highest sub-index of an object; FFh describes the object itself, and isn't counted
+abbrev pub sub_index_in : ℕ → SectionKind → ℕ
+sub_index_in index (SubIndex key) =
+    if (key.index == index) && nat_lt key.sub 0xFF then key.sub else 0
+sub_index_in index other = 0
+
+abbrev pub highest_from : ℕ → ℕ → List TextSection → ℕ
+highest_from index first sections =
+    fold (λ highest s. max highest (sub_index_in index s.kind)) first sections
+
+abbrev pub highest_of : ℕ → List TextSection → ℕ
+highest_of index sections = highest_from index 0 sections
+
+-- of the SubIndex0 of a line
+abbrev pub sub_index_0_of : List TextSection → Option ℕ → SectionKind → About
+sub_index_0_of sections (Some number) (SubIndex key) =
+    Fact (fact.SubIndex0 number (highest_of key.index sections))
+sub_index_0_of sections number kind = Line
+
+abbrev pub sub_index_0 : ℕ → List TextSection → List ℕ → About
+sub_index_0 line sections text =
+    option_map_or (λ s. sub_index_0_of sections (key_number text) s.kind)
+    (section_before line sections) Line
+
+-- ---- file information and device information
+
+-- of the FileInfoKeys and the DeviceInfoKeys of a line, which is 0 where there is no such section
+abbrev pub file_info : ℕ → About
+file_info line = if line == 0 then Fact fact.NoFileInfo else Fact fact.FileInfoLacks
+
+abbrev pub device_info : ℕ → About
+device_info line = if line == 0 then Fact fact.NoDeviceInfo else Fact fact.DeviceInfoLacks
+
+-- the number of objects in a range of indices
+abbrev pub is_object_in : ℕ → ℕ → SectionKind → Bool
+is_object_in low high (Object index) = nat_le low index && nat_le index high
+is_object_in low high other = false
+
+abbrev pub object_count : ℕ → ℕ → List TextSection → ℕ
+object_count low high sections = count_by (λ s. is_object_in low high s.kind) sections
+
+-- of the PdoCount of a line
+abbrev pub pdo_fact : List TextSection → List ℕ → ℕ → About
+pdo_fact sections name number =
+    if same_name name (codes "NrOfRXPDO")
+    then Fact (fact.RpdoCount number (object_count 0x1400 0x15FF sections))
+    else Fact (fact.TpdoCount number (object_count 0x1800 0x19FF sections))
+
+abbrev pub pdo_count : List TextSection → List ℕ → About
+pdo_count sections text = option_map_or (pdo_fact sections (key_name text)) (key_number text) Line
+
+-- the sub-index of the identity object that has the number of this name
+abbrev pub identity_sub : List ℕ → ℕ
+identity_sub name =
+    if same_name name (codes "VendorNumber") then 1
+    else if same_name name (codes "ProductNumber") then 2
+    else 3
+
+-- the initial number of a section: by its ParameterValue, or else by its DefaultValue
+abbrev pub initial_number : TextSection → Option ℕ
+initial_number s =
+    option_and_then property_number
+    (option_or (property_at (codes "ParameterValue") s) (property_at (codes "DefaultValue") s))
+
+abbrev pub identity_at : List TextSection → ℕ → Option ℕ
+identity_at sections sub =
+    option_and_then initial_number
+    (section_at (SubIndex (record { index = 0x1018; sub = sub })) sections)
+
+-- of the IdentityNumber of a line
+abbrev pub identity_fact : Option ℕ → Option ℕ → About
+identity_fact (Some number) (Some other) = Fact (fact.Identity number other)
+identity_fact number other = Line
+
+abbrev pub identity_number : List TextSection → List ℕ → About
+identity_number sections text =
+    identity_fact (key_number text) (identity_at sections (identity_sub (key_name text)))

@@ -1,0 +1,562 @@
+//! What a sheet has where a finding is: its sections as they are read, and the line's text.
+
+ghost use Rattle.std.specs.Prelude.{◌≡◌, map, option_map};
+ghost use Rattle.std.specs.Option.{option_copied};
+ghost use Rattle.co_sheet_text.specs.Views.{property_view, section_view};
+ghost use Rattle.conode_lint_text.specs.Facts.{
+  bad_list,
+  count_fact,
+  device_info,
+  duplicate_key,
+  duplicate_section,
+  entry_fact,
+  file_info,
+  first_key,
+  first_listed,
+  first_section,
+  gap_fact,
+  has_key,
+  highest_of,
+  identity_at,
+  identity_number,
+  identity_sub,
+  initial_number,
+  is_key_at,
+  is_key_to,
+  is_object_in,
+  is_sub_index_of,
+  key_count,
+  key_fact,
+  key_name,
+  key_number,
+  list_fact,
+  list_line,
+  listed_in,
+  listed_line,
+  listed_twice,
+  missing_key,
+  names_index,
+  next_key,
+  object_count,
+  pdo_count,
+  pdo_fact,
+  section_before,
+  section_kind,
+  section_name,
+  section_on,
+  sub_index_0,
+  sub_index_0_of,
+  sub_index_count,
+  sub_index_in,
+  sub_number,
+  sub_number_of,
+};
+
+use crate::fact::Fact;
+use crate::finding::About;
+use co_sheet::section_at;
+use co_sheet_text::{
+    Property, SectionKind, TextSection, number_in, same_name, trim, unsigned_number,
+};
+use co_text::split_at_first;
+use co_value::Key;
+
+// the section that begins at a line
+fn section_on<'s, 'a>(
+    sections: &'s [TextSection<'s, 'a>],
+    line: usize,
+) -> Option<&'s TextSection<'s, 'a>>
+    ensures { option_map section_view (option_copied result)
+        ≡ section_on line (map section_view sections.now) }
+{
+    for section in sections {
+        if section.line == line {
+            return Some(section);
+        }
+    }
+    None
+}
+
+// the section that a line is in: the last that begins before it
+fn section_before<'s, 'a>(
+    sections: &'s [TextSection<'s, 'a>],
+    line: usize,
+) -> Option<&'s TextSection<'s, 'a>>
+    ensures { option_map section_view (option_copied result)
+        ≡ section_before line (map section_view sections.now) }
+{
+    let mut found = None;
+    for section in sections {
+        if section.line < line {
+            found = Some(section);
+        }
+    }
+    found
+}
+
+// the name of the key on a line
+fn key_name(text: &[u8]) -> &[u8]
+    ensures { result.now ≡ key_name text.now }
+{
+    match split_at_first(text, b'=') {
+        Some((name, _)) => trim(name),
+        None => &[],
+    }
+}
+
+// the number of the key on a line, if it has one
+fn key_number(text: &[u8]) -> Option<u64>
+    ensures { result ≡ key_number text.now }
+{
+    match split_at_first(text, b'=') {
+        Some((_, value)) => unsigned_number(trim(value)).ok(),
+        None => None,
+    }
+}
+
+fn is_key_to(most: u64, name: &[u8]) -> bool
+    ensures { result ≡ is_key_to most name.now }
+{
+    match number_in(10, name) {
+        Some(number) => number <= most,
+        None => false,
+    }
+}
+
+// how many keys are numbers up to this one
+fn key_count(most: u64, properties: &[Property<'_>]) -> usize
+    ensures { result ≡ key_count most (map property_view properties.now) }
+{
+    let mut count = 0;
+    for property in properties {
+        if is_key_to(most, property.name) {
+            count += 1;
+        }
+    }
+    count
+}
+
+fn is_key_at(place: usize, name: &[u8]) -> bool
+    ensures { result ≡ is_key_at place name.now }
+{
+    match number_in(10, name) {
+        Some(number) => number == place as u64,
+        None => false,
+    }
+}
+
+// the key after 1, 2, 3 and so on, as far as they come one after another
+fn next_key(properties: &[Property<'_>]) -> usize
+    ensures { result ≡ next_key (map property_view properties.now) }
+{
+    let mut next = 1;
+    for property in properties {
+        if is_key_at(next, property.name) {
+            next += 1;
+        }
+    }
+    next
+}
+
+fn has_key(place: usize, properties: &[Property<'_>]) -> bool
+    ensures { result ≡ has_key place (map property_view properties.now) }
+{
+    for property in properties {
+        if is_key_at(place, property.name) {
+            return true;
+        }
+    }
+    false
+}
+
+fn gap_fact(counted: u64, has: usize, properties: &[Property<'_>], next: usize) -> About
+    ensures { result ≡ gap_fact counted has (map property_view properties.now) next }
+{
+    if has_key(next, properties) {
+        About::Fact(Fact::ListCount(counted, has))
+    } else {
+        About::Fact(Fact::ListGap(counted, has, next))
+    }
+}
+
+fn count_fact(counted: u64, properties: &[Property<'_>], has: usize) -> About
+    ensures { result ≡ count_fact counted (map property_view properties.now) has }
+{
+    if (has as u64) < counted {
+        gap_fact(counted, has, properties, next_key(properties))
+    } else if counted > 65535 {
+        About::Line
+    } else {
+        About::Fact(Fact::HighIndex)
+    }
+}
+
+fn list_fact(list: &TextSection<'_, '_>) -> About
+    ensures { result ≡ list_fact (section_view list.now) }
+{
+    match list.number_at(b"SupportedObjects") {
+        Some(counted) => {
+            let has = key_count(counted, list.properties);
+            count_fact(counted, list.properties, has)
+        }
+        None => About::Fact(Fact::NoCount),
+    }
+}
+
+/// Of the BadList of the section at a line: what it counts and what it has.
+pub fn bad_list(sections: &[TextSection<'_, '_>], line: usize) -> About
+    ensures { result ≡ bad_list line (map section_view sections.now) }
+{
+    match section_on(sections, line) {
+        Some(section) => list_fact(section),
+        None => About::Line,
+    }
+}
+
+fn names_index(index: u64, counted: u64, property: &Property<'_>) -> bool
+    ensures { result ≡ names_index index counted (property_view property.now) }
+{
+    match property.number() {
+        Some(number) => number == index && is_key_to(counted, property.name),
+        None => false,
+    }
+}
+
+// the line of the key that names an index, of keys up to a number
+fn listed_in(index: u64, counted: u64, properties: &[Property<'_>]) -> Option<usize>
+    ensures { result ≡ listed_in index counted (map property_view properties.now) }
+{
+    for property in properties {
+        if names_index(index, counted, property) {
+            return Some(property.line);
+        }
+    }
+    None
+}
+
+// the line where a section names an index, if it is an object list
+fn list_line(index: u64, section: &TextSection<'_, '_>) -> Option<usize>
+    ensures { result ≡ list_line index (section_view section.now) }
+{
+    if !section.kind.is_list() {
+        return None;
+    }
+    match section.number_at(b"SupportedObjects") {
+        Some(counted) => listed_in(index, counted, section.properties),
+        None => None,
+    }
+}
+
+// the first line where the lists name an index
+fn listed_line(index: u64, sections: &[TextSection<'_, '_>]) -> Option<usize>
+    ensures { result ≡ listed_line index (map section_view sections.now) }
+{
+    for section in sections {
+        if let Some(line) = list_line(index, section) {
+            return Some(line);
+        }
+    }
+    None
+}
+
+fn first_listed(sections: &[TextSection<'_, '_>], index: u64) -> About
+    ensures { result ≡ first_listed (map section_view sections.now) index }
+{
+    match listed_line(index, sections) {
+        Some(line) => About::FirstAt(line),
+        None => About::Line,
+    }
+}
+
+/// Of the ListedTwice of a line: the first line with the index.
+pub fn listed_twice(sections: &[TextSection<'_, '_>], text: &[u8]) -> About
+    ensures { result ≡ listed_twice (map section_view sections.now) text.now }
+{
+    match key_number(text) {
+        Some(index) => first_listed(sections, index),
+        None => About::Line,
+    }
+}
+
+fn key_fact(has_type: bool, has_access: bool) -> About
+    ensures { result ≡ key_fact has_type has_access }
+{
+    match (has_type, has_access) {
+        (false, false) => About::Fact(Fact::NoTypeOrAccess),
+        (false, true) => About::Fact(Fact::NoType),
+        (true, false) => About::Fact(Fact::NoAccess),
+        (true, true) => About::Line,
+    }
+}
+
+fn entry_fact(section: &TextSection<'_, '_>) -> About
+    ensures { result ≡ entry_fact (section_view section.now) }
+{
+    let has_type = section.property(b"DataType").is_some();
+    let has_access = section.property(b"AccessType").is_some();
+    key_fact(has_type, has_access)
+}
+
+/// Of the MissingKey of the section at a line: which keys it lacks.
+pub fn missing_key(sections: &[TextSection<'_, '_>], line: usize) -> About
+    ensures { result ≡ missing_key line (map section_view sections.now) }
+{
+    match section_on(sections, line) {
+        Some(section) => entry_fact(section),
+        None => About::Line,
+    }
+}
+
+fn first_key(name: &[u8], section: &TextSection<'_, '_>) -> About
+    ensures { result ≡ first_key name.now (section_view section.now) }
+{
+    match section.property(name) {
+        Some(property) => About::FirstAt(property.line),
+        None => About::Line,
+    }
+}
+
+/// Of the DuplicateKey of a line: the first one's line.
+pub fn duplicate_key(sections: &[TextSection<'_, '_>], line: usize, text: &[u8]) -> About
+    ensures { result ≡ duplicate_key line (map section_view sections.now) text.now }
+{
+    match section_before(sections, line) {
+        Some(section) => first_key(key_name(text), section),
+        None => About::Line,
+    }
+}
+
+// the name of the section that a line begins
+fn section_name(text: &[u8]) -> &[u8]
+    ensures { result.now ≡ section_name text.now }
+{
+    let Some((_, rest)) = trim(text).split_first() else {
+        return &[];
+    };
+    match split_at_first(rest, b']') {
+        Some((name, _)) => trim(name),
+        None => &[],
+    }
+}
+
+// what the section that a line begins is about
+fn section_kind(text: &[u8]) -> SectionKind
+    ensures { result ≡ section_kind text.now }
+{
+    SectionKind::of_name(section_name(text))
+}
+
+fn first_section(section: &TextSection<'_, '_>) -> About
+    ensures { result ≡ first_section (section_view section.now) }
+{
+    About::FirstAt(section.line)
+}
+
+/// Of the DuplicateSection of a line: the first one's line.
+pub fn duplicate_section(sections: &[TextSection<'_, '_>], text: &[u8]) -> About
+    ensures { result ≡ duplicate_section (map section_view sections.now) text.now }
+{
+    let kind = section_kind(text);
+    match section_at(sections, kind) {
+        Some(section) => first_section(section),
+        None => About::Line,
+    }
+}
+
+fn is_sub_index_of(index: u16, kind: SectionKind) -> bool
+    ensures { result ≡ is_sub_index_of index kind }
+{
+    match kind {
+        SectionKind::SubIndex(key) => key.index == index,
+        _ => false,
+    }
+}
+
+// the number of an object's sub-index sections
+fn sub_index_count(index: u16, sections: &[TextSection<'_, '_>]) -> usize
+    ensures { result ≡ sub_index_count index (map section_view sections.now) }
+{
+    let mut count = 0;
+    for section in sections {
+        if is_sub_index_of(index, section.kind) {
+            count += 1;
+        }
+    }
+    count
+}
+
+fn sub_number_of(sections: &[TextSection<'_, '_>], number: Option<u64>, kind: SectionKind) -> About
+    ensures { result ≡ sub_number_of (map section_view sections.now) number kind }
+{
+    let SectionKind::Object(index) = kind else {
+        return About::Line;
+    };
+    let has = sub_index_count(index, sections);
+    match number {
+        Some(number) => About::Fact(Fact::SubNumber(number, has)),
+        None => About::Fact(Fact::NoSubNumber(has)),
+    }
+}
+
+/// Of the SubNumber of a line: its number, and the number of sub-index sections.
+pub fn sub_number(sections: &[TextSection<'_, '_>], line: usize, text: &[u8]) -> About
+    ensures { result ≡ sub_number line (map section_view sections.now) text.now }
+{
+    match section_before(sections, line) {
+        Some(section) => sub_number_of(sections, key_number(text), section.kind),
+        None => About::Line,
+    }
+}
+
+// the sub-index of an object that a section describes; 0 if there is none
+fn sub_index_in(index: u16, kind: SectionKind) -> u8
+    ensures { result ≡ sub_index_in index kind }
+{
+    match kind {
+        SectionKind::SubIndex(key) if key.index == index && key.sub < 0xFF => key.sub,
+        _ => 0,
+    }
+}
+
+// the highest sub-index of an object
+fn highest_of(index: u16, sections: &[TextSection<'_, '_>]) -> u8
+    ensures { result ≡ highest_of index (map section_view sections.now) }
+{
+    let mut highest = 0;
+    for section in sections {
+        highest = sub_index_in(index, section.kind).max(highest);
+    }
+    highest
+}
+
+fn sub_index_0_of(sections: &[TextSection<'_, '_>], number: Option<u64>, kind: SectionKind) -> About
+    ensures { result ≡ sub_index_0_of (map section_view sections.now) number kind }
+{
+    match (number, kind) {
+        (Some(number), SectionKind::SubIndex(key)) => {
+            About::Fact(Fact::SubIndex0(number, highest_of(key.index, sections)))
+        }
+        _ => About::Line,
+    }
+}
+
+/// Of the SubIndex0 of a line: its number, and the highest sub-index.
+pub fn sub_index_0(sections: &[TextSection<'_, '_>], line: usize, text: &[u8]) -> About
+    ensures { result ≡ sub_index_0 line (map section_view sections.now) text.now }
+{
+    match section_before(sections, line) {
+        Some(section) => sub_index_0_of(sections, key_number(text), section.kind),
+        None => About::Line,
+    }
+}
+
+/// Of the FileInfoKeys of a line: whether there is the section.
+pub fn file_info(line: usize) -> About
+    ensures { result ≡ file_info line }
+{
+    if line == 0 {
+        About::Fact(Fact::NoFileInfo)
+    } else {
+        About::Fact(Fact::FileInfoLacks)
+    }
+}
+
+/// Of the DeviceInfoKeys of a line: whether there is the section.
+pub fn device_info(line: usize) -> About
+    ensures { result ≡ device_info line }
+{
+    if line == 0 {
+        About::Fact(Fact::NoDeviceInfo)
+    } else {
+        About::Fact(Fact::DeviceInfoLacks)
+    }
+}
+
+fn is_object_in(low: u16, high: u16, kind: SectionKind) -> bool
+    ensures { result ≡ is_object_in low high kind }
+{
+    match kind {
+        SectionKind::Object(index) => low <= index && index <= high,
+        _ => false,
+    }
+}
+
+// the number of objects in a range of indices
+fn object_count(low: u16, high: u16, sections: &[TextSection<'_, '_>]) -> usize
+    ensures { result ≡ object_count low high (map section_view sections.now) }
+{
+    let mut count = 0;
+    for section in sections {
+        if is_object_in(low, high, section.kind) {
+            count += 1;
+        }
+    }
+    count
+}
+
+fn pdo_fact(sections: &[TextSection<'_, '_>], name: &[u8], number: u64) -> About
+    ensures { result ≡ pdo_fact (map section_view sections.now) name.now number }
+{
+    if same_name(name, b"NrOfRXPDO") {
+        About::Fact(Fact::RpdoCount(number, object_count(0x1400, 0x15FF, sections)))
+    } else {
+        About::Fact(Fact::TpdoCount(number, object_count(0x1800, 0x19FF, sections)))
+    }
+}
+
+/// Of the PdoCount of a line: its number, and the number of PDOs.
+pub fn pdo_count(sections: &[TextSection<'_, '_>], text: &[u8]) -> About
+    ensures { result ≡ pdo_count (map section_view sections.now) text.now }
+{
+    match key_number(text) {
+        Some(number) => pdo_fact(sections, key_name(text), number),
+        None => About::Line,
+    }
+}
+
+fn identity_sub(name: &[u8]) -> u8
+    ensures { result ≡ identity_sub name.now }
+{
+    if same_name(name, b"VendorNumber") {
+        1
+    } else if same_name(name, b"ProductNumber") {
+        2
+    } else {
+        3
+    }
+}
+
+fn initial_number(section: &TextSection<'_, '_>) -> Option<u64>
+    ensures { result ≡ initial_number (section_view section.now) }
+{
+    if let Some(property) = section.property(b"ParameterValue") {
+        return property.number();
+    }
+    match section.property(b"DefaultValue") {
+        Some(property) => property.number(),
+        None => None,
+    }
+}
+
+fn identity_at(sections: &[TextSection<'_, '_>], sub: u8) -> Option<u64>
+    ensures { result ≡ identity_at (map section_view sections.now) sub }
+{
+    let kind = SectionKind::SubIndex(Key { index: 0x1018, sub });
+    match section_at(sections, kind) {
+        Some(section) => initial_number(section),
+        None => None,
+    }
+}
+
+/// Of the IdentityNumber of a line: its number, and that of the identity object.
+pub fn identity_number(sections: &[TextSection<'_, '_>], text: &[u8]) -> About
+    ensures { result ≡ identity_number (map section_view sections.now) text.now }
+{
+    match (
+        key_number(text),
+        identity_at(sections, identity_sub(key_name(text))),
+    ) {
+        (Some(number), Some(other)) => About::Fact(Fact::Identity(number, other)),
+        _ => About::Line,
+    }
+}
