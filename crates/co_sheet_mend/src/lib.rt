@@ -11,4 +11,4 @@ mod rewriting;
 
 pub use laws::{names_stay, rounds_keep_names};
 pub use repair::Repair;
-pub use rewriting::{Rewritten, readable};
+pub use rewriting::{Rewritten, mended_text, readable};

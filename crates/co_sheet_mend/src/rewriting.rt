@@ -58,6 +58,15 @@ fn mended_in(alloc: Global, text: Vec<u8>) -> Result<Option<Vec<u8>>, AllocError
     Ok(None)
 }
 
+/// A text without what is at fault in it, mended as often as is needed; `None`: it has more than
+/// 1,048,576 bytes, or isn't accepted even so. `Err`: out of memory.
+pub fn mended_text(alloc: Global, text: &[u8]) -> Result<Option<Vec<u8>>, AllocError>
+    ensures { IfOk result (λ made. option_map (λ m. m.items) made ≡ mended_in 8 text.now) }
+{
+    let copy = Vec::from_slice(alloc, text)?;
+    mended_in(alloc, copy)
+}
+
 // a text as `adapt` rewrites it, or mended
 #[tactic(auto, unfolding(crate::specs::ReadableTexts::rewritten))]
 fn rewrite(alloc: Global, text: &[u8]) -> Result<Option<Rewritten>, AdaptFault>

@@ -87,3 +87,30 @@ second_not_used = refl
 of_no_node : places HeartbeatTwice (consumer (codes "DefaultValue=0x64") (codes "DefaultValue=0x64")) ≡ []
 unfolding places_of place_in_text places_in
 of_no_node = refl
+
+-- a sum with `$NODEID` is a word for a node-ID alone
+own_sum : places_at 5 OwnHeartbeat (consumer (codes "DefaultValue=0x60064") (codes "DefaultValue=$NODEID+0x5005F")) ≡ 2 ∷ []
+unfolding places_of place_in_text places_in
+own_sum = refl
+
+sum_twice : places_at 5 HeartbeatTwice (consumer (codes "DefaultValue=0x60064") (codes "DefaultValue=$NODEID+0x6005F")) ≡ 2 ∷ []
+unfolding places_of place_in_text places_in
+sum_twice = refl
+
+first_sum : places_at 5 HeartbeatTwice (consumer (codes "DefaultValue=0x60064+$NODEID") (codes "DefaultValue=0x60064")) ≡ 2 ∷ []
+unfolding places_of place_in_text places_in
+first_sum = refl
+
+-- 0x6FFFF and 5 are of node 7
+sum_of_other : places_at 5 HeartbeatTwice (consumer (codes "DefaultValue=0x60064") (codes "DefaultValue=$NODEID+0x6FFFF")) ≡ []
+unfolding places_of place_in_text places_in
+sum_of_other = refl
+
+sum_without_node : places HeartbeatTwice (consumer (codes "DefaultValue=$NODEID+0x60064") (codes "DefaultValue=$NODEID+0x60064")) ≡ []
+unfolding places_of place_in_text places_in
+sum_without_node = refl
+
+-- a word of more than 32 bits is none
+long_word : places HeartbeatTwice (consumer (codes "DefaultValue=0x50064") (codes "DefaultValue=0x100050064")) ≡ []
+unfolding places_of place_in_text places_in
+long_word = refl

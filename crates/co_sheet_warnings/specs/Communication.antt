@@ -1,8 +1,10 @@
 -- Values of the communication profile that don't work together (CiA 301, TPDO, heartbeat consumer).
 use Rattle.std.specs.Prelude.{
   ℕ,
+  ◌+◌,
   ◌/◌,
   ◌%◌,
+  ◌^◌,
   Bool,
   false,
   not,
@@ -15,18 +17,23 @@ use Rattle.std.specs.Prelude.{
   [],
   ◌∷◌,
   find,
+  ℤ,
+  pos,
   Option,
   Some,
+  None,
   option_and_then,
 }
 use Rattle.std.specs.List.{list_any}
 use Rattle.std.specs.Option.{option_map_or}
+use Rattle.std.specs.Result.{result_ok}
+use Rattle.co_value.specs.declared.data_type.DataType.TheVariants.{Unsigned32}
 use Rattle.co_sheet_text.specs.declared.section_kind.SectionKind.{SectionKind}
 use Rattle.co_sheet_text.specs.declared.section_kind.SectionKind.TheVariants.{SubIndex}
 use Rattle.co_sheet_text.specs.Sections.{Property, TextSection}
 use Rattle.co_sheet_text.specs.Properties.{property_number}
 use Rattle.co_sheet.specs.Entries.{Entry, sub_indices}
-use Rattle.co_sheet.specs.Limits.{value_property}
+use Rattle.co_sheet.specs.Limits.{Default, node_id, number, numeric_default, value_property}
 use Rattle.co_sheet_warnings.specs.SubIndices.{is_within, value_number}
 
 -- the number at a sub-index of an object
@@ -67,11 +74,30 @@ is_used_word word = not (word % 65536 == 0) && is_within 1 127 (node_of_word wor
 abbrev pub consumes : ℕ → ℕ → Bool
 consumes node word = is_used_word word && (node_of_word word == node)
 
+-- a number of 32 bits
+abbrev pub word_with : ℤ → Option ℕ
+word_with (pos n) = if nat_lt n (2 ^ 32) then Some n else None
+word_with other = None
+
+-- the word that an entry begins with; a sum with `$NODEID` is one for a node-ID alone
+abbrev pub word_of_default : Option ℕ → Default → Option ℕ
+word_of_default given (number n) = word_with n
+word_of_default (Some node) (node_id n) = word_with (pos (n + node))
+word_of_default given other = None
+
+abbrev pub word_of : Option ℕ → Property → Option ℕ
+word_of given k =
+    option_and_then (word_of_default given) (result_ok (numeric_default Unsigned32 k.value))
+
+-- a property where its word passes a test
+abbrev pub line_of_word : Option ℕ → (ℕ → Bool) → Property → List ℕ
+line_of_word given test k = if option_map_or test (word_of given k) false then k.line ∷ [] else []
+
 -- the heartbeat of the device's own node
 abbrev pub own_heartbeat_of : ℕ → Entry → List ℕ
 own_heartbeat_of node e =
     if (e.key.index == 0x1016) && nat_lt 0 e.key.sub
-    then option_map_or (line_if (consumes node)) (value_property e) []
+    then option_map_or (line_of_word (Some node) (consumes node)) (value_property e) []
     else []
 
 abbrev pub own_heartbeat : Option ℕ → TextSection → SectionKind → List ℕ
@@ -80,22 +106,24 @@ own_heartbeat (Some node) s (SubIndex key) =
 own_heartbeat given s kind = []
 
 -- an entry with a smaller sub-index consumes the heartbeat of the same node
-abbrev pub consumes_before : ℕ → ℕ → Entry → Bool
-consumes_before sub word e =
+abbrev pub consumes_before : Option ℕ → ℕ → ℕ → Entry → Bool
+consumes_before given sub word e =
     nat_lt 0 e.key.sub && nat_lt e.key.sub sub
-    && option_map_or (consumes (node_of_word word)) (value_number e) false
+    && option_map_or (consumes (node_of_word word))
+    (option_and_then (word_of given) (value_property e)) false
 
-abbrev pub is_consumed_twice : List Entry → ℕ → ℕ → Bool
-is_consumed_twice entries sub word =
-    is_used_word word && list_any (consumes_before sub word) entries
+abbrev pub is_consumed_twice : Option ℕ → List Entry → ℕ → ℕ → Bool
+is_consumed_twice given entries sub word =
+    is_used_word word && list_any (consumes_before given sub word) entries
 
-abbrev pub heartbeat_twice_of : List Entry → Entry → List ℕ
-heartbeat_twice_of entries e =
+abbrev pub heartbeat_twice_of : Option ℕ → List Entry → Entry → List ℕ
+heartbeat_twice_of given entries e =
     if e.key.index == 0x1016
-    then option_map_or (line_if (is_consumed_twice entries e.key.sub)) (value_property e) []
+    then option_map_or (line_of_word given (is_consumed_twice given entries e.key.sub))
+    (value_property e) []
     else []
 
-abbrev pub heartbeat_twice : List TextSection → TextSection → SectionKind → List ℕ
-heartbeat_twice sections s (SubIndex key) =
-    heartbeat_twice_of (sub_indices sections key.index) (record { key = key; section = s })
-heartbeat_twice sections s kind = []
+abbrev pub heartbeat_twice : Option ℕ → List TextSection → TextSection → SectionKind → List ℕ
+heartbeat_twice given sections s (SubIndex key) =
+    heartbeat_twice_of given (sub_indices sections key.index) (record { key = key; section = s })
+heartbeat_twice given sections s kind = []

@@ -87,7 +87,7 @@ places_in t FixedCobId s = fixed_cob_id s
 places_in t NodeIdPlace s = node_id_place s
 places_in t InhibitTime s = inhibit_time t.sections s s.kind
 places_in t OwnHeartbeat s = own_heartbeat t.node s s.kind
-places_in t HeartbeatTwice s = heartbeat_twice t.sections s s.kind
+places_in t HeartbeatTwice s = heartbeat_twice t.node t.sections s s.kind
 places_in t MissingName s = missing_name s
 places_in t kind s = []
 

@@ -2,7 +2,8 @@
 
 ghost use Rattle.std.specs.Prelude.{◌≡◌, map, option_to_list};
 ghost use Rattle.co_sheet.specs.SectionViews.{entry_view};
-ghost use Rattle.co_sheet_text.specs.Views.{section_view};
+ghost use Rattle.co_sheet.specs.Views.{default_view};
+ghost use Rattle.co_sheet_text.specs.Views.{property_view, section_view};
 ghost use Rattle.co_sheet_warnings.specs.Communication.{
   consumes,
   consumes_before,
@@ -15,12 +16,16 @@ ghost use Rattle.co_sheet_warnings.specs.Communication.{
   node_of_word,
   number_at_sub,
   own_heartbeat,
+  word_of,
+  word_of_default,
+  word_with,
 };
 
 use crate::read_text::ReadText;
 use crate::sub_indices::{is_within, value_in, value_number};
-use co_sheet::EntrySection;
-use co_sheet_text::{SectionKind, TextSection};
+use co_sheet::{EntrySection, Preset, numeric_default};
+use co_sheet_text::{Property, SectionKind, TextSection};
+use co_value::DataType;
 
 /// The number at a sub-index of an object.
 pub(crate) fn number_at_sub(parts: &[EntrySection], sub: u8) -> Option<u64>
@@ -93,6 +98,40 @@ fn consumes(node: u64, word: u64) -> bool
     is_used_word(word) && node_of_word(word) == node
 }
 
+// a number of 32 bits
+fn word_with(number: i128) -> Option<u64>
+    ensures { result ≡ word_with number }
+{
+    if 0 <= number && number < 0x1_0000_0000 {
+        Some(number as u64)
+    } else {
+        None
+    }
+}
+
+fn word_of_default(node: Option<u8>, preset: Preset) -> Option<u64>
+    ensures { result ≡ word_of_default node (default_view preset.entry) }
+{
+    match preset {
+        Preset::Number(number) => word_with(number),
+        Preset::NodeId(addend) => match node {
+            Some(node_id) => word_with(addend as i128 + node_id as i128),
+            None => None,
+        },
+        _ => None,
+    }
+}
+
+// the word of a value; a sum with `$NODEID` is one for a node-ID alone
+fn word_of(node: Option<u8>, given: &Property) -> Option<u64>
+    ensures { result ≡ word_of node (property_view given.now) }
+{
+    match numeric_default(DataType::Unsigned32, given.value) {
+        Ok(preset) => word_of_default(node, preset),
+        Err(_) => None,
+    }
+}
+
 /// The line of a word of 1016h for the device's own node.
 pub(crate) fn own_heartbeat(node: Option<u8>, section: &TextSection) -> Option<usize>
     ensures { option_to_list result
@@ -106,7 +145,7 @@ pub(crate) fn own_heartbeat(node: Option<u8>, section: &TextSection) -> Option<u
             let Some(given) = value_in(section) else {
                 return None;
             };
-            match given.number() {
+            match word_of(Some(node), &given) {
                 Some(word) if consumes(node as u64, word) => Some(given.line),
                 _ => None,
             }
@@ -115,26 +154,29 @@ pub(crate) fn own_heartbeat(node: Option<u8>, section: &TextSection) -> Option<u
     }
 }
 
-fn consumes_before(entry: &EntrySection, sub: u8, word: u64) -> bool
-    ensures { result ≡ consumes_before sub word (entry_view entry.now) }
+fn consumes_before(node: Option<u8>, entry: &EntrySection, sub: u8, word: u64) -> bool
+    ensures { result ≡ consumes_before node sub word (entry_view entry.now) }
 {
     if entry.key.sub == 0 || sub <= entry.key.sub {
         return false;
     }
-    match value_number(entry) {
+    let Some(given) = value_in(entry.section) else {
+        return false;
+    };
+    match word_of(node, &given) {
         Some(other) => consumes(node_of_word(word), other),
         None => false,
     }
 }
 
-fn is_consumed_twice(parts: &[EntrySection], sub: u8, word: u64) -> bool
-    ensures { result ≡ is_consumed_twice (map entry_view parts.now) sub word }
+fn is_consumed_twice(node: Option<u8>, parts: &[EntrySection], sub: u8, word: u64) -> bool
+    ensures { result ≡ is_consumed_twice node (map entry_view parts.now) sub word }
 {
     if !is_used_word(word) {
         return false;
     }
     for part in parts {
-        if consumes_before(part, sub, word) {
+        if consumes_before(node, part, sub, word) {
             return true;
         }
     }
@@ -142,9 +184,13 @@ fn is_consumed_twice(parts: &[EntrySection], sub: u8, word: u64) -> bool
 }
 
 /// The line of a word of 1016h for a node that a smaller sub-index has too.
-pub(crate) fn heartbeat_twice(text: &ReadText, section: &TextSection) -> Option<usize>
+pub(crate) fn heartbeat_twice(
+    text: &ReadText,
+    node: Option<u8>,
+    section: &TextSection,
+) -> Option<usize>
     ensures { option_to_list result
-        ≡ heartbeat_twice text.now.sections (section_view section.now) section.now.kind }
+        ≡ heartbeat_twice node text.now.sections (section_view section.now) section.now.kind }
 {
     match section.kind {
         SectionKind::SubIndex(key) => {
@@ -154,8 +200,8 @@ pub(crate) fn heartbeat_twice(text: &ReadText, section: &TextSection) -> Option<
             let Some(given) = value_in(section) else {
                 return None;
             };
-            match given.number() {
-                Some(word) if is_consumed_twice(text.parts(key.index), key.sub, word) => {
+            match word_of(node, &given) {
+                Some(word) if is_consumed_twice(node, text.parts(key.index), key.sub, word) => {
                     Some(given.line)
                 }
                 _ => None,

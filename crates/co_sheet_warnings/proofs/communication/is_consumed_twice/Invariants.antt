@@ -6,4 +6,4 @@ use Rattle.co_sheet_warnings.proofs.communication.is_consumed_twice.Given as goa
 
 -- what the rest has is what all have
 abbrev pub invariant-loop-part : goal.invariant-loop-part
-invariant-loop-part l = list_any (consumes_before l.sub l.word) (map entry_view (drop l.part-index l.parts)) ≡ list_any (consumes_before l.sub l.word) (map entry_view l.parts)
+invariant-loop-part l = list_any (consumes_before l.node l.sub l.word) (map entry_view (drop l.part-index l.parts)) ≡ list_any (consumes_before l.node l.sub l.word) (map entry_view l.parts)

@@ -9,7 +9,7 @@ use co_sheet_text::{SectionKind, TextSection};
 
 /// The node-ID that is given, or else the sections' own: the number of NodeID, where that is 1 to 127
 /// (CiA 306, device commissioning).
-pub(crate) fn own_node(node: Option<u8>, sections: &[TextSection]) -> Option<u8>
+pub fn own_node(node: Option<u8>, sections: &[TextSection]) -> Option<u8>
     ensures { result ≡ own_node node (map section_view sections.now) }
 {
     if let Some(node_id) = node {
