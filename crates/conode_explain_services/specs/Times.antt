@@ -8,7 +8,9 @@ use Rattle.conode_explain_values.specs.Values.{value_text}
 abbrev pub is_past_day : List ℕ → Bool
 is_past_day bytes = nat_lt 86399999 (unsigned_of (take 4 bytes) % 2 ^ 28)
 
+abbrev pub past_words : List ℕ → List ℕ
+past_words bytes = if is_past_day bytes then codes " (past the end of the day)" else []
+
 -- six bytes, a TIME_OF_DAY: the date and the time
 unfoldable pub time_words : List ℕ → List ℕ
-time_words bytes =
-    codes "TIME " ++ value_text TimeOfDay 48 bytes ++ (if is_past_day bytes then codes " (past the end of the day)" else [])
+time_words bytes = codes "TIME " ++ value_text TimeOfDay 48 bytes ++ past_words bytes

@@ -1,7 +1,7 @@
 //! TIME (CiA 301, 7.2.6).
 
 ghost use Rattle.std.specs.Prelude.{◌≡◌, ◌++◌, OnOk, length, string_bytes};
-ghost use Rattle.conode_explain_services.specs.Times.{is_past_day, time_words};
+ghost use Rattle.conode_explain_services.specs.Times.{is_past_day, past_words, time_words};
 
 use co_value::unsigned_of;
 use conode_explain_values::{ValueType, push_value};
@@ -15,7 +15,19 @@ fn is_past_day(bytes: &[u8]) -> bool
     unsigned_of(&bytes[..4]) % 0x1000_0000 > 86_399_999
 }
 
-/// Appends a TIME as its date and time; of a time past the end of the day that it is. On an `Err` memory ran out, and a part of it may be there.
+fn past_words(bytes: &[u8]) -> &'static str
+    requires { length bytes.now ≡ 6 }
+    ensures { result.now ≡ past_words bytes.now }
+{
+    if is_past_day(bytes) {
+        " (past the end of the day)"
+    } else {
+        ""
+    }
+}
+
+/// Appends a TIME as its date and time; and that it is past the end of the day, where it is. On an
+/// `Err` memory ran out, and a part of it may be there.
 #[tactic(auto, unfolding(crate::specs::Times::time_words))]
 pub(crate) fn push_time(text: &mut String, bytes: &[u8]) -> Result<(), AllocError>
     requires { length bytes.now ≡ 6 }
@@ -24,9 +36,5 @@ pub(crate) fn push_time(text: &mut String, bytes: &[u8]) -> Result<(), AllocErro
 {
     attempt!(text.push_str("TIME "));
     attempt!(push_value(text, ValueType::TimeOfDay, 48, bytes));
-    text.push_str(if is_past_day(bytes) {
-        " (past the end of the day)"
-    } else {
-        ""
-    })
+    text.push_str(past_words(bytes))
 }
