@@ -7,3 +7,5 @@ mod Examples
 mod CompactExamples
 mod CompactPdoExamples
 mod LoopLemmas
+mod ExpandedLemmas
+mod ExpandedExamples

@@ -7,4 +7,5 @@ pub mod Compact
 pub mod CompactPdo
 pub mod Pieces
 pub mod Adapted
+pub mod Expanded
 pub mod private

@@ -36,6 +36,7 @@ ghost use Rattle.co_sheet_adapt.specs.CompactPdo.{
   subs_of,
   word_section,
 };
+ghost use Rattle.co_sheet_adapt.specs.Expanded.{pdo_objects};
 ghost use Rattle.co_sheet_adapt.specs.private.Pdos.{form_view};
 
 use crate::compact::{push_first_section, push_head};
@@ -488,6 +489,22 @@ fn push_pdo_text(
     match (form, kind) {
         (Some(form), SectionKind::DeviceInfo) => form.push_objects(alloc, text),
         (Some(form), SectionKind::OptionalObjects) => form.push_places(alloc, text),
+        _ => Ok(()),
+    }
+}
+
+/// Appends the sections of all objects, where a section gets them.
+pub(crate) fn push_pdo_objects(
+    alloc: Global,
+    text: &mut Vec<u8>,
+    form: Option<&PdoForm>,
+    kind: SectionKind,
+) -> Result<(), AllocError>
+    ensures { OnOk result (text.new.items
+        ≡ text.old.items ++ pdo_objects (option_map (λ f. form_view f.now) form.entry) kind) }
+{
+    match (form, kind) {
+        (Some(form), SectionKind::DeviceInfo) => form.push_objects(alloc, text),
         _ => Ok(()),
     }
 }

@@ -10,6 +10,7 @@ ghost use Rattle.co_sheet_adapt.specs.Facts.{
   left_out_of,
   facts_of,
 };
+ghost use Rattle.co_sheet_adapt.specs.Expanded.{facts_as_written};
 ghost use Rattle.co_sheet_changes.specs.Views.{group_view};
 
 use crate::left_out::LeftOut;
@@ -104,6 +105,19 @@ impl Facts {
             left_out: left_out_of(group),
             data_type: data_type_of(group),
             has_unsigned_limits: has_unsigned_limits(group),
+        }
+    }
+
+    /// What it says, where no type and no value is changed.
+    pub(crate) fn as_written(group: &Group) -> Facts
+        ensures { result ≡ facts_as_written (group_view group.now) }
+    {
+        Facts {
+            compact: compact_count(group),
+            is_entry: is_entry(group),
+            left_out: None,
+            data_type: None,
+            has_unsigned_limits: false,
         }
     }
 }

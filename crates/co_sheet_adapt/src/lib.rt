@@ -32,5 +32,7 @@ mod left_out;
 mod named;
 mod pieces;
 mod values;
+mod whole;
 
 pub use adapted::{Adapted, accepted_text_stays, adapt};
+pub use whole::expanded;

@@ -16,6 +16,9 @@ use Rattle.std.specs.Prelude.{
   Option,
   Some,
   None,
+  is_none,
+  is_some,
+  ◌&&◌,
   option_and_then,
 }
 use Rattle.std.specs.List.{list_any}
@@ -28,6 +31,7 @@ use Rattle.co_sheet_text.specs.declared.section_kind.SectionKind.{SectionKind}
 use Rattle.co_sheet_text.specs.declared.section_kind.SectionKind.TheVariants.{Object, SubIndex}
 use Rattle.co_sheet_text.specs.Sections.{Property, TextSection}
 use Rattle.co_sheet_text.specs.Text.{lines_of, same_name}
+use Rattle.co_sheet_adapt.specs.Expanded.{expanded}
 use Rattle.co_sheet_changes.specs.Originals.{original_at}
 use Rattle.conode_lint.specs.declared.mark.OtherFormat.{OtherFormat}
 use Rattle.conode_lint.specs.Formats.{text_format}
@@ -89,13 +93,23 @@ abbrev pub unless_object : List TextSection → OtherFormat → Option (List ℕ
 unless_object sections format =
     if has_object sections then None else Some (format_meaning format)
 
--- why a text isn't shown: it is too large, or of another format and has no object
+-- why a text isn't shown as it is: it is too large, or of another format and has no object
 unfoldable pub reason : List ℕ → Option (List ℕ)
 reason text =
     if is_too_large text then Some (large_reason (text_format text))
     else option_and_then (unless_object (sections_read (lines_of text))) (text_format text)
 
--- the document of a text's sections, or why it isn't shown
+-- the document of a text with the sections of its compact forms; why it isn't shown, if it is too
+-- large with them
+abbrev pub whole_shown : Form → Option ℕ → Option (List ℕ) → List ℕ
+whole_shown form given None = reason_in form (large_reason None)
+whole_shown form given (Some text) = document_of form given (sections_of text)
+
+-- the document of a text, or why it isn't shown
 unfoldable pub shown : Form → Option ℕ → List ℕ → List ℕ
 shown form node text =
-    option_map_or (reason_in form) (reason text) (document_of form node (sections_of text))
+    option_map_or (reason_in form) (reason text) (whole_shown form node (expanded text))
+
+-- whether it is shown
+unfoldable pub is_shown : List ℕ → Bool
+is_shown text = is_none (reason text) && is_some (expanded text)

@@ -9,7 +9,7 @@ ghost use Rattle.std.specs.Prelude.{
   ◌++◌,
   length,
   map,
-  is_none,
+  is_some,
   None,
   IfOk,
   IfErr,
@@ -20,6 +20,7 @@ ghost use Rattle.std.specs.Option.{option_copied};
 ghost use Rattle.std.specs.Io.KnownBytes.{Appends, Keeps};
 ghost use Rattle.std.specs.Process.{exit_status};
 ghost use Rattle.co_sheet_text.specs.Views.{section_view};
+ghost use Rattle.co_sheet_adapt.specs.Expanded.{expanded};
 ghost use Rattle.conode_io.specs.Written.{AppendsFront};
 ghost use Rattle.co_sheet_text.specs.LinesAtFault.{sections_read};
 ghost use Rattle.co_sheet_text.specs.Text.{lines_of};
@@ -30,17 +31,20 @@ ghost use Rattle.conode_show.specs.Shown.{
   document_of,
   has_object,
   is_of_object,
+  is_shown,
   large_reason,
   reason,
   reason_in,
   sections_of,
   shown,
+  whole_shown,
 };
 
 use crate::form::Form;
 use crate::json_form::{json_document, json_reason};
 use crate::retyped::{Retyped, all_retyped, sections_in as retyped_sections};
-use co_sheet::GREATEST_SIZE;
+use co_sheet::{GREATEST_SIZE, StreamFault, read_text};
+use co_sheet_adapt::expanded;
 use co_sheet_changes::Originals;
 use co_sheet_faults::read_sections;
 use co_sheet_text::{ParsedText, SectionKind, TextSection};
@@ -48,7 +52,7 @@ use conode_io::{CmdFault, file_text, flushed, hand_over, no_text, out_of_memory,
 use conode_lint::{OtherFormat, format_meaning, text_format};
 use conode_show_text::{document, node_for, order};
 use std::alloc::{AllocError, Global};
-use std::io::Write;
+use std::io::{Input, Write};
 use std::process::ExitCode;
 use std::rt::Files;
 
@@ -228,8 +232,31 @@ fn reason_in(alloc: Global, form: Form, words: &str) -> Result<Vec<u8>, AllocErr
     }
 }
 
+// what is written of a text with the sections of its compact forms, and whether it is shown
+fn whole_shown(
+    alloc: Global,
+    form: Form,
+    node: Option<u8>,
+    text: &[u8],
+) -> Result<(Vec<u8>, bool), AllocError>
+    requires { length text.now ≤ 1048576 }
+    ensures text { IfOk result (λ made. made.0.items ≡ whole_shown form node (expanded text.now)) }
+    ensures readable { IfOk result (λ made. made.1 ≡ is_some (expanded text.now)) }
+{
+    match attempt!(expanded(alloc, text)) {
+        Some(whole) => match document_of(alloc, form, node, whole.as_slice()) {
+            Ok(made) => Ok((made, true)),
+            Err(fault) => Err(fault),
+        },
+        None => match reason_in(alloc, form, large_reason(None)) {
+            Ok(made) => Ok((made, false)),
+            Err(fault) => Err(fault),
+        },
+    }
+}
+
 // what is written of a text, and whether its dictionary is shown
-#[tactic(auto, unfolding(crate::specs::Shown::shown))]
+#[tactic(auto, unfolding(crate::specs::Shown::shown, crate::specs::Shown::is_shown))]
 fn shown(
     alloc: Global,
     form: Form,
@@ -237,25 +264,23 @@ fn shown(
     text: &[u8],
 ) -> Result<(Vec<u8>, bool), AllocError>
     ensures text { IfOk result (λ made. made.0.items ≡ shown form node text.now) }
-    ensures readable { IfOk result (λ made. made.1 ≡ is_none (reason text.now)) }
+    ensures readable { IfOk result (λ made. made.1 ≡ is_shown text.now) }
 {
     match attempt!(reason(alloc, text)) {
         Some(words) => match reason_in(alloc, form, words) {
             Ok(made) => Ok((made, false)),
             Err(fault) => Err(fault),
         },
-        None => match document_of(alloc, form, node, text) {
-            Ok(made) => Ok((made, true)),
-            Err(fault) => Err(fault),
-        },
+        None => whole_shown(alloc, form, node, text),
     }
 }
 
 /// Shows the object dictionary of a data sheet (CiA 306): its entries by index and sub-index, then
 /// its PDOs and the other services of the communication profile in words. A faulty line is left
-/// out, and the others are shown. A text of more than 1,048,576 bytes isn't read, and one of
-/// another format without an object isn't shown; the reason is written instead, in JSON as a
-/// document. Returns whether the dictionary is shown.
+/// out, and the others are shown, also those that compact forms give. A text that has more than
+/// 1,048,576 bytes, also with these, isn't read, and one of another format without an object isn't
+/// shown; the reason is written instead, in JSON as a document. Returns whether the dictionary is
+/// shown.
 ///
 /// All is written at once. `Memory`: memory ran out, and nothing has been written. `Write`: the
 /// writer failed, and at most a part has been written.
@@ -266,7 +291,7 @@ pub fn show<W: Write>(
     node: Option<u8>,
     writer: &mut W,
 ) -> Result<bool, CmdFault>
-    ensures readable { IfOk result (λ is_shown. is_shown ≡ is_none (reason text.now)) }
+    ensures readable { IfOk result (λ readable. readable ≡ is_shown text.now) }
     ensures text { OnOk result (Appends (W.contents writer.old) (W.contents writer.new)
         (shown form node text.now)) }
     ensures write { result ≡ Err CmdFault.Write →
@@ -301,10 +326,23 @@ fn status_of<O: Write, E: Write>(
     }
 }
 
-/// Shows the data sheet of a path, as `show` does. If not all of it could be written, `out` has
+// the text of a path's file, or of standard input for `-`
+fn text_of<R: Files + AllocGlobal + Input>(rt: &R, path: &str) -> Result<Vec<u8>, CmdFault> {
+    if path != "-" {
+        return file_text(rt, path);
+    }
+    let mut text = Vec::new(rt.alloc());
+    match read_text(&mut rt.reader(), &mut text) {
+        Ok(()) => Ok(text),
+        Err(StreamFault::Memory) => Err(CmdFault::Memory),
+        Err(_) => Err(CmdFault::Read),
+    }
+}
+
+/// Shows the data sheet of a path, or of standard input for `-`, as `show` does. If not all of it could be written, `out` has
 /// why, or `err` if `out` can't be written. A file that can't be read is named on `err`. The status
 /// is 0 if the dictionary is shown, else 1.
-pub fn show_file<R: Files + AllocGlobal, O: Write, E: Write>(
+pub fn show_file<R: Files + AllocGlobal + Input, O: Write, E: Write>(
     rt: &R,
     path: &str,
     form: Form,
@@ -314,7 +352,7 @@ pub fn show_file<R: Files + AllocGlobal, O: Write, E: Write>(
 ) -> ExitCode
     ensures { (exit_status result ≡ 0) ⊎ (exit_status result ≡ 1) }
 {
-    match file_text(rt, path) {
+    match text_of(rt, path) {
         Ok(text) => {
             let outcome = show(rt.alloc(), text.as_slice(), form, node, out);
             status_of(outcome, out, err)

@@ -1,0 +1,140 @@
+//! A text with the sections that its compact forms give (CiA 306, compact storage).
+
+ghost use Rattle.std.specs.Prelude.{◌≡◌, ◌++◌, ◌≤◌, length, map, option_map, IfOk, IfSome, OnOk};
+ghost use Rattle.std.specs.List.{flat_map};
+ghost use Rattle.co_sheet_changes.specs.Views.{group_view};
+ghost use Rattle.co_sheet_adapt.specs.Expanded.{
+  compact_of,
+  compact_sections,
+  expanded,
+  given_by,
+  if_fits,
+  with_sections,
+};
+ghost use Rattle.co_sheet_adapt.specs.private.Named.{texts_at};
+ghost use Rattle.co_sheet_adapt.specs.private.Pdos.{form_view};
+
+use crate::compact::Compact;
+use crate::compact_pdo::push_pdo_objects;
+use crate::facts::Facts;
+use crate::pieces::Tables;
+use co_sheet::GREATEST_SIZE;
+use co_sheet_changes::{Group, groups_in, joined, lines_in};
+use co_sheet_text::SectionKind;
+use std::alloc::{AllocError, Global};
+
+impl<'a> Tables<'a> {
+    // appends the sections of an object in compact form
+    fn push_compact<'s>(
+        &self,
+        alloc: Global,
+        text: &mut Vec<u8>,
+        facts: &Facts,
+        group: &Group<'s, 'a>,
+    ) -> Result<(), AllocError>
+        ensures { OnOk result (text.new.items ≡ text.old.items ++ compact_of
+            (texts_at self.now.names) (texts_at self.now.values) facts.now (group_view group.now)) }
+    {
+        let (SectionKind::Object(index), Some(count)) = (group.kind, facts.compact) else {
+            return Ok(());
+        };
+        let compact = Compact {
+            names: &self.names,
+            values: &self.values,
+            facts,
+            group,
+            index,
+        };
+        let sections = attempt!(compact.text(alloc, count));
+        text.extend_from_slice(sections.as_slice())
+    }
+
+    // appends the sections that a section gives
+    fn push_given<'s>(
+        &self,
+        alloc: Global,
+        text: &mut Vec<u8>,
+        group: &Group<'s, 'a>,
+    ) -> Result<(), AllocError>
+        ensures { OnOk result (text.new.items ≡ text.old.items ++ given_by
+            (texts_at self.now.names) (texts_at self.now.values)
+            (option_map form_view self.now.pdos) (group_view group.now)) }
+    {
+        let facts = Facts::as_written(group);
+        attempt!(self.push_compact(alloc, text, &facts, group));
+        push_pdo_objects(alloc, text, self.pdos.as_ref(), group.kind)
+    }
+
+    // the sections that sections give, `None` if they are too large
+    fn given<'s>(
+        &self,
+        alloc: Global,
+        groups: &[Group<'s, 'a>],
+    ) -> Result<Option<Vec<u8>>, AllocError>
+        ensures { IfOk result (λ made. option_map (λ v. v.items) made ≡ if_fits (flat_map
+            (given_by (texts_at self.now.names) (texts_at self.now.values)
+            (option_map form_view self.now.pdos)) (map group_view groups.now))) }
+    {
+        let mut text = Vec::new(alloc);
+        for group in groups {
+            attempt!(self.push_given(alloc, &mut text, group));
+            if text.len() > GREATEST_SIZE {
+                return Ok(None);
+            }
+        }
+        Ok(Some(text))
+    }
+}
+
+// the sections of the compact forms of sections
+fn compact_sections(alloc: Global, groups: &[Group]) -> Result<Option<Vec<u8>>, AllocError>
+    ensures { IfOk result (λ made. option_map (λ v. v.items) made
+        ≡ if_fits (compact_sections (map group_view groups.now))) }
+{
+    let tables = attempt!(Tables::of(alloc, groups));
+    tables.given(alloc, groups)
+}
+
+// sections at the end of a text
+fn with_sections(alloc: Global, text: &[u8], sections: &[u8]) -> Result<Vec<u8>, AllocError>
+    ensures { IfOk result (λ made. made.items ≡ with_sections text.now sections.now) }
+{
+    if sections.is_empty() {
+        joined(alloc, text, b"", b"")
+    } else {
+        joined(alloc, text, b"\n", sections)
+    }
+}
+
+// a text, if a data sheet may have as many bytes
+fn if_fits(text: Vec<u8>) -> Option<Vec<u8>>
+    ensures text { option_map (λ v. v.items) result ≡ if_fits text.items }
+    ensures small { IfSome result (λ whole. length whole.items ≤ 1048576) }
+{
+    if text.len() > GREATEST_SIZE {
+        None
+    } else {
+        Some(text)
+    }
+}
+
+/// A text with the sections that its compact forms give at its end (CiA 306, compact storage): those
+/// of CompactSubObj and of CompactPDO, as `adapt` writes them, but each type and each value as the
+/// sheet has it. A section that is there already comes first. `None`: they, or the text with them,
+/// have more than 1,048,576 bytes. `Err`: out of memory.
+#[tactic(auto, unfolding(crate::specs::Expanded::expanded))]
+pub fn expanded(alloc: Global, text: &[u8]) -> Result<Option<Vec<u8>>, AllocError>
+    requires { length text.now ≤ 1048576 }
+    ensures text { IfOk result (λ made. option_map (λ v. v.items) made ≡ expanded text.now) }
+    ensures small { IfOk result (λ made. IfSome made (λ whole. length whole.items ≤ 1048576)) }
+{
+    let lines = attempt!(lines_in(alloc, text));
+    let groups = attempt!(groups_in(alloc, lines.as_slice()));
+    match attempt!(compact_sections(alloc, groups.as_slice())) {
+        Some(sections) => {
+            let whole = attempt!(with_sections(alloc, text, sections.as_slice()));
+            Ok(if_fits(whole))
+        }
+        None => Ok(None),
+    }
+}
