@@ -25,7 +25,7 @@ use Rattle.conode_lint.specs.BuildLines.{built_marks}
 use Rattle.conode_lint.specs.Formats.{other_format}
 use Rattle.co_sheet_warnings.specs.Lines.{text_lines}
 use Rattle.conode_lint.specs.Linted.{first_build_fault, has_error, is_good}
-use Rattle.conode_lint.specs.Marks.{IsAllFound, IsFaultList, IsFound, IsFoundIn, fault_mark, format_of, node_for, sheet_marks, sheet_of, text_marks, warning_mark}
+use Rattle.conode_lint.specs.Marks.{IsAllFound, IsFaultList, IsFound, IsFoundIn, beside_marks, fault_mark, left_of, format_of, node_for, sheet_marks, sheet_of, text_marks, warning_mark}
 use Rattle.conode_lint.proofs.BuildLaws.{has_any}
 
 -- ---- marks that are errors, and warnings
@@ -38,10 +38,16 @@ warnings_error : (warnings : List Warning) → has_error (map warning_mark warni
 warnings_error [] = refl
 warnings_error (warning ∷ warnings) = warnings_error warnings
 
--- faults, what the build gives, and warnings
-parts_error : (faults build warnings : List Mark) (errors : Bool) → has_error faults ≡ errors → has_error warnings ≡ false
-    → has_error (faults ++ (build ++ warnings)) ≡ (errors || (has_error build || false))
-parts_error faults build warnings errors is quiet = simp list_any-append (rw (is, quiet) refl)
+-- faults, what the build gives, also beside faults, and warnings
+parts_error : (faults build beside warnings : List Mark) (errors : Bool) → has_error faults ≡ errors → has_error warnings ≡ false
+    → has_error (faults ++ (build ++ (beside ++ warnings))) ≡ (errors || (has_error build || (has_error beside || false)))
+parts_error faults build beside warnings errors is quiet = simp list_any-append (rw (is, quiet) refl)
+
+-- what the build gives beside faults is there only with these
+with_beside : (text : List ℕ) (own : Option ℕ) (limits : Limits) (faults : List SheetFault) (build : Bool)
+    → (has_any faults || (build || (has_error (beside_marks text own limits faults) || false))) ≡ (has_any faults || (build || false))
+with_beside text own limits [] build = refl
+with_beside text own limits (fault ∷ faults) build = refl
 
 -- ---- a text and its faults
 
@@ -103,7 +109,8 @@ module _
     read_error faults found are all =
         sym (list_any-IsPermutation _ all.marks found all.by_line.moved)
         ∙ ap has_error all.are.are
-        ∙ parts_error (map fault_mark faults) (text_marks text checks.node (limits_view checks.limits)) (map warning_mark all.are.warnings) (has_any faults) (faults_error faults) (warnings_error all.are.warnings)
+        ∙ parts_error (map fault_mark faults) (text_marks text checks.node (limits_view checks.limits)) (beside_marks text checks.node (limits_view checks.limits) faults) (map warning_mark (left_of text faults all.are.warnings)) (has_any faults) (faults_error faults) (warnings_error (left_of text faults all.are.warnings))
+        ∙ with_beside text checks.node (limits_view checks.limits) faults (has_error (text_marks text checks.node (limits_view checks.limits)))
         ∙ marks_error built (limits_view checks.limits) checks.node faults are
 
     found_error : (faults : List SheetFault) (found : List Mark) → IsFaultList text faults

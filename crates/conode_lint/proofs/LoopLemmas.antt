@@ -1,5 +1,5 @@
 -- A step of a loop that appends what each element gives.
-use Rattle.std.proofs.Common.{◌≡◌, ◌∙◌, ℕ, ◌+◌, ◌<◌, suc, Bool, true, false, cond, Option, Some, List, [], ◌∷◌, ◌++◌, map, length, take, drop, drop-cons, add-one, get_or, append_assoc, refl, ap, sym, arith}
+use Rattle.std.proofs.Common.{◌≡◌, ◌∙◌, ℕ, ◌+◌, ◌<◌, ◌≤◌, nat_lt, suc, Bool, true, false, cond, Option, Some, List, [], ◌∷◌, ◌++◌, map, length, take, drop, drop-cons, add-one, get_or, append_assoc, refl, ap, sym, arith}
 use Rattle.std.specs.List.{flat_map}
 use Rattle.std.specs.Prelude.{◌==◌}
 use Rattle.std.proofs.lemmas.Bool.Decides.{nat_tests}
@@ -60,3 +60,6 @@ apart a b h = grind (arith, nat_tests)
 
 pub alike : (a b : ℕ) → a ≡ b → (a == b) ≡ true
 alike a b h = grind (arith, nat_tests)
+
+pub not_below : (a b : ℕ) → b ≤ a → nat_lt a b ≡ false
+not_below a b h = grind (arith, nat_tests)

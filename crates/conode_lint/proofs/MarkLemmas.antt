@@ -1,18 +1,20 @@
 -- The marks of a text, put together.
-use Rattle.std.proofs.Common.{◌≡◌, ◌∙◌, ℕ, ◌<◌, ◌≤◌, Bool, false, ltb, cond, List, [], ◌++◌, map, length, Option, Some, None, IfSome, refl, sym, ap, subst, append_assoc, arith, rules}
+use Rattle.std.proofs.Common.{◌≡◌, ◌∙◌, ℕ, ◌<◌, ◌≤◌, Bool, false, ltb, cond, List, [], ◌++◌, map, length, Option, Some, None, IfSome, refl, sym, ap, subst, append_assoc, arith, rules, zero, suc, true, ◌∷◌}
 use Rattle.std.proofs.lemmas.Bool.{lt-ltb}
 use Rattle.std.proofs.lemmas.Bool.Decides.{nat_tests}
 use Rattle.std.proofs.lemmas.List.{append-nil}
 use Rattle.co_sheet_rows.specs.declared.fault.SheetFault.{SheetFault}
-use Rattle.co_sheet.specs.Content.{SheetContent}
+use Rattle.co_sheet.specs.Content.{Row, SheetContent}
 use Rattle.co_sheet_text.specs.LinesAtFault.{sections_read}
 use Rattle.co_sheet_text.specs.Sections.{TextSection}
+use Rattle.co_sheet_text.specs.declared.section_kind.SectionKind.{SectionKind}
 use Rattle.co_sheet_text.specs.Text.{lines_of}
 use Rattle.co_sheet_warnings.specs.declared.warning.Warning.{Warning}
-use Rattle.co_sheet_warnings.specs.ReadTexts.{read_text}
+use Rattle.co_sheet_mend.specs.ReadableTexts.{mended_in}
+use Rattle.co_sheet_warnings.specs.ReadTexts.{own_node, read_text}
 use Rattle.co_sheet_warnings.specs.Warnings.{IsByLine as IsWarningsByLine, all_warnings, warnings_of}
 use Rattle.co_dict_build.specs.Built.{Plan}
-use Rattle.co_dict_build.specs.Capacities.{limits_view}
+use Rattle.co_dict_build.specs.Capacities.{Limits, limits_view}
 use Rattle.co_dict_build.specs.declared.build_fault.BuildFault.{BuildFault}
 use Rattle.co_dict_faults.specs.AllBuildFaults.{build_faults_of, mapping_faults_of}
 use Rattle.co_dict_faults.specs.declared.mapping_fault.MappingFault.{MappingFault}
@@ -21,8 +23,10 @@ use Rattle.conode_lint.specs.declared.mark.Mark.{Mark}
 use Rattle.conode_lint.specs.declared.marks.Checks.{Checks}
 use Rattle.conode_lint.specs.BuildLines.{built_marks, marks_with}
 use Rattle.co_sheet_warnings.specs.Lines.{text_lines}
+use Rattle.conode_lint.specs.KnownFaults.{known_marks, known_with}
+use Rattle.conode_lint.specs.KnownWarnings.{known_warnings}
 use Rattle.conode_lint.specs.Linted.{IsLinted, IsMadeOf, left}
-use Rattle.conode_lint.specs.Marks.{IsFound, IsMarked, fault_mark, node_for, sheet_marks, sheet_of, text_marks, text_sections, warning_mark}
+use Rattle.conode_lint.specs.Marks.{IsFound, IsMarked, fault_mark, node_for, sheet_marks, sheet_of, text_marks, text_sections, warning_mark, beside_for, beside_in, beside_marks, left_of}
 
 -- of all faults of a build
 pub plan_marks : (sheet : SheetContent) (sections : List TextSection) (plan : Plan) (faults : List BuildFault) (mappings : List MappingFault) → faults ≡ build_faults_of plan → mappings ≡ mapping_faults_of plan
@@ -31,6 +35,16 @@ unfolding built_marks
 plan_marks sheet sections plan faults mappings is_faults is_mappings =
     ap (λ (l : List BuildFault). marks_with sheet sections l mappings) is_faults ∙ ap (marks_with sheet sections (build_faults_of plan)) is_mappings
 
+-- of those that rest on nothing at fault
+pub plan_known : (rows : List Row) (sections : List TextSection) (kinds : List SectionKind) (sheet : SheetContent) (plan : Plan) (faults : List BuildFault) (mappings : List MappingFault)
+    → rows ≡ sheet.rows → faults ≡ build_faults_of plan → mappings ≡ mapping_faults_of plan
+    → known_with rows sections kinds faults mappings ≡ known_marks sections kinds sheet plan
+unfolding known_marks
+plan_known rows sections kinds sheet plan faults mappings is_rows is_faults is_mappings =
+    ap (λ (l : List Row). known_with l sections kinds faults mappings) is_rows
+    ∙ ap (λ (l : List BuildFault). known_with sheet.rows sections kinds l mappings) is_faults
+    ∙ ap (known_with sheet.rows sections kinds (build_faults_of plan)) is_mappings
+
 text_marks_with : (text : List ℕ) (checks : Checks) (sheet : Option SheetContent) (node : Option ℕ) → sheet ≡ sheet_of text → node ≡ node_for checks.node sheet
     → sheet_marks (limits_view checks.limits) (sections_read (lines_of text)) sheet node ≡ text_marks text checks.node (limits_view checks.limits)
 unfolding text_marks
@@ -38,21 +52,27 @@ text_marks_with text checks sheet own is_sheet is_node =
     ap (sheet_marks (limits_view checks.limits) (sections_read (lines_of text)) sheet) is_node
     ∙ ap (λ (s : Option SheetContent). sheet_marks (limits_view checks.limits) (sections_read (lines_of text)) s (node_for checks.node s)) is_sheet
 
--- faults, what the build gives, and warnings
-pub marked_from : (text : List ℕ) (checks : Checks) (faults : List SheetFault) (sheet : Option SheetContent) (node : Option ℕ) (warnings : List Warning) (with_faults with_build all : List Mark)
+-- faults, what the build gives, also beside faults, and warnings
+pub marked_from : (text : List ℕ) (checks : Checks) (faults : List SheetFault) (sheet : Option SheetContent) (node : Option ℕ) (warnings : List Warning) (with_faults with_build with_beside all : List Mark)
     → sheet ≡ sheet_of text → node ≡ node_for checks.node sheet → IsWarningsByLine (warnings_of text checks.node checks.all) warnings
     → with_faults ≡ map fault_mark faults
     → with_build ≡ with_faults ++ sheet_marks (limits_view checks.limits) (sections_read (lines_of text)) sheet node
-    → all ≡ with_build ++ map warning_mark warnings
+    → with_beside ≡ with_build ++ beside_marks text checks.node (limits_view checks.limits) faults
+    → all ≡ with_beside ++ map warning_mark (left_of text faults warnings)
     → IsMarked text checks faults all
-marked_from text checks faults sheet node warnings with_faults with_build all is_sheet is_node by_line is_faults is_build is_all =
-    let last = map warning_mark warnings in
+marked_from text checks faults sheet node warnings with_faults with_build with_beside all is_sheet is_node by_line is_faults is_build is_beside is_all =
+    let last = map warning_mark (left_of text faults warnings) in
     let limits = limits_view checks.limits in
+    let first = map fault_mark faults in
+    let build = text_marks text checks.node limits in
+    let beside = beside_marks text checks.node limits faults in
+    let of_build : with_build ≡ first ++ build =
+        is_build ∙ ap (λ (l : List Mark). l ++ sheet_marks limits (sections_read (lines_of text)) sheet node) is_faults ∙ ap (λ (l : List Mark). first ++ l) (text_marks_with text checks sheet node is_sheet is_node) in
     record {
       warnings = warnings;
       by_line = by_line;
-      are = is_all ∙ ap (λ (l : List Mark). l ++ last) (is_build ∙ ap (λ (l : List Mark). l ++ sheet_marks limits (sections_read (lines_of text)) sheet node) is_faults ∙ ap (λ (l : List Mark). map fault_mark faults ++ l) (text_marks_with text checks sheet node is_sheet is_node))
-          ∙ append_assoc (map fault_mark faults) (text_marks text checks.node limits) last;
+      are = is_all ∙ ap (λ (l : List Mark). l ++ last) (is_beside ∙ ap (λ (l : List Mark). l ++ beside) of_build)
+          ∙ append_assoc (first ++ build) beside last ∙ append_assoc first build (beside ++ last);
     }
 
 no_sheet : (text : List ℕ) (sheet : Option SheetContent) → IfSome sheet (λ s. length text ≤ 1048576) → 1048576 < length text → sheet ≡ None
@@ -72,16 +92,38 @@ large_by_line : (text : List ℕ) (checks : Checks) → 1048576 < length text �
 large_by_line text checks large =
     subst (λ (b : Bool). IsWarningsByLine (cond b [] (all_warnings checks.all (read_text text checks.node))) []) (sym (lt-ltb 1048576 (length text) large)) none_by_line
 
+-- a text that is too large isn't mended, so nothing is built of it
+by_size : (large : Bool) (other : Option (List ℕ)) → large ≡ true → cond large None other ≡ None
+by_size large other is = ap (λ (b : Bool). cond b None other) is
+
+not_mended : (rounds : ℕ) (text : List ℕ) → 1048576 < length text → mended_in rounds text ≡ None
+unfolding mended_in
+not_mended zero text large = refl
+not_mended (suc rounds) text large = by_size (ltb 1048576 (length text)) _ (lt-ltb 1048576 (length text) large)
+
+beside_none : (limits : Limits) (faults : List SheetFault) (text : List ℕ) (sections : List TextSection) (own : Option ℕ) → mended_in 8 text ≡ None → beside_for limits faults text sections own ≡ []
+beside_none limits faults text sections (Some id) none = ap (beside_in limits faults sections id) none
+beside_none limits faults text sections None none = refl
+
+no_beside : (text : List ℕ) (checks : Checks) (faults : List SheetFault) → 1048576 < length text → beside_marks text checks.node (limits_view checks.limits) faults ≡ []
+no_beside text checks [] large = refl
+no_beside text checks (fault ∷ faults) large =
+    beside_none (limits_view checks.limits) (fault ∷ faults) text (sections_read (lines_of text)) (own_node checks.node (sections_read (lines_of text))) (not_mended 8 text large)
+
 -- a text that is too large has its fault alone
 pub marked_large : (text : List ℕ) (checks : Checks) (faults : List SheetFault) (sheet : Option SheetContent) (marks : List Mark)
     → sheet ≡ sheet_of text → IfSome sheet (λ s. length text ≤ 1048576) → 1048576 < length text → marks ≡ map fault_mark faults
     → IsMarked text checks faults marks
+unfolding known_warnings
 marked_large text checks faults sheet marks is_sheet small large is =
     let none = no_marks text checks sheet is_sheet (no_sheet text sheet small large) in
+    let none_beside = no_beside text checks faults large in
+    let first = map fault_mark faults in
     record {
       warnings = [];
       by_line = large_by_line text checks large;
-      are = is ∙ sym (append-nil (map fault_mark faults)) ∙ ap (λ (l : List Mark). map fault_mark faults ++ l) (sym (ap (λ (l : List Mark). l ++ []) none));
+      are = is ∙ sym (append-nil first) ∙ ap (λ (l : List Mark). first ++ (l ++ [])) (sym none_beside)
+          ∙ ap (λ (l : List Mark). first ++ (l ++ (beside_marks text checks.node (limits_view checks.limits) faults ++ []))) (sym none);
     }
 
 -- what is left of what is found, made into findings

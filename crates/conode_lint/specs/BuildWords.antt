@@ -1,11 +1,17 @@
 -- The words about a build fault, for people.
-use Rattle.std.specs.Prelude.{List, [], ℕ, codes}
+use Rattle.std.specs.Prelude.{List, [], ℕ, ◌==◌, Bool, if◌then◌else◌, codes}
+use Rattle.co_value.specs.declared.key.Key.{Key}
+use Rattle.co_dict_build.specs.BuildFaultTexts.{fault_number}
 use Rattle.co_dict_build.specs.declared.build_fault.BuildFault.{BuildFault}
 use Rattle.co_dict_build.specs.declared.build_fault.BuildFault.TheVariants.{NodeId, ValueRange, BadCobId, PdoPair, BadMapping, TooMany, Memory}
 use Rattle.conode_lint_text.specs.declared.finding.About.{About}
 use Rattle.conode_lint_text.specs.declared.finding.About.TheVariants.{Line, Object, Entry}
 use Rattle.conode_lint_text.specs.declared.finding.Place.{Place}
 use Rattle.conode_lint_text.specs.declared.finding.Place.TheVariants.{Beginning, Value}
+
+-- the COB-ID of SYNC, whose bit 30 is a limit of what is built here and no fault of the sheet
+abbrev pub is_sync : Key → Bool
+is_sync key = key.index == 0x1005
 
 -- the object or the entry that it is about
 abbrev pub build_about : BuildFault → About
@@ -30,7 +36,9 @@ build_meaning NodeId = codes "the node-ID is none of 1 to 127"
 build_meaning (ValueRange key) =
     codes "the default with $NODEID is outside the type or the limits for this node-ID"
 build_meaning (BadCobId key) =
-    codes "the COB-ID is reserved, belongs to an SDO channel or has wrong bits"
+    if is_sync key
+    then codes "the COB-ID is reserved, belongs to an SDO channel or has wrong bits, or bit 30 is set"
+    else codes "the COB-ID is reserved, belongs to an SDO channel or has wrong bits"
 build_meaning (PdoPair index) =
     codes "the PDO lacks its other object, or a sub-index that it needs"
 build_meaning (BadMapping key) =
@@ -42,7 +50,10 @@ build_meaning Memory = codes "memory ran out"
 abbrev pub build_fix : BuildFault → List ℕ
 build_fix NodeId = codes "give a node-ID from 1 to 127"
 build_fix (ValueRange key) = codes "correct the default or the limits"
-build_fix (BadCobId key) = codes "give a free COB-ID"
+build_fix (BadCobId key) =
+    if is_sync key
+    then codes "give a free COB-ID; bit 30 is legal, but conode's node sends no SYNC: clear it to build"
+    else codes "give a free COB-ID"
 build_fix (PdoPair index) = codes "list or describe what is missing"
 build_fix (BadMapping key) = codes "correct the mapping, or set PDOMapping=1 for the entry"
 build_fix TooMany = codes "take objects out of the lists, or lower --domains or --strings"
@@ -57,3 +68,8 @@ build_subject (PdoPair index) = codes "CiA 301, PDO communication and mapping pa
 build_subject (BadMapping key) = codes "CiA 301, PDO mapping parameter"
 build_subject TooMany = []
 build_subject Memory = []
+
+-- the row of a fault's words: its number, or the last one for SYNC
+abbrev pub row_of : BuildFault → ℕ
+row_of (BadCobId key) = if is_sync key then 8 else 3
+row_of fault = fault_number fault

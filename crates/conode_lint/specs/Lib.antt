@@ -7,5 +7,8 @@ pub mod Words
 pub mod Found
 pub mod Statuses
 pub mod Allowed
+pub mod AtFault
+pub mod KnownFaults
+pub mod KnownWarnings
 pub mod Marks
 pub mod Linted

@@ -41,9 +41,9 @@ fn row_line(entries: &[EntryRow<'_>], key: Key) -> Option<usize>
     None
 }
 
-// the line of a section's value, or the section's own
+/// The line of a section's value, or the section's own.
 #[tactic(auto, unfolding(crate::specs::BuildLines::value_line))]
-fn value_line(section: &TextSection<'_, '_>) -> usize
+pub(crate) fn value_line(section: &TextSection<'_, '_>) -> usize
     ensures { result ≡ value_line (section_view section.now) }
 {
     if let Some(property) = section.property(b"ParameterValue") {

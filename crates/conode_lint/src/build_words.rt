@@ -7,6 +7,7 @@ ghost use Rattle.conode_lint.specs.BuildWords.{
   build_fix,
   build_meaning,
   build_subject,
+  row_of,
 };
 
 use co_dict_build::BuildFault;
@@ -46,8 +47,19 @@ pub(crate) fn text_at(texts: &[&'static str], row: usize) -> &'static str
     texts[row]
 }
 
-/// What is wrong by each fault, by its number; none has number 0.
-const MEANINGS: [&str; 8] = [
+// the row of a fault's words: its number, or the last one for SYNC
+fn row_of(fault: BuildFault) -> usize
+    ensures { result ≡ row_of fault }
+{
+    match fault {
+        BuildFault::BadCobId(key) => { if key.index == 0x1005 { 8 } else { 3 } }
+        _ => fault.number() as usize,
+    }
+}
+
+/// What is wrong by each fault, by its number; none has number 0. The last row is of the COB-ID of
+/// SYNC: bit 30 would make the node send it, which is a limit of what is built here.
+const MEANINGS: [&str; 9] = [
     "",
     "the node-ID is none of 1 to 127",
     "the default with $NODEID is outside the type or the limits for this node-ID",
@@ -56,17 +68,18 @@ const MEANINGS: [&str; 8] = [
     "it counts an entry that is missing or can't be mapped, a wrong length, or over 64 bits",
     "over 16,384 entries, or over 16,777,216 bytes of room",
     "memory ran out",
+    "the COB-ID is reserved, belongs to an SDO channel or has wrong bits, or bit 30 is set",
 ];
 
 /// What is wrong, in one line.
 pub(crate) fn build_meaning(fault: BuildFault) -> &'static str
     ensures { result.now ≡ build_meaning fault }
 {
-    text_at(&MEANINGS, fault.number() as usize)
+    text_at(&MEANINGS, row_of(fault))
 }
 
 /// How each is fixed, likewise.
-const FIXES: [&str; 8] = [
+const FIXES: [&str; 9] = [
     "",
     "give a node-ID from 1 to 127",
     "correct the default or the limits",
@@ -75,17 +88,18 @@ const FIXES: [&str; 8] = [
     "correct the mapping, or set PDOMapping=1 for the entry",
     "take objects out of the lists, or lower --domains or --strings",
     "run it again with more memory",
+    "give a free COB-ID; bit 30 is legal, but conode's node sends no SYNC: clear it to build",
 ];
 
 /// How to fix it, in one line.
 pub(crate) fn build_fix(fault: BuildFault) -> &'static str
     ensures { result.now ≡ build_fix fault }
 {
-    text_at(&FIXES, fault.number() as usize)
+    text_at(&FIXES, row_of(fault))
 }
 
 /// The subject that has the rule of each, likewise.
-const SUBJECTS: [&str; 8] = [
+const SUBJECTS: [&str; 9] = [
     "",
     "CiA 301, node-ID",
     "CiA 306-1, object description",
@@ -94,11 +108,12 @@ const SUBJECTS: [&str; 8] = [
     "CiA 301, PDO mapping parameter",
     "",
     "",
+    "CiA 301, restricted CAN-IDs",
 ];
 
 /// The subject of CiA 306-1 or CiA 301 that has the rule; empty if none has.
 pub(crate) fn build_subject(fault: BuildFault) -> &'static str
     ensures { result.now ≡ build_subject fault }
 {
-    text_at(&SUBJECTS, fault.number() as usize)
+    text_at(&SUBJECTS, row_of(fault))
 }

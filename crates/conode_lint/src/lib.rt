@@ -23,12 +23,17 @@ macro_rules! attempt_in_memory {
 }
 
 mod allowed;
+mod at_fault;
+mod beside;
 mod build_lines;
 mod build_marks;
 mod build_words;
 mod files;
 mod folder;
 mod format_words;
+mod known_faults;
+mod known_marks;
+mod known_warnings;
 mod laws;
 mod lines;
 mod linted_text;

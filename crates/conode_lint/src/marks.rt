@@ -6,6 +6,7 @@ ghost use Rattle.co_sheet_text.specs.Text.{lines_of};
 ghost use Rattle.co_sheet_text.specs.Views.{section_view};
 ghost use Rattle.co_dict_build.specs.Capacities.{limits_view};
 ghost use Rattle.co_sheet_warnings.specs.Lines.{text_lines};
+ghost use Rattle.conode_lint.specs.KnownWarnings.{known_warnings};
 ghost use Rattle.conode_lint.specs.Marks.{
   AddsWarnings,
   IsByLine,
@@ -23,7 +24,9 @@ ghost use Rattle.conode_lint.specs.Marks.{
   warning_mark,
 };
 
+use crate::beside::add_beside;
 use crate::build_marks::add_build_marks;
+use crate::known_warnings::known_warnings;
 use crate::mark::{Mark, OtherFormat, Subject};
 use crate::other_format::other_format;
 use co_dict_build::Limits;
@@ -70,9 +73,9 @@ fn add_warnings(marks: &mut Vec<Mark>, warnings: &[Warning]) -> Result<(), Alloc
     Ok(())
 }
 
-// the sheet of a text, if it is one
+/// The sheet of a text, if it is one.
 #[tactic(auto, unfolding(crate::specs::Marks::sheet_of))]
-fn sheet_of(alloc: Global, text: &[u8]) -> Result<Option<Sheet<'_>>, AllocError>
+pub(crate) fn sheet_of(alloc: Global, text: &[u8]) -> Result<Option<Sheet<'_>>, AllocError>
     ensures sheet { IfOk result (λ sheet. sheet ≡ sheet_of text.now) }
     ensures small { IfOk result (λ sheet. IfSome sheet (λ _. length text.now ≤ 1048576)) }
 {
@@ -130,28 +133,47 @@ fn add_built(
     }
 }
 
-// adds the warnings of a text with these lines and sections
+// adds those of the warnings that rest on nothing at fault
+fn add_left(
+    alloc: Global,
+    marks: &mut Vec<Mark>,
+    sections: &[TextSection<'_, '_>],
+    faults: &[SheetFault],
+    warnings: &[Warning],
+) -> Result<(), AllocError>
+    ensures { OnOk result (marks.new.items ≡ marks.old.items ++ map warning_mark
+        (known_warnings (map section_view sections.now) faults.now warnings.now)) }
+{
+    match known_warnings(alloc, sections, faults, warnings) {
+        Ok(known) => add_warnings(marks, known.as_slice()),
+        Err(fault) => Err(fault),
+    }
+}
+
+// adds the warnings of a text with these lines, sections and faults
 fn add_suspicious<'s, 'a>(
     alloc: Global,
     marks: &mut Vec<Mark>,
     text: &'a [u8],
     lines: &'s [&'a [u8]],
     sections: &'s [TextSection<'s, 'a>],
+    faults: &[SheetFault],
     checks: &Checks<'_>,
 ) -> Result<(), AllocError>
     requires size { length text.now ≤ 1048576 }
     requires lines { map (λ line. line.now) lines.now ≡ text_lines text.now }
     requires sections { map section_view sections.now ≡ sections_read (lines_of text.now) }
-    ensures { OnOk result (AddsWarnings text.now checks.now marks.old.items marks.new.items) }
+    ensures { OnOk result
+        (AddsWarnings text.now checks.now faults.now marks.old.items marks.new.items) }
 {
     match find_warnings(alloc, text, lines, sections, checks.node, checks.all) {
-        Ok(warnings) => add_warnings(marks, warnings.as_slice()),
+        Ok(warnings) => add_left(alloc, marks, sections, faults, warnings.as_slice()),
         Err(fault) => Err(fault),
     }
 }
 
-// adds the marks of a text with these lines and sections to none: its faults, its build and its
-// warnings
+// adds the marks of a text with these lines and sections to none: its faults, its build, also
+// beside faults, and its warnings
 fn add_marks<'s, 'a>(
     alloc: Global,
     marks: &mut Vec<Mark>,
@@ -172,7 +194,16 @@ fn add_marks<'s, 'a>(
     attempt!(add_faults(marks, faults));
     let node = node_for(checks.node, sheet);
     attempt!(add_built(alloc, marks, sections, sheet, node, &checks.limits));
-    add_suspicious(alloc, marks, text, lines, sections, checks)
+    attempt!(add_beside(
+        alloc,
+        marks,
+        text,
+        sections,
+        faults,
+        checks.node,
+        &checks.limits
+    ));
+    add_suspicious(alloc, marks, text, lines, sections, faults, checks)
 }
 
 // adds the marks of a text that is too large to be read to none: only that fault

@@ -3,7 +3,7 @@ use Rattle.conode_lint.proofs.WordLemmas.{few_faults, fixed, fixes}
 use Rattle.conode_lint.proofs.build_words.build_fix.Goals as goal
 
 pub text_at-requires : goal.text_at-requires
-text_at-requires c = rw c.number.ensures (few_faults c.args.fault)
+text_at-requires c = rw c.row_of.ensures (few_faults c.args.fault)
 
 pub returns : goal.returns
-returns c = c.text_at.ensures ∙ ap (λ (n : ℕ). get_or fixes n []) c.number.ensures ∙ fixed c.args.fault
+returns c = c.text_at.ensures ∙ ap (λ (n : ℕ). get_or fixes n []) c.row_of.ensures ∙ fixed c.args.fault
