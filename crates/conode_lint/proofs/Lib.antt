@@ -7,3 +7,5 @@ mod MarkLemmas
 mod BuildLaws
 mod FoundLaws
 mod Examples
+mod KnownExamples
+mod KnownWarningExamples
