@@ -221,7 +221,7 @@ ended_since : (beats : Heartbeats) (o : Option Ended) (micros ago : ℕ) → IfS
 ended_since beats None micros ago h = h
 ended_since beats (Some e) micros ago h = by (is_some (shown_period e))
   where
-    by : (b : Bool) → IfSome (if b then record { guarded = beats.guarded; since = Some micros; sent = sent_after e.direction e beats.sent } else beats).since (λ last. micros ≤ last + ago)
+    by : (b : Bool) → IfSome (if b then record { guarded = beats.guarded; since = Some micros; sent = sent_after e.direction e beats.sent; shown = beats.shown } else beats).since (λ last. micros ≤ last + ago)
     by true = omega arith
     by false = h
 

@@ -1,4 +1,4 @@
--- A heartbeat that is missing, by an EMCY and by a TPDO of the device, on both sides of each edge.
+-- A heartbeat that is missing, by EMCYs and by TPDOs of the device, on both sides of each edge.
 use Rattle.std.proofs.Common.{◌≡◌, ℕ, true, false, [], Option, Some, None, refl}
 use Rattle.conode_compare_pdos.specs.declared.parameters.Parameters.{Parameters}
 use Rattle.conode_compare_pdos.specs.declared.pdos.Pdos.{Pdos}
@@ -61,9 +61,16 @@ waiting = record (before_recording subject) {
   newest = Some 1000000;
   free = 1000000;
   nmt = record nothing_commanded { state = Operational };
-  heartbeats = record { guarded = false; since = Some 5; sent = Some 5 };
+  heartbeats = record { guarded = false; since = Some 5; sent = Some 5; shown = None };
   pdos = pdos;
 }
+
+-- an EMCY or a TPDO showed at 1020006 µs that the device sends
+abbrev shown_at : ℕ → Progress
+shown_at micros = record waiting { heartbeats = record waiting.heartbeats { shown = Some micros } }
+
+abbrev showing : Progress
+showing = shown_at 1020006
 
 abbrev found_of : Progress → ℕ → FrameKind → Option Finding
 found_of progress micros kind = (findings_at subject [] progress micros kind).heartbeat
@@ -71,15 +78,25 @@ found_of progress micros kind = (findings_at subject [] progress micros kind).he
 abbrev emergency : FrameKind
 emergency = Emergency 0x8130 0x11
 
--- ---- by an EMCY: missing after twice 1000 ms, 10 ms and 1 %
+-- ---- by an EMCY: 1000 ms, 10 ms and 1 % after the one that showed that the device sends
 
-by_emergency : found_of waiting 2040006 emergency ≡ Some (HeartbeatLate 2040001 1000)
+by_emergency : found_of showing 2040007 emergency ≡ Some (HeartbeatLate 2040002 1000)
 unfolding findings_at begun emergency_findings found late_finding overdue_by is_missing
 by_emergency = refl
 
-not_yet : found_of waiting 2040005 emergency ≡ None
+not_yet : found_of showing 2040006 emergency ≡ None
 unfolding findings_at begun emergency_findings found late_finding overdue_by is_missing
 not_yet = refl
+
+-- the first frame since long isn't enough: the boot-up may come after it
+first_frame : found_of waiting 2900000 emergency ≡ None
+unfolding findings_at begun emergency_findings found late_finding overdue_by is_missing
+first_frame = refl
+
+-- one that came before the newest heartbeat doesn't count
+before_heartbeat : found_of (shown_at 5) 2900000 emergency ≡ None
+unfolding findings_at begun emergency_findings found late_finding overdue_by is_missing
+before_heartbeat = refl
 
 -- a late one that comes is said with its own stamp; by an EMCY nothing is said yet
 late_itself : found_of waiting 1020006 (Control 5) ≡ Some (HeartbeatLate 1020001 1000)
@@ -87,64 +104,89 @@ unfolding findings_at begun control_findings heartbeat_findings found late_findi
 late_itself = refl
 
 -- a TPDO may have its identifier, or 1014:00 isn't known
-of_another : found_of (record waiting { entries = record sheet { emergencies = false } }) 2040006 emergency ≡ None
+of_another : found_of (record showing { entries = record sheet { emergencies = false } }) 2040007 emergency ≡ None
 unfolding findings_at begun emergency_findings found late_finding overdue_by is_missing
 of_another = refl
 
 -- of another number of bytes than eight: it needn't be the device's
-odd : found_of waiting 2040006 (OddEmergency 0) ≡ None
+odd : found_of showing 2040007 (OddEmergency 0) ≡ None
 unfolding findings_at begun found
 odd = refl
 
 -- ---- by a TPDO
 
-by_tpdo : found_of waiting 2040006 (Process 0x185 4) ≡ Some (HeartbeatLate 2040001 1000)
+by_tpdo : found_of showing 2040007 (Process 0x185 4) ≡ Some (HeartbeatLate 2040002 1000)
 unfolding findings_at begun process_findings moment_at sighting found late_finding overdue_by is_missing
 by_tpdo = refl
 
-tpdo_not_yet : found_of waiting 2040005 (Process 0x185 4) ≡ None
+tpdo_not_yet : found_of showing 2040006 (Process 0x185 4) ≡ None
 unfolding findings_at begun process_findings moment_at sighting found late_finding overdue_by is_missing
 tpdo_not_yet = refl
 
 -- the bus wasn't free since 1 s: the heartbeat may wait
-waits_for_bus : found_of (record waiting { newest = Some 2040000 }) 2040006 (Process 0x185 4) ≡ None
+waits_for_bus : found_of (record showing { newest = Some 2040000 }) 2040007 (Process 0x185 4) ≡ None
 unfolding findings_at begun process_findings moment_at sighting found late_finding overdue_by is_missing
 waits_for_bus = refl
 
 -- ---- no other frame says that the device sends: it may be switched off
 
-other_pdo : found_of waiting 2000000 (Process 0x186 4) ≡ None
+other_pdo : found_of showing 2040007 (Process 0x186 4) ≡ None
 unfolding findings_at begun process_findings moment_at sighting
 other_pdo = refl
 
-other_frame : found_of waiting 2000000 Other ≡ None
+other_frame : found_of showing 2040007 Other ≡ None
 unfolding findings_at begun
 other_frame = refl
 
 -- nothing at all was recorded for longer than three periods
-after_gap : found_of waiting 4000001 emergency ≡ None
+after_gap : found_of showing 4000001 emergency ≡ None
 unfolding findings_at begun emergency_findings found late_finding overdue_by is_missing
 after_gap = refl
 
+-- ---- the first frame that shows it is kept, if the heartbeat is late
+
+abbrev shown_by : Progress → ℕ → FrameKind → Option ℕ
+shown_by progress micros kind = (progress_with subject progress micros kind).heartbeats.shown
+
+shows : shown_by waiting 1020006 emergency ≡ Some 1020006
+unfolding progress_with begun after_emergency late_finding overdue_by is_missing
+shows = refl
+
+shows_by_tpdo : shown_by waiting 1020006 (Process 0x185 4) ≡ Some 1020006
+unfolding progress_with begun after_process moment_at framed sighting late_finding overdue_by is_missing
+shows_by_tpdo = refl
+
+not_late : shown_by waiting 1020005 emergency ≡ None
+unfolding progress_with begun after_emergency late_finding overdue_by is_missing
+not_late = refl
+
+kept : shown_by showing 1500000 emergency ≡ Some 1020006
+unfolding progress_with begun after_emergency late_finding overdue_by is_missing
+kept = refl
+
+anew : shown_by (shown_at 5) 1020006 emergency ≡ Some 1020006
+unfolding progress_with begun after_emergency late_finding overdue_by is_missing
+anew = refl
+
 -- ---- once, until the next heartbeat
 
-said_once : found_of (progress_with subject waiting 2040006 emergency) 2500000 emergency ≡ None
+said_once : found_of (progress_with subject showing 2040007 emergency) 3900000 emergency ≡ None
 unfolding findings_at progress_with begun after_emergency emergency_findings found late_finding overdue_by is_missing
 said_once = refl
 
-tpdo_once : found_of (progress_with subject waiting 2040006 (Process 0x185 4)) 2500000 (Process 0x185 4) ≡ None
+tpdo_once : found_of (progress_with subject showing 2040007 (Process 0x185 4)) 3900000 (Process 0x185 4) ≡ None
 unfolding findings_at progress_with begun after_process process_findings moment_at framed sighting found late_finding overdue_by is_missing
 tpdo_once = refl
 
-heartbeat_once : found_of (progress_with subject waiting 2040006 emergency) 2500000 (Control 5) ≡ None
+heartbeat_once : found_of (progress_with subject showing 2040007 emergency) 3900000 (Control 5) ≡ None
 unfolding findings_at progress_with begun after_emergency control_findings heartbeat_findings found late_finding overdue_by is_missing
 heartbeat_once = refl
 
-said_again : found_of (progress_with subject (progress_with subject waiting 2040006 emergency) 2500000 (Control 5)) 4540001 emergency ≡ Some (HeartbeatLate 2040001 1000)
-unfolding findings_at progress_with begun after_emergency after_control emergency_findings found late_finding overdue_by is_missing
-said_again = refl
-
 -- awaited until then
-still_awaited : (progress_with subject waiting 2040005 emergency).heartbeats.since ≡ Some 5
+still_awaited : (progress_with subject showing 2040006 emergency).heartbeats.since ≡ Some 5
 unfolding progress_with begun after_emergency late_finding overdue_by is_missing
 still_awaited = refl
+
+not_awaited : (progress_with subject showing 2040007 emergency).heartbeats.since ≡ None
+unfolding progress_with begun after_emergency late_finding overdue_by is_missing
+not_awaited = refl

@@ -1,5 +1,5 @@
 -- Heartbeats that are late, and those that come early (CiA 301, 7.2.8.3.2).
-use Rattle.std.specs.Prelude.{ℕ, ◌+◌, ◌-◌, ◌*◌, ◌==◌, nat_lt, nat_le, Bool, false, ◌||◌, if◌then◌else◌, Option, Some, None, is_some, option_map}
+use Rattle.std.specs.Prelude.{ℕ, ◌+◌, ◌-◌, ◌*◌, ◌==◌, nat_lt, nat_le, Bool, false, not, ◌&&◌, ◌||◌, if◌then◌else◌, Option, Some, None, is_some, option_map}
 use Rattle.conode_explain_transfers.specs.declared.ended.Ended.{Ended}
 use Rattle.conode_explain_transfers.specs.declared.kinds.Direction.{Direction}
 use Rattle.conode_explain_transfers.specs.declared.kinds.Direction.TheVariants.{Download, Upload}
@@ -15,7 +15,7 @@ use Rattle.conode_compare_transfers.specs.Times.{is_past, micros_of}
 use Rattle.conode_compare_rules.specs.Times.{drift_of}
 
 abbrev pub no_heartbeat : Heartbeats
-no_heartbeat = record { guarded = false; since = None; sent = None }
+no_heartbeat = record { guarded = false; since = None; sent = None; shown = None }
 
 -- A heartbeat came, or an answer of node guarding. It may have waited since the bus was free last,
 -- `free`.
@@ -24,6 +24,7 @@ after_byte heartbeats free micros byte = record {
   guarded = heartbeats.guarded || is_guarded_state byte;
   since = Some micros;
   sent = Some free;
+  shown = heartbeats.shown;
 }
 
 -- With a transfer of 1017:00 the wait for the next one begins anew. By a download the device counts
@@ -38,6 +39,7 @@ after_ended heartbeats ended micros =
       guarded = heartbeats.guarded;
       since = Some micros;
       sent = sent_after ended.direction ended heartbeats.sent;
+      shown = heartbeats.shown;
     }
     else heartbeats
 
@@ -83,15 +85,31 @@ unfoldable pub late_finding : Limits → Option ℕ → Heartbeats → ℕ → �
 late_finding limits period heartbeats free micros =
     option_map (λ late. HeartbeatLate late.0 late.1) (overdue_by limits period heartbeats free micros)
 
--- A heartbeat that hasn't come is missing when twice as long has passed as for a late one: when it
--- is late, as long again.
-abbrev pub missing_since : Limits → ℕ → Option ℕ → ℕ → Bool
-missing_since limits period None free = false
-missing_since limits period (Some since) free = nat_lt (allowance limits period) ((free - since) - allowance limits period)
+-- An EMCY or a TPDO showed that the device sends while its heartbeat was late, `shown`: the first one
+-- since that heartbeat is awaited.
+abbrev pub shown_after : ℕ → Option ℕ → Bool
+shown_after since None = false
+shown_after since (Some shown) = nat_lt since shown
 
-unfoldable pub is_missing : Limits → Option ℕ → Option ℕ → ℕ → Bool
-is_missing limits None since free = false
-is_missing limits (Some period) since free = missing_since limits period since free
+abbrev pub is_shown : Option ℕ → Option ℕ → Bool
+is_shown None shown = false
+is_shown (Some since) shown = shown_after since shown
+
+abbrev pub with_shown : Heartbeats → Bool → ℕ → Heartbeats
+with_shown heartbeats late micros = record heartbeats {
+  shown = if late && not (is_shown heartbeats.since heartbeats.shown) then Some micros else heartbeats.shown;
+}
+
+-- A heartbeat that hasn't come is missing when as long as until a late one has passed since then: a
+-- device that was switched on again may send such a frame before its boot-up, whose priority is lower.
+abbrev pub missing_after : Limits → ℕ → Option ℕ → ℕ → Bool
+missing_after limits period None free = false
+missing_after limits period (Some shown) free = nat_lt (allowance limits period) (free - shown)
+
+unfoldable pub is_missing : Limits → Option ℕ → Heartbeats → ℕ → Bool
+is_missing limits None heartbeats free = false
+is_missing limits (Some period) heartbeats free =
+    is_shown heartbeats.since heartbeats.shown && missing_after limits period heartbeats.shown free
 
 -- ---- early ones
 

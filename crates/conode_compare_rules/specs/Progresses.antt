@@ -34,7 +34,7 @@ use Rattle.conode_compare_transfers.specs.Dialogues.{dialogue_heard, given_up, i
 use Rattle.conode_compare_values.specs.HeldNumbers.{is_kept, nothing_written, unmapped, with_process, written_heard}
 use Rattle.conode_compare_rules.specs.EmergencyRules.{emergency_finding, length_finding}
 use Rattle.conode_compare_rules.specs.EntriesInForce.{asked_to_write, ended_entries, reset_entries, shares_id, with_sharing}
-use Rattle.conode_compare_rules.specs.Heartbeats.{after_byte, after_transfer, early_remark, follows_closely, late_finding, no_heartbeat, is_gap, is_missing}
+use Rattle.conode_compare_rules.specs.Heartbeats.{after_byte, after_transfer, early_remark, follows_closely, late_finding, no_heartbeat, is_gap, is_missing, with_shown}
 use Rattle.conode_compare_rules.specs.States as states
 use Rattle.conode_compare_rules.specs.States.{boot_finding, control_finding, is_operational, is_reset, is_settled, nothing_commanded, restart_remark}
 use Rattle.conode_compare_transfers.specs.Times.{is_past}
@@ -172,7 +172,7 @@ abbrev pub late_at : Subject → Progress → ℕ → Option Finding
 late_at subject progress micros = late_finding subject.limits progress.entries.period progress.heartbeats progress.free micros
 
 abbrev pub is_missing_at : Subject → Progress → Bool
-is_missing_at subject progress = is_missing subject.limits progress.entries.period progress.heartbeats.since progress.free
+is_missing_at subject progress = is_missing subject.limits progress.entries.period progress.heartbeats progress.free
 
 -- an EMCY or a TPDO that is surely the device's shows that it sends, so its heartbeat may be missing
 abbrev pub late_by : Subject → Progress → Bool → ℕ → Option Finding
@@ -181,6 +181,11 @@ late_by subject progress own micros = if own && is_missing_at subject progress t
 -- where it is, that isn't said again until the next one
 abbrev pub said_late : Heartbeats → Option Finding → Heartbeats
 said_late heartbeats late = record heartbeats { since = if is_some late then None else heartbeats.since }
+
+-- the heartbeats after an EMCY or a TPDO
+abbrev pub heartbeats_by : Subject → Progress → Bool → ℕ → Heartbeats
+heartbeats_by subject progress own micros =
+    said_late (with_shown progress.heartbeats (own && is_some (late_at subject progress micros)) micros) (late_by subject progress own micros)
 
 unfoldable pub heartbeat_findings : Subject → Progress → Option Finding → ℕ → ℕ → Findings
 heartbeat_findings subject progress answer micros byte =
@@ -238,7 +243,7 @@ after_emergency progress micros = record progress { nmt = record progress.nmt { 
 abbrev pub emergency_noted : Subject → Progress → ℕ → Progress
 emergency_noted subject progress micros =
     after_emergency (record progress {
-      heartbeats = said_late progress.heartbeats (late_by subject progress progress.entries.emergencies micros);
+      heartbeats = heartbeats_by subject progress progress.entries.emergencies micros;
     }) micros
 
 -- ---- the SDO channel
@@ -372,7 +377,7 @@ with_rpdo subject written own id = if own then written else with_process subject
 
 unfoldable pub after_process : Subject → Progress → ℕ → ℕ → ℕ → Progress
 after_process subject progress micros id length = record progress {
-  heartbeats = said_late progress.heartbeats (late_by_tpdo subject progress micros id length);
+  heartbeats = heartbeats_by subject progress (is_some (sighted subject progress micros id length)) micros;
   pdos = tpdos.framed progress.pdos (moment_at subject progress micros) id length;
   written = with_rpdo subject progress.written (is_some (sighted subject progress micros id length)) id;
 }

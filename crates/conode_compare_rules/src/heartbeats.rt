@@ -1,6 +1,6 @@
 //! Heartbeats that are late, and those that come early (CiA 301, 7.2.8.3.2).
 
-ghost use Rattle.std.specs.Prelude.{◌≡◌};
+ghost use Rattle.std.specs.Prelude.{◌≡◌, true};
 ghost use Rattle.conode_compare_rules.specs.Heartbeats.{
   after_byte,
   after_transfer,
@@ -11,6 +11,10 @@ ghost use Rattle.conode_compare_rules.specs.Heartbeats.{
   overdue_by,
   is_gap,
   is_missing,
+  is_shown,
+  missing_after,
+  shown_after,
+  with_shown,
   follows_closely,
 };
 
@@ -31,6 +35,9 @@ pub(crate) struct Heartbeats {
     /// When the bus was free before the newest one or the boot-up, or 1017:00 was asked to be
     /// written: from then on the device counts its period, or from later.
     pub(crate) sent: Option<u64>,
+    /// When an EMCY or a TPDO showed first that it sends while the next one is late; where that is
+    /// after `since`.
+    pub(crate) shown: Option<u64>,
 }
 
 /// After how many microseconds a heartbeat is late.
@@ -72,6 +79,7 @@ impl Heartbeats {
             guarded: false,
             since: None,
             sent: None,
+            shown: None,
         }
     }
 
@@ -83,6 +91,7 @@ impl Heartbeats {
             guarded: self.guarded || is_guarded_state(byte),
             since: Some(micros),
             sent: Some(free),
+            shown: self.shown,
         }
     }
 
@@ -99,6 +108,7 @@ impl Heartbeats {
                     Direction::Download => Some(ended.begun),
                     Direction::Upload => self.sent,
                 },
+                shown: self.shown,
             },
             _ => self,
         }
@@ -148,18 +158,44 @@ impl Heartbeats {
         Some((micros.saturating_sub(since), period))
     }
 
-    /// Whether the next heartbeat is missing: it hasn't come, and when the bus was free last, twice
-    /// as long had passed as for a late one.
+    // whether an EMCY or a TPDO showed that the device sends while the next heartbeat is late
+    fn is_shown(&self) -> bool
+        ensures { result ≡ is_shown self.now.since self.now.shown }
+    {
+        match (self.since, self.shown) {
+            (Some(since), Some(shown)) => since < shown,
+            _ => false,
+        }
+    }
+
+    /// An EMCY or a TPDO shows that the device sends while the next heartbeat is late.
+    pub(crate) fn note_shown(&mut self, micros: u64)
+        ensures { self.new ≡ with_shown self.old true micros }
+    {
+        if !self.is_shown() {
+            self.shown = Some(micros);
+        }
+    }
+
+    // whether so long has passed as until a late heartbeat, since a frame showed that one is late
+    fn missing_after(&self, limits: &Limits, period: u16, free: u64) -> bool
+        ensures { result ≡ missing_after limits.now period self.now.shown free }
+    {
+        match self.shown {
+            Some(shown) => free.saturating_sub(shown) > allowance(limits, period),
+            None => false,
+        }
+    }
+
+    /// Whether the next heartbeat is missing: it hasn't come, and since an EMCY or a TPDO showed that
+    /// the device sends, the bus was free once more after as long as until a late one.
     #[tactic(auto, unfolding(crate::specs::Heartbeats::is_missing))]
     pub(crate) fn is_missing(&self, limits: &Limits, entries: &Entries, free: u64) -> bool
-        ensures { result ≡ is_missing limits.now entries.now.period self.now.since free }
+        ensures { result ≡ is_missing limits.now entries.now.period self.now free }
     {
-        match (entries.period, self.since) {
-            (Some(period), Some(since)) => {
-                let allowed = allowance(limits, period);
-                free.saturating_sub(since).saturating_sub(allowed) > allowed
-            }
-            _ => false,
+        match entries.period {
+            Some(period) => self.is_shown() && self.missing_after(limits, period, free),
+            None => false,
         }
     }
 

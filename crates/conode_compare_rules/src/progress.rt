@@ -41,7 +41,7 @@ ghost use Rattle.conode_compare_rules.specs.Progresses.{
   channel_heard,
   exchange_at,
   late_noted,
-  said_late,
+  heartbeats_by,
   was_quiet,
   exchange_noted,
 };
@@ -305,7 +305,8 @@ impl Progress {
     }
 
     /// The difference of an EMCY or a TPDO, where the device's heartbeat is missing; `own`: the
-    /// frame is surely the device's. It isn't said again until the next heartbeat.
+    /// frame is surely the device's. The first that shows a late heartbeat is noted; what is missing
+    /// isn't said again until the next heartbeat.
     pub(crate) fn notice_late(
         &mut self,
         subject: &Subject,
@@ -314,17 +315,23 @@ impl Progress {
     ) -> Option<Finding>
         ensures finding { result ≡ late_by subject.now self.old own micros }
         ensures progress { self.new ≡ record self.old {
-          heartbeats = said_late self.old.heartbeats (late_by subject.now self.old own micros);
+          heartbeats = heartbeats_by subject.now self.old own micros;
         } }
     {
-        let limits = &subject.limits;
-        let is_missing = self.heartbeats.is_missing(limits, &self.entries, self.free);
-        if !(own && is_missing) {
+        if !own {
             return None;
         }
+        let limits = &subject.limits;
+        let is_missing = self.heartbeats.is_missing(limits, &self.entries, self.free);
         let late = self
             .heartbeats
             .late_finding(limits, &self.entries, self.free, micros);
+        if late.is_some() {
+            self.heartbeats.note_shown(micros);
+        }
+        if !is_missing {
+            return None;
+        }
         if late.is_some() {
             self.heartbeats.since = None;
         }

@@ -4,7 +4,7 @@ use Rattle.co_sheet_rows.specs.declared.fault.FaultKind.{FaultKind}
 use Rattle.co_sheet_rows.specs.declared.fault.FaultKind.TheVariants.{BadAccess, BadDefault, BadLine, BadNumber, MissingSection}
 use Rattle.co_sheet_rows.specs.declared.fault.SheetFault.{SheetFault}
 use Rattle.co_sheet_text.specs.declared.section_kind.SectionKind.{SectionKind}
-use Rattle.co_sheet_text.specs.declared.section_kind.SectionKind.TheVariants.{MandatoryObjects, Object, PassedOver, SubIndex}
+use Rattle.co_sheet_text.specs.declared.section_kind.SectionKind.TheVariants.{DeviceInfo, MandatoryObjects, Object, PassedOver, SubIndex}
 use Rattle.co_sheet_text.specs.Sections.{TextSection}
 use Rattle.co_sheet_warnings.specs.declared.warning.Warning.{Warning}
 use Rattle.co_sheet_warnings.specs.declared.warning.WarningKind.{WarningKind}
@@ -52,6 +52,11 @@ missing_section = refl
 section_line : left_by (fault BadLine 30 ∷ []) (warning PdoCount 4 ∷ warning Unlisted 10 ∷ warning FixedCobId 12 ∷ warning SubNumber 61 ∷ warning SubIndex0 62 ∷ []) ≡ warning FixedCobId 12 ∷ []
 unfolding known_warnings unknown_of is_complete kinds_at_fault
 section_line = refl
+
+-- a key of DeviceInfo, as CompactPDO
+device_info : known_warnings (section DeviceInfo 1 ∷ section (Object 0x2000) 60 ∷ []) (fault BadNumber 2 ∷ []) (warning PdoCount 4 ∷ warning SubNumber 61 ∷ []) ≡ warning SubNumber 61 ∷ []
+unfolding known_warnings unknown_of is_complete kinds_at_fault
+device_info = refl
 
 -- a COB-ID: nothing is said of its own value, and nothing of identifiers that come twice
 cob_id : left_by (fault BadDefault 12 ∷ []) (warning FixedCobId 11 ∷ warning FixedCobId 12 ∷ warning NodeIdPlace 12 ∷ warning LongLine 12 ∷ warning FixedCobId 13 ∷ warning SharedCobId 45 ∷ [])

@@ -4,7 +4,7 @@ use Rattle.std.specs.List.{list_any, prefix_len}
 use Rattle.co_profile.specs.Indices.{is_within, rpdo_communication, sdo_server, tpdo_communication}
 use Rattle.co_sheet_rows.specs.declared.fault.SheetFault.{SheetFault}
 use Rattle.co_sheet_text.specs.declared.section_kind.SectionKind.{SectionKind}
-use Rattle.co_sheet_text.specs.declared.section_kind.SectionKind.TheVariants.{Object, PassedOver, SubIndex}
+use Rattle.co_sheet_text.specs.declared.section_kind.SectionKind.TheVariants.{DeviceInfo, Object, PassedOver, SubIndex}
 use Rattle.co_sheet_text.specs.Sections.{TextSection}
 use Rattle.co_sheet_warnings.specs.declared.warning.Warning.{Warning}
 use Rattle.co_sheet_warnings.specs.declared.warning.WarningKind.{WarningKind}
@@ -36,10 +36,16 @@ is_of_tpdo (Object index) = is_within tpdo_communication index
 is_of_tpdo (SubIndex key) = is_within tpdo_communication key.index
 is_of_tpdo kind = false
 
--- what may be wrong: which sections there are, what is listed, COB-IDs, TPDOs, 1016h, 1018h
+-- CompactPDO says whether the sheet lacks PDOs
+abbrev pub is_info : SectionKind → Bool
+is_info DeviceInfo = true
+is_info kind = false
+
+-- what may be wrong: which sections there are, CompactPDO, what is listed, COB-IDs, TPDOs, 1016h, 1018h
 unfoldable pub unknown_of : List TextSection → List SectionKind → Unknown
 unknown_of sections kinds = record {
   sections = list_any is_passed_over kinds;
+  info = list_any is_info kinds;
   lists = not (is_complete sections kinds);
   words = list_any is_of_words kinds;
   tpdos = list_any is_of_tpdo kinds;
@@ -53,7 +59,7 @@ unknown_of sections kinds = record {
 abbrev pub rests_on : Unknown → WarningKind → Bool
 rests_on u SubNumber = u.sections
 rests_on u SubIndex0 = u.sections
-rests_on u PdoCount = u.sections
+rests_on u PdoCount = u.sections || u.info
 rests_on u Unlisted = u.lists
 rests_on u NoErrorControl = u.lists
 rests_on u SharedCobId = u.words

@@ -7,6 +7,7 @@ ghost use Rattle.conode_lint.specs.KnownWarnings.{
   begins_at,
   faults_from,
   has_words,
+  is_info,
   is_of_tpdo,
   is_of_value,
   is_of_words,
@@ -30,6 +31,8 @@ use std::alloc::{AllocError, Global};
 pub(crate) struct Unknown {
     /// Which sections there are.
     sections: bool,
+    /// DeviceInfo, with CompactPDO.
+    info: bool,
     /// What is listed.
     lists: bool,
     /// The COB-IDs.
@@ -78,6 +81,18 @@ fn is_of_tpdo(kind: SectionKind) -> bool
     }
 }
 
+fn is_info(kind: SectionKind) -> bool
+    ensures { result ≡ is_info kind }
+{
+    matches!(kind, SectionKind::DeviceInfo)
+}
+
+fn is_any_info(kinds: &[SectionKind]) -> bool
+    ensures { result ≡ list_any is_info kinds.now }
+{
+    kinds.iter().any(|kind| is_info(*kind))
+}
+
 fn is_any_passed_over(kinds: &[SectionKind]) -> bool
     ensures { result ≡ list_any is_passed_over kinds.now }
 {
@@ -102,6 +117,7 @@ fn unknown_of(sections: &[TextSection<'_, '_>], kinds: &[SectionKind]) -> Unknow
 {
     Unknown {
         sections: is_any_passed_over(kinds),
+        info: is_any_info(kinds),
         lists: !is_complete(sections, kinds),
         words: is_any_of_words(kinds),
         tpdos: is_any_of_tpdo(kinds),
@@ -115,9 +131,8 @@ fn rests_on(unknown: Unknown, kind: WarningKind) -> bool
     ensures { result ≡ rests_on unknown kind }
 {
     match kind {
-        WarningKind::SubNumber | WarningKind::SubIndex0 | WarningKind::PdoCount => {
-            unknown.sections
-        }
+        WarningKind::SubNumber | WarningKind::SubIndex0 => unknown.sections,
+        WarningKind::PdoCount => unknown.sections || unknown.info,
         WarningKind::Unlisted | WarningKind::NoErrorControl => unknown.lists,
         WarningKind::SharedCobId => unknown.words,
         WarningKind::InhibitTime => unknown.tpdos,

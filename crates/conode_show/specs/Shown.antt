@@ -17,8 +17,6 @@ use Rattle.std.specs.Prelude.{
   Some,
   None,
   is_none,
-  is_some,
-  ◌&&◌,
   option_and_then,
 }
 use Rattle.std.specs.List.{list_any}
@@ -99,17 +97,18 @@ reason text =
     if is_too_large text then Some (large_reason (text_format text))
     else option_and_then (unless_object (sections_read (lines_of text))) (text_format text)
 
--- the document of a text with the sections of its compact forms; why it isn't shown, if it is too
--- large with them
-abbrev pub whole_shown : Form → Option ℕ → Option (List ℕ) → List ℕ
-whole_shown form given None = reason_in form (large_reason None)
-whole_shown form given (Some text) = document_of form given (sections_of text)
+-- the text with the sections of its compact forms; without them, if it is too large with them
+abbrev pub whole_text : List ℕ → Option (List ℕ) → List ℕ
+whole_text text None = text
+whole_text text (Some whole) = whole
+
+abbrev pub whole_shown : Form → Option ℕ → List ℕ → List ℕ
+whole_shown form node text = document_of form node (sections_of (whole_text text (expanded text)))
 
 -- the document of a text, or why it isn't shown
 unfoldable pub shown : Form → Option ℕ → List ℕ → List ℕ
-shown form node text =
-    option_map_or (reason_in form) (reason text) (whole_shown form node (expanded text))
+shown form node text = option_map_or (reason_in form) (reason text) (whole_shown form node text)
 
 -- whether it is shown
 unfoldable pub is_shown : List ℕ → Bool
-is_shown text = is_none (reason text) && is_some (expanded text)
+is_shown text = is_none (reason text)

@@ -232,26 +232,20 @@ fn reason_in(alloc: Global, form: Form, words: &str) -> Result<Vec<u8>, AllocErr
     }
 }
 
-// what is written of a text with the sections of its compact forms, and whether it is shown
+// what is written of a text with the sections of its compact forms, or without them, if it is too
+// large with them
 fn whole_shown(
     alloc: Global,
     form: Form,
     node: Option<u8>,
     text: &[u8],
-) -> Result<(Vec<u8>, bool), AllocError>
+) -> Result<Vec<u8>, AllocError>
     requires { length text.now ≤ 1048576 }
-    ensures text { IfOk result (λ made. made.0.items ≡ whole_shown form node (expanded text.now)) }
-    ensures readable { IfOk result (λ made. made.1 ≡ is_some (expanded text.now)) }
+    ensures { IfOk result (λ made. made.items ≡ whole_shown form node text.now) }
 {
     match attempt!(expanded(alloc, text)) {
-        Some(whole) => match document_of(alloc, form, node, whole.as_slice()) {
-            Ok(made) => Ok((made, true)),
-            Err(fault) => Err(fault),
-        },
-        None => match reason_in(alloc, form, large_reason(None)) {
-            Ok(made) => Ok((made, false)),
-            Err(fault) => Err(fault),
-        },
+        Some(whole) => document_of(alloc, form, node, whole.as_slice()),
+        None => document_of(alloc, form, node, text),
     }
 }
 
@@ -271,16 +265,19 @@ fn shown(
             Ok(made) => Ok((made, false)),
             Err(fault) => Err(fault),
         },
-        None => whole_shown(alloc, form, node, text),
+        None => match whole_shown(alloc, form, node, text) {
+            Ok(made) => Ok((made, true)),
+            Err(fault) => Err(fault),
+        },
     }
 }
 
 /// Shows the object dictionary of a data sheet (CiA 306): its entries by index and sub-index, then
 /// its PDOs and the other services of the communication profile in words. A faulty line is left
-/// out, and the others are shown, also those that compact forms give. A text that has more than
-/// 1,048,576 bytes, also with these, isn't read, and one of another format without an object isn't
-/// shown; the reason is written instead, in JSON as a document. Returns whether the dictionary is
-/// shown.
+/// out, and the others are shown, also those that compact forms give, if the text has at most
+/// 1,048,576 bytes with these. A text that has more without them isn't read, and one of another
+/// format without an object isn't shown; the reason is written instead, in JSON as a document.
+/// Returns whether the dictionary is shown.
 ///
 /// All is written at once. `Memory`: memory ran out, and nothing has been written. `Write`: the
 /// writer failed, and at most a part has been written.
