@@ -67,7 +67,7 @@ marked_from text checks faults sheet node warnings with_faults with_build with_b
     let build = text_marks text checks.node limits in
     let beside = beside_marks text checks.node limits faults in
     let of_build : with_build ≡ first ++ build =
-        is_build ∙ ap (λ (l : List Mark). l ++ sheet_marks limits (sections_read (lines_of text)) sheet node) is_faults ∙ ap (λ (l : List Mark). first ++ l) (text_marks_with text checks sheet node is_sheet is_node) in
+    is_build ∙ ap (λ (l : List Mark). l ++ sheet_marks limits (sections_read (lines_of text)) sheet node) is_faults ∙ ap (λ (l : List Mark). first ++ l) (text_marks_with text checks sheet node is_sheet is_node) in
     record {
       warnings = warnings;
       by_line = by_line;

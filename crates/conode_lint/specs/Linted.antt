@@ -26,7 +26,7 @@ left lines checks found =
 pub record IsMadeOf (lines : List (List ℕ)) (sections : List TextSection) (marks : List Mark)
     (linted : Linted) : Type 0 where
   pub findings :
-    map seen linted.findings.items ≡ map (finding_of lines sections) (take 1000 marks)
+      map seen linted.findings.items ≡ map (finding_of lines sections) (take 1000 marks)
   pub errors : linted.errors ≡ error_count marks
   pub warnings : linted.warnings ≡ length marks - linted.errors
   pub more : linted.more ≡ length marks - 1000
@@ -36,7 +36,7 @@ pub record IsLinted (text : List ℕ) (checks : Checks) (linted : Linted) : Type
   pub found : List Mark
   pub is_found : IsFound text checks found
   pub made :
-    IsMadeOf (text_lines text) (text_sections text) (left (text_lines text) checks found) linted
+      IsMadeOf (text_lines text) (text_sections text) (left (text_lines text) checks found) linted
 
 -- ---- what they say about a text
 
