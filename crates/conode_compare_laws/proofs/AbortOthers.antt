@@ -19,7 +19,7 @@ use Rattle.conode_compare_rules.specs.declared.progress.Progress.{Progress}
 use Rattle.conode_compare_rules.specs.declared.verdict.Findings.{Findings}
 use Rattle.conode_compare_rules.specs.FrameKinds.{data_kind}
 use Rattle.conode_compare_rules.specs.Progresses as progresses
-use Rattle.conode_compare_rules.specs.Progresses.{after_command, after_emergency, after_fault, after_frame, after_odd_control, after_process, begins_anew, begun, booted, emergency_noted, findings_at, findings_in, progress_with, silence_at, was_quiet, with_gap}
+use Rattle.conode_compare_rules.specs.Progresses.{after_command, after_emergency, after_fault, after_frame, after_odd_control, after_process, begins_anew, begun, booted, emergency_noted, findings_at, findings_in, progress_with, silence_at, is_broken_off, with_gap}
 use Rattle.conode_compare_laws.specs.AnswerSenders.{AreOther}
 use Rattle.conode_compare_laws.proofs.Frames.{life_kind}
 use Rattle.conode_compare_laws.proofs.AnswerOthers.{is_sdo, other_kind}
@@ -41,7 +41,7 @@ module _ (P : Dialogue → Type 0) (none : (d : Dialogue) → d.newest ≡ None 
 
   pub begun_has : (subject : Subject) (p : Progress) (micros : ℕ) → Has p → Has (begun subject p micros)
   unfolding begun
-  begun_has subject p micros h = either (begins_anew subject.limits p micros) _ _ (none _ refl) (either_dialogue (was_quiet subject.limits p micros) (interrupted p.dialogue micros) p.dialogue (none _ refl) h)
+  begun_has subject p micros h = either (begins_anew subject.limits p micros) _ _ (none _ refl) (either_dialogue (is_broken_off subject.limits p micros) (interrupted p.dialogue micros) p.dialogue (none _ refl) h)
 
   command_has : (p : Progress) (service : NmtService) (own : Bool) (micros : ℕ) → Has p → Has (after_command p service own micros)
   unfolding after_command with_gap

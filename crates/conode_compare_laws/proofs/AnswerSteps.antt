@@ -52,6 +52,7 @@ use Rattle.conode_compare_rules.specs.Progresses.{
   findings_at,
   findings_in,
   heartbeat_findings,
+  is_unusual,
   late_by_tpdo,
   late_noted,
   process_findings,
@@ -59,13 +60,15 @@ use Rattle.conode_compare_rules.specs.Progresses.{
   request_findings,
   sighting_findings,
   silence_at,
+  usual_after,
   was_quiet,
+  was_silent,
   with_gap,
 }
 use Rattle.conode_compare_pdos.specs.declared.pdos.Sighting.{Sighting}
 use Rattle.conode_compare_pdos.specs.Followed as tpdos
 use Rattle.conode_compare_rules.specs.States as states
-use Rattle.conode_compare_rules.specs.States.{after_other, shows_state}
+use Rattle.conode_compare_rules.specs.States.{after_other, nothing_commanded, shows_state}
 use Rattle.conode_compare_rules.specs.Verdicts.{found}
 use Rattle.conode_compare_laws.specs.AnswerFindings.{answer_differences, of_answers}
 use Rattle.conode_compare_laws.proofs.LongCommands.{long_such}
@@ -120,10 +123,11 @@ none_holds Idle stage newest commanded d s none = record { sound = s; asked = if
 
 -- ---- a recording that begins anew at a frame, and one that was quiet
 
-quiet_holds : (Idle : Type 0) (stage : Stage) (newest : Option ℕ) (commanded : Option Commanded) (d : Dialogue) (micros : ℕ) (quiet : Bool) → HoldsOf Idle stage newest commanded d
-    → HoldsOf Idle stage newest commanded (if quiet then interrupted d micros else d)
-quiet_holds Idle stage newest commanded d micros true h = record { sound = tt; asked = tt }
-quiet_holds Idle stage newest commanded d micros false h = h
+quiet_holds : (Idle : Type 0) (stage : Stage) (newest : Option ℕ) (nmt : Nmt) (d : Dialogue) (micros : ℕ) (lost quiet : Bool) → HoldsOf Idle stage newest nmt.commanded d
+    → HoldsOf Idle stage newest (if lost then nothing_commanded else nmt).commanded (if lost || quiet then interrupted d micros else d)
+quiet_holds Idle stage newest nmt d micros true quiet h = record { sound = tt; asked = tt }
+quiet_holds Idle stage newest nmt d micros false true h = record { sound = tt; asked = tt }
+quiet_holds Idle stage newest nmt d micros false false h = h
 
 up_to_now : (period : Option ℕ) (limits : Limits) (t micros : ℕ) (newest : Option ℕ) → anew_after limits period newest micros ≡ false → IsBy t newest → IsBy t (Some micros)
 up_to_now period limits t micros None e h = absurd h
@@ -149,7 +153,7 @@ pub begun_holds : (Idle : Type 0) (subject : Subject) (p : Progress) (micros : �
 unfolding begun
 begun_holds Idle subject p micros stage h =
     begun_either Idle stage (begins_anew subject.limits p micros) _ _ (record { sound = tt; asked = tt })
-    (λ e. quiet_holds Idle stage (Some micros) p.nmt.commanded p.dialogue micros (was_quiet subject.limits p micros) (newer Idle stage subject.limits p.entries.period micros p.newest p.nmt.commanded p.dialogue e h))
+    (λ e. quiet_holds Idle stage (Some micros) p.nmt p.dialogue micros (was_silent p micros) (was_quiet subject.limits p micros) (newer Idle stage subject.limits p.entries.period micros p.newest p.nmt.commanded p.dialogue e h))
 
 newest_either : (b : Bool) (x y : Progress) (n : Option ℕ) → x.newest ≡ n → y.newest ≡ n → (if b then x else y).newest ≡ n
 newest_either true x y n p q = p
@@ -176,12 +180,27 @@ no_gap limits (Some period) micros = by (nat_lt 0 period) (nat_lt micros micros)
 not_quiet : (limits : Limits) (micros : ℕ) (newest : Option ℕ) → newest ≡ Some micros → option_map_or (λ n. is_past n limits.answer micros) newest false ≡ false
 not_quiet limits micros newest e = ap (λ o. option_map_or (λ n. is_past n limits.answer micros) o false) e ∙ never_past micros limits.answer
 
+never_unusual : (started longest micros : ℕ) → is_unusual started longest micros micros ≡ false
+never_unusual started longest micros = by (is_past started usual_after micros) (nat_lt (3 * longest) (micros - micros)) (grind (arith, nat_tests))
+  where
+    by : (a b : Bool) → b ≡ false → (a && b) ≡ false
+    by true b h = h
+    by false b h = refl
+
+not_silent : (p : Progress) (micros : ℕ) → p.newest ≡ Some micros → was_silent p micros ≡ false
+not_silent p micros e = ap (λ o. option_map_or (λ n. is_unusual p.started p.longest n micros) o false) e ∙ never_unusual p.started p.longest micros
+
 pub begun_same : (subject : Subject) (p : Progress) (micros : ℕ) → p.newest ≡ Some micros → Same p (begun subject p micros) micros
 unfolding begun
 begun_same subject p micros now =
     let same : begins_anew subject.limits p micros ≡ false = ap (λ o. anew_after subject.limits p.entries.period o micros) now ∙ no_gap subject.limits p.entries.period micros in
     let heard : was_quiet subject.limits p micros ≡ false = not_quiet subject.limits micros p.newest now in
-    rw same (record { newest = refl; dialogue = ap (λ b. if b then interrupted p.dialogue micros else p.dialogue) heard; nmt = refl })
+    let usual : was_silent p micros ≡ false = not_silent p micros now in
+    rw same (record {
+      newest = refl;
+      dialogue = ap (λ b. if b || was_quiet subject.limits p micros then interrupted p.dialogue micros else p.dialogue) usual ∙ ap (λ b. if b then interrupted p.dialogue micros else p.dialogue) heard;
+      nmt = ap (λ b. if b then nothing_commanded else p.nmt) usual;
+    })
 
 -- ---- one frame
 

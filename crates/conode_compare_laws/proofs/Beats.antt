@@ -70,7 +70,9 @@ use Rattle.conode_compare_rules.specs.Progresses.{
   request_findings,
   sighted,
   sighting_findings,
+  was_silent,
   with_gap,
+  without_wait,
 }
 use Rattle.conode_compare_rules.specs.Times.{drift_of}
 use Rattle.conode_compare_transfers.specs.declared.dialogue.Asked.{Asked}
@@ -127,8 +129,12 @@ begun_beats : (subject : Subject) (period micros ago : ℕ) (p : Progress) → K
 unfolding begun
 begun_beats subject period micros ago p knows h = by (begins_anew subject.limits p micros) refl _ _
     (record { free = omega arith; newest = refl; known = knows.before; since = tt })
-    (λ off. record { free = free_fits p.newest p.free micros subject.limits p.entries.period h.fresh off; newest = refl; known = h.known; since = h.since })
+    (λ off. record { free = free_fits p.newest p.free micros subject.limits p.entries.period h.fresh off; newest = refl; known = h.known; since = lost (was_silent p micros) })
   where
+    lost : (b : Bool) → IfSome (if b then without_wait p.heartbeats else p.heartbeats).since (λ last. micros ≤ last + ago)
+    lost true = tt
+    lost false = h.since
+
     by : (b : Bool) → begins_anew subject.limits p micros ≡ b → (x y : Progress) → Begun period micros ago x → (begins_anew subject.limits p micros ≡ false → Begun period micros ago y) → Begun period micros ago (if b then x else y)
     by true is x y f g = f
     by false is x y f g = g is

@@ -55,10 +55,11 @@ use Rattle.conode_compare_rules.specs.Progresses.{
   progress_with,
   request_findings,
   sighting_findings,
+  was_silent,
   with_gap,
 }
 use Rattle.conode_compare_rules.specs.States as states
-use Rattle.conode_compare_rules.specs.States.{after_boot_up, after_other, awaits_boot_up, boot_finding, boots_known, control_finding, is_guarded_state, is_settled, second_boot_up, shows_state, state_commanded, state_finding}
+use Rattle.conode_compare_rules.specs.States.{after_boot_up, after_other, awaits_boot_up, boot_finding, boots_known, control_finding, is_guarded_state, is_settled, nothing_commanded, second_boot_up, shows_state, state_commanded, state_finding}
 use Rattle.conode_compare_rules.specs.Verdicts.{found}
 use Rattle.conode_compare_pdos.specs.Followed as tpdos
 use Rattle.conode_compare_laws.specs.Differences.{state_differences}
@@ -82,7 +83,11 @@ either micros stage false x y p q = q
 
 pub begun_fits : (subject : Subject) (p : Progress) (micros now : ℕ) (stage : Stage) → FitsAt micros stage p → FitsAt micros stage (begun subject p now)
 unfolding begun
-begun_fits subject p micros now stage h = either micros stage (begins_anew subject.limits p now) _ _ (fits_nothing micros stage) h
+begun_fits subject p micros now stage h = either micros stage (begins_anew subject.limits p now) _ _ (fits_nothing micros stage) (lost (was_silent p now))
+  where
+    lost : (b : Bool) → Fits micros stage (if b then nothing_commanded else p.nmt).state (if b then nothing_commanded else p.nmt).reset (if b then nothing_commanded else p.nmt).booted
+    lost true = fits_nothing micros stage
+    lost false = h
 
 -- ---- a boot-up that is missing
 

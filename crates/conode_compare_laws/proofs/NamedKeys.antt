@@ -59,7 +59,7 @@ use Rattle.conode_compare_rules.specs.Progresses.{
   late_noted,
   progress_with,
   silence_at,
-  was_quiet,
+  is_broken_off,
   with_gap,
 }
 use Rattle.conode_compare_laws.specs.Identifiers.{AreNoSdo, IsUnnamed}
@@ -248,7 +248,7 @@ IsOpenOn P p = IfSome p.dialogue.channel.transfer (λ t. P t.key)
 
 pub begun_open : (P : Key → Type 0) (subject : Subject) (p : Progress) (micros : ℕ) → IsOpenOn P p → IsOpenOn P (begun subject p micros)
 unfolding begun
-begun_open P subject p micros h = by (begins_anew subject.limits p micros) _ _ tt (quiet (was_quiet subject.limits p micros))
+begun_open P subject p micros h = by (begins_anew subject.limits p micros) _ _ tt (quiet (is_broken_off subject.limits p micros))
   where
     by : (b : Bool) (x y : Progress) → IsOpenOn P x → IsOpenOn P y → IsOpenOn P (if b then x else y)
     by true x y f g = f

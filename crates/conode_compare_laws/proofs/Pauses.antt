@@ -53,6 +53,7 @@ use Rattle.conode_compare_rules.specs.Progresses.{
   findings_in,
   late_noted,
   progress_with,
+  was_silent,
   with_gap,
 }
 use Rattle.conode_compare_rules.specs.States.{is_initialising, is_settled}
@@ -100,8 +101,12 @@ later inhibit last now false sent p less h = record { known = h.known; since = l
 
 pub begun_calm : (subject : Subject) (inhibit micros : ℕ) (sent : List Sending) (p : Progress) → KnowsInhibit inhibit subject → Calm inhibit micros sent p → Calm inhibit micros sent (begun subject p micros)
 unfolding begun
-begun_calm subject inhibit micros sent p knows h = by (begins_anew subject.limits p micros) _ _ (record { known = knows.before; since = tt }) (record { known = h.known; since = h.since })
+begun_calm subject inhibit micros sent p knows h = by (begins_anew subject.limits p micros) _ _ (record { known = knows.before; since = tt }) (record { known = h.known; since = lost (was_silent p micros) })
   where
+    lost : (b : Bool) → IfSome (if b then None else p.emergency) (λ last. IsSince inhibit micros last sent)
+    lost true = tt
+    lost false = h.since
+
     by : (b : Bool) (x y : Progress) → Calm inhibit micros sent x → Calm inhibit micros sent y → Calm inhibit micros sent (if b then x else y)
     by true x y f g = f
     by false x y f g = g

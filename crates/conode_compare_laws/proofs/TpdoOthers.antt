@@ -60,7 +60,7 @@ use Rattle.conode_compare_rules.specs.Progresses.{
   process_findings,
   progress_with,
   sighting_findings,
-  was_quiet,
+  is_broken_off,
   with_gap,
 }
 use Rattle.conode_compare_rules.specs.Verdicts.{found}
@@ -252,7 +252,7 @@ begun_newest subject p micros h = by (begins_anew subject.limits p micros) refl 
 
 pub begun_kept : (subject : Subject) (I : Pdos → Type 0) (p : Progress) (micros : ℕ) → IsKept subject.facts.pdos I → I p.pdos → I (begun subject p micros).pdos
 unfolding begun
-begun_kept subject I p micros kept h = by (begins_anew subject.limits p micros) _ _ kept.unknown (quiet (was_quiet subject.limits p micros))
+begun_kept subject I p micros kept h = by (begins_anew subject.limits p micros) _ _ kept.unknown (quiet (is_broken_off subject.limits p micros))
   where
     quiet : (b : Bool) → I (if b then interrupted p.pdos else p.pdos)
     quiet true = kept.gap p.pdos h

@@ -1,4 +1,5 @@
 mod AnswerExamples
 mod Examples
+mod GapExamples
 mod MissingExamples
 mod SilenceExamples

@@ -1,5 +1,5 @@
 -- What a recording shows of a device, frame by frame, and where it differs from CiA 301.
-use Rattle.std.specs.Prelude.{ℕ, ◌==◌, nat_lt, Bool, true, false, not, ◌&&◌, ◌||◌, if◌then◌else◌, List, Option, Some, None, is_some, option_map}
+use Rattle.std.specs.Prelude.{ℕ, ◌-◌, ◌*◌, ◌==◌, nat_lt, Bool, true, false, not, ◌&&◌, ◌||◌, if◌then◌else◌, List, Option, Some, None, is_some, option_map}
 use Rattle.std.specs.Option.{option_map_or, option_or}
 use Rattle.co_frame.specs.FrameContent.{FrameContent}
 use Rattle.co_frame.specs.declared.nmt.NmtService.{NmtService}
@@ -40,6 +40,24 @@ use Rattle.conode_compare_rules.specs.States.{boot_finding, control_finding, is_
 use Rattle.conode_compare_transfers.specs.Times.{is_past}
 use Rattle.conode_compare_rules.specs.Verdicts.{found, nothing_found}
 
+-- ---- what silence of the bus is usual
+
+-- silence of up to 10 ms is
+abbrev pub least_silence : ℕ
+least_silence = 10000
+
+-- for how long the bus is recorded until that shows what is usual, in ms
+abbrev pub usual_after : ℕ
+usual_after = 10000
+
+-- no frame came for longer than three times the longest silence before
+abbrev pub is_unusual : ℕ → ℕ → ℕ → ℕ → Bool
+is_unusual started longest newest micros = is_past started usual_after newest && nat_lt (3 * longest) (micros - newest)
+
+abbrev pub longest_with : ℕ → Option ℕ → ℕ → ℕ
+longest_with longest None micros = longest
+longest_with longest (Some newest) micros = if nat_lt longest (micros - newest) then micros - newest else longest
+
 -- ---- the begin of a recording, and gaps in it
 
 abbrev pub before_recording : Subject → Progress
@@ -47,6 +65,7 @@ before_recording subject = record {
   newest = None;
   started = 0;
   free = 0;
+  longest = least_silence;
   nmt = nothing_commanded;
   heartbeats = no_heartbeat;
   entries = subject.facts.before;
@@ -71,8 +90,16 @@ begins_anew limits progress micros = anew_after limits progress.entries.period p
 abbrev pub was_quiet : Limits → Progress → ℕ → Bool
 was_quiet limits progress micros = option_map_or (λ newest. is_past newest limits.answer micros) progress.newest false
 
+-- the bus was silent for longer than is usual: the recorder may have lost frames
+abbrev pub was_silent : Progress → ℕ → Bool
+was_silent progress micros = option_map_or (λ newest. is_unusual progress.started progress.longest newest micros) progress.newest false
+
+-- no request and no SYNC before a frame is known
+abbrev pub is_broken_off : Limits → Progress → ℕ → Bool
+is_broken_off limits progress micros = was_silent progress micros || was_quiet limits progress micros
+
 abbrev pub with_quiet : Limits → Progress → ℕ → Dialogue
-with_quiet limits progress micros = if was_quiet limits progress micros then interrupted progress.dialogue micros else progress.dialogue
+with_quiet limits progress micros = if is_broken_off limits progress micros then interrupted progress.dialogue micros else progress.dialogue
 
 -- when the bus was free last: before the first of the frames that follow one another closely
 abbrev pub free_at : Option ℕ → ℕ → ℕ → ℕ
@@ -80,13 +107,23 @@ free_at None free micros = micros
 free_at (Some newest) free micros = if follows_closely newest micros then free else micros
 
 abbrev pub pdos_with_quiet : Limits → Progress → ℕ → Pdos
-pdos_with_quiet limits progress micros = if was_quiet limits progress micros then tpdos.interrupted progress.pdos else progress.pdos
+pdos_with_quiet limits progress micros = if is_broken_off limits progress micros then tpdos.interrupted progress.pdos else progress.pdos
+
+-- the longest silence since the recording began, or since a gap
+abbrev pub longest_at : Progress → ℕ → ℕ
+longest_at progress micros =
+    if was_silent progress micros then least_silence else longest_with progress.longest progress.newest micros
+
+-- no heartbeat is awaited
+abbrev pub without_wait : Heartbeats → Heartbeats
+without_wait heartbeats = record heartbeats { since = None; sent = None }
 
 -- an answer that may take long is awaited all the same, and a sub-block may still be open
 abbrev pub still_awaited : Dialogue → ℕ → Dialogue
 still_awaited dialogue micros = record nothing_asked { slow = (interrupted dialogue micros).slow; sub_block = (interrupted dialogue micros).sub_block }
 
--- then nothing is known; where it was quiet, no request is
+-- Then nothing is known. Where the bus was silent for longer than is usual, frames may be missing, as with
+-- an error frame; where it was quiet, no request is known.
 unfoldable pub begun : Subject → Progress → ℕ → Progress
 begun subject progress micros =
     if begins_anew subject.limits progress micros then record (before_recording subject) {
@@ -97,9 +134,15 @@ begun subject progress micros =
     }
     else record progress {
       newest = Some micros;
+      started = if was_silent progress micros then micros else progress.started;
       free = free_at progress.newest progress.free micros;
+      longest = longest_at progress micros;
+      nmt = if was_silent progress micros then nothing_commanded else progress.nmt;
+      heartbeats = if was_silent progress micros then without_wait progress.heartbeats else progress.heartbeats;
+      emergency = if was_silent progress micros then None else progress.emergency;
       dialogue = with_quiet subject.limits progress micros;
       pdos = pdos_with_quiet subject.limits progress micros;
+      written = if was_silent progress micros then nothing_written else progress.written;
       exchange = None;
       remark = None;
     }
@@ -107,7 +150,7 @@ begun subject progress micros =
 -- what is open isn't known any more: after a reset, a boot-up, and an error frame
 unfoldable pub with_gap : Progress → ℕ → Progress
 with_gap progress micros = record progress {
-  heartbeats = record progress.heartbeats { since = None; sent = None };
+  heartbeats = without_wait progress.heartbeats;
   emergency = None;
   dialogue = interrupted progress.dialogue micros;
   pdos = tpdos.interrupted progress.pdos;
@@ -116,7 +159,7 @@ with_gap progress micros = record progress {
 
 -- an error frame: what came with it may be missing in the recording
 unfoldable pub after_fault : Progress → ℕ → Progress
-after_fault progress micros = record (with_gap progress micros) { nmt = nothing_commanded; started = micros }
+after_fault progress micros = record (with_gap progress micros) { nmt = nothing_commanded; started = micros; longest = least_silence }
 
 -- ---- commands and node guarding
 

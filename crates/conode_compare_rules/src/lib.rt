@@ -6,6 +6,7 @@ mod answers;
 mod emergencies;
 mod entries;
 mod finding;
+mod gaps;
 mod heartbeats;
 mod kind;
 mod known;

@@ -10,13 +10,10 @@ ghost use Rattle.conode_compare_rules.specs.Progresses.{
   after_command,
   after_control,
   after_emergency,
-  after_fault,
   after_odd_control,
   after_sdo,
   answer_findings,
   before_recording,
-  begins_anew,
-  begun,
   boot_findings,
   booted,
   control_findings,
@@ -27,14 +24,12 @@ ghost use Rattle.conode_compare_rules.specs.Progresses.{
   entries_heard,
   findings_at,
   findings_in,
-  free_at,
   heartbeat_findings,
   is_judged,
   is_number_kept,
   late_by,
   odd_control_findings,
   odd_emergency_findings,
-  with_gap,
   after_frame,
   pdos_heard,
   request_findings,
@@ -42,7 +37,6 @@ ghost use Rattle.conode_compare_rules.specs.Progresses.{
   exchange_at,
   late_noted,
   heartbeats_by,
-  was_quiet,
   exchange_noted,
 };
 
@@ -52,15 +46,16 @@ use crate::answers::{
 use crate::emergencies::{emergency_finding, length_finding};
 use crate::entries::{Entries, shares_id};
 use crate::finding::{Finding, NmtState, Remark};
-use crate::heartbeats::{Heartbeats, follows_closely, is_gap};
+use crate::gaps::LEAST_SILENCE;
+use crate::heartbeats::Heartbeats;
 use crate::kind::FrameKind;
-use crate::limits::{Limits, Subject};
+use crate::limits::Subject;
 use crate::nmt::{Nmt, is_reset};
 use crate::verdict::Findings;
 use co_frame::{Frame, NmtService};
 use co_sheet::EntryRow;
 use conode_compare_pdos::Pdos;
-use conode_compare_transfers::{Asked, Dialogue, Exchange, Left, is_past};
+use conode_compare_transfers::{Asked, Dialogue, Exchange, Left};
 use conode_compare_values::Written;
 use conode_explain_transfers::{Ended, Side, What};
 
@@ -74,6 +69,8 @@ pub struct Progress {
     /// When the bus was free last: the stamp of the first of the frames that follow one another
     /// closely.
     pub free: u64,
+    /// The longest silence of the bus since `started`, in microseconds, at least 10 ms.
+    pub(crate) longest: u64,
     pub(crate) nmt: Nmt,
     pub(crate) heartbeats: Heartbeats,
     pub(crate) entries: Entries,
@@ -132,6 +129,7 @@ impl Progress {
             newest: None,
             started: 0,
             free: 0,
+            longest: LEAST_SILENCE,
             nmt: Nmt::new(),
             heartbeats: Heartbeats::new(),
             entries: subject.facts.before,
@@ -142,76 +140,6 @@ impl Progress {
             exchange: None,
             remark: None,
         }
-    }
-
-    // Whether the recording begins anew: a stamp steps back, or the recorder may have rested.
-    fn begins_anew(&self, limits: &Limits, micros: u64) -> bool
-        ensures { result ≡ begins_anew limits.now self.now micros }
-    {
-        match self.newest {
-            Some(newest) => {
-                micros < newest || is_gap(limits, self.entries.period, newest, micros)
-            }
-            None => true,
-        }
-    }
-
-    // Whether nothing was recorded for longer than an answer may take.
-    fn was_quiet(&self, limits: &Limits, micros: u64) -> bool
-        ensures { result ≡ was_quiet limits.now self.now micros }
-    {
-        match self.newest {
-            Some(newest) => is_past(newest, limits.answer, micros),
-            None => false,
-        }
-    }
-
-    // When the bus was free last: frames that follow one another closely may have waited.
-    fn free_at(&self, micros: u64) -> u64
-        ensures { result ≡ free_at self.now.newest self.now.free micros }
-    {
-        match self.newest {
-            Some(newest) if follows_closely(newest, micros) => self.free,
-            _ => micros,
-        }
-    }
-
-    // A frame comes. Where the recording begins anew, nothing is known, but that an answer which
-    // may take long is awaited, and that a sub-block may be open; where it was quiet, no request is
-    // known.
-    #[tactic(auto, unfolding(crate::specs::Progresses::begun))]
-    fn begin(&mut self, subject: &Subject, micros: u64)
-        ensures { self.new ≡ begun subject.now self.old micros }
-    {
-        if self.begins_anew(&subject.limits, micros) {
-            self.dialogue.interrupt(micros);
-            let slow = self.dialogue.slow;
-            let sub_block = self.dialogue.sub_block;
-            *self = Progress::new(subject);
-            self.started = micros;
-            self.dialogue.slow = slow;
-            self.dialogue.sub_block = sub_block;
-        } else if self.was_quiet(&subject.limits, micros) {
-            self.dialogue.interrupt(micros);
-            self.pdos.interrupt();
-        }
-        self.free = self.free_at(micros);
-        self.newest = Some(micros);
-        self.exchange = None;
-        self.remark = None;
-    }
-
-    // What is open is no longer known.
-    #[tactic(auto, unfolding(crate::specs::Progresses::with_gap))]
-    fn break_off(&mut self, micros: u64)
-        ensures { self.new ≡ with_gap self.old micros }
-    {
-        self.heartbeats.since = None;
-        self.heartbeats.sent = None;
-        self.emergency = None;
-        self.dialogue.interrupt(micros);
-        self.pdos.interrupt();
-        self.written = Written::nothing();
     }
 
     // A command; `own`: the device needn't follow it, since it may have sent it itself, or it has
@@ -228,16 +156,6 @@ impl Progress {
             self.entries = self.entries.after_reset();
             self.pdos = Pdos::unknown();
         }
-    }
-
-    // an error frame: what came with it may be missing in the recording
-    #[tactic(auto, unfolding(crate::specs::Progresses::after_fault))]
-    fn take_fault(&mut self, micros: u64)
-        ensures { self.new ≡ after_fault self.old micros }
-    {
-        self.break_off(micros);
-        self.nmt = Nmt::new();
-        self.started = micros;
     }
 
     // a boot-up
