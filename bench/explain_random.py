@@ -201,7 +201,15 @@ def left_ending(before, stamps, transfer, now):
     waited = seconds(now - stamps[-1])
     if [frame for _, frame, _ in before.frames] == [transfer.frames[0][1]]:
         return f"requested again after {waited}"
-    return "interrupted" if before.frames[-1][0] == SERVER else f"no answer in {waited}"
+    if before.frames[-1][0] == SERVER:
+        return "interrupted"
+    return None if is_segment_after(before.frames, transfer.frames[0][1]) else f"no answer in {waited}"
+
+
+def is_segment_after(frames, request):
+    """Whether a request looks like the segment of a sub-block after a lone one without an answer (20h and 21h, 22h and 23h): nothing is
+    said of that one's end, as docs/DECISIONS.md has it."""
+    return len(frames) == 1 and frames[0][1][0] + 1 == request[0] % 128
 
 
 class Session:
@@ -239,7 +247,9 @@ class Session:
                 place[3] = None
                 continue
             if place[1] == 0 and place[3]:
-                self.wanted.append(line_of(shown, node, *place[3], now, left_ending(*place[3], transfer, now)))
+                ending = left_ending(*place[3], transfer, now)
+                if ending:
+                    self.wanted.append(line_of(shown, node, *place[3], now, ending))
                 place[3] = None
             side, frame, _ = transfer.frames[place[1]]
             place[2] = place[2] if place[1] else []

@@ -1,11 +1,13 @@
 -- A text with the sections that its compact forms give (CiA 306, compact storage), each type and
 -- each value as the sheet has it.
-use Rattle.std.specs.Prelude.{ℕ, nat_lt, if◌then◌else◌, List, [], ◌∷◌, ◌++◌, false, length, codes, Option, Some, None, option_and_then}
+use Rattle.std.specs.Prelude.{ℕ, nat_lt, Bool, false, ◌||◌, if◌then◌else◌, List, [], ◌∷◌, ◌++◌, length, map, codes, Option, Some, None, option_and_then}
 use Rattle.std.specs.List.{flat_map}
 use Rattle.co_value.specs.declared.key.Key.{Key}
 use Rattle.co_sheet_text.specs.declared.section_kind.SectionKind.{SectionKind}
 use Rattle.co_sheet_text.specs.declared.section_kind.SectionKind.TheVariants.{DeviceInfo, Object}
-use Rattle.co_sheet_text.specs.Text.{is_empty, lines_of}
+use Rattle.co_sheet_text.specs.LinesAtFault.{emptied}
+use Rattle.co_sheet_text.specs.Sections.{is_too_long, is_unclosed, line_form}
+use Rattle.co_sheet_text.specs.Text.{Line, is_empty, lines_of}
 use Rattle.co_sheet_changes.specs.Groups.{Group, groups_of}
 use Rattle.co_sheet_adapt.specs.declared.facts.Facts.{Facts}
 use Rattle.co_sheet_adapt.specs.Facts.{compact_count, is_entry}
@@ -55,8 +57,16 @@ if_fits text = if nat_lt 1048576 (length text) then None else Some text
 abbrev pub with_sections : List ℕ → List ℕ → List ℕ
 with_sections text sections = if is_empty sections then text else text ++ 10 ∷ sections
 
+-- a line that is at fault by itself, as a reader takes it: a section line without `]`, and one that
+-- is too long, begin a section that nothing reads
+abbrev pub is_at_fault : Line → Bool
+is_at_fault line = is_too_long line || is_unclosed (line_form line)
+
+abbrev pub as_read : Line → Line
+as_read line = if is_at_fault line then emptied line else line
+
 -- a text with the sections of its compact forms, if neither is too large
 unfoldable pub expanded : List ℕ → Option (List ℕ)
 expanded text =
     option_and_then (λ sections. if_fits (with_sections text sections))
-    (if_fits (compact_sections (groups_of (lines_of text))))
+    (if_fits (compact_sections (groups_of (map as_read (lines_of text)))))

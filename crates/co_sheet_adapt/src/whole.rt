@@ -2,8 +2,9 @@
 
 ghost use Rattle.std.specs.Prelude.{◌≡◌, ◌++◌, ◌≤◌, length, map, option_map, IfOk, IfSome, OnOk};
 ghost use Rattle.std.specs.List.{flat_map};
-ghost use Rattle.co_sheet_changes.specs.Views.{group_view};
+ghost use Rattle.co_sheet_changes.specs.Views.{group_view, line_view};
 ghost use Rattle.co_sheet_adapt.specs.Expanded.{
+  as_read,
   compact_of,
   compact_sections,
   expanded,
@@ -19,8 +20,9 @@ use crate::compact_pdo::push_pdo_objects;
 use crate::facts::Facts;
 use crate::pieces::Tables;
 use co_sheet::GREATEST_SIZE;
-use co_sheet_changes::{Group, groups_in, joined, lines_in};
-use co_sheet_text::SectionKind;
+use co_sheet_changes::{Group, Line, groups_in, joined, lines_in};
+use co_sheet_text::{SectionKind, trim};
+use co_text::split_at_first;
 use std::alloc::{AllocError, Global};
 
 impl<'a> Tables<'a> {
@@ -118,9 +120,42 @@ fn if_fits(text: Vec<u8>) -> Option<Vec<u8>>
     }
 }
 
+/// A line of more bytes isn't read.
+const LONGEST: usize = 512;
+
+// a line that is at fault by itself as a reader takes it: a section line without `]`, and one that
+// is too long, begin a section that nothing reads
+fn as_read<'a>(line: &Line<'a>) -> Line<'a>
+    ensures { line_view result ≡ as_read (line_view line.now) }
+{
+    let is_long = LONGEST < line.bytes.len();
+    let bytes: &[u8] = match trim(line.bytes) {
+        [b'[', rest @ ..] if is_long || split_at_first(rest, b']').is_none() => b"[]",
+        [b'[', ..] => line.bytes,
+        _ if is_long => b"",
+        _ => line.bytes,
+    };
+    Line {
+        number: line.number,
+        bytes,
+    }
+}
+
+fn lines_as_read<'a>(alloc: Global, lines: &[Line<'a>]) -> Result<Vec<Line<'a>>, AllocError>
+    ensures { IfOk result (λ made.
+        map line_view made.items ≡ map as_read (map line_view lines.now)) }
+{
+    let mut made = Vec::new(alloc);
+    for line in lines {
+        made.push(as_read(line))?;
+    }
+    Ok(made)
+}
+
 /// A text with the sections that its compact forms give at its end (CiA 306, compact storage): those
 /// of CompactSubObj and of CompactPDO, as `adapt` writes them, but each type and each value as the
-/// sheet has it. A section that is there already comes first. `None`: they, or the text with them,
+/// sheet has it. A section that is there already comes first, and what follows a section line without
+/// `]` counts for no form. `None`: they, or the text with them,
 /// have more than 1,048,576 bytes. `Err`: out of memory.
 #[tactic(auto, unfolding(crate::specs::Expanded::expanded))]
 pub fn expanded(alloc: Global, text: &[u8]) -> Result<Option<Vec<u8>>, AllocError>
@@ -129,7 +164,8 @@ pub fn expanded(alloc: Global, text: &[u8]) -> Result<Option<Vec<u8>>, AllocErro
     ensures small { IfOk result (λ made. IfSome made (λ whole. length whole.items ≤ 1048576)) }
 {
     let lines = attempt!(lines_in(alloc, text));
-    let groups = attempt!(groups_in(alloc, lines.as_slice()));
+    let read = attempt!(lines_as_read(alloc, lines.as_slice()));
+    let groups = attempt!(groups_in(alloc, read.as_slice()));
     match attempt!(compact_sections(alloc, groups.as_slice())) {
         Some(sections) => {
             let whole = attempt!(with_sections(alloc, text, sections.as_slice()));

@@ -1,5 +1,5 @@
 -- Values of the communication profile that don't work together, on both sides of each edge.
-use Rattle.std.proofs.Common.{◌≡◌, ℕ, List, [], ◌∷◌, true, false, refl, codes, map}
+use Rattle.std.proofs.Common.{◌≡◌, ℕ, List, [], ◌∷◌, None, true, false, refl, codes, map}
 use Rattle.co_sheet_warnings.specs.declared.warning.WarningKind.TheVariants.{InhibitTime, OwnHeartbeat, HeartbeatTwice}
 use Rattle.co_sheet_warnings.specs.Communication.{is_synchronous, node_of_word, is_used_word}
 use Rattle.co_sheet_warnings.specs.Warnings.{place_in_text, places_in, places_of}
@@ -67,24 +67,24 @@ no_node : places OwnHeartbeat (consumer (codes "DefaultValue=0x50064") (codes "D
 unfolding places_of place_in_text places_in
 no_node = refl
 
-twice : places HeartbeatTwice (consumer (codes "DefaultValue=0x50064") (codes "DefaultValue=0x50065")) ≡ 2 ∷ []
+twice : places (HeartbeatTwice None) (consumer (codes "DefaultValue=0x50064") (codes "DefaultValue=0x50065")) ≡ 2 ∷ []
 unfolding places_of place_in_text places_in
 twice = refl
 
-two_nodes : places HeartbeatTwice (consumer (codes "DefaultValue=0x50064") (codes "DefaultValue=0x60064")) ≡ []
+two_nodes : places (HeartbeatTwice None) (consumer (codes "DefaultValue=0x50064") (codes "DefaultValue=0x60064")) ≡ []
 unfolding places_of place_in_text places_in
 two_nodes = refl
 
-first_not_used : places HeartbeatTwice (consumer (codes "DefaultValue=0x50000") (codes "DefaultValue=0x50064")) ≡ []
+first_not_used : places (HeartbeatTwice None) (consumer (codes "DefaultValue=0x50000") (codes "DefaultValue=0x50064")) ≡ []
 unfolding places_of place_in_text places_in
 first_not_used = refl
 
-second_not_used : places HeartbeatTwice (consumer (codes "DefaultValue=0x50064") (codes "DefaultValue=0x50000")) ≡ []
+second_not_used : places (HeartbeatTwice None) (consumer (codes "DefaultValue=0x50064") (codes "DefaultValue=0x50000")) ≡ []
 unfolding places_of place_in_text places_in
 second_not_used = refl
 
 -- node 0 is none
-of_no_node : places HeartbeatTwice (consumer (codes "DefaultValue=0x64") (codes "DefaultValue=0x64")) ≡ []
+of_no_node : places (HeartbeatTwice None) (consumer (codes "DefaultValue=0x64") (codes "DefaultValue=0x64")) ≡ []
 unfolding places_of place_in_text places_in
 of_no_node = refl
 
@@ -93,24 +93,24 @@ own_sum : places_at 5 OwnHeartbeat (consumer (codes "DefaultValue=0x60064") (cod
 unfolding places_of place_in_text places_in
 own_sum = refl
 
-sum_twice : places_at 5 HeartbeatTwice (consumer (codes "DefaultValue=0x60064") (codes "DefaultValue=$NODEID+0x6005F")) ≡ 2 ∷ []
+sum_twice : places_at 5 (HeartbeatTwice None) (consumer (codes "DefaultValue=0x60064") (codes "DefaultValue=$NODEID+0x6005F")) ≡ 2 ∷ []
 unfolding places_of place_in_text places_in
 sum_twice = refl
 
-first_sum : places_at 5 HeartbeatTwice (consumer (codes "DefaultValue=0x60064+$NODEID") (codes "DefaultValue=0x60064")) ≡ 2 ∷ []
+first_sum : places_at 5 (HeartbeatTwice None) (consumer (codes "DefaultValue=0x60064+$NODEID") (codes "DefaultValue=0x60064")) ≡ 2 ∷ []
 unfolding places_of place_in_text places_in
 first_sum = refl
 
 -- 0x6FFFF and 5 are of node 7
-sum_of_other : places_at 5 HeartbeatTwice (consumer (codes "DefaultValue=0x60064") (codes "DefaultValue=$NODEID+0x6FFFF")) ≡ []
+sum_of_other : places_at 5 (HeartbeatTwice None) (consumer (codes "DefaultValue=0x60064") (codes "DefaultValue=$NODEID+0x6FFFF")) ≡ []
 unfolding places_of place_in_text places_in
 sum_of_other = refl
 
-sum_without_node : places HeartbeatTwice (consumer (codes "DefaultValue=$NODEID+0x60064") (codes "DefaultValue=$NODEID+0x60064")) ≡ []
+sum_without_node : places (HeartbeatTwice None) (consumer (codes "DefaultValue=$NODEID+0x60064") (codes "DefaultValue=$NODEID+0x60064")) ≡ []
 unfolding places_of place_in_text places_in
 sum_without_node = refl
 
 -- a word of more than 32 bits is none
-long_word : places HeartbeatTwice (consumer (codes "DefaultValue=0x50064") (codes "DefaultValue=0x100050064")) ≡ []
+long_word : places (HeartbeatTwice None) (consumer (codes "DefaultValue=0x50064") (codes "DefaultValue=0x100050064")) ≡ []
 unfolding places_of place_in_text places_in
 long_word = refl

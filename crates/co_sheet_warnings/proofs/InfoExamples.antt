@@ -19,7 +19,7 @@ abbrev device_info : List (List ℕ)
 device_info =
     codes "VendorName=a" ∷ codes "VendorNumber=1" ∷ codes "ProductName=a" ∷ codes "ProductNumber=1" ∷ codes "RevisionNumber=1" ∷ codes "OrderCode=a" ∷ codes "BaudRate_10=1" ∷ codes "BaudRate_20=1" ∷ codes "BaudRate_50=1" ∷ codes "BaudRate_125=1" ∷ codes "BaudRate_250=1" ∷ codes "BaudRate_500=1" ∷ codes "BaudRate_800=1" ∷ codes "BaudRate_1000=1" ∷ codes "SimpleBootUpMaster=0" ∷ codes "SimpleBootUpSlave=1" ∷ codes "Granularity=8" ∷ codes "DynamicChannelsSupported=0" ∷ codes "GroupMessaging=0" ∷ codes "NrOfRXPDO=0" ∷ codes "NrOfTXPDO=0" ∷ codes "LSS_Supported=0" ∷ []
 
-whole_file_info : places FileInfoKeys (codes "[fileinfo]" ∷ file_info) ≡ []
+whole_file_info : places (FileInfoKeys []) (codes "[fileinfo]" ∷ file_info) ≡ []
 unfolding places_of place_in_text places_in
 whole_file_info = refl
 
@@ -27,15 +27,15 @@ required_of_file_info : map key_text file_keys
     ≡ codes "FileName" ∷ codes "FileVersion" ∷ codes "FileRevision" ∷ codes "Description" ∷ codes "CreationTime" ∷ codes "CreationDate" ∷ codes "CreatedBy" ∷ codes "ModificationTime" ∷ codes "ModificationDate" ∷ codes "ModifiedBy" ∷ []
 required_of_file_info = refl
 
-first_missing : places FileInfoKeys (codes "[Comments]" ∷ codes "[FileInfo]" ∷ drop 1 file_info) ≡ 2 ∷ []
+first_missing : places (FileInfoKeys []) (codes "[Comments]" ∷ codes "[FileInfo]" ∷ drop 1 file_info) ≡ 2 ∷ []
 unfolding places_of place_in_text places_in
 first_missing = refl
 
-last_missing : places FileInfoKeys (codes "[FileInfo]" ∷ take 9 file_info) ≡ 1 ∷ []
+last_missing : places (FileInfoKeys []) (codes "[FileInfo]" ∷ take 9 file_info) ≡ 1 ∷ []
 unfolding places_of place_in_text places_in
 last_missing = refl
 
-whole_device_info : places DeviceInfoKeys (codes "[DeviceInfo]" ∷ device_info) ≡ []
+whole_device_info : places (DeviceInfoKeys []) (codes "[DeviceInfo]" ∷ device_info) ≡ []
 unfolding places_of place_in_text places_in
 whole_device_info = refl
 
@@ -43,12 +43,12 @@ required_of_device_info : map key_text device_keys
     ≡ codes "VendorName" ∷ codes "VendorNumber" ∷ codes "ProductName" ∷ codes "ProductNumber" ∷ codes "RevisionNumber" ∷ codes "OrderCode" ∷ codes "BaudRate_10" ∷ codes "BaudRate_20" ∷ codes "BaudRate_50" ∷ codes "BaudRate_125" ∷ codes "BaudRate_250" ∷ codes "BaudRate_500" ∷ codes "BaudRate_800" ∷ codes "BaudRate_1000" ∷ codes "SimpleBootUpMaster" ∷ codes "SimpleBootUpSlave" ∷ codes "Granularity" ∷ codes "DynamicChannelsSupported" ∷ codes "GroupMessaging" ∷ codes "NrOfRXPDO" ∷ codes "NrOfTXPDO" ∷ codes "LSS_Supported" ∷ []
 required_of_device_info = refl
 
-device_key_missing : places DeviceInfoKeys (codes "[DeviceInfo]" ∷ take 21 device_info) ≡ 1 ∷ []
+device_key_missing : places (DeviceInfoKeys []) (codes "[DeviceInfo]" ∷ take 21 device_info) ≡ 1 ∷ []
 unfolding places_of place_in_text places_in
 device_key_missing = refl
 
 -- in another section they are none of its keys, and without a section no line is to blame
-elsewhere : places FileInfoKeys (codes "[DeviceInfo]" ∷ file_info) ≡ 0 ∷ []
+elsewhere : places (FileInfoKeys []) (codes "[DeviceInfo]" ∷ file_info) ≡ 0 ∷ []
 unfolding places_of place_in_text places_in
 elsewhere = refl
 

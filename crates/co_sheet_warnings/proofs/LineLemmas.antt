@@ -1,7 +1,9 @@
--- Long lines, line by line.
+-- Lines that aren't UTF-8; and long lines, line by line.
 use denote.Ref.{Bor}
-use Rattle.std.proofs.Common.{◌≡◌, ℕ, ◌+◌, ◌<◌, ◌≤◌, suc, List, ◌++◌, sym, ap, ◌∙◌, map, length, get_or, drop, drop-cons, add-one, append_assoc}
+use Rattle.std.proofs.Common.{◌≡◌, ℕ, ◌+◌, ◌<◌, ◌≤◌, suc, Bool, true, false, List, ◌++◌, refl, sym, ap, ◌∙◌, map, length, get_or, drop, drop-cons, add-one, append_assoc}
 use Rattle.std.specs.Prelude.{option_to_list}
+use Rattle.std.specs.Str.{IsUtf8, is_utf8}
+use Rattle.std.proofs.lemmas.Str.{IsUtf8-from_is_utf8}
 use Rattle.std.proofs.lemmas.List.{append-nil, drop_all, map-append}
 use Rattle.co_sheet_text.specs.Text.{Line}
 use Rattle.co_sheet_warnings.specs.declared.warning.Warning.{Warning}
@@ -9,6 +11,13 @@ use Rattle.co_sheet_warnings.specs.declared.warning.WarningKind.{WarningKind}
 use Rattle.co_sheet_warnings.specs.Lines.{long_line, long_lines, numbered}
 use Rattle.co_sheet_warnings.specs.Warnings.{warning_at, warnings_at}
 use Rattle.co_sheet_warnings.proofs.PieceLemmas.{piece-first}
+
+pub not_utf8 : (text : List ℕ) → ¬ (IsUtf8 text) → is_utf8 text ≡ false
+not_utf8 text h = by_test (is_utf8 text) refl
+  where
+    by_test : (b : Bool) → is_utf8 text ≡ b → is_utf8 text ≡ false
+    by_test true e = absurd (h (IsUtf8-from_is_utf8 text e))
+    by_test false e = e
 
 abbrev long_from : WarningKind → ℕ → List (Bor (List ℕ)) → List Warning
 long_from kind number lines = warnings_at kind (long_lines (numbered number (map (λ line. line.now) lines)))

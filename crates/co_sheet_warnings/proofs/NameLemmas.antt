@@ -7,13 +7,13 @@ use Rattle.std.specs.Str.{bytes_eq}
 use Rattle.co_sheet_warnings.specs.declared.repeats.ScopedName.{ScopedName}
 use Rattle.co_sheet_text.specs.Sections.{TextSection}
 use Rattle.co_sheet_warnings.specs.declared.repeats.Once.{Once}
-use Rattle.co_sheet_warnings.specs.declared.repeats.Once.TheVariants.{Identifiers, Names}
-use Rattle.co_sheet_warnings.specs.Repeats.{Placed, identifier_in, identifiers_in, repeats, same_scoped}
+use Rattle.co_sheet_warnings.specs.declared.repeats.Once.TheVariants.{Identifiers, Consumed, Names}
+use Rattle.co_sheet_warnings.specs.Repeats.{Placed, as_name, id_name, identifier_in, identifiers_in, repeats, same_scoped}
 use Rattle.co_sheet_warnings.specs.Repeats.{ScopedName as Scoped}
 use Rattle.co_sheet_warnings.specs.declared.warning.Warning.{Warning}
 use Rattle.co_sheet_warnings.specs.declared.warning.WarningKind.{WarningKind}
 use Rattle.co_sheet_warnings.specs.Warnings.{warning_at, warnings_at}
-use Rattle.co_sheet_warnings.specs.private.Views.{again_at, as_name, id_name, kept_with, placed_in, repeats_of, scoped_view}
+use Rattle.co_sheet_warnings.specs.private.Views.{again_at, kept_with, placed_in, repeats_of, scoped_view}
 
 -- a name is among the kept ones
 pub any_name : (name : ScopedName) (names : List ScopedName)
@@ -72,6 +72,7 @@ named ids (s ∷ sections) = by_case (ids s) refl (named ids sections)
 -- what comes again, by names alone
 pub repeated_names : (once : Once) (sections : List TextSection) → repeats same_scoped [] (filter_map (placed_in once) sections) ≡ repeats_of once sections
 repeated_names (Identifiers node) sections = ap (λ (l : List (Placed Scoped)). repeats same_scoped [] l) (named (identifier_in node) sections) ∙ same_repeats [] (identifiers_in node sections)
+repeated_names (Consumed given) sections = refl
 repeated_names Names sections = refl
 
 -- ---- section by section

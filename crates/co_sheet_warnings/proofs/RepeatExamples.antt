@@ -1,11 +1,14 @@
 -- What comes twice, on both sides of each edge.
-use Rattle.std.proofs.Common.{◌≡◌, ℕ, List, [], ◌∷◌, Some, None, true, false, refl, codes, map}
+use Rattle.std.proofs.Common.{◌≡◌, ℕ, List, Option, [], ◌∷◌, Some, None, true, false, refl, codes, map}
 use Rattle.std.specs.Prelude.{option_and_then}
 use Rattle.co_sheet_text.specs.declared.section_kind.SectionKind.TheVariants.{MandatoryObjects, Object}
-use Rattle.co_sheet_warnings.specs.declared.warning.WarningKind.TheVariants.{SharedCobId, EqualNames}
-use Rattle.co_sheet_warnings.specs.Repeats.{has_cob_id, enabled_cob_id, identifier_with}
+use Rattle.co_sheet_warnings.specs.declared.warning.WarningKind.TheVariants.{SharedCobId, HeartbeatTwice, EqualNames, MissingName}
+use Rattle.co_sheet_warnings.specs.Repeats.{has_cob_id, enabled_cob_id, first_equal, identifier_with}
+use Rattle.co_sheet_warnings.specs.declared.warning.WarningKind.{WarningKind}
+use Rattle.co_sheet_text.specs.LinesAtFault.{sections_read}
+use Rattle.co_sheet_text.specs.Text.{lines_of}
 use Rattle.co_sheet_warnings.specs.Warnings.{place_in_text, places_in, places_of}
-use Rattle.co_sheet_warnings.proofs.ExampleTexts.{places, places_at, sub_index}
+use Rattle.co_sheet_warnings.proofs.ExampleTexts.{joined, places, places_at, sub_index}
 
 -- ---- SharedCobId
 
@@ -26,15 +29,15 @@ abbrev three_cob_ids : List ℕ → List ℕ → List ℕ → List (List ℕ)
 three_cob_ids first second third =
     codes "[1800sub1]" ∷ first ∷ codes "[1014]" ∷ second ∷ codes "[1201sub2]" ∷ third ∷ codes "[1801sub2]" ∷ codes "DefaultValue=0x185" ∷ []
 
-all_the_same : places_at 5 SharedCobId (three_cob_ids (codes "DefaultValue=0x185") (codes "DefaultValue=$NODEID+0x180") (codes "ParameterValue=0x185")) ≡ 4 ∷ 6 ∷ []
+all_the_same : places_at 5 (SharedCobId 0) (three_cob_ids (codes "DefaultValue=0x185") (codes "DefaultValue=$NODEID+0x180") (codes "ParameterValue=0x185")) ≡ 4 ∷ 6 ∷ []
 unfolding places_of place_in_text places_in
 all_the_same = refl
 
-for_another_node : places_at 6 SharedCobId (three_cob_ids (codes "DefaultValue=0x185") (codes "DefaultValue=$NODEID+0x180") (codes "DefaultValue=0x186")) ≡ 6 ∷ []
+for_another_node : places_at 6 (SharedCobId 0) (three_cob_ids (codes "DefaultValue=0x185") (codes "DefaultValue=$NODEID+0x180") (codes "DefaultValue=0x186")) ≡ 6 ∷ []
 unfolding places_of place_in_text places_in
 for_another_node = refl
 
-for_no_node : places SharedCobId (three_cob_ids (codes "DefaultValue=0x185") (codes "DefaultValue=0x185") (codes "DefaultValue=0x185")) ≡ []
+for_no_node : places (SharedCobId 0) (three_cob_ids (codes "DefaultValue=0x185") (codes "DefaultValue=0x185") (codes "DefaultValue=0x185")) ≡ []
 unfolding places_of place_in_text places_in
 for_no_node = refl
 
@@ -44,3 +47,36 @@ for_no_node = refl
 names_again : places EqualNames (codes "[2000]" ∷ codes "ParameterName=a" ∷ codes "[2001]" ∷ codes "ParameterName=a" ∷ codes "[2000sub1]" ∷ codes "ParameterName=a" ∷ codes "[2000sub2]" ∷ codes "ParameterName=a" ∷ codes "[2001sub1]" ∷ codes "ParameterName=a" ∷ codes "[2002]" ∷ codes "ParameterName=A" ∷ codes "[2003]" ∷ codes "ParameterName=a" ∷ codes "[Comments]" ∷ codes "ParameterName=a" ∷ []) ≡ 4 ∷ 8 ∷ 14 ∷ []
 unfolding places_of place_in_text places_in
 names_again = refl
+
+-- ---- the first of what comes twice
+
+abbrev first_in : List (List ℕ) → WarningKind → ℕ → Option ℕ
+first_in lines kind line = first_equal kind line (sections_read (lines_of (joined lines)))
+
+-- of three on an identifier the first, for each but itself; none for a node-ID that shares it with none
+abbrev cob_ids : List (List ℕ)
+cob_ids = three_cob_ids (codes "DefaultValue=0x185") (codes "DefaultValue=$NODEID+0x180") (codes "ParameterValue=0x185")
+
+first_cob_id : first_in cob_ids (SharedCobId 5) 4 ∷ first_in cob_ids (SharedCobId 5) 6 ∷ first_in cob_ids (SharedCobId 5) 2 ∷ first_in cob_ids (SharedCobId 6) 4 ∷ first_in cob_ids (SharedCobId 6) 6 ∷ first_in cob_ids (SharedCobId 5) 3 ∷ []
+    ≡ Some 2 ∷ Some 2 ∷ None ∷ None ∷ Some 2 ∷ None ∷ []
+first_cob_id = refl
+
+-- words that aren't used, and sub-index 0, are passed over; a sum is for a node-ID; of a smaller sub-index that
+-- comes later in the text, none
+abbrev consumers : List (List ℕ)
+consumers =
+    codes "[1016sub0]" ∷ codes "DefaultValue=0x50064" ∷ codes "[1016sub1]" ∷ codes "DefaultValue=0x50000" ∷ codes "[1016sub4]" ∷ codes "DefaultValue=$NODEID+0x50001"
+    ∷ codes "[1017sub1]" ∷ codes "DefaultValue=0x50001" ∷ codes "[1016sub2]" ∷ codes "DefaultValue=0x60001" ∷ codes "[1016sub3]" ∷ codes "ParameterValue=0x50001" ∷ codes "[1016sub5]" ∷ codes "DefaultValue=0x50001" ∷ []
+
+first_consumer : first_in consumers (HeartbeatTwice (Some 9)) 14 ∷ first_in consumers (HeartbeatTwice None) 14 ∷ first_in consumers (HeartbeatTwice None) 12 ∷ first_in consumers (HeartbeatTwice (Some 9)) 6 ∷ first_in consumers (HeartbeatTwice None) 2 ∷ []
+    ≡ Some 6 ∷ Some 12 ∷ None ∷ None ∷ None ∷ []
+first_consumer = refl
+
+-- of objects, of the sub-indices of each object, and of another kind
+abbrev named : List (List ℕ)
+named =
+    codes "[2000]" ∷ codes "ParameterName=a" ∷ codes "[2000sub1]" ∷ codes "ParameterName=a" ∷ codes "[2001sub1]" ∷ codes "ParameterName=a" ∷ codes "[2000sub2]" ∷ codes "ParameterName=a" ∷ codes "[2001]" ∷ codes "ParameterName=a" ∷ codes "[2002]" ∷ codes "ParameterName=A" ∷ []
+
+first_name : first_in named EqualNames 10 ∷ first_in named EqualNames 8 ∷ first_in named EqualNames 6 ∷ first_in named EqualNames 12 ∷ first_in named MissingName 10 ∷ []
+    ≡ Some 2 ∷ Some 4 ∷ None ∷ None ∷ None ∷ []
+first_name = refl

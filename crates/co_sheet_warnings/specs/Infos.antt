@@ -13,6 +13,7 @@ use Rattle.std.specs.Prelude.{
   ◌∷◌,
   ◌++◌,
   length,
+  map,
   take,
   drop,
   count_by,
@@ -72,8 +73,15 @@ device_keys =
     ∷ key.DynamicChannelsSupported ∷ key.GroupMessaging ∷ key.NrOfRxPdo ∷ key.NrOfTxPdo
     ∷ key.LssSupported ∷ []
 
+abbrev pub is_missing : Topic → List WrittenKey → KnownKey → Bool
+is_missing info keys known = is_none (key_at info keys known)
+
 abbrev pub lacks_any : Topic → List WrittenKey → List KnownKey → Bool
-lacks_any info keys required = list_any (λ known. is_none (key_at info keys known)) required
+lacks_any info keys required = list_any (is_missing info keys) required
+
+-- of each whether it is missing
+abbrev pub missing_each : Topic → List WrittenKey → List KnownKey → List Bool
+missing_each info keys required = map (is_missing info keys) required
 
 -- the line of the section, 0 where there is none
 abbrev pub info_line : Topic → List TextSection → ℕ

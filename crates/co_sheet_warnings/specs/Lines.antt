@@ -25,7 +25,7 @@ use Rattle.std.specs.Prelude.{
 }
 use Rattle.std.specs.List.{list_any, enumerate_from}
 use Rattle.std.specs.Option.{option_map_or, option_or}
-use Rattle.std.specs.Str.{is_utf8}
+use Rattle.std.specs.Str.{chars, is_utf8}
 use Rattle.std.specs.Str.Lines.{lines}
 use Rattle.co_sheet_text.specs.Text.{Line, without_mark}
 use Rattle.co_sheet_warnings.specs.ReadTexts.{ReadText}
@@ -38,9 +38,16 @@ text_lines text = lines (without_mark text)
 abbrev pub numbered : ℕ → List (List ℕ) → List Line
 numbered first lines = map (λ l. record { number = l.0; bytes = l.1 }) (enumerate_from first lines)
 
--- more bytes than the 255 that the standard allows, and no more than the 512 that are read
+-- how many characters a line has, read as UTF-8 if it is valid, else as Windows-1252
+abbrev pub character_count : List ℕ → ℕ
+character_count bytes = if is_utf8 bytes then length (chars bytes) else length bytes
+
+-- more characters than the 255 that the standard allows, and no more than the 512 bytes that are
+-- read; up to 255 bytes are no more characters
 abbrev pub is_long : Line → Bool
-is_long line = nat_lt 255 (length line.bytes) && nat_le (length line.bytes) 512
+is_long line =
+    nat_lt 255 (length line.bytes) && nat_le (length line.bytes) 512
+    && nat_lt 255 (character_count line.bytes)
 
 abbrev pub long_line : Line → Option ℕ
 long_line line = if is_long line then Some line.number else None

@@ -1,4 +1,5 @@
--- What comes twice where it should come once: an identifier (CiA 301, COB-IDs), and a name.
+-- What comes twice where it should come once: an identifier (CiA 301, COB-IDs), a name, and the
+-- node-ID of a heartbeat (CiA 301, heartbeat consumer).
 use Rattle.std.specs.Prelude.{
   ℕ,
   ◌+◌,
@@ -35,6 +36,9 @@ use Rattle.co_sheet_text.specs.declared.section_kind.SectionKind.{SectionKind}
 use Rattle.co_sheet_text.specs.declared.section_kind.SectionKind.TheVariants.{Object, SubIndex}
 use Rattle.co_sheet_text.specs.Sections.{Property, TextSection, property_at}
 use Rattle.co_sheet.specs.Limits.{Default, number, node_id, numeric_default}
+use Rattle.co_sheet_warnings.specs.declared.warning.WarningKind.{WarningKind}
+use Rattle.co_sheet_warnings.specs.declared.warning.WarningKind.TheVariants.{SharedCobId, HeartbeatTwice, EqualNames}
+use Rattle.co_sheet_warnings.specs.Communication.{is_used_word, node_of_word, word_of}
 use Rattle.co_sheet_warnings.specs.SubIndices.{is_within}
 
 -- a thing, and its line
@@ -132,3 +136,66 @@ name_in s = option_and_then (name_with s) (scope_of s.kind)
 -- names that equal an earlier one
 abbrev pub equal_names : List TextSection → List ℕ
 equal_names sections = repeats same_scoped [] (filter_map name_in sections)
+
+-- ---- the first of what comes twice
+
+-- an identifier, or a node-ID, as a name
+abbrev pub id_name : ℕ → ScopedName
+id_name n = record { scope = n; text = [] }
+
+abbrev pub as_name : Placed ℕ → Placed ScopedName
+as_name p = record { key = id_name p.key; line = p.line }
+
+abbrev pub identifier_name : ℕ → TextSection → Option (Placed ScopedName)
+identifier_name node s = option_map as_name (identifier_in node s)
+
+-- the node-ID of a word of 1016h that is used
+abbrev pub node_used : ℕ → Option ℕ
+node_used word = if is_used_word word then Some (node_of_word word) else None
+
+abbrev pub node_consumed : Option ℕ → Property → Option (Placed ScopedName)
+node_consumed given k =
+    option_map (λ n. record { key = id_name n; line = k.line })
+    (option_and_then node_used (word_of given k))
+
+abbrev pub is_consumer : SectionKind → Bool
+is_consumer (SubIndex key) = (key.index == 0x1016) && nat_lt 0 key.sub
+is_consumer kind = false
+
+abbrev pub consumed_in : Option ℕ → TextSection → Option (Placed ScopedName)
+consumed_in given s =
+    if is_consumer s.kind then option_and_then (node_consumed given) (value_in s) else None
+
+-- the first of what sections have that passes a test
+abbrev pub passing :
+    (Placed ScopedName → Bool) → Option (Placed ScopedName) → Option (Placed ScopedName)
+passing test None = None
+passing test (Some p) = if test p then Some p else None
+
+abbrev pub first_passing :
+    (Placed ScopedName → Bool) → (TextSection → Option (Placed ScopedName)) → List TextSection
+    → Option (Placed ScopedName)
+first_passing test placed [] = None
+first_passing test placed (s ∷ sections) =
+    option_or (passing test (placed s)) (first_passing test placed sections)
+
+-- what is at a line, and what has a name before a line
+abbrev pub is_at : ℕ → Placed ScopedName → Bool
+is_at line p = p.line == line
+
+abbrev pub is_before : ℕ → ScopedName → Placed ScopedName → Bool
+is_before line name p = same_scoped name p.key && nat_lt p.line line
+
+abbrev pub first_line : (TextSection → Option (Placed ScopedName)) → ℕ → List TextSection → Option ℕ
+first_line placed line sections =
+    option_map (λ first. first.line)
+    (option_and_then (λ p. first_passing (is_before line p.key) placed sections)
+    (first_passing (is_at line) placed sections))
+
+-- of a kind that is about what comes twice: the line of the first of what is at a line, if it is
+-- before that line
+abbrev pub first_equal : WarningKind → ℕ → List TextSection → Option ℕ
+first_equal (SharedCobId node) line sections = first_line (identifier_name node) line sections
+first_equal (HeartbeatTwice given) line sections = first_line (consumed_in given) line sections
+first_equal EqualNames line sections = first_line name_in line sections
+first_equal kind line sections = None

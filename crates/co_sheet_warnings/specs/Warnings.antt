@@ -6,6 +6,7 @@ use Rattle.std.specs.Prelude.{
   ◌==◌,
   nat_lt,
   Bool,
+  false,
   if◌then◌else◌,
   List,
   [],
@@ -16,9 +17,11 @@ use Rattle.std.specs.Prelude.{
   flat_map,
   filter,
   filter_map,
+  replicate,
   Option,
   None,
   option_map,
+  unwrap_or,
 }
 use Rattle.std.specs.List.Sorted.{IsNonDecreasingBy}
 use Rattle.co_sheet_warnings.specs.declared.warning.WarningKind.{WarningKind}
@@ -62,6 +65,7 @@ use Rattle.co_sheet_warnings.specs.declared.keys.Topic.TheVariants.{FileInfo, De
 use Rattle.co_sheet_warnings.specs.Keys.{WrittenKey}
 use Rattle.co_sheet_warnings.specs.KnownKeys.{is_known, meant, unknown_key}
 use Rattle.co_sheet_warnings.specs.Infos.{
+  missing_each,
   missing_keys,
   file_keys,
   device_keys,
@@ -87,14 +91,14 @@ places_in t FixedCobId s = fixed_cob_id s
 places_in t NodeIdPlace s = node_id_place s
 places_in t InhibitTime s = inhibit_time t.sections s s.kind
 places_in t OwnHeartbeat s = own_heartbeat t.node s s.kind
-places_in t HeartbeatTwice s = heartbeat_twice t.node t.sections s s.kind
+places_in t (HeartbeatTwice given) s = heartbeat_twice t.node t.sections s s.kind
 places_in t MissingName s = missing_name s
 places_in t kind s = []
 
 -- the line of a text where a kind applies, of the kinds that apply at one line at most
 unfoldable pub place_in_text : ReadText → WarningKind → List ℕ
-place_in_text t FileInfoKeys = missing_keys FileInfo t.keys t.sections file_keys
-place_in_text t DeviceInfoKeys = missing_keys DeviceInfo t.keys t.sections device_keys
+place_in_text t (FileInfoKeys missing) = missing_keys FileInfo t.keys t.sections file_keys
+place_in_text t (DeviceInfoKeys missing) = missing_keys DeviceInfo t.keys t.sections device_keys
 place_in_text t NoErrorControl = no_error_control t.sections
 place_in_text t Utf8 = utf8 t
 place_in_text t NotAscii = not_ascii t
@@ -113,22 +117,22 @@ places_of t IdentityNumber = identity_numbers t.keys (sub_indices t.sections 0x1
 places_of t DateFormat = date_formats t.keys
 places_of t WrongList = wrong_lists t.sections
 places_of t ListOrder = list_orders t.sections
-places_of t SharedCobId = shared_cob_ids t.node t.sections
+places_of t (SharedCobId node) = shared_cob_ids t.node t.sections
 places_of t EqualNames = equal_names t.sections
 places_of t LongLine = long_lines t.lines
 places_of t kind = other_places t kind
 
 -- the kinds, in the order in which the sheets of vendors show them: those before misspelt keys,
--- those after them, and those of taste
+-- those after them, and those of taste; what a kind says of a text is still open
 abbrev pub first_kinds : List WarningKind
 first_kinds =
-    SubNumber ∷ SubIndex0 ∷ FileInfoKeys ∷ DeviceInfoKeys ∷ PdoCount ∷ WrongList ∷ Unlisted
-    ∷ IdentityNumber ∷ FixedCobId ∷ NodeIdPlace ∷ []
+    SubNumber ∷ SubIndex0 ∷ FileInfoKeys (replicate 10 false) ∷ DeviceInfoKeys (replicate 22 false)
+    ∷ PdoCount ∷ WrongList ∷ Unlisted ∷ IdentityNumber ∷ FixedCobId ∷ NodeIdPlace ∷ []
 
 abbrev pub last_kinds : List WarningKind
 last_kinds =
-    SharedCobId ∷ InhibitTime ∷ OwnHeartbeat ∷ HeartbeatTwice ∷ NoErrorControl ∷ LongLine ∷ Utf8
-    ∷ NotAscii ∷ []
+    SharedCobId 0 ∷ InhibitTime ∷ OwnHeartbeat ∷ HeartbeatTwice None ∷ NoErrorControl ∷ LongLine
+    ∷ Utf8 ∷ NotAscii ∷ []
 
 abbrev pub quiet_kinds : List WarningKind
 quiet_kinds =
@@ -138,8 +142,19 @@ quiet_kinds =
 abbrev pub warnings_with : ReadText → WarningKind → List Warning
 warnings_with t kind = warnings_at kind (places_of t kind)
 
+-- a kind with what it says of a text: of each key whether it is missing, and the node-ID
+unfoldable pub kind_in : ReadText → WarningKind → WarningKind
+kind_in t (FileInfoKeys missing) = FileInfoKeys (missing_each FileInfo t.keys file_keys)
+kind_in t (DeviceInfoKeys missing) = DeviceInfoKeys (missing_each DeviceInfo t.keys device_keys)
+kind_in t (SharedCobId node) = SharedCobId (unwrap_or t.node 0)
+kind_in t (HeartbeatTwice given) = HeartbeatTwice t.node
+kind_in t kind = kind
+
+abbrev pub warnings_in : ReadText → WarningKind → List Warning
+warnings_in t kind = warnings_with t (kind_in t kind)
+
 abbrev pub warnings_of_kinds : ReadText → List WarningKind → List Warning
-warnings_of_kinds t kinds = flat_map (warnings_with t) kinds
+warnings_of_kinds t kinds = flat_map (warnings_in t) kinds
 
 abbrev pub misspelt : WrittenKey → Option Warning
 misspelt k =

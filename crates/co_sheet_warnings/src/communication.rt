@@ -78,15 +78,15 @@ pub(crate) fn inhibit_time(text: &ReadText, section: &TextSection) -> Option<usi
     }
 }
 
-// bits 23 to 16 of a word of 1016h
-fn node_of_word(word: u64) -> u64
+/// Bits 23 to 16 of a word of 1016h
+pub(crate) fn node_of_word(word: u64) -> u64
     ensures { result ≡ node_of_word word }
 {
     word / 65536 % 256
 }
 
-// whether a word of 1016h is used: bits 15 to 0 have a time, and its node-ID is one
-fn is_used_word(word: u64) -> bool
+/// Whether a word of 1016h is used: bits 15 to 0 have a time, and its node-ID is one
+pub(crate) fn is_used_word(word: u64) -> bool
     ensures { result ≡ is_used_word word }
 {
     word % 65536 != 0 && (1..=127).contains(&node_of_word(word))
@@ -122,8 +122,8 @@ fn word_of_default(node: Option<u8>, preset: Preset) -> Option<u64>
     }
 }
 
-// the word of a value; a sum with `$NODEID` is one for a node-ID alone
-fn word_of(node: Option<u8>, given: &Property) -> Option<u64>
+/// The word of a value; a sum with `$NODEID` is one for a node-ID alone
+pub(crate) fn word_of(node: Option<u8>, given: &Property) -> Option<u64>
     ensures { result ≡ word_of node (property_view given.now) }
 {
     match numeric_default(DataType::Unsigned32, given.value) {

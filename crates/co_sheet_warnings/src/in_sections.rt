@@ -24,7 +24,7 @@ pub(crate) fn place_in(text: &ReadText, kind: WarningKind, section: &TextSection
         WarningKind::NodeIdPlace => node_id_place(section),
         WarningKind::InhibitTime => inhibit_time(text, section),
         WarningKind::OwnHeartbeat => own_heartbeat(text.node, section),
-        WarningKind::HeartbeatTwice => heartbeat_twice(text, text.node, section),
+        WarningKind::HeartbeatTwice(_) => heartbeat_twice(text, text.node, section),
         WarningKind::MissingName => missing_name(section),
         _ => None,
     }

@@ -1,6 +1,6 @@
 //! What FileInfo and DeviceInfo say.
 
-ghost use Rattle.std.specs.Prelude.{◌≡◌, map, flat_map, option_map, option_to_list};
+ghost use Rattle.std.specs.Prelude.{◌≡◌, length, map, flat_map, option_map, option_to_list};
 ghost use Rattle.std.specs.Option.{option_copied};
 ghost use Rattle.co_sheet.specs.SectionViews.{entry_view};
 ghost use Rattle.co_sheet_text.specs.Views.{section_view};
@@ -11,11 +11,13 @@ ghost use Rattle.co_sheet_warnings.specs.Infos.{
   identity_numbers,
   is_day_and_year,
   is_info,
+  is_missing,
   is_number_of,
   is_object_within,
   is_time,
   key_at,
   lacks_any,
+  missing_each,
   missing_keys,
   object_count,
   other_format,
@@ -99,15 +101,36 @@ pub(crate) const DEVICE_KEYS: [KnownKey; 22] = [
     KnownKey::LssSupported,
 ];
 
+fn is_missing(info: Topic, keys: &[WrittenKey], known: KnownKey) -> bool
+    ensures { result ≡ is_missing info (map key_view keys.now) known }
+{
+    key_at(info, keys, known).is_none()
+}
+
 fn lacks_any(info: Topic, keys: &[WrittenKey], required: &[KnownKey]) -> bool
     ensures { result ≡ lacks_any info (map key_view keys.now) required.now }
 {
     for known in required {
-        if key_at(info, keys, *known).is_none() {
+        if is_missing(info, keys, *known) {
             return true;
         }
     }
     false
+}
+
+/// Notes of each required key of FileInfo or of DeviceInfo whether it is missing.
+pub(crate) fn note_missing(
+    missing: &mut [bool],
+    info: Topic,
+    keys: &[WrittenKey],
+    required: &[KnownKey],
+)
+    requires { length missing.old ≡ length required.now }
+    ensures { missing.new ≡ missing_each info (map key_view keys.now) required.now }
+{
+    for place in 0..required.len() {
+        missing[place] = is_missing(info, keys, required[place]);
+    }
 }
 
 /// The line of FileInfo or of DeviceInfo, if it lacks a required key; 0 if there is no such

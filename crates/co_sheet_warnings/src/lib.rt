@@ -44,5 +44,6 @@ pub use find::find_warnings;
 pub use known_key::KnownKey;
 pub use lines::text_lines;
 pub use node_id::own_node;
+pub use repeats::first_equal;
 pub use warning::{Warning, WarningKind};
 pub use words::{fix_of, meaning_of, name_of, subject_of};

@@ -1,8 +1,9 @@
 //! The lines of a text.
 
-ghost use Rattle.std.specs.Prelude.{◌≡◌, ◌++◌, true, false, map, option_to_list, IfOk, OnOk};
-ghost use Rattle.std.specs.Str.{is_utf8};
+ghost use Rattle.std.specs.Prelude.{◌≡◌, ◌++◌, true, false, length, map, option_to_list, IfOk, OnOk};
+ghost use Rattle.std.specs.Str.{chars, is_utf8};
 ghost use Rattle.co_sheet_warnings.specs.Lines.{
+  character_count,
   first_other,
   has_other_byte,
   is_other_end,
@@ -37,23 +38,39 @@ pub fn text_lines(alloc: Global, text: &[u8]) -> Result<Vec<&[u8]>, AllocError>
     Ok(lines)
 }
 
-/// The longest line that the standard allows, and the longest that is read.
+/// The most characters of a line that the standard allows, and the most bytes of one that is read.
 const LONGEST: usize = 255;
 
 const LONGEST_READ: usize = 512;
 
-// the number of a line of 256 to 512 bytes; longer ones aren't read
+fn utf8_count(text: &str) -> usize
+    ensures { result ≡ length (chars text.now) }
+{
+    text.chars().count()
+}
+
+// how many characters a line has, of UTF-8, or else of Windows-1252
+fn character_count(line: &[u8]) -> usize
+    ensures { result ≡ character_count line.now }
+{
+    match str::from_utf8(line) {
+        Ok(text) => utf8_count(text),
+        Err(_) => line.len(),
+    }
+}
+
+// the number of a line of more than 255 characters, and at most 512 bytes: longer ones aren't read
 fn long_line(number: usize, line: &[u8]) -> Option<usize>
     ensures { result ≡ long_line (record { number = number; bytes = line.now }) }
 {
-    if LONGEST < line.len() && line.len() <= LONGEST_READ {
+    if LONGEST < line.len() && line.len() <= LONGEST_READ && LONGEST < character_count(line) {
         Some(number)
     } else {
         None
     }
 }
 
-/// Adds warnings at the lines of 256 to 512 bytes.
+/// Adds warnings at the lines of more than 255 characters, and at most 512 bytes.
 pub(crate) fn add_long_lines(
     warnings: &mut Vec<Warning>,
     kind: WarningKind,

@@ -1,4 +1,4 @@
-//! What comes twice where it should come once: an identifier, and a name.
+//! What comes twice where it should come once: an identifier, a name, and the node-ID of a heartbeat.
 
 ghost use Rattle.std.specs.Prelude.{
   ◌≡◌,
@@ -15,17 +15,24 @@ ghost use Rattle.std.specs.Prelude.{
 ghost use Rattle.std.specs.List.{list_any};
 ghost use Rattle.co_sheet_text.specs.Views.{section_view};
 ghost use Rattle.co_sheet_warnings.specs.Repeats.{
+  consumed_in,
   enabled_number,
+  first_equal,
+  first_line,
+  first_passing,
   has_cob_id,
-  identifier_in,
+  identifier_name,
+  is_consumer,
   enabled_cob_id,
+  name_in,
+  passing,
   repeats,
   same_scoped,
 };
 ghost use Rattle.co_sheet_warnings.specs.Warnings.{warnings_at};
 ghost use Rattle.co_sheet_warnings.specs.private.Views.{
   again_at,
-  as_name,
+  is_sought,
   kept_with,
   name_view,
   placed_in,
@@ -33,6 +40,7 @@ ghost use Rattle.co_sheet_warnings.specs.private.Views.{
   scoped_view,
 };
 
+use crate::communication::{is_used_word, node_of_word, word_of};
 use crate::sub_indices::{is_within, value_in};
 use crate::warning::{Warning, WarningKind};
 use co_sheet::{Preset, numeric_default};
@@ -87,13 +95,13 @@ const OBJECTS: u64 = 0x1_0000;
 #[derive(Clone, Copy, PartialEq, Eq, Hash)]
 pub(crate) struct ScopedName<'a> {
     /// The index of the object whose sub-index has the name; above all of these for objects; an
-    /// identifier.
+    /// identifier; a node-ID.
     pub(crate) scope: u64,
-    /// Empty for an identifier.
+    /// Empty for an identifier and for a node-ID.
     pub(crate) text: &'a [u8],
 }
 
-/// A name or an identifier, and its line.
+/// A name, an identifier or a node-ID, and its line.
 #[derive(Drop)]
 pub(crate) struct PlacedName<'a> {
     pub(crate) name: ScopedName<'a>,
@@ -103,7 +111,7 @@ pub(crate) struct PlacedName<'a> {
 // the identifier of an entry with a COB-ID, for a node
 fn identifier_in<'a>(node: u8, section: &TextSection<'_, 'a>) -> Option<PlacedName<'a>>
     ensures { option_map name_view result
-        ≡ option_map as_name (identifier_in node (section_view section.now)) }
+        ≡ identifier_name node (section_view section.now) }
 {
     if !has_cob_id(section.kind) {
         return None;
@@ -129,16 +137,47 @@ fn identifier_in<'a>(node: u8, section: &TextSection<'_, 'a>) -> Option<PlacedNa
 pub(crate) enum Once {
     /// The identifiers of EMCY, PDOs and SDO channels, for a node-ID.
     Identifiers(u8),
+    /// The node-IDs that 1016h consumes; a sum with `$NODEID` is for this node-ID.
+    Consumed(Option<u8>),
     /// The names of objects, and those of the sub-indices of an object.
     Names,
 }
 
-fn placed_in<'a>(once: Once, section: &TextSection<'_, 'a>) -> Option<PlacedName<'a>>
-    ensures { option_map name_view result ≡ placed_in once (section_view section.now) }
+fn is_consumer(kind: SectionKind) -> bool
+    ensures { result ≡ is_consumer kind }
 {
-    if let Once::Identifiers(node) = once {
-        return identifier_in(node, section);
+    match kind {
+        SectionKind::SubIndex(key) => key.index == 0x1016 && 0 < key.sub,
+        _ => false,
     }
+}
+
+// the node-ID of a word of 1016h that is used
+fn consumed_in<'a>(node: Option<u8>, section: &TextSection<'_, 'a>) -> Option<PlacedName<'a>>
+    ensures { option_map name_view result ≡ consumed_in node (section_view section.now) }
+{
+    if !is_consumer(section.kind) {
+        return None;
+    }
+    let Some(given) = value_in(section) else {
+        return None;
+    };
+    match word_of(node, &given) {
+        Some(word) if is_used_word(word) => Some(PlacedName {
+            name: ScopedName {
+                scope: node_of_word(word),
+                text: b"",
+            },
+            line: given.line,
+        }),
+        _ => None,
+    }
+}
+
+// the name of an object or a sub-index
+fn name_in<'a>(section: &TextSection<'_, 'a>) -> Option<PlacedName<'a>>
+    ensures { option_map name_view result ≡ name_in (section_view section.now) }
+{
     let scope = match section.kind {
         SectionKind::Object(_) => OBJECTS,
         SectionKind::SubIndex(key) => key.index as u64,
@@ -153,6 +192,16 @@ fn placed_in<'a>(once: Once, section: &TextSection<'_, 'a>) -> Option<PlacedName
             line: given.line,
         }),
         None => None,
+    }
+}
+
+fn placed_in<'a>(once: Once, section: &TextSection<'_, 'a>) -> Option<PlacedName<'a>>
+    ensures { option_map name_view result ≡ placed_in once (section_view section.now) }
+{
+    match once {
+        Once::Identifiers(node) => identifier_in(node, section),
+        Once::Consumed(node) => consumed_in(node, section),
+        Once::Names => name_in(section),
     }
 }
 
@@ -228,4 +277,79 @@ pub(crate) fn add_repeats_of(
 {
     let mut before = IndexSet::new(alloc);
     add_repeats(warnings, kind, &mut before, once, sections)
+}
+
+/// What is looked for among names.
+#[derive(Clone, Copy)]
+enum Sought<'a> {
+    /// The one at a line.
+    At(usize),
+    /// One before a line that equals this.
+    Before(usize, ScopedName<'a>),
+}
+
+fn is_sought(sought: Sought<'_>, place: &PlacedName<'_>) -> bool
+    ensures { result ≡ is_sought sought.entry (name_view place.now) }
+{
+    match sought {
+        Sought::At(line) => place.line == line,
+        Sought::Before(line, name) => name == place.name && place.line < line,
+    }
+}
+
+// what a section has, if it is looked for
+fn sought_in<'a>(
+    sought: Sought<'_>,
+    once: Once,
+    section: &TextSection<'_, 'a>,
+) -> Option<PlacedName<'a>>
+    ensures { option_map name_view result
+        ≡ passing (is_sought sought.entry) (placed_in once (section_view section.now)) }
+{
+    match placed_in(once, section) {
+        Some(place) if is_sought(sought, &place) => Some(place),
+        _ => None,
+    }
+}
+
+// the first that is looked for
+fn first_sought<'a>(
+    sought: Sought<'_>,
+    once: Once,
+    sections: &[TextSection<'_, 'a>],
+) -> Option<PlacedName<'a>>
+    ensures { option_map name_view result ≡ first_passing (is_sought sought.entry)
+        (placed_in once) (map section_view sections.now) }
+{
+    for section in sections {
+        if let Some(place) = sought_in(sought, once, section) {
+            return Some(place);
+        }
+    }
+    None
+}
+
+fn first_line(once: Once, sections: &[TextSection], line: usize) -> Option<usize>
+    ensures { result ≡ first_line (placed_in once) line (map section_view sections.now) }
+{
+    let Some(place) = first_sought(Sought::At(line), once, sections) else {
+        return None;
+    };
+    match first_sought(Sought::Before(line, place.name), once, sections) {
+        Some(first) => Some(first.line),
+        None => None,
+    }
+}
+
+/// Of a kind that is about what comes twice: the line of the first of what is at a line, if it is
+/// before that line.
+pub fn first_equal(kind: WarningKind, sections: &[TextSection], line: usize) -> Option<usize>
+    ensures { result ≡ first_equal kind line (map section_view sections.now) }
+{
+    match kind {
+        WarningKind::SharedCobId(node) => first_line(Once::Identifiers(node), sections, line),
+        WarningKind::HeartbeatTwice(node) => first_line(Once::Consumed(node), sections, line),
+        WarningKind::EqualNames => first_line(Once::Names, sections, line),
+        _ => None,
+    }
 }

@@ -9,10 +9,11 @@ pub enum WarningKind {
     SubNumber,
     /// A constant sub-index 0 isn't the highest sub-index of its object.
     SubIndex0,
-    /// FileInfo is missing, or lacks a key that has to be there.
-    FileInfoKeys,
-    /// DeviceInfo is missing, or lacks a key that has to be there.
-    DeviceInfoKeys,
+    /// FileInfo is missing, or lacks a key that has to be there: of each, in the order of
+    /// `FILE_KEYS`, whether it is missing.
+    FileInfoKeys([bool; 10]),
+    /// DeviceInfo is missing, or lacks a key that has to be there: the same of `DEVICE_KEYS`.
+    DeviceInfoKeys([bool; 22]),
     /// NrOfRXPDO or NrOfTXPDO isn't the number of PDOs.
     PdoCount,
     /// An object is in another list than the one for its index.
@@ -27,17 +28,18 @@ pub enum WarningKind {
     NodeIdPlace,
     /// A key that the standard doesn't have, and that is like one of its own.
     MisspeltKey(KnownKey),
-    /// A COB-ID has the identifier of another one before it, for the node-ID that is given.
-    SharedCobId,
+    /// A COB-ID has the identifier of another one before it, for this node-ID.
+    SharedCobId(u8),
     /// A synchronous TPDO has an inhibit time.
     InhibitTime,
     /// The heartbeat consumer expects the heartbeat of its own node.
     OwnHeartbeat,
-    /// The heartbeat consumer expects the heartbeat of a node twice.
-    HeartbeatTwice,
+    /// The heartbeat consumer expects the heartbeat of a node twice; a sum with `$NODEID` is
+    /// for this node-ID.
+    HeartbeatTwice(Option<u8>),
     /// The device has neither a heartbeat nor node guarding.
     NoErrorControl,
-    /// A line of more than 255 bytes.
+    /// A line of more than 255 characters.
     LongLine,
     /// Bytes above 7Fh, in UTF-8.
     Utf8,

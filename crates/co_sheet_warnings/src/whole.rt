@@ -1,8 +1,11 @@
 //! The warnings of each kind in a text.
 
 ghost use Rattle.std.specs.Prelude.{◌≡◌, ◌++◌, option_to_list, OnOk};
+ghost use Rattle.co_sheet_warnings.specs.Infos.{device_keys, file_keys, missing_each};
 ghost use Rattle.co_sheet_warnings.specs.Lists.{no_error_control};
+ghost use Rattle.co_sheet_warnings.specs.declared.keys.Topic.TheVariants.{FileInfo, DeviceInfo};
 ghost use Rattle.co_sheet_warnings.specs.Warnings.{
+  kind_in,
   other_places,
   place_in_text,
   warnings_at,
@@ -11,7 +14,7 @@ ghost use Rattle.co_sheet_warnings.specs.Warnings.{
 
 use crate::in_sections::place_in;
 use crate::infos::{
-    DEVICE_KEYS, FILE_KEYS, date_formats, identity_numbers, missing_keys, pdo_counts,
+    DEVICE_KEYS, FILE_KEYS, date_formats, identity_numbers, missing_keys, note_missing, pdo_counts,
 };
 use crate::keys::Topic;
 use crate::known_key::unknown_key;
@@ -41,13 +44,13 @@ fn place_in_text(text: &ReadText, kind: WarningKind) -> Option<usize>
     ensures { option_to_list result ≡ place_in_text text.now kind }
 {
     match kind {
-        WarningKind::FileInfoKeys => missing_keys(
+        WarningKind::FileInfoKeys(_) => missing_keys(
             Topic::FileInfo,
             text.keys,
             text.sections(),
             &FILE_KEYS,
         ),
-        WarningKind::DeviceInfoKeys => missing_keys(
+        WarningKind::DeviceInfoKeys(_) => missing_keys(
             Topic::DeviceInfo,
             text.keys,
             text.sections(),
@@ -59,6 +62,36 @@ fn place_in_text(text: &ReadText, kind: WarningKind) -> Option<usize>
         WarningKind::UnknownKey => unknown_key(text.keys),
         WarningKind::LineEnds => mixed_line_ends(text.bytes),
         _ => None,
+    }
+}
+
+fn file_keys_missing(text: &ReadText) -> [bool; 10]
+    ensures { result ≡ missing_each FileInfo text.now.keys file_keys }
+{
+    let mut missing = [false; 10];
+    note_missing(&mut missing, Topic::FileInfo, text.keys, &FILE_KEYS);
+    missing
+}
+
+fn device_keys_missing(text: &ReadText) -> [bool; 22]
+    ensures { result ≡ missing_each DeviceInfo text.now.keys device_keys }
+{
+    let mut missing = [false; 22];
+    note_missing(&mut missing, Topic::DeviceInfo, text.keys, &DEVICE_KEYS);
+    missing
+}
+
+/// A kind with what it says of a text.
+#[tactic(auto, unfolding(crate::specs::Warnings::kind_in))]
+pub(crate) fn kind_in(text: &ReadText, kind: WarningKind) -> WarningKind
+    ensures { result ≡ kind_in text.now kind }
+{
+    match kind {
+        WarningKind::FileInfoKeys(_) => WarningKind::FileInfoKeys(file_keys_missing(text)),
+        WarningKind::DeviceInfoKeys(_) => WarningKind::DeviceInfoKeys(device_keys_missing(text)),
+        WarningKind::SharedCobId(_) => WarningKind::SharedCobId(text.node.unwrap_or(0)),
+        WarningKind::HeartbeatTwice(_) => WarningKind::HeartbeatTwice(text.node),
+        _ => kind,
     }
 }
 
@@ -103,7 +136,7 @@ pub(crate) fn add_warnings_with(
         WarningKind::ListOrder => {
             add_places_of_lists(alloc, warnings, kind, ListCheck::Order, sections)
         }
-        WarningKind::SharedCobId => match text.node {
+        WarningKind::SharedCobId(_) => match text.node {
             Some(node) => add_repeats_of(alloc, warnings, kind, Once::Identifiers(node), sections),
             None => Ok(()),
         },

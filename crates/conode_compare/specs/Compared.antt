@@ -26,6 +26,7 @@ use Rattle.conode_compare_rules.specs.declared.finding.Finding.TheVariants.{Valu
 use Rattle.conode_compare_values.specs.declared.mismatch.Mismatch.TheVariants.{ValueConst}
 use Rattle.conode_compare_rules.specs.declared.limits.Subject.{Subject}
 use Rattle.conode_compare_rules.specs.declared.verdict.Findings.{Findings}
+use Rattle.conode_compare_rules.specs.declared.verdict.Verdict.{Verdict}
 use Rattle.conode_compare_notes.specs.declared.warning.Warning.{Warning}
 use Rattle.conode_compare_notes.specs.declared.warning.Warning.TheVariants.{Restarted, Stored, Changed, ChangedBytes, SteppedBack, OtherRevision, OtherText, OddCode, OtherError}
 use Rattle.conode_compare_rules.specs.declared.kind.FrameKind.{FrameKind}
@@ -195,6 +196,19 @@ frame_taken c so_far frame kind = record {
   notes = notes_with c.choices c.learned c.subject c.rows so_far.notes kind (progress_at c so_far frame kind);
   report = option_map (kind_noted c so_far.progress frame.micros kind) so_far.report;
 }
+
+-- the same, once its progress is known, and what is kept of it for a document; with this verdict
+abbrev pub frame_noted_by : Comparison → Comparing → Record → FrameKind → Option Verdict → Comparing
+frame_noted_by c so_far frame kind verdict =
+    let received = receptions_with c.subject c.rows so_far.receptions so_far.progress frame.micros kind frame.id frame.content in
+    record so_far {
+      progress = with_receptions c.subject so_far.progress received;
+      receptions = received;
+      tally = tally_with so_far.tally verdict;
+      first = first_with so_far.first frame.interface;
+      nodes = nodes_with so_far.nodes frame;
+      notes = notes_with c.choices c.learned c.subject c.rows so_far.notes kind so_far.progress;
+    }
 
 -- where none is named, there is another one
 abbrev pub other_seen : Option (List ℕ) → Comparing → Comparing

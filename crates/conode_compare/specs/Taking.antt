@@ -5,11 +5,20 @@ use Rattle.std.specs.Str.Lines.{lines}
 use Rattle.co_stream.specs.Founds.{is_closed}
 use Rattle.co_stream.specs.Held.{Held, nothing_held, to_come}
 use Rattle.co_stream.specs.Readings.{Gave}
+use Rattle.conode_explain.specs.LogLines.{good}
 use Rattle.conode_io.specs.Written.{WritesLines}
 use Rattle.conode_logs.specs.declared.log.Form.{Form}
+use Rattle.conode_record.specs.declared.bad_log_line.BadLogLine.{BadLogLine}
+use Rattle.conode_record.specs.declared.line.RecordLine.{RecordLine}
+use Rattle.conode_record.specs.Lines.{line_in}
 use Rattle.conode_compare_report.specs.Views.{Kept}
 use Rattle.conode_compare.specs.declared.comparing.Comparing.{Comparing}
 use Rattle.conode_compare.specs.Compared.{Comparison, SoFar, compared, compared_from, comparing_after, so_far_after}
+
+-- what a line of a log says, where a line as `candump -L` writes it was set for it, or it is bad
+abbrev pub record_set : List ℕ → Option BadLogLine → Option RecordLine
+record_set text None = good (line_in text)
+record_set text (Some bad) = None
 
 -- known bytes give these lines, then those of the bytes that are left
 abbrev pub Gives : Comparison → Option (List ℕ) → Option (List ℕ) → ℕ → ℕ → SoFar → SoFar → List (List ℕ) → Type 0

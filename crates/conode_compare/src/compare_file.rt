@@ -245,7 +245,8 @@ fn compare_sheet<R: Files + AllocGlobal + Input, O: Write, E: Write>(
 ) -> ExitCode
     ensures { exit_status result ≤ 2 }
 {
-    let Some(node) = asked.node.or(sheet.node_id()) else {
+    let own = sheet.node_id();
+    let Some(node) = asked.node.or(own) else {
         return no_node_id(err);
     };
     let rows = sheet.entries();
@@ -253,11 +254,10 @@ fn compare_sheet<R: Files + AllocGlobal + Input, O: Write, E: Write>(
         Ok(held) => held,
         Err(fault) => return bad_keys(fault, err),
     };
-    let configured = sheet.node_id().is_some();
     let subject = Subject {
         node,
         limits: asked.limits,
-        facts: facts_of(rows, node, configured),
+        facts: facts_of(rows, node, own.is_some()),
         held,
         rooms: asked.rooms,
     };

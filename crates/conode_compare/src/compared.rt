@@ -9,7 +9,7 @@ ghost use Rattle.conode_compare.specs.Taking.{Compares, TakesAll};
 ghost use Rattle.conode_compare.specs.Views.{comparison_view};
 
 use crate::comparing::Comparing;
-use crate::line::Lines;
+use crate::line::{Lines, let_out};
 use crate::writes::Settings;
 use conode_compare_report::Report;
 use conode_io::CmdFault;
@@ -34,7 +34,7 @@ fn take_lines<R: Read, W: Write, E: Write>(
         (W.contents out.old) (W.contents out.new)) }
 {
     for number in 1..u64::MAX {
-        attempt!(lines.let_out(out));
+        attempt!(let_out(&lines.lines, out));
         match lines.take_line(reader, settings, number, out, err) {
             Ok(Some(())) => {}
             Ok(None) => return Ok(()),

@@ -1,6 +1,6 @@
 //! Frames of a recording, compared one after another.
 
-ghost use Rattle.std.specs.Prelude.{◌≡◌, ◌⊎◌, ◌≤◌, length, IfOk, OnOk, IfErr, option_map, true};
+ghost use Rattle.std.specs.Prelude.{◌≡◌, ◌≤◌, ◌||◌, length, is_none, IfOk, OnOk, true};
 ghost use Rattle.std.specs.List.{AllPairs};
 ghost use Rattle.std.specs.Option.{option_copied};
 ghost use Rattle.co_value.specs.Keys.{is_key_before};
@@ -10,17 +10,15 @@ ghost use Rattle.conode_compare_rules.specs.Progresses.{findings_at, progress_wi
 ghost use Rattle.conode_compare.specs.Compared.{
   bad_noted,
   first_with,
-  found_at,
   frame_lines,
-  frame_taken,
+  frame_noted_by,
   frame_with,
   is_compared,
   kind_noted,
   line_noted,
-  noted_with,
   nothing_compared,
-  other_seen,
 };
+ghost use Rattle.conode_compare.specs.Noted.{noted_at};
 ghost use Rattle.conode_compare.specs.Views.{comparison_view};
 
 use crate::kept::note_findings;
@@ -30,7 +28,7 @@ use crate::writes::{Settings, write_shown};
 use arrayvec::ArrayVec;
 use conode_compare_receptions::Receptions;
 use conode_compare_report::{Kind, Report};
-use conode_compare_rules::{Findings, FrameKind, Progress, Subject, kind_of};
+use conode_compare_rules::{FrameKind, Progress, Subject, Verdict, kind_of};
 use conode_compare_text::Tally;
 use conode_io::CmdFault;
 use conode_record::Record;
@@ -84,35 +82,41 @@ fn is_compared(interface: Option<&[u8]>, first: &[u8], name: &[u8]) -> bool
     }
 }
 
-// what is found at a frame of this kind; it is kept for a document, if one is wanted
-fn take_kind(
+// Takes a frame of this kind, and keeps what is found at it for a document. Returns its verdict.
+// Apart from `take_frame`, which has no document in most runs.
+#[inline(never)]
+fn document_kind(
     progress: &mut Progress,
-    report: &mut Option<Report>,
+    report: &mut Report,
     settings: &Settings<'_, '_>,
     micros: u64,
     kind: &FrameKind,
-) -> Result<Findings, AllocError>
+) -> Result<Option<Verdict>, AllocError>
     requires { AllPairs (λ e f. is_key_before e.key f.key ≡ true) settings.now.rows.now }
-    ensures found { IfOk result (λ found. found ≡ findings_at settings.now.subject
-        (comparison_view settings.now).rows progress.old micros kind.now) }
+    ensures verdict { IfOk result (λ verdict. verdict ≡ (findings_at settings.now.subject
+        (comparison_view settings.now).rows progress.old micros kind.now).verdict) }
     ensures progress { progress.new
         ≡ progress_with settings.now.subject progress.old micros kind.now }
-    ensures report { OnOk result (report.new ≡ option_map
-        (kind_noted (comparison_view settings.now) progress.old micros kind.now) report.old) }
+    ensures report { OnOk result (report.new
+        ≡ kind_noted (comparison_view settings.now) progress.old micros kind.now report.old) }
 {
-    match report {
-        Some(report) => {
-            let before = report.before(progress, kind);
-            let found = progress.take(&settings.subject, settings.rows, micros, kind);
-            let state = progress.state();
-            attempt!(report.take_frame(settings.rows, micros, kind, &before, state, &found));
-            if progress.is_number_kept(&settings.subject) {
-                report.pass(Kind::ValueHeld);
-            }
-            attempt!(note_findings(report, settings, micros, &found));
-            Ok(found)
-        }
-        None => Ok(progress.take(&settings.subject, settings.rows, micros, kind)),
+    let before = report.before(progress, kind);
+    let found = progress.take(&settings.subject, settings.rows, micros, kind);
+    let state = progress.state();
+    attempt!(report.take_frame(settings.rows, micros, kind, &before, state, &found));
+    if progress.is_number_kept(&settings.subject) {
+        report.pass(Kind::ValueHeld);
+    }
+    attempt!(note_findings(report, settings, micros, &found));
+    Ok(found.verdict)
+}
+
+// notes a frame of another interface: where none is named, there are several
+fn note_other(several: &mut bool, interface: Option<&[u8]>)
+    ensures { several.new ≡ (several.old || is_none (option_copied interface.entry)) }
+{
+    if interface.is_none() {
+        *several = true;
     }
 }
 
@@ -192,41 +196,24 @@ impl Comparing {
         &self.notes
     }
 
-    // notes a frame of another interface
-    fn note_other(&mut self, interface: Option<&[u8]>)
-        ensures { self.new ≡ other_seen (option_copied interface.entry) self.old }
-    {
-        if interface.is_none() {
-            self.several = true;
-        }
-    }
-
-    // What is found at a frame of the interface, by what it is to the device, and what is noted at
-    // it. On an `Err` memory ran out.
-    #[tactic(auto, unfolding(crate::specs::Compared::frame_taken))]
-    fn take(
+    // Counts a frame of the interface with its verdict, and takes what else it shows than the
+    // progress that it is part of already. Returns what is noted at it. On an `Err` memory ran out.
+    fn note_frame(
         &mut self,
         settings: &Settings<'_, '_>,
         frame: &Record<'_>,
         kind: &FrameKind,
-    ) -> Result<(Findings, Noted), AllocError>
+        verdict: Option<Verdict>,
+    ) -> Result<Noted, AllocError>
         requires rows { AllPairs (λ e f. is_key_before e.key f.key ≡ true) settings.now.rows.now }
         requires id { IsIdentifier frame.now.id }
-        ensures found { IfOk result (λ shown. shown.0
-            ≡ found_at (comparison_view settings.now) self.old frame.now kind.now) }
-        ensures noted { IfOk result (λ shown. shown.1
-            ≡ noted_with (comparison_view settings.now) self.old frame.now kind.now) }
-        ensures next { OnOk result (self.new
-            ≡ frame_taken (comparison_view settings.now) self.old frame.now kind.now) }
+        ensures noted { IfOk result (λ noted. noted ≡ noted_at
+            (comparison_view settings.now).choices (comparison_view settings.now).subject
+            (comparison_view settings.now).rows self.old.notes kind.now self.old.progress) }
+        ensures next { OnOk result (self.new ≡ frame_noted_by
+            (comparison_view settings.now) self.old frame.now kind.now verdict) }
     {
-        let found = attempt!(take_kind(
-            &mut self.progress,
-            &mut self.report,
-            settings,
-            frame.micros,
-            kind,
-        ));
-        self.tally.count(found.verdict);
+        self.tally.count(verdict);
         note_first(&mut self.first, frame.interface.bytes());
         self.nodes.note(frame);
         let noted = attempt!(self.notes.take(settings, kind, &self.progress));
@@ -239,7 +226,7 @@ impl Comparing {
             frame.id,
             &frame.content,
         );
-        Ok((found, noted))
+        Ok(noted)
     }
 
     /// Takes a frame, and writes the lines of what is found at it, unless a document is wanted.
@@ -257,20 +244,37 @@ impl Comparing {
             (frame_lines (comparison_view settings.now) number self.old frame.now)) }
         ensures next { OnOk result
             (self.new ≡ frame_with (comparison_view settings.now) self.old frame.now) }
-        ensures err { IfErr result
-            (λ fault. (fault ≡ CmdFault.Write) ⊎ (fault ≡ CmdFault.Memory)) }
     {
         let name = frame.interface.bytes();
         if !is_compared(settings.interface, self.first.as_slice(), name) {
-            self.note_other(settings.interface);
+            note_other(&mut self.several, settings.interface);
             return Ok(());
         }
-        let is_documented = self.report.is_some();
         let kind = kind_of(settings.subject.node, frame.id, &frame.content);
-        let (found, noted) = attempt_in_memory!(self.take(settings, frame, &kind));
-        if is_documented {
-            return Ok(());
+        match &mut self.report {
+            Some(report) => {
+                let verdict = attempt_in_memory!(document_kind(
+                    &mut self.progress,
+                    report,
+                    settings,
+                    frame.micros,
+                    &kind
+                ));
+                attempt_in_memory!(self.note_frame(settings, frame, &kind, verdict));
+                Ok(())
+            }
+            None => {
+                let found = self
+                    .progress
+                    .take(&settings.subject, settings.rows, frame.micros, &kind);
+                let noted = attempt_in_memory!(self.note_frame(
+                    settings,
+                    frame,
+                    &kind,
+                    found.verdict
+                ));
+                write_shown(text, settings, number, &found, &noted, out)
+            }
         }
-        write_shown(text, settings, number, found, noted, out)
     }
 }

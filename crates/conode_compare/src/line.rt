@@ -1,6 +1,6 @@
 //! One line of a log after another.
 
-ghost use Rattle.std.specs.Prelude.{◌≡◌, ◌⊎◌, ◌+◌, OnOk, IfOk, IfErr, IfSome, IfNone, true};
+ghost use Rattle.std.specs.Prelude.{◌≡◌, ◌+◌, OnOk, IfOk, IfSome, IfNone, true};
 ghost use Rattle.std.specs.List.{AllPairs};
 ghost use Rattle.std.specs.Io.KnownBytes.{Keeps, IsAtEnd};
 ghost use Rattle.co_stream.specs.Held.{nothing_held, to_come};
@@ -12,18 +12,18 @@ ghost use Rattle.conode_io.specs.Written.{WritesLines};
 ghost use Rattle.conode_logs.specs.Logs.{says};
 ghost use Rattle.conode_record.specs.Lines.{line_in};
 ghost use Rattle.conode_compare.specs.Compared.{nothing_compared, said_lines, said_with};
-ghost use Rattle.conode_compare.specs.Taking.{Takes};
+ghost use Rattle.conode_compare.specs.Taking.{Takes, record_set};
 ghost use Rattle.conode_compare.specs.Views.{comparison_view};
 
 use crate::comparing::Comparing;
 use crate::writes::Settings;
-use co_stream::{BoundedLines, Found, ReadFault};
+use co_stream::{BoundedLines, Found};
 use conode_compare_report::Report;
-use conode_convert::add_frame;
+use conode_convert::{add_frame, name_bad_line, read_fault};
 use conode_io::{CmdFault, flush};
 use conode_logs::{Form, Log};
-use conode_record::{LogLine, RecordLine};
-use std::alloc::Global;
+use conode_record::{BadLogLine, LogLine, RecordLine};
+use std::alloc::{AllocError, Global};
 use std::io::{Read, Write};
 
 /// How far a log is compared.
@@ -39,85 +39,80 @@ pub(crate) struct Lines {
 /// The words for a line of more than 512 bytes.
 const TOO_LONG: &str = "longer than 512 bytes";
 
-// Names a bad line on `err`. If that can't be written, nothing shows it.
-fn name_bad_line<E: Write>(number: u64, words: &str, err: &mut E) {
-    let _ = writeln!(err, "line {number}: {words}");
-}
-
-// why the next line can't be read
-fn read_fault(fault: ReadFault) -> CmdFault {
-    match fault {
-        ReadFault::Read => CmdFault::Read,
-        ReadFault::NeverEnds => CmdFault::NeverEnds,
+// names a line with which this is wrong
+fn name_wrong<E: Write>(number: u64, wrong: Option<BadLogLine>, err: &mut E) {
+    if let Some(bad) = wrong {
+        name_bad_line(number, bad.words(), err);
     }
 }
 
-// Takes a line as `candump -L` writes it. A bad one is named.
-fn take_record<W: Write, E: Write>(
+// Takes a line as `candump -L` writes it. Returns what is wrong with it, if it is bad.
+#[inline(always)]
+fn take_record<W: Write>(
     comparing: &mut Comparing,
     text: &mut String,
     settings: &Settings<'_, '_>,
     number: u64,
     line: &[u8],
     out: &mut W,
-    err: &mut E,
-) -> Result<(), CmdFault>
+) -> Result<Option<BadLogLine>, CmdFault>
     requires { AllPairs (λ e f. is_key_before e.key f.key ≡ true) settings.now.rows.now }
     ensures lines { OnOk result (WritesLines (W.contents out.old) (W.contents out.new)
         (said_lines (comparison_view settings.now) number comparing.old
         (good (line_in line.now)))) }
     ensures next { OnOk result (comparing.new
         ≡ said_with (comparison_view settings.now) comparing.old (good (line_in line.now))) }
-    ensures err { IfErr result (λ fault. (fault ≡ CmdFault.Write) ⊎ (fault ≡ CmdFault.Memory)) }
 {
     match RecordLine::read(line) {
-        Ok(RecordLine::Skipped) => Ok(()),
-        Ok(RecordLine::Frame(frame)) => comparing.take_frame(text, settings, number, &frame, out),
-        Err(_) => {
-            name_bad_line(number, "is no line of a recording", err);
+        Ok(RecordLine::Skipped) => Ok(None),
+        Ok(RecordLine::Frame(frame)) => {
+            attempt!(comparing.take_frame(text, settings, number, &frame, out));
+            Ok(None)
+        }
+        Err(bad) => {
             comparing.note_bad_line();
-            Ok(())
+            Ok(Some(BadLogLine::of_record(bad)))
         }
     }
 }
 
-// Takes a line of a log.
-#[tactic(auto, unfolding(conode_explain::specs::LogLines::line_at))]
-fn take_log_line<W: Write, E: Write>(
-    comparing: &mut Comparing,
+// Sets `text` to the line in the form of `candump -L` that a line of a log of any form is: an empty
+// one, where that says nothing. Returns what is wrong with it, if it is bad. Apart from
+// `take_log_line`, since a line of other forms is large.
+#[inline(never)]
+#[tactic(auto, unfolding(conode_explain::specs::LogLines::line_at), using(crate::proofs::RecordLines::empty_line))]
+fn set_record_line(
+    text: &mut Vec<u8>,
     log: &mut Log,
-    text: &mut String,
-    room: &mut Vec<u8>,
-    settings: &Settings<'_, '_>,
-    number: u64,
     line: &[u8],
-    out: &mut W,
-    err: &mut E,
-) -> Result<(), CmdFault>
-    requires { AllPairs (λ e f. is_key_before e.key f.key ≡ true) settings.now.rows.now }
-    ensures lines { OnOk result (WritesLines (W.contents out.old) (W.contents out.new)
-        (said_lines (comparison_view settings.now) number comparing.old
-        (line_at log.old line.now))) }
-    ensures next { OnOk result (comparing.new
-        ≡ said_with (comparison_view settings.now) comparing.old (line_at log.old line.now)) }
+) -> Result<Option<BadLogLine>, AllocError>
     ensures log { OnOk result (log.new ≡ (says log.old line.now).0) }
-    ensures err { IfErr result (λ fault. (fault ≡ CmdFault.Write) ⊎ (fault ≡ CmdFault.Memory)) }
+    ensures line { IfOk result
+        (λ wrong. line_at log.old line.now ≡ record_set text.new.items wrong) }
 {
+    text.clear();
     match log.read(line) {
-        Ok(LogLine::Skipped) => Ok(()),
-        Ok(LogLine::AsItIs) => take_record(comparing, text, settings, number, line, out, err),
+        Ok(LogLine::Skipped) => Ok(None),
+        Ok(LogLine::AsItIs) => {
+            attempt!(text.extend_from_slice(line));
+            Ok(None)
+        }
         Ok(LogLine::Frame(frame)) => {
-            room.clear();
-            attempt_in_memory!(add_frame(room, &frame));
-            let line = room.as_slice();
-            take_record(comparing, text, settings, number, line, out, err)
+            attempt!(add_frame(text, &frame));
+            Ok(None)
         }
-        Err(bad) => {
-            name_bad_line(number, bad.words(), err);
-            comparing.note_bad_line();
-            Ok(())
-        }
+        Err(bad) => Ok(Some(bad)),
     }
+}
+
+/// Flushes the writer, unless the next line is held whole.
+pub(crate) fn let_out<W: Write>(lines: &BoundedLines, out: &mut W) -> Result<(), CmdFault>
+    ensures text { Keeps (W.contents out.old) (W.contents out.new) }
+{
+    if !lines.has_line() {
+        attempt!(flush(out));
+    }
+    Ok(())
 }
 
 impl Lines {
@@ -141,14 +136,43 @@ impl Lines {
         }
     }
 
-    /// Flushes the writer, unless the next line is held whole.
-    pub(crate) fn let_out<W: Write>(&self, out: &mut W) -> Result<(), CmdFault>
-        ensures text { Keeps (W.contents out.old) (W.contents out.new) }
+    // Takes the line that was found, and writes the lines of its differences. Returns what is wrong
+    // with it, if it is bad. A line of a log that is known to be of the form of `candump -L` is read
+    // once.
+    #[tactic(auto, using(conode_explain::proofs::LogLemmas::candump_line, conode_explain::proofs::LogLemmas::candump_log))]
+    fn take_log_line<W: Write>(
+        &mut self,
+        settings: &Settings<'_, '_>,
+        number: u64,
+        out: &mut W,
+    ) -> Result<Option<BadLogLine>, CmdFault>
+        requires { AllPairs (λ e f. is_key_before e.key f.key ≡ true) settings.now.rows.now }
+        ensures lines { OnOk result (WritesLines (W.contents out.old) (W.contents out.new)
+            (said_lines (comparison_view settings.now) number self.old.comparing
+            (line_at self.old.log self.old.lines.line))) }
+        ensures next { OnOk result (self.new.comparing
+            ≡ said_with (comparison_view settings.now) self.old.comparing
+            (line_at self.old.log self.old.lines.line)) }
+        ensures log { OnOk result (self.new.log ≡ (says self.old.log self.old.lines.line).0) }
+        ensures held { self.new.lines ≡ self.old.lines }
     {
-        if !self.lines.has_line() {
-            attempt!(flush(out));
+        let comparing = &mut self.comparing;
+        let text = &mut self.text;
+        let line = self.lines.line();
+        if let Form::Candump = self.log.form {
+            return take_record(comparing, text, settings, number, line, out);
         }
-        Ok(())
+        match set_record_line(&mut self.frame, &mut self.log, line) {
+            Ok(None) => {
+                let line = self.frame.as_slice();
+                take_record(comparing, text, settings, number, line, out)
+            }
+            Ok(Some(bad)) => {
+                comparing.note_bad_line();
+                Ok(Some(bad))
+            }
+            Err(_) => Err(CmdFault::Memory),
+        }
     }
 
     /// Takes the next line: writes the lines of its differences, or names it where it is bad.
@@ -184,19 +208,9 @@ impl Lines {
                 Ok(Some(()))
             }
             Ok(Found::Line) => {
-                let line = self.lines.line();
-                attempt_in_memory!(self.comparing.note_line(line));
-                attempt!(take_log_line(
-                    &mut self.comparing,
-                    &mut self.log,
-                    &mut self.text,
-                    &mut self.frame,
-                    settings,
-                    number,
-                    line,
-                    out,
-                    err,
-                ));
+                attempt_in_memory!(self.comparing.note_line(self.lines.line()));
+                let wrong = attempt!(self.take_log_line(settings, number, out));
+                name_wrong(number, wrong, err);
                 Ok(Some(()))
             }
             // whoever stops a recording cuts its last line off

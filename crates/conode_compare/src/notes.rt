@@ -1,7 +1,7 @@
 //! What is noted of a device beside differences: warnings, its choices, and the values of its
 //! entries.
 
-ghost use Rattle.std.specs.Prelude.{◌≡◌, ◌⊎◌, OnOk, IfOk, IfErr, true, map};
+ghost use Rattle.std.specs.Prelude.{◌≡◌, OnOk, IfOk, true, map};
 ghost use Rattle.std.specs.List.{AllPairs};
 ghost use Rattle.co_sheet.specs.SheetViews.{row_view};
 ghost use Rattle.co_value.specs.Keys.{is_key_before};
@@ -86,7 +86,6 @@ pub(crate) fn write_choice<W: Write>(
 ) -> Result<(), CmdFault>
     ensures lines { OnOk result (WritesLines (W.contents out.old) (W.contents out.new)
         (choice_lines recording.now number choice)) }
-    ensures err { IfErr result (λ fault. (fault ≡ CmdFault.Write) ⊎ (fault ≡ CmdFault.Memory)) }
 {
     match choice {
         Some(choice) => {

@@ -1,6 +1,6 @@
 //! The lines of differences.
 
-ghost use Rattle.std.specs.Prelude.{◌≡◌, ◌⊎◌, OnOk, IfErr, true};
+ghost use Rattle.std.specs.Prelude.{◌≡◌, OnOk, Some, true};
 ghost use Rattle.std.specs.List.{AllPairs};
 ghost use Rattle.co_value.specs.Keys.{is_key_before};
 ghost use Rattle.conode_io.specs.Written.{WritesLines};
@@ -73,32 +73,40 @@ pub(crate) fn shown_type(settings: &Settings<'_, '_>, finding: Finding) -> Value
     }
 }
 
-// Writes the line of a difference, if there is one.
+// Writes the line of a difference. Apart from `write_listed`, since few frames have one.
+#[inline(never)]
 #[tactic(auto, using(conode_io::proofs::WriteLemmas::line_alone))]
+fn write_finding<W: Write>(
+    text: &mut String,
+    settings: &Settings<'_, '_>,
+    number: u64,
+    finding: Finding,
+    out: &mut W,
+) -> Result<(), CmdFault>
+    requires { AllPairs (λ e f. is_key_before e.key f.key ≡ true) settings.now.rows.now }
+    ensures { OnOk result (WritesLines (W.contents out.old) (W.contents out.new)
+        (listed (comparison_view settings.now) number (Some finding))) }
+{
+    let value_type = shown_type(settings, finding);
+    attempt_in_memory!(set_finding_line(text, settings.recording, number, value_type, finding));
+    hand_over(text.as_bytes(), out)
+}
+
+// Writes the line of a difference, if there is one.
+#[inline(always)]
 fn write_listed<W: Write>(
     text: &mut String,
     settings: &Settings<'_, '_>,
     number: u64,
-    finding: Option<Finding>,
+    finding: &Option<Finding>,
     out: &mut W,
 ) -> Result<(), CmdFault>
     requires { AllPairs (λ e f. is_key_before e.key f.key ≡ true) settings.now.rows.now }
-    ensures lines { OnOk result (WritesLines (W.contents out.old) (W.contents out.new)
-        (listed (comparison_view settings.now) number finding)) }
-    ensures err { IfErr result (λ fault. (fault ≡ CmdFault.Write) ⊎ (fault ≡ CmdFault.Memory)) }
+    ensures { OnOk result (WritesLines (W.contents out.old) (W.contents out.new)
+        (listed (comparison_view settings.now) number finding.now)) }
 {
     match finding {
-        Some(finding) => {
-            let value_type = shown_type(settings, finding);
-            attempt_in_memory!(set_finding_line(
-                text,
-                settings.recording,
-                number,
-                value_type,
-                finding
-            ));
-            hand_over(text.as_bytes(), out)
-        }
+        Some(finding) => write_finding(text, settings, number, *finding, out),
         None => Ok(()),
     }
 }
@@ -109,18 +117,17 @@ fn write_findings<W: Write>(
     text: &mut String,
     settings: &Settings<'_, '_>,
     number: u64,
-    found: Findings,
+    found: &Findings,
     out: &mut W,
 ) -> Result<(), CmdFault>
     requires { AllPairs (λ e f. is_key_before e.key f.key ≡ true) settings.now.rows.now }
     ensures lines { OnOk result (WritesLines (W.contents out.old) (W.contents out.new)
-        (findings_lines (comparison_view settings.now) number found)) }
-    ensures err { IfErr result (λ fault. (fault ≡ CmdFault.Write) ⊎ (fault ≡ CmdFault.Memory)) }
+        (findings_lines (comparison_view settings.now) number found.now)) }
 {
-    attempt!(write_listed(text, settings, number, found.boot, out));
-    attempt!(write_listed(text, settings, number, found.heartbeat, out));
-    attempt!(write_listed(text, settings, number, found.answer, out));
-    write_listed(text, settings, number, found.frame, out)
+    attempt!(write_listed(text, settings, number, &found.boot, out));
+    attempt!(write_listed(text, settings, number, &found.heartbeat, out));
+    attempt!(write_listed(text, settings, number, &found.answer, out));
+    write_listed(text, settings, number, &found.frame, out)
 }
 
 // the data type in which the values of a warning are shown
@@ -152,7 +159,6 @@ fn write_warning<W: Write>(
     requires { AllPairs (λ e f. is_key_before e.key f.key ≡ true) settings.now.rows.now }
     ensures lines { OnOk result (WritesLines (W.contents out.old) (W.contents out.new)
         (warning_lines (comparison_view settings.now) number warning)) }
-    ensures err { IfErr result (λ fault. (fault ≡ CmdFault.Write) ⊎ (fault ≡ CmdFault.Memory)) }
 {
     match warning {
         Some(warning) => {
@@ -176,13 +182,12 @@ fn write_noted<W: Write>(
     text: &mut String,
     settings: &Settings<'_, '_>,
     number: u64,
-    noted: Noted,
+    noted: &Noted,
     out: &mut W,
 ) -> Result<(), CmdFault>
     requires { AllPairs (λ e f. is_key_before e.key f.key ≡ true) settings.now.rows.now }
     ensures lines { OnOk result (WritesLines (W.contents out.old) (W.contents out.new)
-        (noted_lines (comparison_view settings.now) number noted)) }
-    ensures err { IfErr result (λ fault. (fault ≡ CmdFault.Write) ⊎ (fault ≡ CmdFault.Memory)) }
+        (noted_lines (comparison_view settings.now) number noted.now)) }
 {
     attempt!(write_warning(text, settings, number, noted.warning, out));
     write_choice(text, settings.recording, number, noted.choice, out)
@@ -194,14 +199,13 @@ pub(crate) fn write_shown<W: Write>(
     text: &mut String,
     settings: &Settings<'_, '_>,
     number: u64,
-    found: Findings,
-    noted: Noted,
+    found: &Findings,
+    noted: &Noted,
     out: &mut W,
 ) -> Result<(), CmdFault>
     requires { AllPairs (λ e f. is_key_before e.key f.key ≡ true) settings.now.rows.now }
     ensures lines { OnOk result (WritesLines (W.contents out.old) (W.contents out.new)
-        (shown_lines (comparison_view settings.now) number found noted)) }
-    ensures err { IfErr result (λ fault. (fault ≡ CmdFault.Write) ⊎ (fault ≡ CmdFault.Memory)) }
+        (shown_lines (comparison_view settings.now) number found.now noted.now)) }
 {
     attempt!(write_findings(text, settings, number, found, out));
     write_noted(text, settings, number, noted, out)

@@ -5,6 +5,7 @@ use Rattle.std.proofs.lemmas.Bool.{false≢true}
 use Rattle.arrayvec.specs.ArrayVec.{ArrayVec}
 use Rattle.co_value.specs.declared.key.Key.{Key}
 use Rattle.co_value.specs.Keys.{same_key}
+use Rattle.co_frame.specs.declared.abort_code.AbortCode.{AbortCode}
 use Rattle.co_frame.specs.Segments.{same_bool}
 use Rattle.co_frame.specs.declared.block_segment.BlockSegment.{BlockSegment}
 use Rattle.co_frame.specs.declared.sdo_response.SdoResponse.{SdoResponse}
@@ -17,7 +18,7 @@ use Rattle.conode_explain_transfers.specs.declared.ended.Ending.TheVariants.{Crc
 use Rattle.conode_explain_transfers.specs.declared.kinds.Direction.{Direction}
 use Rattle.conode_explain_transfers.specs.declared.kinds.Direction.TheVariants.{Download, Upload}
 use Rattle.conode_explain_transfers.specs.declared.kinds.Side.{Side}
-use Rattle.conode_explain_transfers.specs.declared.kinds.Side.TheVariants.{Server}
+use Rattle.conode_explain_transfers.specs.declared.kinds.Side.TheVariants.{Client, Server}
 use Rattle.conode_explain_transfers.specs.declared.kinds.What.{What}
 use Rattle.conode_explain_transfers.specs.declared.kinds.What.TheVariants as what
 use Rattle.conode_explain_transfers.specs.declared.stage.Stage.{Stage}
@@ -25,11 +26,12 @@ use Rattle.conode_explain_transfers.specs.declared.stage.Stage.TheVariants.{AllA
 use Rattle.conode_explain_transfers.specs.declared.transfer.Transfer.{Transfer}
 use Rattle.conode_explain_transfers.specs.BlockTurns.{acknowledged, block_ended, block_ended_at, block_segment_at, crc_in, end_confirmed, is_block, segment_added, segment_again, segment_ahead, segment_first}
 use Rattle.conode_explain_transfers.specs.Endings.{size_fault, size_verdict, verdict}
-use Rattle.conode_explain_transfers.specs.Followed.{Followed, turns_at, with_frame}
+use Rattle.conode_explain_transfers.specs.Followed.{Followed, abort_ending, turns_at, with_frame}
 use Rattle.conode_explain_transfers.specs.SegmentedTurns.{answering, segment_done_at, upload_segment_at}
 use Rattle.conode_explain_transfers.specs.Stages.{confirmed_with, is_initiated}
 use Rattle.conode_explain_transfers.specs.Transfers.{Turn, after, awaited_number, is_download, overtaken, unexpected}
 use Rattle.conode_explain_transfers.specs.Turns.{response_turn}
+use Rattle.conode_explain_transfers.specs.Unanswered.{is_no_abort}
 use Rattle.conode_explain_laws.proofs.Kept.{keeps}
 use Rattle.conode_explain_laws.proofs.Follows.{segment_spoils}
 use Rattle.conode_explain_laws.proofs.Readings.{Abort, Begin, Nothing, Reading, Request, Response, Segment, follows_by, reading_of, turn_of}
@@ -141,10 +143,15 @@ after_leads t turn (done s n) = done s n
 pub by_turn : (heard : Bool) (t : Transfer) (turn : Turn) (micros : ℕ) (side : Side) → Leads turn.transfer → Whole (turns_at (confirmed_with turn.transfer.stage) heard turn.what (after t turn) micros side)
 by_turn heard t turn micros side h = turn_whole (confirmed_with turn.transfer.stage) heard turn.what (after t turn) micros side refl (after_leads t turn h)
 
+pub abort_same : (side : Side) (lost : Bool) (code : AbortCode) → differs (abort_ending side lost code) ≡ false
+abort_same Server lost code = refl
+abort_same Client true code = refl
+abort_same Client false code = refl
+
 pub frame_whole : (heard : Bool) (t : Transfer) (reading : Reading) (micros : ℕ) (side : Side) (bytes : List ℕ) → is_begin reading ≡ false → Leads (turn_of t reading bytes).transfer
     → Whole (follows_by heard (Some t) reading micros side bytes)
 frame_whole heard t (Begin new) micros side bytes n h = absurd (false≢true (sym n))
-frame_whole heard t (Abort code) micros side bytes n h = record { ended = other_whole t.direction _ refl; next = tt }
+frame_whole heard t (Abort code) micros side bytes n h = record { ended = other_whole t.direction _ (abort_same side (is_no_abort t bytes) code); next = tt }
 frame_whole heard t (Segment segment) micros side bytes n h = by_turn heard t (turn_of t (Segment segment) bytes) micros side h
 frame_whole heard t (Request request) micros side bytes n h = by_turn heard t (turn_of t (Request request) bytes) micros side h
 frame_whole heard t (Response response) micros side bytes n h = by_turn heard t (turn_of t (Response response) bytes) micros side h

@@ -34,19 +34,20 @@ use Rattle.conode_explain_transfers.specs.declared.stage.Stage.TheVariants.{Init
 use Rattle.conode_explain_transfers.specs.declared.transfer.Transfer.{Transfer}
 use Rattle.conode_explain_transfers.specs.BlockTurns.{is_block}
 use Rattle.conode_explain_transfers.specs.Endings.{ended, verdict}
-use Rattle.conode_explain_transfers.specs.Followed.{Followed, Following, followed, one_more, turns_at, with_frame}
+use Rattle.conode_explain_transfers.specs.Followed.{Followed, Following, abort_ending, followed, one_more, turns_at, with_frame}
 use Rattle.conode_explain_transfers.specs.Readings.{awaits_segment, is_sender, may_have_segment, is_in_sub_block}
 use Rattle.conode_explain_transfers.specs.Stages.{confirmed_with}
 use Rattle.conode_explain_transfers.specs.Initiates.{initiate_of}
 use Rattle.conode_explain_transfers.specs.Transfers.{Turn, after, begun}
 use Rattle.conode_explain_laws.specs.Downloads.{is_block_begin}
 use Rattle.conode_explain_transfers.specs.Turns.{request_turn, response_turn}
+use Rattle.conode_explain_transfers.specs.Unanswered.{is_no_abort}
 use Rattle.conode_explain_laws.proofs.Begins.{response_is}
 use Rattle.conode_explain_laws.proofs.Follows.{none_of_server}
 use Rattle.conode_explain_laws.proofs.Kept.{Keeps, keeps}
 use Rattle.conode_explain_laws.proofs.Readings.{Reading, Segment, Begin, Abort, Request, Response, Nothing, begun_with, request_reading, response_reading, plain_reading, beginning, segment_reading, reading_of, turn_of, follows_by, same as same_reading}
 use Rattle.conode_explain_laws.proofs.Views.{abort_is, is_abort_reading, is_begin, server_no_begin}
-use Rattle.conode_compare_transfers.specs.Dialogues.{continues, ends_in_doubt, is_initiate, is_odd, leaves_request_open}
+use Rattle.conode_compare_transfers.specs.Dialogues.{continues, ends_in_doubt, is_initiate, is_known_end, is_odd, leaves_request_open}
 use Rattle.conode_compare_laws.proofs.AnswerTurns.{Asked, Blocks, Lasts, Plain, Sound, Turned, asked, asks_for_blocks, in_blocks, is_request, is_turned, lasts, turned, unconfirmed}
 
 -- ---- explain's frames, by the readings of conode_explain_laws
@@ -271,11 +272,12 @@ stray_open blocks true _ micros frame n = doubted blocks _ frame refl
 stray_open blocks false _ micros frame n = doubted blocks _ frame refl
 
 abort_open : (blocks heard : Bool) (t : Transfer) (code : AbortCode) (micros : ℕ) (frame : FrameContent) → GoesOpen blocks (follows_by heard (Some t) (Abort code) micros Client frame.bytes) frame
-abort_open blocks heard t code micros frame = doubted blocks _ frame (by (is_block t.protocol))
+abort_open blocks heard t code micros frame = doubted blocks _ frame (by (is_block t.protocol) (is_no_abort t frame.bytes))
   where
-    by : (block : Bool) → not (not block && false) ≡ true
-    by true = refl
-    by false = refl
+    by : (block lost : Bool) → not (not block && is_known_end (abort_ending Client lost code) t.key frame) ≡ true
+    by true lost = refl
+    by false true = refl
+    by false false = refl
 
 nothing_open : (blocks heard : Bool) (t : Transfer) (micros : ℕ) (frame : FrameContent) → Sound t → GoesOpen blocks (follows_by heard (Some t) Nothing micros Client frame.bytes) frame
 nothing_open blocks heard t micros frame s = doubted blocks _ frame (by (confirmed_with t.stage))

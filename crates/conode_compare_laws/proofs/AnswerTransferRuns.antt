@@ -12,7 +12,8 @@ use Rattle.co_sdo.specs.Log.{Answer, answer_bytes, frames_on}
 use Rattle.co_sheet.specs.Content.{Row}
 use Rattle.conode_explain_transfers.specs.declared.channel.Heard.{Heard}
 use Rattle.conode_explain_transfers.specs.declared.ended.Ended.{Ended}
-use Rattle.conode_explain_transfers.specs.declared.ended.Ending.TheVariants.{Aborted, Repeated}
+use Rattle.conode_explain_transfers.specs.declared.ended.Ending.{Ending}
+use Rattle.conode_explain_transfers.specs.declared.ended.Ending.TheVariants.{Repeated, NotFollowed}
 use Rattle.conode_explain_transfers.specs.declared.kinds.Direction.{Direction}
 use Rattle.conode_explain_transfers.specs.declared.kinds.Direction.TheVariants.{Download, Upload}
 use Rattle.conode_explain_transfers.specs.declared.kinds.Side.{Side}
@@ -22,11 +23,12 @@ use Rattle.conode_explain_transfers.specs.declared.kinds.What.TheVariants as wha
 use Rattle.conode_explain_transfers.specs.declared.transfer.Transfer.{Transfer}
 use Rattle.conode_explain_transfers.specs.BlockTurns.{is_block}
 use Rattle.conode_explain_transfers.specs.Endings.{ended}
-use Rattle.conode_explain_transfers.specs.Followed.{Followed, Following, followed, key_for, left, left_by, one_more, turns_at}
+use Rattle.conode_explain_transfers.specs.Followed.{Followed, Following, abort_ending, followed, key_for, left, left_by, one_more, turns_at}
 use Rattle.conode_explain_transfers.specs.Readings.{reading_of as their_reading_of}
 use Rattle.conode_explain_transfers.specs.Stages.{confirmed_with}
 use Rattle.conode_explain_transfers.specs.Transfers.{Turn, after, is_same_request}
 use Rattle.conode_explain_transfers.specs.Turns.{request_turn}
+use Rattle.conode_explain_transfers.specs.Unanswered.{is_lost, is_no_abort, number_of, segment_follows}
 use Rattle.conode_explain_laws.proofs.Readings.{Request, Nothing, follows_by, request_reading, same as same_reading, turn_of}
 use Rattle.conode_explain_laws.proofs.Views.{server_no_begin}
 use Rattle.conode_compare_transfers.specs.declared.dialogue.Dialogue.{Dialogue}
@@ -88,23 +90,34 @@ server_none subject rows p micros frame h =
 
 -- ---- a frame of the client
 
+abbrev leaves_as : ℕ → Bool → Bool → Bool → Side → Ending
+leaves_as number follows lost same side =
+    if follows then NotFollowed (Some number) else (if lost then NotFollowed None else (if same then Repeated else left_by side))
+
 -- how the transfer ends that another one follows, or the client's abort
 left_end : (frame : FrameContent) (current : Option Transfer) (micros : ℕ) (bytes : List ℕ) → FineEnd frame (left current micros bytes)
 left_end frame None micros bytes = tt
-left_end frame (Some t) micros bytes = by t.direction (is_same_request t bytes) t.by
+left_end frame (Some t) micros bytes = by t.direction (segment_follows t bytes) (is_lost t) (is_same_request t bytes) t.by
   where
-    by : (direction : Direction) (same : Bool) (side : Side)
-        → of_transfers (breach_finding (ending_breach frame (ended t micros (if same then Repeated else left_by side)) direction (if same then Repeated else left_by side))) ≡ []
-    by Download true side = refl
-    by Upload true side = refl
-    by Download false Client = refl
-    by Upload false Client = refl
-    by Download false Server = refl
-    by Upload false Server = refl
+    by : (direction : Direction) (follows lost same : Bool) (side : Side)
+        → of_transfers (breach_finding (ending_breach frame (ended t micros (leaves_as (number_of bytes) follows lost same side)) direction (leaves_as (number_of bytes) follows lost same side))) ≡ []
+    by Download true lost same side = refl
+    by Upload true lost same side = refl
+    by Download false true same side = refl
+    by Upload false true same side = refl
+    by Download false false true side = refl
+    by Upload false false true side = refl
+    by Download false false false Client = refl
+    by Upload false false false Client = refl
+    by Download false false false Server = refl
+    by Upload false false false Server = refl
 
-abort_end : (frame : FrameContent) (t : Transfer) (code : AbortCode) (micros : ℕ) (direction : Direction) → of_transfers (breach_finding (ending_breach frame (ended (one_more t) micros (Aborted Client code)) direction (Aborted Client code))) ≡ []
-abort_end frame t code micros Download = refl
-abort_end frame t code micros Upload = refl
+abort_end : (frame : FrameContent) (t : Transfer) (code : AbortCode) (micros : ℕ) (direction : Direction) (lost : Bool)
+    → of_transfers (breach_finding (ending_breach frame (ended (one_more t) micros (abort_ending Client lost code)) direction (abort_ending Client lost code))) ≡ []
+abort_end frame t code micros Download true = refl
+abort_end frame t code micros Upload true = refl
+abort_end frame t code micros Download false = refl
+abort_end frame t code micros Upload false = refl
 
 -- no request confirms a transfer that isn't in blocks
 turn_end : (x : Option (Option ℕ)) (heard : Bool) (w : What) (u : Transfer) (micros : ℕ) (frame : FrameContent) → is_some x ≡ false → FineEnd frame (turns_at x heard w u micros Client).says.ended
@@ -130,7 +143,7 @@ client_end key heard current None micros frame s = by current s
     by None s = tt
     by (Some t) s = turn_end (confirmed_with t.stage) heard what.Unexpected (after t (turn_of t Nothing frame.bytes)) micros frame (ap is_some s.sound.unconfirmed)
 client_end key heard None (Some (Abandon k code)) micros frame s = tt
-client_end key heard (Some t) (Some (Abandon k code)) micros frame s = abort_end frame t code micros t.direction
+client_end key heard (Some t) (Some (Abandon k code)) micros frame s = abort_end frame t code micros t.direction (is_no_abort t frame.bytes)
 client_end key heard current (Some (DownloadExpedited k value)) micros frame s = left_end frame current micros frame.bytes
 client_end key heard current (Some (DownloadInitiate k size)) micros frame s = left_end frame current micros frame.bytes
 client_end key heard current (Some (UploadInitiate k)) micros frame s = left_end frame current micros frame.bytes

@@ -16,14 +16,15 @@ use Rattle.conode_explain_transfers.specs.declared.stage.Stage.{Stage}
 use Rattle.conode_explain_transfers.specs.declared.stage.Stage.TheVariants.{DownloadSent, UploadAsked, SubBlock, BlockInitiated, AllAcknowledged}
 use Rattle.conode_explain_transfers.specs.declared.transfer.Transfer.{Transfer}
 use Rattle.conode_explain_transfers.specs.BlockTurns.{acknowledged, acknowledged_at, block_ended, block_ended_at, crc_in, end_confirmed, end_confirmed_at, is_block, upload_started_at}
-use Rattle.conode_explain_transfers.specs.Followed.{Followed, turns_at, with_frame}
+use Rattle.conode_explain_transfers.specs.Followed.{Followed, abort_ending, turns_at, with_frame}
 use Rattle.conode_explain_transfers.specs.Readings.{is_in_sub_block}
 use Rattle.conode_explain_transfers.specs.Stages.{confirmed_with}
 use Rattle.conode_explain_transfers.specs.Transfers.{Turn, after, is_download, unexpected}
 use Rattle.conode_explain_transfers.specs.Turns.{request_turn}
+use Rattle.conode_explain_transfers.specs.Unanswered.{is_no_abort}
 use Rattle.conode_explain_laws.proofs.Readings.{Reading, Segment, Begin, Abort, Request, Response, Nothing, follows_by, request_reading, turn_of}
 use Rattle.conode_explain_laws.proofs.Views.{is_begin}
-use Rattle.conode_compare_transfers.specs.Dialogues.{continues, leaves_request_open}
+use Rattle.conode_compare_transfers.specs.Dialogues.{continues, is_known_end, leaves_request_open}
 use Rattle.conode_compare_laws.proofs.AnswerTurns.{Sound, in_blocks, is_turned, turned}
 use Rattle.conode_compare_laws.proofs.AnswerKeys.{Kept, asked_next, kept, sent_next}
 use Rattle.conode_compare_laws.proofs.AnswerFollowed.{goes_on, no_begin}
@@ -207,11 +208,12 @@ stray_leaves true _ micros frame n = refl
 stray_leaves false _ micros frame n = refl
 
 abort_leaves : (heard : Bool) (t : Transfer) (code : AbortCode) (micros : ℕ) (frame : FrameContent) → Leaves (follows_by heard (Some t) (Abort code) micros Client frame.bytes) frame
-abort_leaves heard t code micros frame = by (is_block t.protocol)
+abort_leaves heard t code micros frame = by (is_block t.protocol) (is_no_abort t frame.bytes)
   where
-    by : (block : Bool) → not (not block && false) ≡ true
-    by true = refl
-    by false = refl
+    by : (block lost : Bool) → not (not block && is_known_end (abort_ending Client lost code) t.key frame) ≡ true
+    by true lost = refl
+    by false true = refl
+    by false false = refl
 
 pub later_stands : (key : Key) (heard : Bool) (current : Option Transfer) (r : Option SdoRequest) (micros : ℕ) (frame : FrameContent) → IfSome current (Shape key) → initiates r ≡ false
     → Leaves (follows_by heard current (request_reading r micros frame.bytes) micros Client frame.bytes) frame

@@ -23,7 +23,7 @@ use Rattle.co_sdo.specs.Uploads.{is_last_after, part_after, upload_segment}
 use Rattle.co_sdo_laws.proofs.Frames.{segment_sent_read}
 use Rattle.co_sdo_laws.proofs.Segments.{joined, part_small, taken_all}
 use Rattle.conode_explain_transfers.specs.declared.digest.Digest.{Digest}
-use Rattle.conode_explain_transfers.specs.declared.ended.Ending.TheVariants.{Repeated}
+use Rattle.conode_explain_transfers.specs.declared.ended.Ending.TheVariants.{Repeated, NotFollowed}
 use Rattle.conode_explain_transfers.specs.declared.kinds.Direction.{Direction}
 use Rattle.conode_explain_transfers.specs.declared.kinds.Direction.TheVariants.{Upload}
 use Rattle.conode_explain_transfers.specs.declared.kinds.Side.{Side}
@@ -44,6 +44,7 @@ use Rattle.conode_explain_transfers.specs.Stages.{confirmed_with}
 use Rattle.conode_explain_transfers.specs.Transfers.{Turn, after, awaited_number, goes_on as part, irregular, is_download, is_same_request, takes_pending, unexpected}
 use Rattle.conode_explain_transfers.specs.Turns.{request_turn}
 use Rattle.conode_explain_transfers.proofs.DataLemmas.{taking}
+use Rattle.conode_explain_transfers.specs.Unanswered.{is_lost, is_no_abort, number_of, segment_follows}
 use Rattle.conode_explain_laws.specs.Downloads.{Complete}
 use Rattle.conode_explain_laws.specs.Uploads.{Read}
 use Rattle.conode_explain_laws.proofs.Begins.{outside_answers}
@@ -54,7 +55,7 @@ use Rattle.conode_explain_laws.proofs.Readings.{Abort, Begin, Nothing, Reading, 
 use Rattle.conode_explain_laws.proofs.UploadStanding.{AtEnd, FollowsIn, InUpload, IsWaiting, aside, asked, at_end, begun, blocks, gone, late_request, segmented, size_is}
 use Rattle.conode_explain_laws.proofs.UploadViews.{hears, hears_answers, holds, read_as}
 use Rattle.conode_explain_laws.proofs.Views.{View, is_begin, server_no_begin}
-use Rattle.conode_compare_laws.proofs.AnswerEnds.{AllWhole, IsWhole, Leads, Rests, Whole, abort_answers, calm, differs, download, download_leads, first, frame_whole, is_calm, other_whole, rest_answers, rests, right_verdict, stray_whole, worn, worn_leads}
+use Rattle.conode_compare_laws.proofs.AnswerEnds.{AllWhole, IsWhole, Leads, Rests, Whole, abort_answers, abort_same, calm, differs, download, download_leads, first, frame_whole, is_calm, other_whole, rest_answers, rests, right_verdict, stray_whole, worn, worn_leads}
 use Rattle.conode_compare_laws.proofs.AnswerFollowed.{reads}
 
 -- ---- a request in an upload whose segments come, or whose next one the client asks for
@@ -137,12 +138,15 @@ late_turn heard t turn micros side late = late_whole (confirmed_with turn.transf
 -- a transfer that another one follows
 pub left_whole : (current : Option Transfer) (micros : ℕ) (bytes : List ℕ) → IsWhole (left current micros bytes)
 left_whole None micros bytes = tt
-left_whole (Some t) micros bytes = other_whole t.direction _ (by (is_same_request t bytes) t.by)
+left_whole (Some t) micros bytes = other_whole t.direction _ (by (segment_follows t bytes) (is_lost t) (is_same_request t bytes) t.by)
   where
-    by : (same : Bool) (side : Side) → differs (if same then Repeated else left_by side) ≡ false
-    by true side = refl
-    by false Client = refl
-    by false Server = refl
+    by : (follows lost same : Bool) (side : Side)
+        → differs (if follows then NotFollowed (Some (number_of bytes)) else (if lost then NotFollowed None else (if same then Repeated else left_by side))) ≡ false
+    by true lost same side = refl
+    by false true same side = refl
+    by false false true side = refl
+    by false false false Client = refl
+    by false false false Server = refl
 
 begun_rests : (request : SdoRequest) (micros : ℕ) (bytes : List ℕ) → IfSome (begun_with request micros bytes) Rests
 begun_rests (DownloadExpedited key value) micros bytes = download refl
@@ -262,7 +266,7 @@ module _ (d : Description) (contents : Contents) (stamp : ℕ → ℕ) (frame : 
 
   gone_ends : (t : Transfer) (r : Option SdoRequest) → IsWaiting t → is_begin (request_reading r (stamp count) frame) ≡ false → IsWhole (follows_by heard (Some t) (request_reading r (stamp count) frame) (stamp count) Client frame).says.ended
   gone_ends t None h n = late_turn heard t (unexpected t) (stamp count) Client (inl refl)
-  gone_ends t (Some (Abandon key code)) h n = other_whole t.direction _ refl
+  gone_ends t (Some (Abandon key code)) h n = other_whole t.direction _ (abort_same Client (is_no_abort t frame) code)
   gone_ends t (Some (DownloadSegment toggle items last)) h n = gone_request t (DownloadSegment toggle items last) h
   gone_ends t (Some (NextSegment toggle)) h n = gone_request t (NextSegment toggle) h
   gone_ends t (Some BlockUploadStart) h n = gone_request t BlockUploadStart h

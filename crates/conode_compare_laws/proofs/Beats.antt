@@ -33,7 +33,7 @@ use Rattle.conode_compare_rules.specs.declared.limits.Subject.{Subject}
 use Rattle.conode_compare_rules.specs.declared.progress.Progress.{Progress}
 use Rattle.conode_compare_rules.specs.FrameKinds.{command_kind, command_to, control_kind, data_kind, emergency_kind, emergency_with, length_of, long_command_in}
 use Rattle.conode_compare_rules.specs.Answers.{confirmed_finding}
-use Rattle.conode_compare_rules.specs.EntriesInForce.{asked_to_write, done_word, shown_inhibit, shown_period, with_inhibit, with_period}
+use Rattle.conode_compare_rules.specs.EntriesInForce.{asked_to_write, done_word, is_channel, shown_inhibit, shown_period, with_inhibit, with_period}
 use Rattle.conode_compare_rules.specs.Heartbeats.{after_transfer, allowance, follows_closely, is_gap, late_finding, overdue_by, overdue_for, overdue_since, overdue_with, sent_after}
 use Rattle.conode_compare_rules.specs.Progresses as progresses
 use Rattle.conode_compare_rules.specs.Progresses.{
@@ -206,7 +206,7 @@ ended_known period entries (Some e) shows h = inhibit (shown_inhibit e) (with_sh
 asked_known : (period : ℕ) (entries : Entries) (o : Option Asked) → IfSome entries.period (λ n. n ≡ period) → IfSome (entries_asked entries o).period (λ n. n ≡ period)
 unfolding asked_to_write
 asked_known period entries None h = h
-asked_known period entries (Some asked) h = by asked.writes (asked_to_write entries asked.key) (forgets (same_key asked.key producer_key))
+asked_known period entries (Some asked) h = by asked.writes (asked_to_write entries asked.key) (forgets (same_key asked.key producer_key || is_channel asked.key))
   where
     forgets : (b : Bool) → IfSome (if b then None else entries.period) (λ n. n ≡ period)
     forgets true = tt

@@ -16,7 +16,7 @@ use Rattle.co_frame.specs.declared.sdo_response.SdoResponse.TheVariants.{Abort a
 use Rattle.co_sdo.specs.OpenTransfers.{is_initiate as initiates}
 use Rattle.conode_explain_transfers.specs.declared.ended.Ended.{Ended}
 use Rattle.conode_explain_transfers.specs.declared.ended.Ending.{Ending}
-use Rattle.conode_explain_transfers.specs.declared.ended.Ending.TheVariants.{Aborted, Done, Irregular, Repeated}
+use Rattle.conode_explain_transfers.specs.declared.ended.Ending.TheVariants.{Done, Irregular, Repeated, NotFollowed}
 use Rattle.conode_explain_transfers.specs.declared.kinds.Protocol.{Protocol}
 use Rattle.conode_explain_transfers.specs.declared.kinds.Protocol.TheVariants.{Expedited}
 use Rattle.conode_explain_transfers.specs.declared.kinds.Side.{Side}
@@ -26,12 +26,13 @@ use Rattle.conode_explain_transfers.specs.declared.kinds.What.TheVariants as wha
 use Rattle.conode_explain_transfers.specs.declared.transfer.Transfer.{Transfer}
 use Rattle.conode_explain_transfers.specs.Digests.{digest_taking, no_bytes}
 use Rattle.conode_explain_transfers.specs.Endings.{ended, size_fault, size_verdict, verdict}
-use Rattle.conode_explain_transfers.specs.Followed.{Followed, Following, left, left_by, left_ending, one_more, turns_at, with_frame}
+use Rattle.conode_explain_transfers.specs.Followed.{Followed, Following, abort_ending, left, left_by, left_ending, one_more, turns_at, with_frame}
 use Rattle.conode_explain_transfers.specs.Initiates.{data_of}
 use Rattle.conode_explain_transfers.specs.Readings.{awaits_segment}
 use Rattle.conode_explain_transfers.specs.SegmentedTurns.{confirmed}
 use Rattle.conode_explain_transfers.specs.Stages.{confirmed_with, is_initiated}
 use Rattle.conode_explain_transfers.specs.Transfers.{Turn, after, is_same_request, takes_data}
+use Rattle.conode_explain_transfers.specs.Unanswered.{is_lost, is_no_abort, number_of, segment_follows}
 use Rattle.conode_explain_laws.proofs.Follows.{is_response}
 use Rattle.conode_explain_laws.proofs.Readings.{Reading, Segment, Begin, Abort, Request, Response, Nothing, begun_with, beginning, follows_by, plain_reading, reading_of, response_reading, segment_reading, turn_of}
 use Rattle.conode_explain_laws.proofs.Views.{is_begin, server_no_begin}
@@ -64,12 +65,20 @@ shown_none : (key : Key) (word : ℕ) (e : Ended) → done_word e.protocol e.end
 shown_none key word e none = λ same. subst (λ o. IfSome o (λ n. n ≡ word)) (sym none) tt
 
 left_off : (t : Transfer) (bytes : List ℕ) → is_done (left_ending t bytes) ≡ false
-left_off t bytes = by (is_same_request t bytes) t.by
+left_off t bytes = by (segment_follows t bytes) (is_lost t) (is_same_request t bytes) t.by
   where
-    by : (same : Bool) (side : Side) → is_done (if same then Repeated else left_by side) ≡ false
-    by true side = refl
-    by false Client = refl
-    by false Server = refl
+    by : (follows lost same : Bool) (side : Side)
+        → is_done (if follows then NotFollowed (Some (number_of bytes)) else (if lost then NotFollowed None else (if same then Repeated else left_by side))) ≡ false
+    by true lost same side = refl
+    by false true same side = refl
+    by false false true side = refl
+    by false false false Client = refl
+    by false false false Server = refl
+
+abort_off : (side : Side) (lost : Bool) (code : AbortCode) → is_done (abort_ending side lost code) ≡ false
+abort_off Server lost code = refl
+abort_off Client true code = refl
+abort_off Client false code = refl
 
 -- ---- the open transfer: of another entry, or one that isn't expedited, and of which nothing came before the answer to its request;
 -- where that is awaited still, it may be known to be spoilt
@@ -223,7 +232,7 @@ module _ (key : Key) (word : ℕ) where
 
   pub aborted_after : (spoilt : Bool) (heard : Bool) (t : Transfer) (code : AbortCode) (micros : ℕ) (side : Side) (bytes : List ℕ) → After key word spoilt (follows_by heard (Some t) (Abort code) micros side bytes)
   aborted_after spoilt heard t code micros side bytes = record {
-    ended = shown_none key word (ended (one_more t) micros (Aborted side code)) (not_done t.protocol (Aborted side code) _ refl);
+    ended = shown_none key word (ended (one_more t) micros (abort_ending side (is_no_abort t bytes) code)) (not_done t.protocol (abort_ending side (is_no_abort t bytes) code) _ (abort_off side (is_no_abort t bytes) code));
     next = tt;
   }
 

@@ -30,7 +30,7 @@ use Rattle.conode_compare_rules.specs.declared.limits.Limits.{Limits}
 use Rattle.conode_compare_rules.specs.declared.limits.Subject.{Subject}
 use Rattle.conode_compare_rules.specs.declared.progress.Progress.{Progress}
 use Rattle.conode_compare_rules.specs.EmergencyRules.{emergency_finding, gap_finding, has_register, inhibit_finding, inhibit_with, is_in_force, is_stopped, least_gap}
-use Rattle.conode_compare_rules.specs.EntriesInForce.{asked_to_write, done_word, shown_inhibit, shown_period, with_inhibit, with_period}
+use Rattle.conode_compare_rules.specs.EntriesInForce.{asked_to_write, done_word, is_channel, shown_inhibit, shown_period, with_inhibit, with_period}
 use Rattle.conode_compare_rules.specs.FrameKinds.{command_kind, command_to, control_kind, data_kind, emergency_kind, emergency_with, length_of, long_command_in}
 use Rattle.conode_compare_rules.specs.Progresses as progresses
 use Rattle.conode_compare_rules.specs.Progresses.{
@@ -177,7 +177,7 @@ ended_known inhibit entries (Some e) shows h = by (shown_inhibit e) (shown_right
 asked_known : (inhibit : ℕ) (entries : Entries) (o : Option Asked) → IfSome entries.inhibit (λ n. n ≡ inhibit) → IfSome (entries_asked entries o).inhibit (λ n. n ≡ inhibit)
 unfolding asked_to_write
 asked_known inhibit entries None h = h
-asked_known inhibit entries (Some asked) h = by asked.writes (asked_to_write entries asked.key) (forgets (same_key asked.key emergency_inhibit_key))
+asked_known inhibit entries (Some asked) h = by asked.writes (asked_to_write entries asked.key) (forgets (same_key asked.key emergency_inhibit_key || is_channel asked.key))
   where
     forgets : (b : Bool) → IfSome (if b then None else entries.inhibit) (λ n. n ≡ inhibit)
     forgets true = tt

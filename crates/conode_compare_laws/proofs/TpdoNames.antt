@@ -1,5 +1,5 @@
--- A frame of the default SDO channel that asks for no parameter of a TPDO changes nothing of what compare has of TPDOs.
-use Rattle.std.proofs.Common.{◌≡◌, ℕ, ◌+◌, ◌*◌, Bool, true, false, List, [], ◌∷◌, length, Option, Some, None, refl, ap, ◌∙◌, subst, arith}
+-- A frame of the default SDO channel that asks for no parameter of a TPDO changes nothing of what compare has of TPDOs, or ends it.
+use Rattle.std.proofs.Common.{◌≡◌, ℕ, ◌+◌, ◌*◌, Bool, true, false, List, [], ◌∷◌, length, Option, Some, None, refl, sym, ap, ◌∙◌, subst, arith}
 use Rattle.std.specs.Prelude.{if◌then◌else◌, ◌==◌, ◌&&◌, nat_le, IfSome}
 use Rattle.std.specs.List.{AllByRecursion}
 use Rattle.std.proofs.lemmas.Bool.{eqb-true, or_parts}
@@ -15,9 +15,10 @@ use Rattle.conode_explain_transfers.specs.declared.kinds.What.{What}
 use Rattle.conode_explain_transfers.specs.declared.kinds.What.TheVariants as what
 use Rattle.conode_explain_transfers.specs.Followed.{followed}
 use Rattle.conode_compare_pdos.specs.declared.pdos.Pdos.{Pdos}
-use Rattle.conode_compare_pdos.specs.Followed.{requested, transferred}
+use Rattle.conode_compare_pdos.specs.Followed.{requested, transferred, unknown_pdos}
 use Rattle.conode_compare_rules.specs.declared.limits.Subject.{Subject}
 use Rattle.conode_compare_rules.specs.declared.progress.Progress.{Progress}
+use Rattle.conode_compare_rules.specs.EntriesInForce.{is_channel}
 use Rattle.conode_compare_rules.specs.Progresses.{after_sdo, channel_heard, exchange_at, exchange_noted, pdos_asked, pdos_ended}
 use Rattle.conode_compare_transfers.specs.declared.dialogue.Asked.{Asked}
 use Rattle.conode_compare_transfers.specs.Breaches as breaches
@@ -111,13 +112,15 @@ record WritesNone (asked : Asked) : Type 0 where
   communication : IsApart asked.key
   written : asked.writes ≡ true → is_tpdo_mapping_or_sync asked.key ≡ false
 
-asked_same : (pdos : Pdos) (o : Option Asked) (micros : ℕ) → IfSome o WritesNone → pdos_asked pdos o micros ≡ pdos
-asked_same pdos None micros h = refl
-asked_same pdos (Some asked) micros h = by asked.writes h.written
+-- what is known of TPDOs stays, or is unknown after a request to write the parameters of another SDO channel
+asked_kept : (I : Pdos → Type 0) (pdos : Pdos) (o : Option Asked) (micros : ℕ) → I unknown_pdos → IfSome o WritesNone → I pdos → I (pdos_asked pdos o micros)
+asked_kept I pdos None micros unknown h g = g
+asked_kept I pdos (Some asked) micros unknown h g = by asked.writes (is_channel asked.key) h.written
   where
-    by : (b : Bool) → (b ≡ true → is_tpdo_mapping_or_sync asked.key ≡ false) → (if b then requested pdos asked.key micros else pdos) ≡ pdos
-    by true g = requested_same pdos asked.key micros h.communication (g refl)
-    by false g = refl
+    by : (b c : Bool) → (b ≡ true → is_tpdo_mapping_or_sync asked.key ≡ false) → I (if b then (if c then unknown_pdos else requested pdos asked.key micros) else pdos)
+    by true true w = unknown
+    by true false w = subst I (sym (requested_same pdos asked.key micros h.communication (w refl))) g
+    by false c w = g
 
 -- ---- the request that is awaited after a frame: its entry is that which the frame names
 
@@ -157,10 +160,11 @@ asked_heard subject p micros side frame n =
 
 -- ---- a frame of the channel
 
-pub heard_same : (subject : Subject) (p : Progress) (micros : ℕ) (side : Side) (frame : FrameContent) → NamesNoneBy side frame → IsOpenOn IsApart p → (after_sdo subject p micros side frame).pdos ≡ p.pdos
+pub heard_kept : (I : Pdos → Type 0) (subject : Subject) (p : Progress) (micros : ℕ) (side : Side) (frame : FrameContent) → I unknown_pdos → NamesNoneBy side frame → IsOpenOn IsApart p → I p.pdos
+    → I (after_sdo subject p micros side frame).pdos
 unfolding channel_heard exchange_noted
-heard_same subject p micros side frame n opened =
+heard_kept I subject p micros side frame unknown n opened h =
     let ended : Option Ended = (exchange_at subject p micros side frame).heard.ended in
     let asked : Option Asked = (dialogue_heard subject.limits.answer p.started p.dialogue micros side frame).asked in
-    ap (λ pdos. pdos_asked pdos asked micros) (ended_same p.pdos ended micros (ended_such IsApart subject p micros side frame (apart_by side frame n) opened))
-    ∙ asked_same p.pdos asked micros (asked_heard subject p micros side frame n)
+    asked_kept I (pdos_ended p.pdos ended micros) asked micros unknown (asked_heard subject p micros side frame n)
+    (subst I (sym (ended_same p.pdos ended micros (ended_such IsApart subject p micros side frame (apart_by side frame n) opened))) h)

@@ -71,7 +71,7 @@ use Rattle.conode_compare_laws.proofs.LongCommands.{long_such}
 use Rattle.conode_compare_laws.proofs.Frames.{life_kind}
 use Rattle.conode_compare_laws.proofs.NamedKeys.{IsOpenOn, begun_open, noted_open, stays_open}
 use Rattle.conode_compare_laws.proofs.Runs.{AllRun}
-use Rattle.conode_compare_laws.proofs.TpdoNames.{IsApart, NamesNoneBy, heard_same, names_apart}
+use Rattle.conode_compare_laws.proofs.TpdoNames.{IsApart, NamesNoneBy, heard_kept, names_apart}
 
 -- ---- what compare has of TPDOs
 
@@ -299,20 +299,20 @@ sdo_newest : (subject : Subject) (p : Progress) (micros : ℕ) (side : Side) (fr
 unfolding channel_heard exchange_noted
 sdo_newest subject p micros side frame new = record { free = new.free; newest = new.newest }
 
-sdo_stays : (I : Pdos → Type 0) (subject : Subject) (p : Progress) (micros : ℕ) (side : Side) (frame : FrameContent) → NamesNoneBy side frame → IsOpenOn IsApart p → IsNewest micros p → I p.pdos
+sdo_stays : (I : Pdos → Type 0) (subject : Subject) (p : Progress) (micros : ℕ) (side : Side) (frame : FrameContent) → I unknown_pdos → NamesNoneBy side frame → IsOpenOn IsApart p → IsNewest micros p → I p.pdos
     → Stays I (after_sdo subject p micros side frame)
-sdo_stays I subject p micros side frame names opened new h = record {
+sdo_stays I subject p micros side frame unknown names opened new h = record {
   fresh = fresh micros (after_sdo subject p micros side frame) (sdo_newest subject p micros side frame new);
-  kept = subst I (sym (heard_same subject p micros side frame names opened)) h;
+  kept = heard_kept I subject p micros side frame unknown names opened h;
 }
 
-pub sdo_passes : (is : Deviation → Bool) (I : Pdos → Type 0) (subject : Subject) (rows : List Row) (p : Progress) (micros : ℕ) (side : Side) (frame : FrameContent) → NamesNoneBy side frame → IsOpenOn IsApart p → IsNewest micros p → I p.pdos
+pub sdo_passes : (is : Deviation → Bool) (I : Pdos → Type 0) (subject : Subject) (rows : List Row) (p : Progress) (micros : ℕ) (side : Side) (frame : FrameContent) → I unknown_pdos → NamesNoneBy side frame → IsOpenOn IsApart p → IsNewest micros p → I p.pdos
     → Passes is I subject rows p micros (Sdo side frame)
 unfolding late_noted
-sdo_passes is I subject rows p micros Client frame names opened new h = record { none = refl; after = sdo_stays I subject p micros Client frame names opened new h }
-sdo_passes is I subject rows p micros Server frame names opened new h = record {
+sdo_passes is I subject rows p micros Client frame unknown names opened new h = record { none = refl; after = sdo_stays I subject p micros Client frame unknown names opened new h }
+sdo_passes is I subject rows p micros Server frame unknown names opened new h = record {
   none = refl;
-  after = sdo_stays I subject (answer_noted subject p micros) micros Server frame names (noted_open IsApart subject p micros opened) (record { free = new.free; newest = new.newest }) h;
+  after = sdo_stays I subject (answer_noted subject p micros) micros Server frame unknown names (noted_open IsApart subject p micros opened) (record { free = new.free; newest = new.newest }) h;
 }
 
 -- ---- frames that are neither error control nor TPDOs
@@ -349,7 +349,7 @@ other_passes is I subject rows p micros (Process id length) kept other opened ne
       (all_fine is (moment_at subject p micros) p.pdos id length (unseen is (moment_at subject p micros) subject.facts.pdos p.pdos id length (kept.knows p.pdos h) other));
   after = record { fresh = fresh micros p new; kept = kept.other p.pdos (moment_at subject p micros) id length other h };
 }
-other_passes is I subject rows p micros (Sdo side frame) kept other opened new h = sdo_passes is I subject rows p micros side frame other opened new h
+other_passes is I subject rows p micros (Sdo side frame) kept other opened new h = sdo_passes is I subject rows p micros side frame kept.unknown other opened new h
 other_passes is I subject rows p micros Other kept other opened new h = record { none = refl; after = record { fresh = fresh micros p new; kept = h } }
 other_passes is I subject rows p micros _ kept other opened new h = absurd other
 

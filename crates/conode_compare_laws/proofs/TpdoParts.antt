@@ -20,7 +20,7 @@ use Rattle.co_node_model.specs.Nmt.{is_reset}
 use Rattle.conode_explain_transfers.specs.declared.kinds.Side.TheVariants.{Client, Server}
 use Rattle.conode_compare_pdos.specs.declared.deviation.Deviation.{Deviation}
 use Rattle.conode_compare_pdos.specs.declared.pdos.Pdos.{Pdos}
-use Rattle.conode_compare_pdos.specs.Followed.{framed, sighting}
+use Rattle.conode_compare_pdos.specs.Followed.{framed, sighting, unknown_pdos}
 use Rattle.conode_compare_rules.specs.declared.finding.Finding.{Finding}
 use Rattle.conode_compare_rules.specs.declared.kind.FrameKind.{FrameKind}
 use Rattle.conode_compare_rules.specs.declared.kind.FrameKind.TheVariants.{Process, Sdo}
@@ -114,9 +114,9 @@ process_passes is J subject rows p micros id length other new step = record {
   after = record { fresh = fresh micros p new; kept = step.kept other };
 }
 
-tpdo_passes : (is : Deviation → Bool) (J : Pdos → Type 0) (subject : Subject) (rows : List Row) (p : Progress) (micros : ℕ) (frame : FrameContent) → IsTpdoFrame subject.node frame → IsOpenOn IsApart p → IsNewest micros p
+tpdo_passes : (is : Deviation → Bool) (J : Pdos → Type 0) (subject : Subject) (rows : List Row) (p : Progress) (micros : ℕ) (frame : FrameContent) → J unknown_pdos → IsTpdoFrame subject.node frame → IsOpenOn IsApart p → IsNewest micros p
     → Step is J subject p micros frame.id (length_of frame) → Passes is J subject rows p micros (data_kind subject.node frame)
-tpdo_passes is J subject rows p micros frame id opened new step =
+tpdo_passes is J subject rows p micros frame unknown id opened new step =
     by (frame.id == 0) (frame.id == 0x80 + subject.node) (frame.id == 0x580 + subject.node) (frame.id == 0x600 + subject.node) (frame.id == 0x700 + subject.node)
     (ne_eqb frame.id 0 id.0) refl (λ e. id.2 (eqb-true frame.id (0x600 + subject.node) e)) (ne_eqb frame.id (0x700 + subject.node) id.1)
   where
@@ -128,8 +128,8 @@ tpdo_passes is J subject rows p micros frame id opened new step =
         else (if e then control_kind frame else Process frame.id (length_of frame))))))
     by true b c d e o other q s = absurd (cc)
     by false true c d e o other q s = emergency_passes is J subject rows p micros (length_of frame) (emergency_in frame.bytes) new (step.unseen other)
-    by false false true d e o other q s = sdo_passes is J subject rows p micros Server frame tt opened new (step.unseen other)
-    by false false false true e o other q s = sdo_passes is J subject rows p micros Client frame (q refl) opened new (step.unseen other)
+    by false false true d e o other q s = sdo_passes is J subject rows p micros Server frame unknown tt opened new (step.unseen other)
+    by false false false true e o other q s = sdo_passes is J subject rows p micros Client frame unknown (q refl) opened new (step.unseen other)
     by false false false false true o other q s = absurd (cc)
     by false false false false false o other q s = process_passes is J subject rows p micros frame.id (length_of frame) other new step
 
@@ -157,7 +157,7 @@ walks is Ok J Q subject rows micros frame (n ∷ later) p walk ids oks once h g 
     walk.step n later (begun subject p micros) new oks.0 once.0 (walk.begins p g) (begun_kept subject (J (n ∷ later)) p micros (walk.kept (n ∷ later)) h.kept) in
     let first : AllRun (tpdo_differences is) subject rows micros p (frame n ∷ []) (Holds (J later)) =
     one is (J later) subject rows micros p (frame n) (data_kind subject.node (frame n)) refl ids.0.2 h.opened
-    (tpdo_passes is (J later) subject rows (begun subject p micros) micros (frame n) ids.0 (begun_open IsApart subject p micros h.opened) new step) in
+    (tpdo_passes is (J later) subject rows (begun subject p micros) micros (frame n) (walk.kept later).unknown ids.0 (begun_open IsApart subject p micros h.opened) new step) in
     (first.0, walks is Ok J Q subject rows micros frame later (progress_with subject p micros (data_kind subject.node (frame n))) walk ids.1 oks.1 once.1 first.1 (walk.goes_on p n ids.0 g))
 
 pub tpdo_ids : (node : ℕ) (frame : ℕ → FrameContent) (due : List ℕ) → AreAside node (map frame due) → AllNameNone node (map frame due) → AllByRecursion (λ n. IsTpdoFrame node (frame n)) due

@@ -32,7 +32,7 @@ nothing_signalled = record { signalled = None; shown = None }
 -- ---- EMCY
 
 -- An EMCY, where the frame is known to be one. Whether 00xxh, error reset, is stored is the device's
--- choice.
+-- choice: after one, and after what may be one, the newest error is unknown.
 abbrev pub signalled_by : Bool → ℕ → Option ℕ → Errors
 signalled_by known code None = nothing_signalled
 signalled_by known code (Some micros) =
@@ -48,7 +48,7 @@ abbrev pub has_no_inhibit : Option ℕ → Bool
 has_no_inhibit None = false
 has_no_inhibit (Some inhibit) = inhibit == 0
 
--- it was requested when the EMCY was over for longer than the tolerance
+-- no EMCY waits, and the upload was requested later than the tolerance after the last one
 abbrev pub is_later : Limits → Entries → ErrorCode → Ended → Bool
 is_later limits entries signalled ended =
     (entries.emergencies && has_no_inhibit entries.inhibit) && is_past signalled.micros limits.tolerance ended.begun
@@ -79,8 +79,9 @@ errors_ended limits entries errors certain (Some ended) =
 
 -- ---- requests
 
--- A write of 0 to 1003:00 deletes the history; 1014:00 and 1015:00 say how EMCY is sent; and what
--- restores parameters, or loads a program, may do any of that.
+-- An entry from 1003h to 1015h: a write of 0 to 1003:00 deletes the history, 1014:00 and 1015:00 say how
+-- EMCY is sent, and those between cost nothing. What stores or restores parameters (1010h, 1011h), or loads
+-- a program, may do any of that.
 abbrev pub changes_errors : Key → Bool
 changes_errors key = (nat_le 0x1003 key.index && nat_le key.index 0x1015) || not (is_timed key)
 
@@ -104,7 +105,7 @@ abbrev pub warning_after : Limits → ErrorCode → ErrorCode → ℕ → Option
 warning_after limits signalled shown micros =
     if is_past shown.micros limits.answer micros then Some (OtherError shown.code signalled.code) else None
 
--- by a heartbeat later than `--answer`, while none of its EMCY came
+-- by a byte of error control, a boot-up too, later than `--answer` after the upload, while no EMCY came
 abbrev pub late_warning : Limits → Option ErrorCode → Option ErrorCode → Option ℕ → Option Warning
 late_warning limits (Some signalled) (Some shown) (Some micros) = warning_after limits signalled shown micros
 late_warning limits signalled shown micros = None
@@ -116,11 +117,13 @@ error_warning limits errors kind newest = None
 
 -- ---- every frame
 
--- a boot-up, or a heartbeat that shows stopped: then no EMCY is sent
+-- a boot-up, after which the history may be another one, or a heartbeat that shows stopped: then no EMCY is
+-- sent
 abbrev pub is_restart : ℕ → Bool
 is_restart byte = (byte == 0) || (byte % 128 == 4)
 
--- Said once. After a command the device may have been stopped.
+-- Said once. After a command the device may have been stopped; an EMCY of another number of bytes has no
+-- code.
 unfoldable pub errors_with : Limits → Errors → FrameKind → Progress → Errors
 errors_with limits errors (Emergency code register) progress = signalled_by progress.entries.emergencies code progress.newest
 errors_with limits errors (OddEmergency length) progress = nothing_signalled

@@ -81,6 +81,11 @@ abbrev pub or_else : Option Sighting → Option Sighting → Option Sighting
 or_else (Some sighting) other = Some sighting
 or_else None other = other
 
+-- one of them has this identifier
+abbrev pub has_id : Pdos → ℕ → Bool
+has_id pdos id =
+    is_id pdos.first.parameters.id id || (is_id pdos.second.parameters.id id || (is_id pdos.third.parameters.id id || is_id pdos.fourth.parameters.id id))
+
 -- at least two of four
 abbrev pub are_several : Bool → Bool → Bool → Bool → Bool
 are_several first second third fourth = (first && (second || (third || fourth))) || ((second && (third || fourth)) || (third && fourth))

@@ -8,6 +8,7 @@ ghost use Rattle.conode_compare_pdos.specs.Followed.{
   commanded,
   first_seen,
   framed,
+  has_id,
   interrupted,
   is_shared,
   pdos_of,
@@ -189,14 +190,28 @@ impl Pdos {
         self.fourth = self.fourth.after_sync();
     }
 
+    // whether one of them has this identifier: most frames are of other nodes
+    #[inline(always)]
+    fn has_id(&self, id: u16) -> bool
+        ensures { result ≡ has_id self.now id }
+    {
+        is_id(self.first.parameters.id, id)
+            || is_id(self.second.parameters.id, id)
+            || is_id(self.third.parameters.id, id)
+            || is_id(self.fourth.parameters.id, id)
+    }
+
     /// A data frame with this identifier and so many bytes came: a SYNC, or one that may be of a
     /// TPDO.
-    #[tactic(auto, unfolding(crate::specs::Followed::framed))]
+    #[tactic(auto, unfolding(crate::specs::Followed::framed), using(crate::proofs::OtherFrames::kept))]
     pub fn frame(&mut self, moment: &Moment, id: u16, length: u8)
         ensures { self.new ≡ framed self.old moment.now id length }
     {
         if is_id(self.sync, id) {
             self.take_sync();
+            return;
+        }
+        if !self.has_id(id) {
             return;
         }
         self.first = self.first.after_frame(moment, id, length);
@@ -226,12 +241,16 @@ impl Pdos {
             .or(seen(moment, has_sync, 3, &self.third, id, length))
             .or(seen(moment, has_sync, 4, &self.fourth, id, length))
     }
+
     /// What is said of a data frame with this identifier and so many bytes, where it is of one of
     /// the TPDOs. Where more than one has the identifier, it isn't judged.
-    #[tactic(auto, unfolding(crate::specs::Followed::sighting))]
+    #[tactic(auto, unfolding(crate::specs::Followed::sighting), using(crate::proofs::OtherFrames::not_seen))]
     pub fn sighting(&self, moment: &Moment, id: u16, length: u8) -> Option<Sighting>
         ensures { result ≡ sighting moment.now self.now id length }
     {
+        if !self.has_id(id) {
+            return None;
+        }
         let seen = self.first_seen(moment, id, length);
         if self.is_shared(id) {
             unjudged(seen)

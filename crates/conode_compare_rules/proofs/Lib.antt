@@ -1,4 +1,5 @@
 mod AnswerExamples
+mod ChannelExamples
 mod Examples
 mod MissingExamples
 mod SilenceExamples

@@ -33,7 +33,7 @@ use Rattle.conode_compare_rules.specs.Answers.{answer_finding, confirmed_finding
 use Rattle.conode_compare_transfers.specs.Dialogues.{dialogue_heard, given_up, interrupted, nothing_asked, nothing_left, exchange_in}
 use Rattle.conode_compare_values.specs.HeldNumbers.{is_kept, nothing_written, unmapped, with_process, written_heard}
 use Rattle.conode_compare_rules.specs.EmergencyRules.{emergency_finding, length_finding}
-use Rattle.conode_compare_rules.specs.EntriesInForce.{asked_to_write, ended_entries, reset_entries, shares_id, with_sharing}
+use Rattle.conode_compare_rules.specs.EntriesInForce.{asked_to_write, ended_entries, is_channel, reset_entries, shares_id, with_sharing}
 use Rattle.conode_compare_rules.specs.Heartbeats.{after_byte, after_transfer, early_remark, follows_closely, late_finding, no_heartbeat, is_gap, is_missing, with_shown}
 use Rattle.conode_compare_rules.specs.States as states
 use Rattle.conode_compare_rules.specs.States.{boot_finding, control_finding, is_operational, is_reset, is_settled, nothing_commanded, restart_remark}
@@ -264,9 +264,11 @@ abbrev pub pdos_ended : Pdos → Option Ended → ℕ → Pdos
 pdos_ended pdos None micros = pdos
 pdos_ended pdos (Some ended) micros = tpdos.transferred pdos ended micros
 
+-- the client of another SDO channel may write the parameters of each
 abbrev pub pdos_asked : Pdos → Option Asked → ℕ → Pdos
 pdos_asked pdos None micros = pdos
-pdos_asked pdos (Some asked) micros = if asked.writes then tpdos.requested pdos asked.key micros else pdos
+pdos_asked pdos (Some asked) micros =
+    if asked.writes then (if is_channel asked.key then tpdos.unknown_pdos else tpdos.requested pdos asked.key micros) else pdos
 
 abbrev pub pdos_heard : Pdos → Option Ended → Option Asked → ℕ → Pdos
 pdos_heard pdos ended asked micros = pdos_asked (pdos_ended pdos ended micros) asked micros

@@ -93,9 +93,10 @@ awaits_boot_up limits nmt micros = overdue_in limits nmt.state nmt.reset micros
 unfoldable pub boot_finding : Limits → Nmt → ℕ → Option Finding
 boot_finding limits nmt micros = option_map (λ waited. BootMissing waited) (awaits_boot_up limits nmt micros)
 
--- `second-sender`: another boot-up within a second, nothing of the device and no reset command
--- between them, and only one was due. A device that is switched off and on by hand takes longer than a
--- second, but perhaps not longer than a boot-up may take.
+-- `second-sender`: another boot-up within a second, and only one was due. Between them came no reset
+-- command, and no heartbeat, answer or EMCY of the device; a PDO may be another node's. A device that
+-- is switched off and on by hand takes longer than a second, but perhaps not longer than a boot-up may
+-- take.
 unfoldable pub second_boot_up : Option ℕ → ℕ → Option Finding
 second_boot_up None micros = None
 second_boot_up (Some booted) micros = if is_past booted 1000 micros then None else Some (SecondBootUp (micros - booted))
@@ -125,7 +126,8 @@ after_boot_up limits nmt micros = record {
 abbrev pub several_left : Limits → Nmt → ℕ → Bool
 several_left limits nmt micros = option_map_or (λ reset. nmt.several && not (is_past reset limits.boot micros)) nmt.reset false
 
--- another frame of the device; after a boot-up that is missing its state is unknown
+-- a heartbeat, an answer or another frame of error control; after a boot-up that is missing the state
+-- is unknown
 unfoldable pub after_other : Limits → Nmt → ℕ → Nmt
 after_other limits nmt micros = record {
   state = if is_some (awaits_boot_up limits nmt micros) then Unknown else nmt.state;

@@ -12,8 +12,11 @@ ghost use Rattle.conode_compare_rules.specs.EntriesInForce.{
   facts_of,
   has_object,
   initial_entries,
+  has_open_channel,
   inhibit_of,
+  is_channel,
   is_constant,
+  is_open_channel,
   reset_entries,
   sheet_entries,
   shares_id,
@@ -52,11 +55,11 @@ pub struct Entries {
 pub struct Facts {
     /// What is known before its first boot-up in the recording: entries that never change.
     pub before: Entries,
-    /// What is known after each boot-up; nothing more where it can store parameters (1010h), and of
-    /// a configuration (DCF), which a master may have written or not.
+    /// What is known after each boot-up; nothing more where it can store parameters (1010h), of a
+    /// configuration (DCF), which a master may have written or not, and of a device with another SDO
+    /// channel, whose client may write them.
     pub booted: Entries,
-    /// What is known of its TPDOs after each boot-up; nothing where it can store parameters, and of
-    /// a configuration.
+    /// What is known of its TPDOs after each boot-up; nothing in the same cases.
     pub pdos: Pdos,
     /// Whether it may enter operational by itself, and may be the NMT master, which needn't follow
     /// its own commands: it has the entry NMT startup, 1F80h (CiA 302-2).
@@ -69,6 +72,39 @@ pub struct Facts {
     /// Whether its entries have the sheet's values after each boot-up: it can't store others, and
     /// the sheet is no configuration.
     pub as_sheet: bool,
+}
+
+/// Whether an entry is a parameter of an SDO channel of the device other than the default one, whose
+/// client may write each entry.
+pub(crate) fn is_channel(key: Key) -> bool
+    ensures { result ≡ is_channel key }
+{
+    0x1201 <= key.index && key.index <= 0x127F
+}
+
+// whether such a channel has a valid COB-ID of its client
+fn is_open_channel(row: &EntryRow<'_>, node: u8) -> bool
+    ensures { result ≡ is_open_channel node (row_view row.now) }
+{
+    if !is_channel(row.key) || row.key.sub != 1 {
+        return false;
+    }
+    match number_of(node, row.default) {
+        Some(number) => 0 < number && number < 0x8000_0000,
+        None => false,
+    }
+}
+
+// whether the device has one after a boot-up
+fn has_open_channel(rows: &[EntryRow<'_>], node: u8) -> bool
+    ensures { result ≡ has_open_channel (map row_view rows.now) node }
+{
+    for row in rows {
+        if is_open_channel(row, node) {
+            return true;
+        }
+    }
+    false
 }
 
 // NMT startup (CiA 302-2)
@@ -148,10 +184,11 @@ pub fn facts_of(rows: &[EntryRow<'_>], node: u8, configured: bool) -> Facts
     let sheet = sheet_entries(rows, node);
     let before = initial_entries(rows, sheet);
     let stores = has_object(rows, STORE_PARAMETERS);
+    let is_written = stores || configured || has_open_channel(rows, node);
     Facts {
         before,
-        booted: if stores || configured { before } else { sheet },
-        pdos: if stores || configured {
+        booted: if is_written { before } else { sheet },
+        pdos: if is_written {
             Pdos::unknown()
         } else {
             pdos_of(rows, node)
@@ -164,19 +201,21 @@ pub fn facts_of(rows: &[EntryRow<'_>], node: u8, configured: bool) -> Facts
 }
 
 impl Entries {
-    /// A download to this entry is requested: what it has is unknown until that is answered.
+    /// A download to this entry is requested: what it has is unknown until that is answered, and
+    /// what all have, where it is a parameter of another SDO channel.
     #[tactic(auto, unfolding(crate::specs::EntriesInForce::asked_to_write))]
     pub(crate) fn asked_to_write(self, key: Key) -> Entries
         ensures { result ≡ asked_to_write self key }
     {
+        let all = is_channel(key);
         Entries {
-            period: if key == PRODUCER_HEARTBEAT {
+            period: if key == PRODUCER_HEARTBEAT || all {
                 None
             } else {
                 self.period
             },
-            emergencies: key != EMERGENCY_COB_ID && self.emergencies,
-            inhibit: if key == EMERGENCY_INHIBIT_TIME {
+            emergencies: !(key == EMERGENCY_COB_ID || all) && self.emergencies,
+            inhibit: if key == EMERGENCY_INHIBIT_TIME || all {
                 None
             } else {
                 self.inhibit

@@ -53,8 +53,8 @@ pub(crate) struct Nmt {
     /// Whether more than one boot-up may come, since a reset was commanded before the boot-up of
     /// another one.
     pub(crate) several: bool,
-    /// The stamp of its newest boot-up, where it sent nothing since, no reset was commanded, and no
-    /// other boot-up may come.
+    /// The stamp of its newest boot-up, where no heartbeat, answer or EMCY came since, no reset was
+    /// commanded, and no other boot-up may come.
     pub(crate) booted: Option<u64>,
 }
 
@@ -337,7 +337,7 @@ impl Nmt {
         }
     }
 
-    /// Another frame of the device came.
+    /// A heartbeat, an answer or another frame of error control came.
     #[tactic(auto, unfolding(crate::specs::States::after_other))]
     pub(crate) fn after_other(self, limits: &Limits, micros: u64) -> Nmt
         ensures { result ≡ after_other limits.now self micros }

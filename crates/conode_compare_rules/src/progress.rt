@@ -50,7 +50,7 @@ use crate::answers::{
     answer_finding, confirmed_finding, held_finding, silence_finding, stopped_finding,
 };
 use crate::emergencies::{emergency_finding, length_finding};
-use crate::entries::{Entries, shares_id};
+use crate::entries::{Entries, is_channel, shares_id};
 use crate::finding::{Finding, NmtState, Remark};
 use crate::heartbeats::{Heartbeats, follows_closely, is_gap};
 use crate::kind::FrameKind;
@@ -111,7 +111,13 @@ fn hear_pdos(pdos: &mut Pdos, ended: &Option<Ended>, asked: Option<Asked>, micro
         pdos.transfer(ended, micros);
     }
     match asked {
-        Some(asked) if asked.writes => pdos.request(asked.key, micros),
+        Some(asked) if asked.writes => {
+            if is_channel(asked.key) {
+                *pdos = Pdos::unknown();
+            } else {
+                pdos.request(asked.key, micros);
+            }
+        }
         _ => {}
     }
 }
@@ -197,7 +203,9 @@ impl Progress {
         }
         self.free = self.free_at(micros);
         self.newest = Some(micros);
-        self.exchange = None;
+        if self.exchange.is_some() {
+            self.exchange = None;
+        }
         self.remark = None;
     }
 

@@ -7,7 +7,7 @@ use Rattle.co_value.specs.declared.key.Key.{Key}
 use Rattle.conode_explain_transfers.specs.declared.channel.Heard.{Heard}
 use Rattle.conode_explain_transfers.specs.declared.ended.Ended.{Ended}
 use Rattle.conode_explain_transfers.specs.declared.ended.Ending.{Ending}
-use Rattle.conode_explain_transfers.specs.declared.ended.Ending.TheVariants.{Aborted, Done, Interrupted, Irregular, Repeated as Again, Unanswered}
+use Rattle.conode_explain_transfers.specs.declared.ended.Ending.TheVariants.{Aborted, Done, Interrupted, Irregular, NotFollowed, Repeated as Again, Unanswered}
 use Rattle.conode_explain_transfers.specs.declared.kinds.Direction.{Direction}
 use Rattle.conode_explain_transfers.specs.declared.kinds.Direction.TheVariants.{Download, Upload}
 use Rattle.conode_explain_transfers.specs.declared.kinds.Protocol.{Protocol}
@@ -74,8 +74,8 @@ left_by index ending = Some (record {
 })
 
 -- saving is left by another request, by the same one again, and by an abort of the client
-left_open : map (λ ending. leaves_slow false (Some Request) (left_by 0x1010 ending)) (Unanswered ∷ Again ∷ Interrupted ∷ Aborted Client (record { 0 = 0x05040000 }) ∷ [])
-    ≡ true ∷ true ∷ true ∷ true ∷ []
+left_open : map (λ ending. leaves_slow false (Some Request) (left_by 0x1010 ending)) (Unanswered ∷ Again ∷ Interrupted ∷ NotFollowed None ∷ NotFollowed (Some 33) ∷ Aborted Client (record { 0 = 0x05040000 }) ∷ [])
+    ≡ true ∷ true ∷ true ∷ true ∷ true ∷ true ∷ []
 left_open = refl
 
 -- the device answered; and another entry has its time
@@ -332,6 +332,22 @@ in_doubt = refl
 not_owed_to_segment : owes 1000 0 taken_as_segment ≡ false
 unfolding dialogue_heard is_certain newest_after newest_with request_row_in response_row_in
 not_owed_to_segment = refl
+
+-- two segments of a block download whose begin isn't in the recording, and its acknowledge: each leaves a doubt, so no answer is owed to
+-- the first or to the second, nor to a request right after them
+abbrev two_segments : Dialogue
+two_segments = sent (sent nothing_asked 2000000 Client (0x20 ∷ 0x41 ∷ 0x42 ∷ 0x43 ∷ 1 ∷ 2 ∷ 3 ∷ 4 ∷ [])) 2000300 Client (0x21 ∷ 0x41 ∷ 0x42 ∷ 0x43 ∷ 1 ∷ 2 ∷ 3 ∷ 4 ∷ [])
+
+abbrev acknowledged_segments : Dialogue
+acknowledged_segments = sent two_segments 2000600 Server (0xA2 ∷ 0x21 ∷ 0x7F ∷ 0 ∷ 0 ∷ 0 ∷ 0 ∷ 0 ∷ [])
+
+segments_in_doubt : two_segments.doubted ∷ acknowledged_segments.doubted ∷ [] ≡ Some 2000300 ∷ Some 2000600 ∷ []
+unfolding dialogue_heard is_certain newest_after newest_with request_row_in response_row_in
+segments_in_doubt = refl
+
+not_owed_to_segments : owes 1000 0 two_segments ∷ owes 1000 0 (sent acknowledged_segments 2900000 Client (0x40 ∷ 0 ∷ 0x10 ∷ 0 ∷ 0 ∷ 0 ∷ 0 ∷ 0 ∷ [])) ∷ [] ≡ false ∷ false ∷ []
+unfolding dialogue_heard is_certain newest_after newest_with request_row_in response_row_in
+not_owed_to_segments = refl
 
 -- where it answers, it awaited none
 abbrev answered_after_all : Dialogue

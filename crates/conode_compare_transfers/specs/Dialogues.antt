@@ -10,7 +10,7 @@ use Rattle.co_value.specs.Numbers.{unsigned_of}
 use Rattle.conode_explain_transfers.specs.declared.channel.Heard.{Heard}
 use Rattle.conode_explain_transfers.specs.declared.ended.Ended.{Ended}
 use Rattle.conode_explain_transfers.specs.declared.ended.Ending.{Ending}
-use Rattle.conode_explain_transfers.specs.declared.ended.Ending.TheVariants.{Done, Aborted, Unanswered, Repeated, Interrupted}
+use Rattle.conode_explain_transfers.specs.declared.ended.Ending.TheVariants.{Done, Aborted, Unanswered, Repeated, Interrupted, NotFollowed}
 use Rattle.conode_explain_transfers.specs.declared.kinds.Direction.{Direction}
 use Rattle.conode_explain_transfers.specs.declared.kinds.Direction.TheVariants.{Download}
 use Rattle.conode_explain_transfers.specs.declared.kinds.Protocol.{Protocol}
@@ -19,7 +19,7 @@ use Rattle.conode_explain_transfers.specs.declared.kinds.Side.{Side}
 use Rattle.conode_explain_transfers.specs.declared.kinds.Side.TheVariants.{Client, Server}
 use Rattle.conode_explain_transfers.specs.declared.kinds.What.{What}
 use Rattle.conode_explain_transfers.specs.declared.kinds.What.TheVariants.{Initiate, Part, Segment, OutOfSequence}
-use Rattle.conode_explain_transfers.specs.Followed.{after_boot, closed, followed, nothing_heard}
+use Rattle.conode_explain_transfers.specs.Followed.{after_boot, broken_off, followed, nothing_heard}
 use Rattle.conode_compare_transfers.specs.declared.newest.Newest.{Newest}
 use Rattle.conode_compare_transfers.specs.declared.newest.Newest.TheVariants.{LastData, Answer, Data, LaterData}
 use Rattle.conode_compare_transfers.specs.Breaches.{breach_at, byte_at, key_in}
@@ -160,6 +160,7 @@ abbrev pub is_left : Bool → Ending → Bool
 is_left other Unanswered = true
 is_left other Repeated = true
 is_left other Interrupted = true
+is_left other (NotFollowed next) = true
 is_left other (Aborted Client code) = true
 is_left other (Aborted Server code) = other
 is_left other ending = false
@@ -315,8 +316,8 @@ interrupted dialogue micros = record {
   channel = after_boot dialogue.channel;
   asked = None;
   doubted = if is_some dialogue.channel.transfer then Some micros else dialogue.doubted;
-  slow = left_after (leaves_slow false dialogue.newest (closed dialogue.channel.transfer micros Interrupted)) micros dialogue.slow;
-  sub_block = dialogue.sub_block || leaves_block false (closed dialogue.channel.transfer micros Interrupted);
+  slow = left_after (leaves_slow false dialogue.newest (broken_off dialogue.channel.transfer micros)) micros dialogue.slow;
+  sub_block = dialogue.sub_block || leaves_block false (broken_off dialogue.channel.transfer micros);
   newest = None;
   requested = dialogue.requested;
 }

@@ -133,6 +133,7 @@ fn is_left(other: bool, ending: Ending) -> bool
         Ending::Unanswered
         | Ending::Repeated
         | Ending::Interrupted
+        | Ending::NotFollowed { next: _ }
         | Ending::Aborted {
             by: Side::Client,
             code: _,

@@ -18,7 +18,7 @@ use Rattle.conode_explain_services.specs.Lengths.{fixed_at}
 use Rattle.conode_explain_services.specs.Reserved.{is_reserved}
 use Rattle.conode_explain_services.specs.Services.{service_words, state_words}
 use Rattle.conode_explain.specs.AbortWords.{abort_words}
-use Rattle.conode_explain.specs.FrameWords.{assumed_front, assumed_mark, assumed_words, frame_words, is_default_pdo, other_words, plain_words, served_words}
+use Rattle.conode_explain.specs.FrameWords.{assumed_front, assumed_mark, assumed_words, frame_words, is_default_pdo, is_of_drive, other_words, plain_words, served_words}
 use Rattle.conode_explain.specs.Transfers.{transfer_in, transfer_words}
 
 -- it is between these numbers, and of a node
@@ -38,9 +38,9 @@ module _ (id : ℕ) (bytes : List ℕ) (low : 0x180 < id) (high : id < 0x580) wh
   no_transfer = rw (le-ltb 0x600 id (omega (arith, high)), le-ltb 0x580 id (omega (arith, high))) refl
 
   -- it has no service of those that have words of their own
-  no_service : (last : Last) → service_words last (record { id = id; bytes = bytes }) ≡ None
+  no_service : (drive : Bool) (last : Last) → service_words drive last (record { id = id; bytes = bytes }) ≡ None
   unfolding service_words fixed_at
-  no_service last =
+  no_service drive last =
       let emergency : (ltb 0x080 id && ltb id 0x100) ≡ false = grind (arith, nat_tests, low) in
       let control : (ltb 0x700 id && ltb id 0x780) ≡ false = grind (arith, nat_tests, high) in
       let time : eqb id 0x100 ≡ false = grind (arith, nat_tests, low) in
@@ -115,7 +115,7 @@ pub assumed : (bus : Bus) (named : Bool) (last : Last) (id : ℕ) (bytes : List 
     → assumed_words id ≡ frame_words bus [] named last (record { id = id; bytes = bytes })
 unfolding frame_words transfer_words other_words served_words
 assumed bus named last id bytes is =
-    rw (no_transfer id bytes (above id is) (below id is), no_service id bytes (above id is) (below id is) last) (sym (plain (names_at bus (id % 128)) named last id bytes is))
+    rw (no_transfer id bytes (above id is) (below id is), no_service id bytes (above id is) (below id is) (is_of_drive bus (record { id = id; bytes = bytes })) last) (sym (plain (names_at bus (id % 128)) named last id bytes is))
 
 pub none_there : (claims : List Claim) → length claims < 1 → claims ≡ []
 none_there [] few = refl

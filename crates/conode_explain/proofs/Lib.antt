@@ -1,6 +1,7 @@
 pub mod AbortLemmas
 pub mod AssumedLemmas
 pub mod Explaining
+mod FilterExamples
 pub mod LogLemmas
 pub mod NodeExamples
 pub mod ServiceLemmas

@@ -90,7 +90,8 @@ further_in further frame place None = record { told = None; channels = further }
 unfoldable pub further_of : List FurtherChannel → Record → Place → FurtherTelling
 further_of further frame place = further_in further frame place (packed_of frame.id frame.content)
 
--- a channel may take a frame: its identifier is above those of PDOs
+-- a default channel may take a frame, or it may be a boot-up: its identifier is above those of PDOs in the
+-- pre-defined connection set
 abbrev pub may_be_told : Identifier → Bool
 may_be_told (Base id) = nat_lt 0x580 id
 may_be_told _ = false
@@ -150,7 +151,7 @@ line_of form bus claims whose nodes so_far lasts frame told =
 -- where it is asked for
 unfoldable pub first_lines : Layout → Bus → List Claim → Whose → List Node → SoFar → List Said → Record → Option Told → List (List ℕ)
 first_lines form bus claims whose nodes so_far lasts frame told =
-    if shows_frame form so_far (subject_by whose claims frame) frame.micros
+    if shows_frame form so_far whose claims frame
     then line_of form bus claims whose nodes so_far lasts frame told else []
 
 -- the line of a transfer of a node that ended, as text, perhaps in the colour of its tone, or as an
@@ -225,7 +226,7 @@ lasts_of form bus claims whose nodes lasts frame told =
 -- a frame whose line isn't asked for doesn't count
 unfoldable pub lasts_with : Layout → Bus → List Claim → Whose → List Node → SoFar → List Said → Record → Option Told → List Said
 lasts_with form bus claims whose nodes so_far lasts frame told =
-    if shows_frame form so_far (subject_by whose claims frame) frame.micros
+    if shows_frame form so_far whose claims frame
     then lasts_of form bus claims whose nodes lasts frame told else lasts
 
 -- the lines of a frame of which its SDO channel says this

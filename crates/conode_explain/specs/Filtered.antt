@@ -1,5 +1,6 @@
 -- Which lines are printed.
 use Rattle.std.specs.Prelude.{ℕ, ◌==◌, Bool, true, false, not, ◌&&◌, ◌||◌, if◌then◌else◌, List, [], ◌∷◌, length, Option, Some, None}
+use Rattle.std.specs.List.{list_any}
 use Rattle.conode_record.specs.declared.line.Record.{Record}
 use Rattle.conode_explain_filter.specs.Changes.{Said, is_new, kept}
 use Rattle.conode_explain_filter.specs.declared.kind.Kind.{Kind}
@@ -24,7 +25,7 @@ abbrev pub first_node : List Claim → Option ℕ
 first_node [] = None
 first_node (claim ∷ claims) = Some claim.node
 
--- the kind and the node of a frame that is these PDOs
+-- the kind and the node of a frame that is these PDOs: those of the first
 abbrev pub subject_in : List Claim → Record → Subject
 subject_in claims frame = subject_of (first_node claims) frame.id frame.content
 
@@ -40,13 +41,27 @@ subject_by (Channel place) claims frame = record (subject_in claims frame) { kin
 subject_by (Service service) claims frame = service_subject service (subject_in claims frame)
 subject_by Unnamed claims frame = subject_in claims frame
 
--- a frame at a stamp passes the filter
-unfoldable pub passes_frame : Layout → SoFar → Subject → ℕ → Bool
-passes_frame form so_far subject micros = passes form.filter.now subject (times_at so_far micros)
+-- a frame passes a filter as a PDO of a node
+abbrev pub passes_as : Filter → Times → Record → Claim → Bool
+passes_as filter times frame claim = passes filter (subject_of (Some claim.node) frame.id frame.content) times
+
+-- as any of the PDOs that it is: those of its consumers count as that of its producer does
+abbrev pub passes_as_any : Filter → Times → Record → List Claim → Bool
+passes_as_any filter times frame claims = list_any (passes_as filter times frame) claims
+
+-- by its kind and its node, or as one of these PDOs
+abbrev pub passes_either : Filter → Times → Whose → List Claim → Record → Bool
+passes_either filter times whose claims frame =
+    passes filter (subject_by whose claims frame) times || passes_as_any filter times frame claims
+
+-- a frame passes the filter that is asked for
+unfoldable pub passes_frame : Layout → SoFar → Whose → List Claim → Record → Bool
+passes_frame form so_far whose claims frame =
+    passes_either form.filter.now (times_at so_far frame.micros) whose claims frame
 
 -- the line of a frame is left out where only the ends of transfers are asked for
-abbrev pub shows_frame : Layout → SoFar → Subject → ℕ → Bool
-shows_frame form so_far subject micros = not form.transfers && passes_frame form so_far subject micros
+abbrev pub shows_frame : Layout → SoFar → Whose → List Claim → Record → Bool
+shows_frame form so_far whose claims frame = not form.transfers && passes_frame form so_far whose claims frame
 
 -- a request or an answer of a channel other than a default one
 abbrev pub channel_subject : ℕ → ℕ → Subject

@@ -11,8 +11,10 @@ use Rattle.conode_explain.specs.AbortWords.{abort_words}
 use Rattle.conode_explain.specs.Transfers.{transfer_words}
 use Rattle.conode_explain_pdo.specs.declared.claim.Claim.{Claim}
 use Rattle.conode_explain_pdo.specs.Buses.{Bus, names_at}
+use Rattle.conode_explain_pdo.specs.InForce.{is_drive_at}
 use Rattle.conode_explain_pdo.specs.Pdos.{pdos_text}
 use Rattle.conode_explain_services.specs.declared.last.Last.{Last}
+use Rattle.conode_explain_services.specs.Nodes.{is_emergency}
 use Rattle.conode_explain_services.specs.Services.{remote_words, service_words, state_words}
 
 -- an identifier of a PDO in the pre-defined connection set (CiA 301, 7.3.3)
@@ -31,14 +33,18 @@ assumed_mark named id = if is_default_pdo id || (is_default_service id && not na
 abbrev pub plain_words : Names → Last → FrameContent → List ℕ
 plain_words names last frame = text_of_frame names frame ++ abort_words frame ++ state_words last frame
 
--- by its service, where the last frames of its node had this, else by its text
-unfoldable pub served_words : Names → Last → FrameContent → List ℕ
-served_words names last frame = unwrap_or (service_words last frame) (plain_words names last frame)
+-- by its service, where its node is a drive or isn't and its last frames had this, else by its text
+unfoldable pub served_words : Names → Bool → Last → FrameContent → List ℕ
+served_words names drive last frame = unwrap_or (service_words drive last frame) (plain_words names last frame)
+
+-- an emergency of a drive
+abbrev pub is_of_drive : Bus → FrameContent → Bool
+is_of_drive bus frame = is_emergency frame && is_drive_at bus (frame.id % 128)
 
 -- as the PDOs that have its identifier, else by its service or its text, with the identifier of the
 -- pre-defined connection set; whether a COB-ID names it
 unfoldable pub other_words : Bus → List Claim → Bool → Last → FrameContent → List ℕ
-other_words bus [] named last frame = assumed_mark named frame.id ++ served_words (names_at bus (frame.id % 128)) last frame
+other_words bus [] named last frame = assumed_mark named frame.id ++ served_words (names_at bus (frame.id % 128)) (is_of_drive bus frame) last frame
 other_words bus (claim ∷ claims) named last frame = pdos_text bus frame.bytes (claim ∷ claims)
 
 -- what a frame with an identifier of 11 bits says: the entry of an expedited transfer with its

@@ -9,6 +9,7 @@ ghost use Rattle.conode_explain.specs.Filtered.{
   is_news,
   is_repeating,
   lasts_told,
+  passes_as_any,
   passes_end,
   passes_frame,
   repeats,
@@ -78,6 +79,21 @@ pub(crate) fn subject_by(whose: Whose, claims: &[Claim], frame: &Record<'_>) -> 
     }
 }
 
+// Whether a frame passes a filter as any of the PDOs that it is, so also as one that a node
+// receives.
+fn passes_as_any(filter: &Filter, times: Times, frame: &Record<'_>, claims: &[Claim]) -> bool
+    requires { IsIdentifier frame.now.id }
+    ensures { result ≡ passes_as_any filter.now times frame.now claims.now }
+{
+    for claim in claims {
+        let subject = Subject::of(Some(claim.node), frame);
+        if filter.passes(&subject, times) {
+            return true;
+        }
+    }
+    false
+}
+
 #[tactic(auto, unfolding(crate::specs::Filtered::passes_frame))]
 fn passes_frame(
     form: &Layout<'_>,
@@ -87,18 +103,19 @@ fn passes_frame(
     frame: &Record<'_>,
 ) -> bool
     requires { IsIdentifier frame.now.id }
-    ensures { result ≡ passes_frame form.now seen.now
-        (subject_by whose claims.now frame.now) frame.now.micros }
+    ensures { result ≡ passes_frame form.now seen.now whose claims.now frame.now }
 {
     // in most cases there is none, and nothing of the frame is looked at
     if form.filter.is_open() {
         return true;
     }
     let subject = subject_by(whose, claims, frame);
-    form.filter.passes(&subject, seen.times(frame.micros))
+    let times = seen.times(frame.micros);
+    form.filter.passes(&subject, times) || passes_as_any(form.filter, times, frame, claims)
 }
 
-/// Whether the line of a frame that is these PDOs is printed; `whose` it is, if it is none.
+/// Whether the line of a frame that is these PDOs is printed: it passes the filter as one of them;
+/// `whose` it is, if it is none.
 pub(crate) fn shows_frame(
     form: &Layout<'_>,
     seen: &Seen,
@@ -107,8 +124,7 @@ pub(crate) fn shows_frame(
     frame: &Record<'_>,
 ) -> bool
     requires { IsIdentifier frame.now.id }
-    ensures { result ≡ shows_frame form.now seen.now
-        (subject_by whose claims.now frame.now) frame.now.micros }
+    ensures { result ≡ shows_frame form.now seen.now whose claims.now frame.now }
 {
     !form.transfers && passes_frame(form, seen, whose, claims, frame)
 }

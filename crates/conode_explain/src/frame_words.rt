@@ -13,6 +13,7 @@ ghost use Rattle.conode_explain.specs.FrameWords.{
   frame_words,
   is_default_pdo,
   is_default_service,
+  is_of_drive,
   other_words,
   plain_words,
   served_words,
@@ -28,7 +29,7 @@ use co_text::push_decimal;
 use co_value::PackedBytes;
 use conode_decode::push_text;
 use conode_explain_pdo::{Bus, Claim, push_pdos};
-use conode_explain_services::{Last, Nodes, push_remote, push_service, push_state};
+use conode_explain_services::{Last, Nodes, is_emergency, push_remote, push_service, push_state};
 use conode_record::{Content, Identifier, Record};
 use std::alloc::AllocError;
 
@@ -74,16 +75,24 @@ fn push_plain_words(
 fn push_served_words(
     said: &mut String,
     names: Names<'_, '_>,
+    drive: bool,
     last: &Last,
     frame: &Frame,
 ) -> Result<(), AllocError>
     ensures { OnOk result (string_bytes said.new
-        ≡ string_bytes said.old ++ served_words (names_view names.entry) last.now frame.now) }
+        ≡ string_bytes said.old ++ served_words (names_view names.entry) drive last.now frame.now) }
 {
-    if attempt_value!(push_service(said, *last, frame)) {
+    if attempt_value!(push_service(said, drive, *last, frame)) {
         return Ok(());
     }
     push_plain_words(said, names, last, frame)
+}
+
+// The sheet is asked last, since few frames are emergencies.
+fn is_of_drive(bus: Bus<'_, '_, '_, '_, '_>, frame: &Frame) -> bool
+    ensures { result ≡ is_of_drive (bus_view bus.entry) frame.now }
+{
+    is_emergency(frame) && bus.is_drive((frame.id() % 128) as u8)
 }
 
 // what a frame says as these PDOs, else by its service or its text
@@ -102,7 +111,8 @@ fn push_other_words(
     match claims {
         [] => {
             attempt!(said.push_str(assumed_mark(named, frame.id())));
-            push_served_words(said, bus.names((frame.id() % 128) as u8), last, frame)
+            let names = bus.names((frame.id() % 128) as u8);
+            push_served_words(said, names, is_of_drive(bus, frame), last, frame)
         }
         _ => push_pdos(said, bus, frame.bytes(), claims),
     }

@@ -5,7 +5,7 @@ use Rattle.co_value.specs.KeyTexts.{key_text}
 use Rattle.conode_text.specs.Filled.{filled}
 use Rattle.conode_explain_transfers.specs.declared.ended.Ended.{Ended}
 use Rattle.conode_explain_transfers.specs.declared.ended.Ending.{Ending}
-use Rattle.conode_explain_transfers.specs.declared.ended.Ending.TheVariants.{Done, Aborted, Unanswered, Repeated, Interrupted, Unfinished, Irregular, SizeDiffers, CrcDiffers}
+use Rattle.conode_explain_transfers.specs.declared.ended.Ending.TheVariants.{Done, Aborted, Unanswered, Repeated, Interrupted, Unfinished, Irregular, SizeDiffers, CrcDiffers, NotFollowed}
 use Rattle.conode_explain_transfers.specs.declared.kinds.Direction.{Direction}
 use Rattle.conode_explain_transfers.specs.declared.kinds.Direction.TheVariants.{Download, Upload}
 use Rattle.conode_explain_transfers.specs.declared.kinds.Side.{Side}
@@ -61,6 +61,7 @@ ending_words Irregular = codes "confirmed, but frames are missing or repeated in
 ending_words (Aborted by code) = []
 ending_words (SizeDiffers indicated) = []
 ending_words (CrcDiffers came computed) = []
+ending_words (NotFollowed next) = []
 
 -- `words` is what its abort code means
 abbrev pub ending_text : Ended → Ending → List ℕ → List ℕ

@@ -73,7 +73,7 @@ abbrev pub telling_at : Option ℕ → List FurtherChannel → Place → ℕ →
 telling_at None channels place micros bytes = record { told = None; channels = channels }
 telling_at (Some at) channels place micros bytes =
     let f = followed (channel_at channels at).channel micros place.side bytes in
-    record { told = Some (told_by place.side place.node f); channels = with_channel channels at f.next }
+    record { told = Some (told_by place.side place.node f.says); channels = with_channel channels at f.next }
 
 -- with its stamp on an interface; a channel that there is no room for isn't followed
 unfoldable pub further_telling : List FurtherChannel → List ℕ → Place → ℕ → List ℕ → FurtherTelling

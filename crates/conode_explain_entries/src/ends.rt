@@ -73,7 +73,8 @@ fn ending_words(ending: Ending) -> &'static str
         | Ending::CrcDiffers {
             came: _,
             computed: _,
-        } => "",
+        }
+        | Ending::NotFollowed { next: _ } => "",
     }
 }
 
@@ -95,7 +96,8 @@ fn push_ending(
         | Ending::Repeated
         | Ending::Interrupted
         | Ending::Unfinished
-        | Ending::Irregular => {
+        | Ending::Irregular
+        | Ending::NotFollowed { next: _ } => {
             let waited = Part::Seconds(ended.newest, ended.end);
             push_filled(text, ending_words(ending), &[waited])
         }

@@ -18,7 +18,7 @@ ghost use Rattle.conode_explain_entries.specs.Further.{
 
 use arrayvec::ArrayVec;
 use co_frame::Frame;
-use conode_explain_transfers::{Channel, Heard, Part, Side, Told};
+use conode_explain_transfers::{Channel, Heard, Side, Told};
 use std::alloc::{AllocError, Global};
 use std::marker::Model;
 
@@ -203,16 +203,7 @@ impl FurtherChannels {
             return Ok(None);
         };
         let heard = self.take_at(at, micros, place.side, frame);
-        let part = Part {
-            side: place.side,
-            what: heard.what,
-            of: heard.of,
-        };
-        Ok(Some(Told {
-            node: place.node,
-            part: Some(part),
-            ended: heard.ended,
-        }))
+        Ok(Some(Told::by(place.side, place.node, heard)))
     }
 
     /// A node on an interface booted up: no transfer of its channels is open any more.

@@ -4,7 +4,7 @@ use Rattle.std.specs.Prelude.{codes}
 use Rattle.std.specs.Fmt.{digits}
 use Rattle.co_text.specs.Printed.{digits_text}
 use Rattle.co_value.specs.declared.data_type.DataType.{DataType}
-use Rattle.co_value.specs.declared.data_type.DataType.TheVariants.{Integer8, Unsigned8, Unsigned16, Unsigned32, Unsigned64, VisibleString, OctetString, Domain}
+use Rattle.co_value.specs.declared.data_type.DataType.TheVariants.{Boolean, Integer8, Unsigned8, Unsigned16, Unsigned32, Unsigned64, VisibleString, OctetString, Domain}
 use Rattle.co_profile.specs.declared.access.Access.{Access}
 use Rattle.co_profile.specs.declared.access.Access.TheVariants.{Ro, Wo, Rw, Rwr, Rww, Constant}
 use Rattle.co_sheet.specs.Limits.{absent}
@@ -22,7 +22,7 @@ use Rattle.conode_explain_transfers.specs.declared.kinds.Side.TheVariants.{Clien
 use Rattle.conode_explain_values.specs.Numbers.{number_text}
 use Rattle.conode_explain_values.specs.Values.{value_text}
 use Rattle.conode_explain_forms.specs.declared.refusal.Refusal.{Refusal}
-use Rattle.conode_explain_forms.specs.declared.refusal.Refusal.TheVariants.{NotInSheet, ReadOnly, OtherLength, AboveHighLimit, BelowLowLimit}
+use Rattle.conode_explain_forms.specs.declared.refusal.Refusal.TheVariants.{NotInSheet, ReadOnly, OtherLength, AboveHighLimit, BelowLowLimit, NotBoolean}
 use Rattle.conode_explain_forms.specs.EndedValues.{end_value, shows_value}
 use Rattle.conode_explain_forms.specs.Refusals.{refusal_note, refusal_of, refusal_words, row_refusal}
 
@@ -140,6 +140,24 @@ one_limit : map (λ byte. refused (row 0x2001 Unsigned8 Rw None (Some (pos 3))) 
 unfolding refusal_of entry_of
 one_limit = refl
 
+-- a BOOLEAN; the number 2 of another type with a byte
+booleans : map (λ byte. refused (row 0x2001 Boolean Rw None None) (byte ∷ [])) (0 ∷ 1 ∷ 2 ∷ 255 ∷ []) ≡ None ∷ None ∷ Some NotBoolean ∷ Some NotBoolean ∷ []
+unfolding refusal_of entry_of
+booleans = refl
+
+no_boolean : map (λ t. refused (row 0x2001 t Rw None None) (2 ∷ [])) (Integer8 ∷ Unsigned8 ∷ []) ≡ None ∷ None ∷ []
+unfolding refusal_of entry_of
+no_boolean = refl
+
+-- the sheet's limits come before the type's, and the length before both
+limits_of_booleans : map (λ high. refused (row 0x2001 Boolean Rw None (Some (pos high))) (2 ∷ [])) (0 ∷ 1 ∷ []) ≡ Some AboveHighLimit ∷ Some AboveHighLimit ∷ []
+unfolding refusal_of entry_of
+limits_of_booleans = refl
+
+two_bytes_of_a_boolean : refused (row 0x2001 Boolean Rw None None) (2 ∷ 0 ∷ []) ≡ Some OtherLength
+unfolding refusal_of entry_of
+two_bytes_of_a_boolean = refl
+
 -- the access comes before the length, and that before the limits
 first_rule : refused (row 0x2001 Unsigned16 Ro None (Some (pos 0))) (1 ∷ []) ≡ Some ReadOnly
 unfolding refusal_of entry_of
@@ -187,8 +205,8 @@ sheet_of_another_node : refusal_of (names (row 0x2001 Unsigned8 Ro None None)) 6
 unfolding refusal_of
 sheet_of_another_node = refl
 
-words : map refusal_words (NotInSheet ∷ ReadOnly ∷ OtherLength ∷ AboveHighLimit ∷ BelowLowLimit ∷ [])
-    ≡ codes "not in the data sheet" ∷ codes "read only" ∷ codes "other length than the type's" ∷ codes "above the high limit" ∷ codes "below the low limit" ∷ []
+words : map refusal_words (NotInSheet ∷ ReadOnly ∷ OtherLength ∷ AboveHighLimit ∷ BelowLowLimit ∷ NotBoolean ∷ [])
+    ≡ codes "not in the data sheet" ∷ codes "read only" ∷ codes "other length than the type's" ∷ codes "above the high limit" ∷ codes "below the low limit" ∷ codes "a BOOLEAN is 0 or 1" ∷ []
 words = refl
 
 noted : refusal_note (names (row 0x2001 Unsigned8 Ro None None)) 5 (ended Download Expedited (Done false) 1 (1 ∷ [])) ≡ codes " (our rules refuse: read only)"

@@ -6,7 +6,7 @@ use Rattle.json.specs.Print.{print}
 use Rattle.conode_json.specs.Members.{number_member, text_member}
 use Rattle.conode_explain_transfers.specs.declared.ended.Ended.{Ended}
 use Rattle.conode_explain_transfers.specs.declared.ended.Ending.{Ending}
-use Rattle.conode_explain_transfers.specs.declared.ended.Ending.TheVariants.{Done, Aborted, Unanswered, Repeated, Interrupted, Unfinished, Irregular, SizeDiffers, CrcDiffers}
+use Rattle.conode_explain_transfers.specs.declared.ended.Ending.TheVariants.{Done, Aborted, Unanswered, Repeated, Interrupted, Unfinished, Irregular, SizeDiffers, CrcDiffers, NotFollowed}
 use Rattle.conode_explain_transfers.specs.declared.kinds.Protocol.{Protocol}
 use Rattle.conode_explain_transfers.specs.declared.kinds.Protocol.TheVariants.{Undecided, Expedited, Segmented, Block}
 use Rattle.conode_explain_entries.specs.Ends.{direction_text, side_text}
@@ -33,6 +33,7 @@ result_name Unfinished = codes "unfinished"
 result_name Irregular = codes "irregular"
 result_name (SizeDiffers indicated) = codes "sizeDiffers"
 result_name (CrcDiffers came computed) = codes "crcDiffers"
+result_name (NotFollowed next) = codes "notFollowed"
 
 -- who aborted it, and the abort code in hexadecimal digits
 abbrev pub abort_members : Ending → List Token

@@ -1,10 +1,11 @@
 -- Why our own server would have refused a download that a device acknowledged, by its data sheet: the
 -- first of the rules that applies (CiA 301, 7.2.4.3.17). The device has decided, so that the download
 -- counts all the same.
-use Rattle.std.specs.Prelude.{ℕ, ◌==◌, Bool, true, false, ◌&&◌, ◌||◌, if◌then◌else◌, ℤ, int_lt, List, [], ◌∷◌, length, take, codes, Option, Some, None, option_and_then}
+use Rattle.std.specs.Prelude.{ℕ, ◌==◌, Bool, true, false, ◌&&◌, ◌||◌, if◌then◌else◌, ℤ, int_lt, pos, List, [], ◌∷◌, length, take, codes, Option, Some, None, option_and_then}
 use Rattle.std.specs.Option.{option_map_or}
 use Rattle.co_value.specs.Numbers.{number_of}
-use Rattle.co_value.specs.Types.{width_of}
+use Rattle.co_value.specs.declared.data_type.DataType.{DataType}
+use Rattle.co_value.specs.Types.{is_boolean, width_of}
 use Rattle.co_profile.specs.declared.access.Access.{Access}
 use Rattle.co_profile.specs.declared.access.Access.TheVariants.{Ro, Constant}
 use Rattle.co_profile.specs.Indices.{is_within, sdo_server}
@@ -15,7 +16,7 @@ use Rattle.conode_explain_transfers.specs.declared.ended.Ended.{Ended}
 use Rattle.conode_explain_transfers.specs.declared.kinds.Direction.{Direction}
 use Rattle.conode_explain_transfers.specs.declared.kinds.Direction.TheVariants.{Download}
 use Rattle.conode_explain_forms.specs.declared.refusal.Refusal.{Refusal}
-use Rattle.conode_explain_forms.specs.declared.refusal.Refusal.TheVariants.{NotInSheet, ReadOnly, OtherLength, AboveHighLimit, BelowLowLimit}
+use Rattle.conode_explain_forms.specs.declared.refusal.Refusal.TheVariants.{NotInSheet, ReadOnly, OtherLength, AboveHighLimit, BelowLowLimit, NotBoolean}
 use Rattle.conode_explain_forms.specs.Fields.{is_done, is_expedited}
 
 -- ---- the rules
@@ -35,10 +36,16 @@ is_above limit value = option_map_or (λ high. int_lt high value) limit false
 abbrev pub is_below : Option ℤ → ℤ → Bool
 is_below limit value = option_map_or (λ low. int_lt value low) limit false
 
+-- a BOOLEAN is 0 or 1 (CiA 301, 7.1.4.3), though its byte has room for more
+abbrev pub is_no_boolean : DataType → ℤ → Bool
+is_no_boolean t value = is_boolean t && int_lt (pos 1) value
+
+-- the limits of the sheet come before those of the type
 abbrev pub limit_refusal : Row → ℤ → Option Refusal
 limit_refusal row value =
     if is_above row.high value then Some AboveHighLimit
-    else (if is_below row.low value then Some BelowLowLimit else None)
+    else (if is_below row.low value then Some BelowLowLimit
+    else (if is_no_boolean row.data_type value then Some NotBoolean else None))
 
 -- a number of a type with this width
 abbrev pub number_refusal : Row → List ℕ → ℕ → Option Refusal
@@ -86,6 +93,7 @@ refusal_words ReadOnly = codes "read only"
 refusal_words OtherLength = codes "other length than the type's"
 refusal_words AboveHighLimit = codes "above the high limit"
 refusal_words BelowLowLimit = codes "below the low limit"
+refusal_words NotBoolean = codes "a BOOLEAN is 0 or 1"
 
 abbrev pub note_text : List ℕ → List ℕ
 note_text words = filled (codes " (our rules refuse: %)") (words ∷ [])

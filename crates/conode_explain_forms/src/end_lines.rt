@@ -58,6 +58,7 @@ fn result_name(ending: Ending) -> &'static str
             came: _,
             computed: _,
         } => "crcDiffers",
+        Ending::NotFollowed { next: _ } => "notFollowed",
     }
 }
 

@@ -11,6 +11,7 @@ ghost use Rattle.conode_explain_forms.specs.Refusals.{
   is_above,
   is_below,
   is_download,
+  is_no_boolean,
   is_read_only,
   is_unwritable,
   limit_refusal,
@@ -28,10 +29,13 @@ use crate::fields::{first_bytes, is_done, is_expedited};
 use co_profile::{Access, IndexRange};
 use co_sheet::EntryRow;
 use co_sheet_changes::Names;
-use co_value::from_bytes;
+use co_value::{DataType, from_bytes};
 use conode_explain_transfers::{Direction, Ended};
 use conode_text::{Value, push_filled};
 use std::alloc::AllocError;
+
+/// The code of BOOLEAN (CiA 301, 7.4.7.1).
+const BOOLEAN: u16 = 0x01;
 
 /// Why our own server would have refused a download, by the data sheet of the device.
 #[derive(Clone, Copy)]
@@ -46,6 +50,8 @@ pub enum Refusal {
     AboveHighLimit,
     /// The number is below its LowLimit.
     BelowLowLimit,
+    /// It is a BOOLEAN, and the number neither 0 nor 1.
+    NotBoolean,
 }
 
 fn is_read_only(access: Access) -> bool
@@ -78,6 +84,12 @@ fn is_below(limit: Option<i128>, value: i128) -> bool
     }
 }
 
+fn is_no_boolean(data_type: DataType, value: i128) -> bool
+    ensures { result ≡ is_no_boolean data_type value }
+{
+    data_type.code() == BOOLEAN && 1 < value
+}
+
 fn limit_refusal(row: &EntryRow<'_>, value: i128) -> Option<Refusal>
     ensures { result ≡ limit_refusal (row_view row.now) value }
 {
@@ -85,6 +97,8 @@ fn limit_refusal(row: &EntryRow<'_>, value: i128) -> Option<Refusal>
         Some(Refusal::AboveHighLimit)
     } else if is_below(row.low, value) {
         Some(Refusal::BelowLowLimit)
+    } else if is_no_boolean(row.data_type, value) {
+        Some(Refusal::NotBoolean)
     } else {
         None
     }
@@ -187,6 +201,7 @@ impl Refusal {
             Refusal::OtherLength => "other length than the type's",
             Refusal::AboveHighLimit => "above the high limit",
             Refusal::BelowLowLimit => "below the low limit",
+            Refusal::NotBoolean => "a BOOLEAN is 0 or 1",
         }
     }
 }

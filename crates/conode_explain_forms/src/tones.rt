@@ -149,7 +149,8 @@ pub fn ending_tone(ending: Ending) -> Tone
         | Ending::CrcDiffers {
             came: _,
             computed: _,
-        } => Tone::Bad,
+        }
+        | Ending::NotFollowed { next: _ } => Tone::Bad,
     }
 }
 

@@ -42,9 +42,10 @@ use Rattle.conode_explain_transfers.specs.Followed.{with_frame}
 use Rattle.conode_explain_transfers.specs.Initiates.{has_crc}
 use Rattle.conode_explain_transfers.specs.Transfers.{after, awaited_number, is_download, unexpected, goes_on, takes_pending}
 use Rattle.conode_explain_transfers.proofs.DataLemmas.{taking}
+use Rattle.conode_explain_transfers.specs.Unanswered.{is_no_abort}
 use Rattle.conode_explain_laws.specs.Downloads.{Complete, is_block_begin, entry_bytes, write_set, number_in, goes_up}
 use Rattle.conode_explain_laws.proofs.Readings.{Segment, Begin, Abort, Request, Response, request_reading, response_reading, plain_reading, beginning, segment_reading, sub_block_reading, reading_of}
-use Rattle.conode_explain_laws.proofs.Views.{View, read_as, hears, hears_answers, begin_writes, no_write, abort_closes}
+use Rattle.conode_explain_laws.proofs.Views.{abort_no_write, View, read_as, hears, hears_answers, begin_writes, no_write, abort_closes}
 use Rattle.conode_explain_laws.proofs.Follows.{IsBlocks, AllSent, are_sent, response_read, answered_reads}
 use Rattle.conode_explain_laws.proofs.Begins.{HasKey, has_key, small_index, answered, asks, response_is, in_blocks, outside_answers, outside_opens, outside_sets, write_of}
 use Rattle.conode_explain_laws.proofs.Blocks.{is_segment, ends_with, answers_at, opens_at, taken_by, turned, acknowledges, last_turn, next_turn, number_is, small_end, IsSmallEnd, ended, left_of, without_is}
@@ -426,7 +427,7 @@ module _ (newest : ℕ) (d : Description) (contents : Contents) (stamp : ℕ →
   sent_request (Some (BlockDownloadInitiate key size)) q few n kept lawful small = absurd (false≢true (sym n))
   sent_request (Some (Abandon key code)) q few n kept lawful small = record {
     holds = refl;
-    same = ap (λ w. w ++ done) (no_write (is_download t.direction) _ refl);
+    same = ap (λ w. w ++ done) (no_write (is_download t.direction) _ (abort_no_write Client (is_no_abort t frame) code _));
   }
   sent_request r q few n kept lawful small =
       closed_orders newest d.rows stamp t.key 0x05040001 done (read_as d.rows (stamp count) Client frame (holds heard t got done count) (request_reading r (stamp count) frame))
@@ -447,7 +448,7 @@ gone_request newest d contents stamp frame heard t got done count h (Some (Block
 gone_request newest d contents stamp frame heard t got done count h (Some (BlockDownloadInitiate key size)) q n small = absurd (false≢true (sym n))
 gone_request newest d contents stamp frame heard t got done count h (Some (Abandon key code)) q n small = record {
   holds = refl;
-  same = ap (λ w. w ++ done) (no_write (is_download t.direction) _ refl);
+  same = ap (λ w. w ++ done) (no_write (is_download t.direction) _ (abort_no_write Client (is_no_abort t frame) code _));
 }
 gone_request newest d contents stamp frame heard t got done count h r q n small =
     closed_orders newest d.rows stamp (record { index = 0; sub = 0 }) 0x05040001 done (read_as d.rows (stamp count) Client frame (holds heard t got done count) (request_reading r (stamp count) frame))

@@ -27,13 +27,14 @@ use Rattle.conode_explain_transfers.specs.SegmentedTurns.{answering, segment_don
 use Rattle.conode_explain_transfers.specs.Stages.{is_initiated, confirmed_with}
 use Rattle.conode_explain_transfers.specs.Transfers.{Turn, after, is_download, awaited_number, irregular, unexpected, overtaken, goes_on, takes_pending}
 use Rattle.conode_explain_transfers.specs.Turns.{response_turn}
+use Rattle.conode_explain_transfers.specs.Unanswered.{is_no_abort}
 use Rattle.conode_explain_laws.specs.Recordings.{and_frame}
 use Rattle.conode_explain_laws.specs.Downloads.{if_done}
 use Rattle.conode_explain_laws.specs.Clients.{Transferred, refuses, transfer_said, transfers_done, and_messages}
 use Rattle.conode_explain_laws.proofs.Readings.{Reading, Segment, Begin, Abort, Request, Response, Nothing, plain_reading, sub_block_reading, reading_of, turn_of, follows_by, bytes_by, same as same_reading}
 use Rattle.conode_explain_laws.proofs.Kept.{keeps}
 use Rattle.conode_explain_laws.proofs.Follows.{IsLate}
-use Rattle.conode_explain_laws.proofs.Views.{is_abort_reading, is_begin, server_no_begin}
+use Rattle.conode_explain_laws.proofs.Views.{abort_no_write, is_abort_reading, is_begin, server_no_begin}
 
 -- ---- what explain knows
 
@@ -114,7 +115,7 @@ module _ (call : Call) where
   abort_closes micros side frame heard None got done count (Abort code) h = record { none = refl; same = refl }
   abort_closes micros side frame heard (Some t) got done count (Abort code) h = record {
     none = refl;
-    same = ap (λ w. w ++ done) (unless_none (refuses call.mode call.job t.protocol got) _ refl);
+    same = ap (λ w. w ++ done) (unless_none (refuses call.mode call.job t.protocol got) _ (abort_no_write side (is_no_abort t frame) code _));
   }
   abort_closes micros side frame heard current got done count _ h = absurd (false≢true h)
 
@@ -196,7 +197,7 @@ module _ (call : Call) where
   lost_reads micros side frame heard None got done count _ h n = record { lost = tt; same = refl }
   lost_reads micros side frame heard (Some t) got done count (Abort code) h n = record {
     lost = tt;
-    same = ap (λ w. w ++ done) (unless_none (refuses call.mode call.job t.protocol got) _ refl);
+    same = ap (λ w. w ++ done) (unless_none (refuses call.mode call.job t.protocol got) _ (abort_no_write side (is_no_abort t frame) code _));
   }
   lost_reads micros side frame heard (Some t) got done count (Segment segment) h n = lost_turn micros side frame heard t got done count (turn_of t (Segment segment) frame) (stays_lost t (Segment segment) frame h)
   lost_reads micros side frame heard (Some t) got done count (Request request) h n = lost_turn micros side frame heard t got done count (turn_of t (Request request) frame) (stays_lost t (Request request) frame h)

@@ -40,9 +40,10 @@ use Rattle.conode_explain_transfers.specs.Endings.{size_fault, verdict}
 use Rattle.conode_explain_transfers.specs.Transfers.{is_download}
 use Rattle.conode_explain_transfers.specs.Readings.{may_have_segment, is_sender}
 use Rattle.conode_explain_transfers.proofs.DataLemmas.{taking}
+use Rattle.conode_explain_transfers.specs.Unanswered.{is_no_abort}
 use Rattle.conode_explain_laws.specs.Downloads.{Complete, is_block_begin, entry_bytes, if_done, write_set}
 use Rattle.conode_explain_laws.proofs.Readings.{Begin, Request, Response, begun_with, request_reading, response_reading, plain_reading, sub_block_reading, reading_of}
-use Rattle.conode_explain_laws.proofs.Views.{View, read_as, hears, hears_answers, begin_writes, no_write, aborted_closes}
+use Rattle.conode_explain_laws.proofs.Views.{abort_no_write, View, read_as, hears, hears_answers, begin_writes, no_write, aborted_closes}
 use Rattle.conode_explain_laws.proofs.Follows.{InSegments, in_segments, response_read, answered_reads}
 use Rattle.conode_explain_laws.proofs.Begins.{HasKey, has_key, small_index, answered, asks, response_is, expedites, expedited_bytes, segments, outside_answers, outside_opens, outside_sets, write_of}
 use Rattle.conode_explain_laws.proofs.Exchanges.{receiving, sent, same_toggle, sends, all_taken, confirmed, client_plain}
@@ -373,7 +374,7 @@ to_segments d contents stamp frame heard t got done count toggle h kept lawful s
     segment_comes d contents stamp (stamp count) frame heard t got done count toggle toggled last segment h kept lawful
 to_segments d contents stamp frame heard t got done count toggle h kept lawful small (Some (Abandon key code)) q n = record {
   holds = refl;
-  same = ap (λ w. w ++ done) (no_write (is_download t.direction) _ refl);
+  same = ap (λ w. w ++ done) (no_write (is_download t.direction) _ (abort_no_write Client (is_no_abort t frame) code _));
 }
 to_segments d contents stamp frame heard t got done count toggle h kept lawful small r q n =
     closed_exactly d.rows stamp t.key 0x05040001 done
@@ -397,7 +398,7 @@ to_dropped d contents stamp frame heard t got done count toggle h small (Some (B
 to_dropped d contents stamp frame heard t got done count toggle h small (Some (BlockDownloadInitiate key size)) q n = absurd (false≢true (sym n))
 to_dropped d contents stamp frame heard t got done count toggle h small (Some (Abandon key code)) q n = record {
   holds = refl;
-  same = ap (λ w. w ++ done) (no_write (is_download t.direction) _ refl);
+  same = ap (λ w. w ++ done) (no_write (is_download t.direction) _ (abort_no_write Client (is_no_abort t frame) code _));
 }
 to_dropped d contents stamp frame heard t got done count toggle h small r q n =
     closed_exactly d.rows stamp (record { index = 0; sub = 0 }) 0x05040001 done

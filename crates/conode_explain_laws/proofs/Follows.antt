@@ -38,10 +38,11 @@ use Rattle.conode_explain_transfers.specs.SegmentedTurns.{download_segment_at, u
 use Rattle.conode_explain_transfers.specs.Stages.{is_initiated, confirmed_with}
 use Rattle.conode_explain_transfers.specs.Transfers.{Turn, after, is_download, awaited_number, unexpected, repeated}
 use Rattle.conode_explain_transfers.specs.Turns.{request_turn}
+use Rattle.conode_explain_transfers.specs.Unanswered.{is_no_abort}
 use Rattle.conode_explain_laws.specs.Downloads.{Complete, initiated_by, write_said, write_set}
 use Rattle.conode_explain_laws.proofs.Readings.{Reading, Segment, Begin, Abort, Request, Response, Nothing, begun_with, begins_or, request_reading, response_reading, plain_reading, beginning, segment_reading, sub_block_reading, reading_of, turn_of}
 use Rattle.conode_explain_laws.proofs.Kept.{keeps}
-use Rattle.conode_explain_laws.proofs.Views.{View, read_as, Knows, Closes, IsAside, KnowsAside, aside_turn, is_begin, no_write, aside_write}
+use Rattle.conode_explain_laws.proofs.Views.{abort_no_write, View, read_as, Knows, Closes, IsAside, KnowsAside, aside_turn, is_begin, no_write, aside_write}
 
 -- ---- both
 
@@ -323,7 +324,7 @@ answered_reads rows micros frame heard t got done count (Begin new) h n m = absu
 answered_reads rows micros frame heard t got done count (Response response) h n m = absurd (false≢true (sym m))
 answered_reads rows micros frame heard t got done count (Abort code) h n m = record {
   holds = tt;
-  same = ap (λ w. w ++ done) (no_write (is_download t.direction) _ refl);
+  same = ap (λ w. w ++ done) (no_write (is_download t.direction) _ (abort_no_write Client (is_no_abort t frame) code _));
 }
 answered_reads rows micros frame heard t got done count (Segment segment) h n m =
     answered_turn rows micros Client frame heard t got done count (Segment segment) h (late_segment_at t.stage t segment h.unconfirmed)
@@ -371,7 +372,7 @@ asked_reads rows micros frame heard t got done count (Begin new) h n m = absurd 
 asked_reads rows micros frame heard t got done count (Response response) h n m = absurd (false≢true (sym m))
 asked_reads rows micros frame heard t got done count (Abort code) h n m = record {
   holds = tt;
-  same = ap (λ w. w ++ done) (no_write (is_download t.direction) _ refl);
+  same = ap (λ w. w ++ done) (no_write (is_download t.direction) _ (abort_no_write Client (is_no_abort t frame) code _));
 }
 asked_reads rows micros frame heard t got done count (Segment segment) h n m =
     aside_turn rows micros Client frame heard t got done count (Segment segment) (inl (segment_spoils t segment h))

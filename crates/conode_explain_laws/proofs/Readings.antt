@@ -100,7 +100,7 @@ follows_by heard current (Begin t) micros side frame = record {
   next = record { heard = true; transfer = Some t };
 }
 follows_by heard None _ micros side frame = passes heard
-follows_by heard (Some t) (Abort code) micros side frame = aborts heard t side code micros
+follows_by heard (Some t) (Abort code) micros side frame = aborts heard t side code micros frame
 follows_by heard (Some t) reading micros side frame = turns heard t (turn_of t reading frame) micros side
 
 abbrev pub bytes_by : Option Transfer → Reading → List ℕ → List ℕ → List ℕ

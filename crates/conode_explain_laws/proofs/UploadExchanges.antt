@@ -40,10 +40,11 @@ use Rattle.conode_explain_transfers.specs.Readings.{may_have_segment, is_sender}
 use Rattle.conode_explain_transfers.specs.Stages.{confirmed_with}
 use Rattle.conode_explain_transfers.specs.Transfers.{after, is_download, goes_on as part, takes_pending, unexpected}
 use Rattle.conode_explain_transfers.proofs.DataLemmas.{taking}
+use Rattle.conode_explain_transfers.specs.Unanswered.{is_no_abort}
 use Rattle.conode_explain_laws.specs.Downloads.{Complete, is_block_begin, if_done}
 use Rattle.conode_explain_laws.specs.Uploads.{is_upload, Read, ended_by, read_served}
 use Rattle.conode_explain_laws.proofs.Readings.{Reading, Segment, Begin, Abort, Request, Response, Nothing, request_reading, response_reading, plain_reading, sub_block_reading, reading_of, turn_of}
-use Rattle.conode_explain_laws.proofs.Views.{View, Closes, no_write, is_begin}
+use Rattle.conode_explain_laws.proofs.Views.{abort_no_write, View, Closes, no_write, is_begin}
 use Rattle.conode_explain_laws.proofs.Follows.{begun_by, client_no_response, is_response, request_spoils, segment_spoils}
 use Rattle.conode_explain_laws.proofs.Begins.{outside_answers, outside_opens, write_of}
 use Rattle.conode_explain_laws.proofs.Exchanges.{same_toggle}
@@ -466,7 +467,7 @@ asked_reads Loose micros frame heard t got done count (Begin new) l h n m = absu
 asked_reads Loose micros frame heard t got done count (Response response) l h n m = absurd (false≢true (sym m))
 asked_reads Loose micros frame heard t got done count (Abort code) l h n m = record {
   holds = tt;
-  same = ap (λ w. w ++ done) (no_write (is_upload t.direction) _ refl);
+  same = ap (λ w. w ++ done) (no_write (is_upload t.direction) _ (abort_no_write Client (is_no_abort t frame) code _));
 }
 asked_reads Loose micros frame heard t got done count (Segment segment) l h n m = aside_turn Loose micros Client frame heard t got done count (Segment segment) (inl (l, segment_spoils t segment h))
 asked_reads Loose micros frame heard t got done count (Request request) l h n m = aside_turn Loose micros Client frame heard t got done count (Request request) (inl (l, request_spoils t request frame h))

@@ -48,10 +48,11 @@ use Rattle.conode_explain_transfers.specs.Initiates.{has_crc, initiate_of}
 use Rattle.conode_explain_transfers.specs.Stages.{confirmed_with}
 use Rattle.conode_explain_transfers.specs.Transfers.{Turn, begun as begun_with_initiate, is_download, unexpected}
 use Rattle.conode_explain_transfers.specs.Turns.{request_turn}
+use Rattle.conode_explain_transfers.specs.Unanswered.{is_no_abort}
 use Rattle.conode_explain_laws.specs.Downloads.{Complete, is_block_begin, if_done}
 use Rattle.conode_explain_laws.specs.Uploads.{is_upload, Read, ended_by, read_served}
 use Rattle.conode_explain_laws.proofs.Readings.{Reading, Segment, Begin, Abort, Request, Response, Nothing, begun_with, begins_or, request_reading, response_reading, reading_of, turn_of}
-use Rattle.conode_explain_laws.proofs.Views.{View, Closes, no_write, is_begin}
+use Rattle.conode_explain_laws.proofs.Views.{abort_no_write, View, Closes, no_write, is_begin}
 use Rattle.conode_explain_laws.proofs.Follows.{IsLate, late_segment_at, late_other, BegunBy, is_response}
 use Rattle.conode_explain_laws.proofs.Begins.{HasKey, has_key, small_index, inside_answers, outside_answers, outside_opens, response_is, acknowledged_spoils, awaits}
 use Rattle.conode_explain_laws.proofs.Exact.{capped}
@@ -433,7 +434,7 @@ pub quiet : (micros : ℕ) (frame : List ℕ) (heard : Bool) (t : Transfer) (got
     → (read_as micros Client frame (holds heard (Some t) got done count) reading).done ≡ done
 quiet micros frame heard t got done count (Begin new) u n m late = absurd (false≢true (sym n))
 quiet micros frame heard t got done count (Response response) u n m late = absurd (false≢true (sym m))
-quiet micros frame heard t got done count (Abort code) u n m late = ap (λ w. w ++ done) (no_write (is_upload t.direction) _ refl)
+quiet micros frame heard t got done count (Abort code) u n m late = ap (λ w. w ++ done) (no_write (is_upload t.direction) _ (abort_no_write Client (is_no_abort t frame) code _))
 quiet micros frame heard t got done count (Segment segment) u n m late = late_turn micros Client heard t got done count (turn_of t (Segment segment) frame) (late_segment_at t.stage t segment u)
 quiet micros frame heard t got done count (Request request) u n m late = late_turn micros Client heard t got done count (turn_of t (Request request) frame) late
 quiet micros frame heard t got done count Nothing u n m late = late_turn micros Client heard t got done count (turn_of t Nothing frame) (inl refl)

@@ -4,6 +4,7 @@ use Rattle.std.specs.Prelude.{if◌then◌else◌, IfSome, nat_le}
 use Rattle.std.proofs.lemmas.Bool.{false≢true}
 use Rattle.co_value.specs.declared.key.Key.{Key}
 use Rattle.co_frame.specs.BlockSegments.{block_segment_in, is_abort_in_sub_block}
+use Rattle.co_frame.specs.declared.abort_code.AbortCode.{AbortCode}
 use Rattle.co_frame.specs.declared.block_segment.BlockSegment.{BlockSegment}
 use Rattle.co_frame.specs.declared.sdo_request.SdoRequest.{SdoRequest}
 use Rattle.co_frame.specs.declared.sdo_response.SdoResponse.{SdoResponse}
@@ -13,7 +14,7 @@ use Rattle.co_frame.specs.SdoResponses.{response_row_in, response_in}
 use Rattle.co_dict.specs.Rows.{Rows}
 use Rattle.co_sdo.specs.Log.{Answer, Response as Replied, answer_bytes}
 use Rattle.co_sdo.specs.Replies.{aborted}
-use Rattle.conode_explain_transfers.specs.declared.ended.Ending.TheVariants.{Repeated}
+use Rattle.conode_explain_transfers.specs.declared.ended.Ending.TheVariants.{Repeated, NotFollowed}
 use Rattle.conode_explain_transfers.specs.declared.kinds.Side.{Side}
 use Rattle.conode_explain_transfers.specs.declared.kinds.Side.TheVariants.{Client, Server}
 use Rattle.conode_explain_transfers.specs.declared.kinds.What.{What}
@@ -21,10 +22,11 @@ use Rattle.conode_explain_transfers.specs.declared.kinds.What.TheVariants.{Overt
 use Rattle.conode_explain_transfers.specs.declared.transfer.Transfer.{Transfer}
 use Rattle.conode_explain_transfers.specs.Data.{data_with, data_after}
 use Rattle.conode_explain_transfers.specs.Endings.{verdict}
-use Rattle.conode_explain_transfers.specs.Followed.{Event, Following, Followed, following_after, left_by, with_frame, turns, turns_at}
+use Rattle.conode_explain_transfers.specs.Followed.{Event, Following, Followed, abort_ending, following_after, left_by, with_frame, turns, turns_at}
 use Rattle.conode_explain_transfers.specs.Readings.{awaits_segment}
 use Rattle.conode_explain_transfers.specs.Stages.{confirmed_with}
 use Rattle.conode_explain_transfers.specs.Transfers.{after, is_download, is_same_request}
+use Rattle.conode_explain_transfers.specs.Unanswered.{is_lost, is_no_abort, number_of, segment_follows}
 use Rattle.conode_explain_laws.specs.Recordings.{and_frame, and_answers}
 use Rattle.conode_explain_laws.specs.Downloads.{Complete, initiated_by, if_done, write_said, downloads_done}
 use Rattle.conode_explain_laws.proofs.Readings.{Reading, Segment, Begin, Abort, Request, Response, Nothing, response_reading, plain_reading, beginning, segment_reading, sub_block_reading, reading_of, turn_of, follows_by, bytes_by, same as same_reading}
@@ -97,10 +99,18 @@ pub no_write : (b : Bool) (write : List Complete) → write ≡ [] → (if b the
 no_write true write h = h
 no_write false write h = refl
 
-pub left_no_write : (same : Bool) (by : Side) (write : List Complete) → if_done (if same then Repeated else left_by by) write ≡ []
-left_no_write true by write = refl
-left_no_write false Client write = refl
-left_no_write false Server write = refl
+pub left_no_write : (follows lost same : Bool) (number : ℕ) (by : Side) (write : List Complete)
+    → if_done (if follows then NotFollowed (Some number) else (if lost then NotFollowed None else (if same then Repeated else left_by by))) write ≡ []
+left_no_write true lost same number by write = refl
+left_no_write false true same number by write = refl
+left_no_write false false true number by write = refl
+left_no_write false false false number Client write = refl
+left_no_write false false false number Server write = refl
+
+pub abort_no_write : {A : Type 0} (side : Side) (none : Bool) (code : AbortCode) (write : List A) → if_done (abort_ending side none code) write ≡ []
+abort_no_write Server none code write = refl
+abort_no_write Client true code write = refl
+abort_no_write Client false code write = refl
 
 -- ---- an initiate request
 
@@ -109,7 +119,7 @@ pub begin_writes : (rows : Rows) (micros : ℕ) (frame : List ℕ) (heard : Bool
     → (read_as rows micros Client frame (record { following = record { heard = heard; transfer = current }; got = got; done = done; count = count }) (Begin new)).done ≡ done
 begin_writes rows micros frame heard None got done count new = refl
 begin_writes rows micros frame heard (Some t) got done count new =
-    ap (λ w. w ++ done) (no_write (is_download t.direction) _ (left_no_write (is_same_request t frame) t.by _))
+    ap (λ w. w ++ done) (no_write (is_download t.direction) _ (left_no_write (segment_follows t frame) (is_lost t) (is_same_request t frame) (number_of frame) t.by _))
 
 -- ---- aborts
 
@@ -128,7 +138,7 @@ pub abort_closes : (rows : Rows) (micros : ℕ) (side : Side) (frame : List ℕ)
 abort_closes rows micros side frame heard None got done count (Abort code) h = record { none = refl; same = refl }
 abort_closes rows micros side frame heard (Some t) got done count (Abort code) h = record {
   none = refl;
-  same = ap (λ w. w ++ done) (no_write (is_download t.direction) _ refl);
+  same = ap (λ w. w ++ done) (no_write (is_download t.direction) _ (abort_no_write side (is_no_abort t frame) code _));
 }
 abort_closes rows micros side frame heard current got done count _ h = absurd (false≢true h)
 
@@ -191,7 +201,7 @@ aside_reads rows micros side frame heard current got done count (Begin new) h n 
 aside_reads rows micros side frame heard None got done count _ h n = record { holds = tt; same = refl }
 aside_reads rows micros side frame heard (Some t) got done count (Abort code) h n = record {
   holds = tt;
-  same = ap (λ w. w ++ done) (no_write (is_download t.direction) _ refl);
+  same = ap (λ w. w ++ done) (no_write (is_download t.direction) _ (abort_no_write side (is_no_abort t frame) code _));
 }
 aside_reads rows micros side frame heard (Some t) got done count (Segment segment) h n =
     aside_turn rows micros side frame heard t got done count (Segment segment) (stays_aside t (turn_of t (Segment segment) frame).transfer (keeps t (Segment segment) frame) h)

@@ -146,7 +146,7 @@ drive device_type words bytes =
     row 0x1000 0 Unsigned32 (number (pos device_type)) (codes "D") ∷ row 0x6041 0 Unsigned16 absent (codes "S") ∷ row 0x6061 0 Unsigned8 absent (codes "M") ∷ []
     ))) 5 words bytes
 
-in_words : drive 0x00020192 (0x60410010 ∷ 0x60610008 ∷ []) (0x37 ∷ 0x04 ∷ 0x08 ∷ []) ≡ codes "S 6041:00 = 1079 (operation enabled, target reached); M 6061:00 = 8 (cyclic synchronous position)"
+in_words : drive 0x00020192 (0x60410010 ∷ 0x60610008 ∷ []) (0x37 ∷ 0x04 ∷ 0x08 ∷ []) ≡ codes "S 6041:00 = 1079 (0437, operation enabled, target reached); M 6061:00 = 8 (cyclic synchronous position)"
 unfolding mapped_text parts_text more_parts part_text part_bytes short_text more_text filled entry_of known_text is_node_drive drive_words meaning_at word_text statusword_words state_words mode_words entry_text value_text number_text digits digits_text is_utf8 chars encode
 in_words = refl
 
@@ -173,7 +173,7 @@ with_type shown_type device_type =
       shown_type = shown_type;
     }) 5 (0x60410010 ∷ []) (0x37 ∷ 0x04 ∷ [])
 
-shown_drive : with_type (Some 0x00020192) 0x00020191 ≡ codes "S 6041:00 = 1079 (operation enabled, target reached)"
+shown_drive : with_type (Some 0x00020192) 0x00020191 ≡ codes "S 6041:00 = 1079 (0437, operation enabled, target reached)"
 unfolding mapped_text parts_text more_parts part_text part_bytes short_text more_text filled entry_of known_text is_node_drive drive_words meaning_at word_text statusword_words state_words entry_text value_text number_text digits digits_text is_utf8 chars encode
 shown_drive = refl
 

@@ -18,7 +18,8 @@ is_pdo_id key = (key.sub == 1) && (is_within rpdo_communication key.index || is_
 abbrev pub has_cob_id : Key → Bool
 has_cob_id key = ((key.sub == 0) && is_service_index key.index) || (is_channel_id key || is_pdo_id key)
 
--- bit 31: the PDO, the channel or the emergencies don't exist; for SYNC and TIME it says something else
+-- bit 31: the PDO, the channel or the emergencies don't exist; of TIME it says that the device takes it, and
+-- of SYNC nothing
 abbrev pub disabled_words : ℕ → ℕ → List ℕ
 disabled_words index word =
     if nat_le (2 ^ 31) word && not ((index == 0x1005) || (index == 0x1012)) then codes ", disabled" else []

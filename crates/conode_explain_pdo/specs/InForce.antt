@@ -14,7 +14,7 @@ use Rattle.conode_explain_pdo.specs.declared.sheet.SheetPdo.{SheetPdo}
 use Rattle.conode_explain_pdo.specs.Buses.{Bus, names_at}
 use Rattle.conode_explain_pdo.specs.Content.{Mapping}
 use Rattle.conode_explain_pdo.specs.Known.{pdos_for}
-use Rattle.conode_explain_pdo.specs.KnownEntries.{Device}
+use Rattle.conode_explain_pdo.specs.KnownEntries.{Device, is_node_drive}
 use Rattle.conode_explain_pdo.specs.Mappings.{data_text}
 
 -- what the recording shows of the entries of a node's PDO, if it shows one
@@ -49,6 +49,10 @@ type_shown (Some state) = number_by None (value_at state.now.mapping 0)
 -- what is known of a node's device
 abbrev pub device_at : Bus → ℕ → Device
 device_at bus node = record { names = names_at bus node; shown_type = type_shown (state_at bus node 0x1000) }
+
+-- a node is a drive (CiA 402)
+abbrev pub is_drive_at : Bus → ℕ → Bool
+is_drive_at bus node = is_node_drive (device_at bus node) node
 
 -- ---- the mapping of the sheet
 

@@ -90,7 +90,7 @@ mapped_text device node words bytes =
     if nat_lt (length bytes) (bytes_for (total_bits words)) then short_text (length bytes) (bytes_for (total_bits words))
     else parts_text device node bytes words ++ more_text (length bytes) (bytes_for (total_bits words))
 
--- a multiplexed PDO: its destination or source, the node, the key, four bytes (CiA 301, 7.2.2.5)
+-- a multiplexed PDO: its destination or source, the node, the key, four bytes (CiA 301, 7.2.3)
 abbrev pub multiplexed_key : List ℕ → Key
 multiplexed_key bytes = record { index = unsigned_of (take 2 (drop 1 bytes)); sub = slice_index bytes 3 }
 

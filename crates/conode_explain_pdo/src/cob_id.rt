@@ -45,8 +45,8 @@ pub fn cob_id_of(default: Preset<'_>) -> Option<SheetCobId>
     }
 }
 
-/// Whether a PDO, or an SDO channel other than a default one, may have an identifier: it is not restricted (CiA 301, 7.3.5), and not that of a
-/// default SDO channel.
+/// Whether a PDO, or an SDO channel other than a default one, may have an identifier: it is not
+/// restricted (CiA 301, 7.3.5), and not that of a default SDO channel.
 pub fn may_be_pdo(id: u16) -> bool
     ensures { result ≡ may_be_pdo id }
 {

@@ -12,6 +12,7 @@ ghost use Rattle.conode_explain_pdo.specs.InForce.{
   device_at,
   digits_of,
   if_there,
+  is_drive_at,
   is_from,
   known_text,
   mapping_in_force,
@@ -35,6 +36,7 @@ ghost use Rattle.conode_explain_pdo.specs.InForce.{
 use crate::bus::Bus;
 use crate::device::Device;
 use crate::known::sheet_for;
+use crate::known_entry::is_node_drive;
 use crate::mapping::{Mapping, push_data};
 use crate::sheet::SheetPdo;
 use arrayvec::ArrayVec;
@@ -106,6 +108,13 @@ impl<'s, 'a> Bus<'_, '_, '_, 's, 'a> {
             names: self.names(node),
             shown_type: type_shown(self.state(node, DEVICE_TYPE)),
         }
+    }
+
+    /// Whether a node is a drive (CiA 402), by its device type.
+    pub fn is_drive(self, node: u8) -> bool
+        ensures { result ≡ is_drive_at (bus_view self.entry) node }
+    {
+        is_node_drive(self.device(node), node)
     }
 }
 

@@ -43,8 +43,9 @@ fn type_of_device(shown: Option<u32>, names: Names<'_, '_>, node: u8) -> Option<
     }
 }
 
+/// Whether a node with such a device is a drive.
 #[tactic(auto, unfolding(crate::specs::KnownEntries::is_node_drive))]
-fn is_node_drive(device: Device<'_, '_>, node: u8) -> bool
+pub(crate) fn is_node_drive(device: Device<'_, '_>, node: u8) -> bool
     ensures { result ≡ is_node_drive (device_view device.entry) node }
 {
     match type_of_device(device.shown_type, device.names, node) {

@@ -8,7 +8,7 @@ use Rattle.conode_explain_services.specs.declared.guarding.Guarding.{Guarding}
 use Rattle.conode_explain_services.specs.declared.guarding.Guarding.TheVariants.{NotSeen, BootedUp, Requested, Answered}
 use Rattle.conode_explain_services.specs.declared.nmt_state.KnownState.TheVariants.{Unknown}
 use Rattle.conode_explain_services.specs.declared.last.Last.{Last}
-use Rattle.conode_explain_services.specs.Codes.{class_words, code_words, known_class, single_words}
+use Rattle.conode_explain_services.specs.Codes.{class_for, class_words, code_words, drive_class_words, drive_code_words, known_class, single_words}
 use Rattle.conode_explain_services.specs.Emergencies.{emergency_words}
 use Rattle.conode_explain_services.specs.Guardings.{guarding_answer_words, guarding_request_words, state_words}
 use Rattle.conode_explain_services.specs.Lengths.{fixed_at, odd_length}
@@ -55,17 +55,69 @@ each_code : map single_words (0x8110 ∷ 0x8120 ∷ 0x8130 ∷ 0x8140 ∷ 0x8150
 unfolding single_words
 each_code = refl
 
-class_alone : code_words 0xA310 ≡ []
+class_alone : code_words false 0xA310 ≡ []
 unfolding code_words known_class single_words filled
 class_alone = refl
 
-class_and_digits : code_words 0x42FF ≡ codes " (device temperature)"
+class_and_digits : code_words false 0x42FF ≡ codes " (device temperature)"
 unfolding code_words known_class single_words filled
 class_and_digits = refl
 
-class_and_code : code_words 0x8130 ≡ codes " (communication: life guard error or heartbeat error)"
+class_and_code : code_words false 0x8130 ≡ codes " (communication: life guard error or heartbeat error)"
 unfolding code_words known_class single_words filled
 class_and_code = refl
+
+-- of a drive: the classes that CiA 402 has beside, and those of CiA 301
+each_drive_class : map (class_for true) (0x43 ∷ 0x44 ∷ 0x51 ∷ 0x52 ∷ 0x53 ∷ 0x54 ∷ 0x55 ∷ 0x71 ∷ 0x72 ∷ 0x73 ∷ 0x74 ∷ 0x75 ∷ 0x76
+    ∷ 0x83 ∷ 0x84 ∷ 0x85 ∷ 0x86 ∷ 0x87 ∷ 0x88 ∷ 0x89 ∷ 0x8A ∷ [])
+    ≡ codes "drive temperature" ∷ codes "supply temperature" ∷ codes "supply" ∷ codes "control hardware" ∷ codes "operating unit"
+    ∷ codes "power section" ∷ codes "data storage" ∷ codes "power" ∷ codes "measurement circuit" ∷ codes "sensor"
+    ∷ codes "computation circuit" ∷ codes "communication module" ∷ codes "data storage module" ∷ codes "torque control"
+    ∷ codes "velocity controller" ∷ codes "position controller" ∷ codes "positioning controller" ∷ codes "synchronisation controller"
+    ∷ codes "winding controller" ∷ codes "process data monitoring" ∷ codes "control" ∷ []
+unfolding drive_class_words
+each_drive_class = refl
+
+other_classes : map (class_for true) (0x42 ∷ 0x45 ∷ 0x50 ∷ 0x56 ∷ 0x70 ∷ 0x77 ∷ 0x82 ∷ 0x8B ∷ 0xA0 ∷ [])
+    ≡ codes "device temperature" ∷ codes "temperature" ∷ codes "device hardware" ∷ codes "device hardware" ∷ codes "additional modules"
+    ∷ codes "additional modules" ∷ codes "protocol error" ∷ codes "monitoring" ∷ [] ∷ []
+unfolding drive_class_words known_class
+other_classes = refl
+
+abbrev of_drive : ℕ → List ℕ
+of_drive code = code_words true code
+
+blocked_motor : map (λ drive. code_words drive 0x7121) (true ∷ false ∷ []) ≡ codes " (power: motor blocked)" ∷ codes " (additional modules)" ∷ []
+unfolding code_words known_class single_words drive_class_words drive_code_words filled
+blocked_motor = refl
+
+-- of CiA 301 itself; a class alone; none
+drive_codes_beside : map of_drive (0x8130 ∷ 0x7100 ∷ 0x1000 ∷ 0x8600 ∷ 0xA310 ∷ [])
+    ≡ codes " (communication: life guard error or heartbeat error)" ∷ codes " (power)" ∷ codes " (generic error)"
+    ∷ codes " (positioning controller)" ∷ [] ∷ []
+unfolding code_words known_class single_words drive_class_words drive_code_words filled
+drive_codes_beside = refl
+
+-- the last digit tells a phase or a number, unless the code has words of its own
+drive_groups : map of_drive (0x2120 ∷ 0x2123 ∷ 0x212F ∷ 0x2130 ∷ 0x3133 ∷ 0x3134 ∷ 0x3212 ∷ 0x3142 ∷ 0x5459 ∷ 0x7112 ∷ 0x7114 ∷ 0x7123 ∷ 0x7124 ∷ 0x7305 ∷ 0x7308 ∷ [])
+    ≡ codes " (current, input side: earth leakage)" ∷ codes " (current, input side: earth leakage)" ∷ codes " (current, input side: earth leakage)"
+    ∷ codes " (current, input side: short circuit)" ∷ codes " (mains voltage: phase failure)" ∷ codes " (mains voltage: phase sequence)"
+    ∷ codes " (voltage inside the device: DC link overvoltage)" ∷ codes " (mains voltage: frequency too small)" ∷ codes " (power section: fuses)"
+    ∷ codes " (power: brake chopper overcurrent)" ∷ codes " (power: brake chopper)" ∷ codes " (power: motor tilted)" ∷ codes " (power: motor)"
+    ∷ codes " (sensor: incremental sensor 1 fault)" ∷ codes " (sensor)" ∷ []
+unfolding code_words known_class single_words drive_class_words drive_code_words filled
+drive_groups = refl
+
+-- in each group of them
+drive_codes_of_groups : map of_drive (0x2230 ∷ 0x2340 ∷ 0x3220 ∷ 0x3330 ∷ 0x4140 ∷ 0x4310 ∷ 0x5110 ∷ 0x5113 ∷ 0x5114 ∷ 0x5530 ∷ 0x6320 ∷ 0x7302 ∷ 0x7520 ∷ 0x8313 ∷ 0x8611 ∷ 0xF004 ∷ 0xF005 ∷ [])
+    ≡ codes " (current inside the device: short circuit or earth leakage)" ∷ codes " (current, output side: short circuit)"
+    ∷ codes " (voltage inside the device: DC link undervoltage)" ∷ codes " (output voltage: field circuit)" ∷ codes " (ambient temperature: air outlet)"
+    ∷ codes " (drive temperature: too high)" ∷ codes " (supply: low-voltage supply)" ∷ codes " (supply: +5 V supply)" ∷ codes " (supply: low-voltage supply)" ∷ codes " (data storage: non-volatile memory)"
+    ∷ codes " (data set: parameter error)" ∷ codes " (sensor: tacho with wrong polarity)" ∷ codes " (communication module: serial interface 2)"
+    ∷ codes " (torque control: standstill torque)" ∷ codes " (positioning controller: following error)" ∷ codes " (additional functions: control)"
+    ∷ codes " (additional functions)" ∷ []
+unfolding code_words known_class single_words drive_class_words drive_code_words filled
+drive_codes_of_groups = refl
 
 -- ---- the error register
 
@@ -115,7 +167,7 @@ none_yet = refl
 -- ---- frames: emergencies
 
 abbrev says : Last → ℕ → List ℕ → Option (List ℕ)
-says last id bytes = service_words last (record { id = id; bytes = bytes })
+says last id bytes = service_words false last (record { id = id; bytes = bytes })
 
 abbrev eight : ℕ → ℕ → ℕ → ℕ → ℕ → ℕ → ℕ → ℕ → List ℕ
 eight a b c d e f g h = a ∷ b ∷ c ∷ d ∷ e ∷ f ∷ g ∷ h ∷ []
@@ -124,6 +176,11 @@ emergency : says nothing_seen 0x085 (eight 0x10 0x82 0x11 0x01 0x02 0x03 0x04 0x
     ≡ Some (codes "EMCY node 5 code 8210 (protocol error: PDO not processed due to length error) register 11 (generic, communication) manufacturer 01020304FF")
 unfolding service_words fixed_at emergency_words code_words known_class single_words register_text bits_text bit_text bit_word digits_text digits filled
 emergency = refl
+
+emergency_of_a_drive : service_words true nothing_seen (record { id = 0x081; bytes = eight 0x21 0x71 0x01 0 0 0 0 0 })
+    ≡ Some (codes "EMCY node 1 code 7121 (power: motor blocked) register 01 (generic) manufacturer 0000000000")
+unfolding service_words fixed_at emergency_words code_words known_class single_words drive_class_words drive_code_words register_text bits_text bit_text bit_word digits_text digits filled
+emergency_of_a_drive = refl
 
 next_emergency : says (record { register = Some 0x11; guarding = NotSeen; state = Unknown }) 0x0FF (eight 0 0 0 0 0 0 0 0)
     ≡ Some (codes "EMCY node 127 code 0000 (error reset or no error) register 00 (no error; went: generic, communication) manufacturer 0000000000")

@@ -4,6 +4,7 @@ use Rattle.std.specs.Prelude.{ℕ, ◌+◌, ◌%◌, ◌==◌, nat_lt, Bool, ◌
 use Rattle.std.specs.Option.{option_map_or}
 use Rattle.co_value.specs.declared.key.Key.{Key}
 use Rattle.co_value.specs.Numbers.{unsigned_of}
+use Rattle.co_text.specs.Printed.{digits_text}
 use Rattle.conode_explain_services.specs.declared.drives.Meaning.{Meaning}
 use Rattle.conode_explain_services.specs.declared.drives.Meaning.TheVariants.{ErrorCode, Controlword, Statusword, Mode}
 use Rattle.conode_explain_services.specs.Codes.{code_words}
@@ -103,12 +104,16 @@ abbrev pub bracketed : List ℕ → List ℕ
 bracketed [] = []
 bracketed (letter ∷ letters) = codes " (" ++ (letter ∷ letters) ++ codes ")"
 
--- what a value means; an error code is one as in an emergency; a value of another number of bytes
+-- the hexadecimal digits of a word of bits, as a COB-ID has them, before what it means
+abbrev pub after_digits : ℕ → List ℕ → List ℕ
+after_digits word words = codes " (" ++ digits_text 16 4 word ++ codes ", " ++ words ++ codes ")"
+
+-- what a value means; an error code is one as in an emergency of a drive; a value of another number of bytes
 -- means nothing
 unfoldable pub word_text : Meaning → ℕ → List ℕ
-word_text ErrorCode word = code_words word
-word_text Controlword word = codes " (" ++ controlword_words word ++ codes ")"
-word_text Statusword word = codes " (" ++ statusword_words word ++ codes ")"
+word_text ErrorCode word = code_words true word
+word_text Controlword word = after_digits word (controlword_words word)
+word_text Statusword word = after_digits word (statusword_words word)
 word_text Mode word = []
 
 abbrev pub meaning_text : Meaning → List ℕ → List ℕ

@@ -33,11 +33,11 @@ is_lss id frame = (frame.id == id) && (length frame.bytes == 8)
 abbrev pub is_guarding : Last → FrameContent → Bool
 is_guarding last frame = is_error_control frame && is_answer last.guarding (slice_index frame.bytes 0)
 
--- what a data frame says, where the last frames of its node had this; none where its text as
--- `conode decode` has it stays
-unfoldable pub service_words : Last → FrameContent → Option (List ℕ)
-service_words last frame =
-    if is_emergency frame then Some (emergency_words (frame.id - 0x080) last.register (emergency_of frame.bytes))
+-- what a data frame says, where its node is a drive or isn't and its last frames had this; none where
+-- its text as `conode decode` has it stays
+unfoldable pub service_words : Bool → Last → FrameContent → Option (List ℕ)
+service_words drive last frame =
+    if is_emergency frame then Some (emergency_words drive (frame.id - 0x080) last.register (emergency_of frame.bytes))
     else (if is_guarding last frame
     then Some (guarding_answer_words (frame.id - 0x700) last.guarding (slice_index frame.bytes 0))
     else (if is_time frame then Some (time_words frame.bytes)

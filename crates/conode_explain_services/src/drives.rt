@@ -1,7 +1,8 @@
 //! What the values of a drive's entries mean (CiA 402).
 
-ghost use Rattle.std.specs.Prelude.{◌≡◌, ◌++◌, OnOk, codes, string_bytes};
+ghost use Rattle.std.specs.Prelude.{◌≡◌, ◌++◌, OnOk, string_bytes};
 ghost use Rattle.conode_explain_services.specs.Drives.{
+  after_digits,
   axis_index,
   bracketed,
   command_words,
@@ -86,13 +87,17 @@ fn command_words(word: u16) -> &'static str
 #[tactic(auto, unfolding(crate::specs::Drives::controlword_words, conode_text::specs::Filled::filled))]
 fn push_controlword(text: &mut String, word: u16) -> Result<(), AllocError>
     ensures { OnOk result (string_bytes text.new
-        ≡ string_bytes text.old ++ codes " (" ++ controlword_words word ++ codes ")") }
+        ≡ string_bytes text.old ++ after_digits word (controlword_words word)) }
 {
     let halt = where_set(word, 0x100, ", halt");
     push_filled(
         text,
-        " (%%)",
-        &[Value::Words(command_words(word)), Value::Words(halt)],
+        " (%, %%)",
+        &[
+            Value::Short(word),
+            Value::Words(command_words(word)),
+            Value::Words(halt),
+        ],
     )
 }
 
@@ -128,12 +133,13 @@ fn known_or(words: &'static str) -> &'static str
 #[tactic(auto, unfolding(crate::specs::Drives::statusword_words, conode_text::specs::Filled::filled))]
 fn push_statusword(text: &mut String, word: u16) -> Result<(), AllocError>
     ensures { OnOk result (string_bytes text.new
-        ≡ string_bytes text.old ++ codes " (" ++ statusword_words word ++ codes ")") }
+        ≡ string_bytes text.old ++ after_digits word (statusword_words word)) }
 {
     push_filled(
         text,
-        " (%%%%)",
+        " (%, %%%%)",
         &[
+            Value::Short(word),
             Value::Words(known_or(state_words(word & 0x6F))),
             Value::Words(where_set(word, 0x080, ", warning")),
             Value::Words(where_set(word, 0x400, ", target reached")),
@@ -224,7 +230,7 @@ fn push_word(text: &mut String, meaning: Meaning, word: u16) -> Result<(), Alloc
         (string_bytes text.new ≡ string_bytes text.old ++ word_text meaning word) }
 {
     match meaning {
-        Meaning::ErrorCode => push_code_words(text, word),
+        Meaning::ErrorCode => push_code_words(text, true, word),
         Meaning::Controlword => push_controlword(text, word),
         Meaning::Statusword => push_statusword(text, word),
         Meaning::Mode => Ok(()),
@@ -245,10 +251,9 @@ fn push_meaning(text: &mut String, meaning: Meaning, bytes: &[u8]) -> Result<(),
 }
 
 /// Appends what the value of an entry of a drive means, in brackets after a blank: of the
-/// controlword and the statusword, the error code and the modes of operation, of each of 8 axes;
-
-/// nothing for every other entry. The value is its bytes, the low one first. On an `Err` memory ran
-/// out, and a part of it may be there.
+/// controlword and the statusword, with their hexadecimal digits, the error code and the modes of
+/// operation, of each of 8 axes; nothing for every other entry. The value is its bytes, the low one
+/// first. On an `Err` memory ran out, and a part of it may be there.
 #[tactic(auto, unfolding(crate::specs::Drives::drive_words))]
 pub fn push_drive(text: &mut String, key: Key, bytes: &[u8]) -> Result<(), AllocError>
     ensures { OnOk result

@@ -17,8 +17,8 @@ enum Part<'a> {
     Node(u8),
     /// The error code.
     Code(u16),
-    /// What the error code means, in brackets.
-    CodeWords(u16),
+    /// What the error code means, in brackets; of a drive or not.
+    CodeWords(bool, u16),
     /// The error register.
     Register(u8),
     /// What the error register means, after that of the node's last emergency.
@@ -34,7 +34,7 @@ impl HasText for Part<'_> {
         match *self {
             Part::Node(node) => push_decimal(text, node as u64),
             Part::Code(code) => push_u16(text, code),
-            Part::CodeWords(code) => push_code_words(text, code),
+            Part::CodeWords(drive, code) => push_code_words(text, drive, code),
             Part::Register(register) => push_byte(text, register),
             Part::RegisterWords(last, register) => push_register(text, last, register),
             Part::Bytes(bytes) => push_bytes(text, bytes),
@@ -42,17 +42,18 @@ impl HasText for Part<'_> {
     }
 }
 
-/// Appends what an emergency of a node says; `last` is the error register of the node's last one.
-/// On an `Err` memory ran out, and a part of it may be there.
+/// Appends what an emergency of a node says, which is a drive or isn't; `last` is the error register
+/// of the node's last one. On an `Err` memory ran out, and a part of it may be there.
 #[tactic(auto, unfolding(crate::specs::Emergencies::emergency_words))]
 pub(crate) fn push_emergency(
     text: &mut String,
+    drive: bool,
     node: u8,
     last: Option<u8>,
     emergency: &Emergency,
 ) -> Result<(), AllocError>
     ensures { OnOk result (string_bytes text.new
-        ≡ string_bytes text.old ++ emergency_words node last emergency.now) }
+        ≡ string_bytes text.old ++ emergency_words drive node last emergency.now) }
 {
     push_filled(
         text,
@@ -60,7 +61,7 @@ pub(crate) fn push_emergency(
         &[
             Part::Node(node),
             Part::Code(emergency.code),
-            Part::CodeWords(emergency.code),
+            Part::CodeWords(drive, emergency.code),
             Part::Register(emergency.register),
             Part::RegisterWords(last, emergency.register),
             Part::Bytes(&emergency.manufacturer),

@@ -37,5 +37,5 @@ pub use guarding::Guarding;
 pub use last::Last;
 pub use nmt_state::{KnownState, NmtState};
 pub use node::Node;
-pub use nodes::Nodes;
+pub use nodes::{Nodes, is_emergency};
 pub use services::{push_remote, push_service, push_state};

@@ -55,8 +55,8 @@ fn place_of(nodes: &[Node], interface: &[u8], id: u8) -> Option<usize>
     nodes.iter().position(|node| node.is_of(interface, id))
 }
 
-/// Whether a frame is an emergency.
-pub(crate) fn is_emergency(frame: &Frame) -> bool
+/// Whether a frame is an emergency: eight bytes on 081h to 0FFh (CiA 301, 7.2.7).
+pub fn is_emergency(frame: &Frame) -> bool
     ensures { result ≡ is_emergency frame.now }
 {
     (0x080 < frame.id() && frame.id() < 0x100) && frame.bytes().len() == 8

@@ -44,8 +44,8 @@ fn is_guarding(last: Last, frame: &Frame) -> bool
 
 // whether a data frame says something by its service
 #[tactic(auto, unfolding(crate::specs::Services::service_words))]
-fn is_said(last: Last, frame: &Frame) -> bool
-    ensures { result ≡ is_some (service_words last frame.now) }
+fn is_said(drive: bool, last: Last, frame: &Frame) -> bool
+    ensures { result ≡ is_some (service_words drive last frame.now) }
 {
     is_emergency(frame)
         || is_guarding(last, frame)
@@ -58,16 +58,17 @@ fn is_said(last: Last, frame: &Frame) -> bool
 
 // appends it
 #[tactic(auto, unfolding(crate::specs::Services::service_words))]
-fn push_said(text: &mut String, last: Last, frame: &Frame) -> Result<(), AllocError>
+fn push_said(text: &mut String, drive: bool, last: Last, frame: &Frame) -> Result<(), AllocError>
     ensures { OnOk result (string_bytes text.new
-        ≡ string_bytes text.old ++ unwrap_or (service_words last frame.now) []) }
+        ≡ string_bytes text.old ++ unwrap_or (service_words drive last frame.now) []) }
 {
     let bytes = frame.bytes();
     if is_emergency(frame) {
         let Some(emergency) = Emergency::read(frame) else {
             unreachable!()
         };
-        return push_emergency(text, (frame.id() - 0x080) as u8, last.register, &emergency);
+        let node = (frame.id() - 0x080) as u8;
+        return push_emergency(text, drive, node, last.register, &emergency);
     }
     if is_guarding(last, frame) {
         return push_answer(text, (frame.id() - 0x700) as u8, last.guarding, bytes[0]);
@@ -87,18 +88,23 @@ fn push_said(text: &mut String, last: Last, frame: &Frame) -> Result<(), AllocEr
     push_length(text, frame)
 }
 
-/// Appends what a data frame says by its service; `last` is what the last frames of its node had.
-/// Returns whether it appended anything: if not, the text of `conode decode` stands. On an `Err`
-/// memory ran out, and a part of it may be there.
-pub fn push_service(text: &mut String, last: Last, frame: &Frame) -> Result<bool, AllocError>
-    ensures said { IfOk result (λ said. said ≡ is_some (service_words last frame.now)) }
+/// Appends what a data frame says by its service; `drive` is whether its node is a drive, `last`
+/// what the last frames of its node had. Returns whether it appended anything: if not, the text of
+/// `conode decode` stands. On an `Err` memory ran out, and a part of it may be there.
+pub fn push_service(
+    text: &mut String,
+    drive: bool,
+    last: Last,
+    frame: &Frame,
+) -> Result<bool, AllocError>
+    ensures said { IfOk result (λ said. said ≡ is_some (service_words drive last frame.now)) }
     ensures words { OnOk result (string_bytes text.new
-        ≡ string_bytes text.old ++ unwrap_or (service_words last frame.now) []) }
+        ≡ string_bytes text.old ++ unwrap_or (service_words drive last frame.now) []) }
 {
-    if !is_said(last, frame) {
+    if !is_said(drive, last, frame) {
         return Ok(false);
     }
-    attempt!(push_said(text, last, frame));
+    attempt!(push_said(text, drive, last, frame));
     Ok(true)
 }
 

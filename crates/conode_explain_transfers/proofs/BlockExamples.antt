@@ -1,8 +1,8 @@
 -- Worked block transfers of 2100:00, computed from the definitions. The CRC of "123456789" is 31C3h.
-use Rattle.std.proofs.Common.{◌≡◌, true, false, [], ◌∷◌, refl, codes}
+use Rattle.std.proofs.Common.{◌≡◌, true, false, [], ◌∷◌, None, refl, codes}
 use Rattle.co_frame.specs.SdoRequests.{request_row_in}
 use Rattle.co_frame.specs.SdoResponses.{response_row_in}
-use Rattle.conode_explain_transfers.specs.declared.ended.Ending.TheVariants.{Done, Aborted, Unanswered, Interrupted, Irregular, SizeDiffers, CrcDiffers}
+use Rattle.conode_explain_transfers.specs.declared.ended.Ending.TheVariants.{Done, Aborted, NotFollowed, Interrupted, Irregular, SizeDiffers, CrcDiffers}
 use Rattle.conode_explain_transfers.specs.declared.kinds.Protocol.TheVariants.{Expedited, Segmented, Block}
 use Rattle.conode_explain_transfers.specs.declared.kinds.Side.TheVariants.{Client}
 use Rattle.conode_explain_transfers.specs.declared.kinds.What.TheVariants.{Initiate, Part, Segment, OutOfSequence, Unexpected}
@@ -135,11 +135,11 @@ long_sub_block : told (c (codes "C000210000000000") ∷ c (codes "01313233343536
 unfolding request_row_in response_row_in shifted crc_with
 long_sub_block = refl
 
--- segment 2 is no first segment: what comes after it is read as before, and 40h begins an upload
+-- segment 2 is no first segment: what comes after it is read as before, and 40h begins an upload. The answer isn't in the recording
 no_first_segment : told (c (codes "C200210009000000") ∷ c (codes "0238390000000000") ∷ c (codes "4000210000000000") ∷ s (codes "4F002100AA000000") ∷ [])
     ≡ record {
       whats = Initiate ∷ Unexpected ∷ Initiate ∷ Part ∷ [];
-      ends = record { protocol = Block; bytes = 0; first = []; frames = 2; ending = Unanswered }
+      ends = record { protocol = Block; bytes = 0; first = []; frames = 2; ending = NotFollowed None }
           ∷ record { protocol = Expedited; bytes = 1; first = 0xAA ∷ []; frames = 2; ending = Done false } ∷ [];
     }
 unfolding request_row_in response_row_in shifted crc_with

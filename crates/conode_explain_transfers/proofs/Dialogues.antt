@@ -4,11 +4,13 @@ use Rattle.std.specs.Prelude.{◌+◌, ◌-◌, ◌*◌, nat_lt, if◌then◌els
 use Rattle.conode_explain_transfers.specs.declared.channel.Heard.{Heard}
 use Rattle.conode_explain_transfers.specs.declared.ended.Ended.{Ended}
 use Rattle.conode_explain_transfers.specs.declared.ended.Ending.{Ending}
+use Rattle.conode_explain_transfers.specs.declared.ended.Ending.TheVariants.{Unfinished}
 use Rattle.conode_explain_transfers.specs.declared.kinds.Protocol.{Protocol}
 use Rattle.conode_explain_transfers.specs.declared.kinds.Side.{Side}
 use Rattle.conode_explain_transfers.specs.declared.kinds.Side.TheVariants.{Client, Server}
 use Rattle.conode_explain_transfers.specs.declared.kinds.What.{What}
-use Rattle.conode_explain_transfers.specs.Followed.{Following, nothing_heard, followed}
+use Rattle.conode_explain_transfers.specs.Followed.{Following, nothing_heard, closed, followed}
+use Rattle.conode_explain_transfers.specs.Tracks.{shown_end, shown_what}
 
 -- the digits of a frame
 abbrev pub digit : ℕ → ℕ
@@ -62,3 +64,25 @@ told_from following (sent ∷ later) =
 
 abbrev pub told : List Sent → Told
 told frames = told_from nothing_heard frames
+
+-- what is shown of them
+abbrev pub shown_of : Heard → Heard
+shown_of heard = record { what = shown_what heard.what heard.ended; of = heard.of; ended = shown_end heard.ended }
+
+abbrev pub shown_from : Following → List Sent → Told
+shown_from following [] = record { whats = []; ends = [] }
+shown_from following (sent ∷ later) =
+    let step = followed following 0 sent.side sent.bytes in
+    told_with (shown_of step.says) (shown_from step.next later)
+
+abbrev pub shown : List Sent → Told
+shown frames = shown_from nothing_heard frames
+
+-- the channel after them
+abbrev pub after_all : Following → List Sent → Following
+after_all following [] = following
+after_all following (sent ∷ later) = after_all (followed following 0 sent.side sent.bytes).next later
+
+-- what is shown of the transfer that is open where the recording ends
+abbrev pub left_open : List Sent → List End
+left_open frames = ends_with (closed (after_all nothing_heard frames).transfer 0 Unfinished) []

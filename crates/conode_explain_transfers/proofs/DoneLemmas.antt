@@ -2,7 +2,8 @@
 use Rattle.std.proofs.Common.{◌≡◌, ℕ, List, length, refl, ap, ◌∙◌, arith}
 use Rattle.std.proofs.lemmas.Bool.Decides.{nat_tests}
 use Rattle.std.specs.Prelude.{Bool, true, false, ◌==◌, if◌then◌else◌, Option, Some, None, IfSome}
-use Rattle.conode_explain_transfers.specs.declared.ended.Ending.TheVariants.{Done, Repeated, Irregular, CrcDiffers}
+use Rattle.co_frame.specs.declared.abort_code.AbortCode.{AbortCode}
+use Rattle.conode_explain_transfers.specs.declared.ended.Ending.TheVariants.{Done, Repeated, Irregular, CrcDiffers, NotFollowed}
 use Rattle.conode_explain_transfers.specs.declared.kinds.Side.{Side}
 use Rattle.conode_explain_transfers.specs.declared.kinds.Side.TheVariants.{Client, Server}
 use Rattle.conode_explain_transfers.specs.declared.reading.Reading.{Reading}
@@ -11,11 +12,12 @@ use Rattle.conode_explain_transfers.specs.declared.transfer.Transfer.{Transfer}
 use Rattle.conode_explain_transfers.specs.Data.{data_with, data_by, data_after, IsDoneWith, IfDone, IsDoneAfter}
 use Rattle.conode_explain_transfers.specs.Digests.{counted, digest_of}
 use Rattle.conode_explain_transfers.specs.Endings.{size_fault, crc_verdict, size_verdict}
-use Rattle.conode_explain_transfers.specs.Followed.{Event, following_after, followed_by, left_by, said, turns, turns_at}
+use Rattle.conode_explain_transfers.specs.Followed.{Event, abort_ending, following_after, followed_by, left_by, said, turns, turns_at}
 use Rattle.conode_explain_transfers.specs.Readings.{reading_of}
 use Rattle.conode_explain_transfers.specs.Stages.{confirmed_with}
 use Rattle.conode_explain_transfers.specs.Transfers.{after, is_same_request}
 use Rattle.conode_explain_transfers.specs.Turns.{turn_of}
+use Rattle.conode_explain_transfers.specs.Unanswered.{is_lost, is_no_abort, number_of, segment_follows}
 use Rattle.conode_explain_transfers.proofs.Confirmations.{frame_confirms}
 use Rattle.conode_explain_transfers.proofs.DataLemmas.{IsOpenWith, StaysOpen, open_after, taking}
 
@@ -45,10 +47,18 @@ verdict_done false None computed (Some came) fact without right = by_test (came 
 
 -- ---- one frame
 
-left_not_done : (same : Bool) (by : Side) (fact : Bool → Type 0) → IfDone (if same then Repeated else left_by by) fact
-left_not_done true by fact = tt
-left_not_done false Client fact = tt
-left_not_done false Server fact = tt
+left_not_done : (follows lost same : Bool) (number : ℕ) (by : Side) (fact : Bool → Type 0)
+    → IfDone (if follows then NotFollowed (Some number) else (if lost then NotFollowed None else (if same then Repeated else left_by by))) fact
+left_not_done true lost same number by fact = tt
+left_not_done false true same number by fact = tt
+left_not_done false false true number by fact = tt
+left_not_done false false false number Client fact = tt
+left_not_done false false false number Server fact = tt
+
+abort_not_done : (side : Side) (none : Bool) (code : AbortCode) (fact : Bool → Type 0) → IfDone (abort_ending side none code) fact
+abort_not_done Server none code fact = tt
+abort_not_done Client true code fact = tt
+abort_not_done Client false code fact = tt
 
 -- what is done with a frame that goes on with the open transfer
 abbrev DoneWith : Transfer → Reading → List ℕ → List ℕ → Bool → Type 0
@@ -103,8 +113,9 @@ frame_done heard None (Request request) micros side frame bytes h = tt
 frame_done heard None (Response response) micros side frame bytes h = tt
 frame_done heard None Nothing micros side frame bytes h = tt
 frame_done heard (Some transfer) (Begin request) micros side frame bytes h =
-    left_not_done (is_same_request transfer frame) transfer.by (DoneBy (Some transfer) (Begin request) frame bytes)
-frame_done heard (Some transfer) (Abort code) micros side frame bytes h = tt
+    left_not_done (segment_follows transfer frame) (is_lost transfer) (is_same_request transfer frame) (number_of frame) transfer.by
+    (DoneBy (Some transfer) (Begin request) frame bytes)
+frame_done heard (Some transfer) (Abort code) micros side frame bytes h = abort_not_done side (is_no_abort transfer frame) code (DoneBy (Some transfer) (Abort code) frame bytes)
 frame_done heard (Some transfer) (Segment segment) micros side frame bytes h = turn_done heard transfer (Segment segment) frame micros side bytes h
 frame_done heard (Some transfer) (Request request) micros side frame bytes h = turn_done heard transfer (Request request) frame micros side bytes h
 frame_done heard (Some transfer) (Response response) micros side frame bytes h = turn_done heard transfer (Response response) frame micros side bytes h

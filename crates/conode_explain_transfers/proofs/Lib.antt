@@ -6,3 +6,4 @@ pub mod DoneLemmas
 pub mod Kept
 mod SegmentedExamples
 pub mod Places
+mod UnansweredExamples

@@ -1,8 +1,8 @@
 -- How transfers end.
-use Rattle.std.specs.Prelude.{ℕ, ◌==◌, true, false, if◌then◌else◌, Option, Some, None}
+use Rattle.std.specs.Prelude.{ℕ, ◌==◌, Bool, true, false, if◌then◌else◌, Option, Some, None}
 use Rattle.conode_explain_transfers.specs.declared.ended.Ended.{Ended}
 use Rattle.conode_explain_transfers.specs.declared.ended.Ending.{Ending}
-use Rattle.conode_explain_transfers.specs.declared.ended.Ending.TheVariants.{Done, Irregular, SizeDiffers, CrcDiffers}
+use Rattle.conode_explain_transfers.specs.declared.ended.Ending.TheVariants.{Done, Irregular, SizeDiffers, CrcDiffers, NotFollowed}
 use Rattle.conode_explain_transfers.specs.declared.transfer.Transfer.{Transfer}
 
 -- the indicated size, where another number of bytes came
@@ -24,6 +24,11 @@ abbrev pub verdict : Transfer → Option ℕ → Ending
 verdict transfer crc =
     if transfer.irregular then Irregular
     else size_verdict (size_fault transfer.size transfer.taken.count) (crc_verdict transfer.taken.crc crc)
+
+-- a transfer that can be followed
+abbrev pub is_followed : Ending → Bool
+is_followed (NotFollowed next) = false
+is_followed ending = true
 
 -- what is said of a transfer that ended
 abbrev pub ended : Transfer → ℕ → Ending → Ended

@@ -1,25 +1,26 @@
 -- A channel that is followed through a recording, frame by frame.
-use Rattle.std.specs.Prelude.{ℕ, ◌+◌, Bool, true, false, if◌then◌else◌, List, [], ◌∷◌, Option, Some, None}
+use Rattle.std.specs.Prelude.{ℕ, ◌+◌, ◌&&◌, Bool, true, false, if◌then◌else◌, List, [], ◌∷◌, Option, Some, None}
 use Rattle.co_value.specs.declared.key.Key.{Key}
 use Rattle.co_frame.specs.declared.abort_code.AbortCode.{AbortCode}
 use Rattle.conode_explain_transfers.specs.declared.channel.Heard.{Heard}
 use Rattle.conode_explain_transfers.specs.declared.ended.Ended.{Ended}
 use Rattle.conode_explain_transfers.specs.declared.ended.Ending.{Ending}
-use Rattle.conode_explain_transfers.specs.declared.ended.Ending.TheVariants.{Aborted, Unanswered, Repeated, Interrupted}
+use Rattle.conode_explain_transfers.specs.declared.ended.Ending.TheVariants.{Aborted, Unanswered, Repeated, Interrupted, NotFollowed}
 use Rattle.conode_explain_transfers.specs.declared.initiate.Initiate.{Initiate as Request}
 use Rattle.conode_explain_transfers.specs.declared.kinds.Side.{Side}
 use Rattle.conode_explain_transfers.specs.declared.kinds.Side.TheVariants.{Client, Server}
 use Rattle.conode_explain_transfers.specs.declared.kinds.What.{What}
-use Rattle.conode_explain_transfers.specs.declared.kinds.What.TheVariants.{Initiate, Part, Overtaken, Stray, BegunBefore}
+use Rattle.conode_explain_transfers.specs.declared.kinds.What.TheVariants.{Initiate, Part, Overtaken, Unexpected, Stray, BegunBefore}
 use Rattle.conode_explain_transfers.specs.declared.reading.Reading.{Reading}
 use Rattle.conode_explain_transfers.specs.declared.reading.Reading.TheVariants.{Begin, Abort}
 use Rattle.conode_explain_transfers.specs.declared.transfer.Transfer.{Transfer}
 use Rattle.conode_explain_transfers.specs.Digests.{counted}
-use Rattle.conode_explain_transfers.specs.Endings.{verdict, ended}
+use Rattle.conode_explain_transfers.specs.Endings.{verdict, ended, is_followed}
 use Rattle.conode_explain_transfers.specs.Readings.{reading_of, has_key}
 use Rattle.conode_explain_transfers.specs.Stages.{confirmed_with}
 use Rattle.conode_explain_transfers.specs.Transfers.{Turn, begun, is_same_request, after}
 use Rattle.conode_explain_transfers.specs.Turns.{turn_of}
+use Rattle.conode_explain_transfers.specs.Unanswered.{is_lost, is_no_abort, number_of, segment_follows, went_on_with}
 
 -- whether an initiate request came, and the open transfer
 pub record Following : Type 0 where
@@ -43,17 +44,34 @@ abbrev pub left_by : Side → Ending
 left_by Client = Unanswered
 left_by Server = Interrupted
 
+-- one of which the client went on before the response can't be followed
 abbrev pub left_ending : Transfer → List ℕ → Ending
-left_ending transfer bytes = if is_same_request transfer bytes then Repeated else left_by transfer.by
+left_ending transfer bytes =
+    if segment_follows transfer bytes then NotFollowed (Some (number_of bytes))
+    else (if is_lost transfer then NotFollowed None
+    else (if is_same_request transfer bytes then Repeated else left_by transfer.by))
 
 abbrev pub left : Option Transfer → ℕ → List ℕ → Option Ended
 left None micros bytes = None
 left (Some transfer) micros bytes = Some (ended transfer micros (left_ending transfer bytes))
 
 -- the open transfer ends for another reason
+abbrev pub ends_as : Option Transfer → ℕ → Ending → Option Ended
+ends_as None micros ending = None
+ends_as (Some transfer) micros ending = Some (ended transfer micros ending)
+
+-- the server booted up
+abbrev pub boot_ending : Option Transfer → Ending
+boot_ending None = Interrupted
+boot_ending (Some transfer) = if is_lost transfer then NotFollowed None else Interrupted
+
+abbrev pub broken_off : Option Transfer → ℕ → Option Ended
+broken_off current micros = ends_as current micros (boot_ending current)
+
+-- what is said of a transfer that ends so
 abbrev pub closed : Option Transfer → ℕ → Ending → Option Ended
 closed None micros ending = None
-closed (Some transfer) micros ending = Some (ended transfer micros ending)
+closed (Some transfer) micros ending = if is_lost transfer then None else Some (ended transfer micros ending)
 
 -- ---- one frame
 
@@ -75,16 +93,25 @@ stray false = BegunBefore
 abbrev pub passes : Bool → Followed
 passes heard = record { says = record { what = stray heard; of = None; ended = None }; next = record { heard = heard; transfer = None } }
 
--- an abort
-abbrev pub aborts : Bool → Transfer → Side → AbortCode → ℕ → Followed
-aborts heard transfer side code micros = record {
-  says = record { what = Part; of = None; ended = Some (ended (one_more transfer) micros (Aborted side code)) };
-  next = record { heard = heard; transfer = None };
-}
+-- an abort; what looks like one of the client may be none of this transfer
+abbrev pub abort_ending : Side → Bool → AbortCode → Ending
+abort_ending Server none code = Aborted Server code
+abort_ending Client none code = if none then NotFollowed None else Aborted Client code
+
+-- after one that is none of this transfer, what comes is of one that began before the recording
+abbrev pub aborts : Bool → Transfer → Side → AbortCode → ℕ → List ℕ → Followed
+aborts heard transfer side code micros bytes =
+    let ending = abort_ending side (is_no_abort transfer bytes) code in
+    record {
+      says = record { what = Part; of = None; ended = Some (ended (one_more transfer) micros ending) };
+      next = record { heard = heard && is_followed ending; transfer = None };
+    }
 
 -- the transfer with a frame; one of another transfer doesn't count
 abbrev pub with_frame : What → Transfer → ℕ → Side → Transfer
 with_frame Overtaken transfer micros side = transfer
+with_frame Unexpected transfer micros side =
+    record (one_more transfer) { newest = micros; by = side; went_on = went_on_with side transfer.stage transfer.went_on }
 with_frame _ transfer micros side = record (one_more transfer) { newest = micros; by = side }
 
 -- another frame: the transfer goes on, or is confirmed
@@ -104,7 +131,7 @@ turns heard before turn micros side = turns_at (confirmed_with turn.transfer.sta
 abbrev pub followed_by : Bool → Option Transfer → Reading → ℕ → Side → List ℕ → Followed
 followed_by heard current (Begin request) micros side bytes = begins current request micros bytes
 followed_by heard None reading micros side bytes = passes heard
-followed_by heard (Some transfer) (Abort code) micros side bytes = aborts heard transfer side code micros
+followed_by heard (Some transfer) (Abort code) micros side bytes = aborts heard transfer side code micros bytes
 followed_by heard (Some transfer) reading micros side bytes = turns heard transfer (turn_of transfer reading bytes) micros side
 
 -- a frame without a key of its own is of the open transfer's entry

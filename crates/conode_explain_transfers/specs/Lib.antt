@@ -12,3 +12,4 @@ pub mod Transfers
 pub mod Turns
 pub mod Tellings
 pub mod Tracks
+pub mod Unanswered

@@ -1,13 +1,17 @@
 -- The SDO channels of a recording, one for each node on each interface; each is followed as
 -- `followed` says.
-use Rattle.std.specs.Prelude.{ℕ, ◌==◌, ◌&&◌, nat_lt, Bool, if◌then◌else◌, List, [], ◌∷◌, ◌++◌, length, slice_set, position, Option, Some, None}
+use Rattle.std.specs.Prelude.{ℕ, ◌==◌, ◌&&◌, nat_lt, Bool, true, false, if◌then◌else◌, List, [], ◌∷◌, ◌++◌, length, slice_set, position, Option, Some, None}
 use Rattle.std.specs.List.{slice_index_or}
 use Rattle.std.specs.Str.{bytes_eq}
-use Rattle.conode_explain_transfers.specs.declared.ended.Ending.TheVariants.{Interrupted}
+use Rattle.conode_explain_transfers.specs.declared.ended.Ending.{Ending}
+use Rattle.conode_explain_transfers.specs.declared.ended.Ending.TheVariants.{NotFollowed}
+use Rattle.conode_explain_transfers.specs.declared.ended.Ended.{Ended}
+use Rattle.conode_explain_transfers.specs.declared.channel.Heard.{Heard}
 use Rattle.conode_explain_transfers.specs.declared.kinds.Side.{Side}
-use Rattle.conode_explain_transfers.specs.declared.kinds.Side.TheVariants.{Client, Server}
-use Rattle.conode_explain_transfers.specs.Followed.{Following, Followed, nothing_heard, followed, closed, after_boot}
-use Rattle.conode_explain_transfers.specs.declared.told.Part.{Part}
+use Rattle.conode_explain_transfers.specs.declared.kinds.What.{What}
+use Rattle.conode_explain_transfers.specs.declared.kinds.What.TheVariants.{Segment}
+use Rattle.conode_explain_transfers.specs.Endings.{is_followed}
+use Rattle.conode_explain_transfers.specs.Followed.{Following, nothing_heard, followed, broken_off, after_boot}
 use Rattle.conode_explain_transfers.specs.declared.told.Told.{Told}
 use Rattle.conode_explain_transfers.specs.declared.track.Track.{Track}
 
@@ -57,19 +61,35 @@ pub record Telling : Type 0 where
   pub told : Option Told
   pub tracks : List Track
 
--- a frame with its stamp, by an end, with these bytes, on the channel at a place
-abbrev pub told_by : Side → ℕ → Followed → Told
-told_by side node f = record {
+-- nothing is said of the end of a transfer that can't be followed
+abbrev pub shown_end : Option Ended → Option Ended
+shown_end None = None
+shown_end (Some e) = if is_followed e.ending then Some e else None
+
+-- what looks like the next initiate request is a segment too, with its number
+abbrev pub frame_after : What → Ending → What
+frame_after what (NotFollowed (Some number)) = Segment number
+frame_after what ending = what
+
+abbrev pub shown_what : What → Option Ended → What
+shown_what what None = what
+shown_what what (Some e) = frame_after what e.ending
+
+-- a frame of an end, of which its channel says this
+abbrev pub told_by : Side → ℕ → Heard → Told
+told_by side node heard = record {
   node = node;
-  part = Some (record { side = side; what = f.says.what; of = f.says.of });
-  ended = f.says.ended;
+  part = Some (record { side = side; what = shown_what heard.what heard.ended; of = heard.of });
+  ended = shown_end heard.ended;
 }
+
+-- a frame with its stamp, by an end, with these bytes, on the channel at a place
 
 abbrev pub telling_at : Option ℕ → List Track → ℕ → ℕ → Side → List ℕ → Telling
 telling_at None tracks node micros side bytes = record { told = None; tracks = tracks }
 telling_at (Some place) tracks node micros side bytes =
     let f = followed (track_at tracks place).channel micros side bytes in
-    record { told = Some (told_by side node f); tracks = with_channel tracks place f.next }
+    record { told = Some (told_by side node f.says); tracks = with_channel tracks place f.next }
 
 -- a frame of a node on an interface; a channel that there is no room for isn't followed
 unfoldable pub sdo_telling : List Track → List ℕ → ℕ → ℕ → Side → List ℕ → Telling
@@ -82,7 +102,7 @@ boot_telling_at None tracks node micros = record { told = None; tracks = tracks 
 boot_telling_at (Some place) tracks node micros =
     let following = (track_at tracks place).channel in
     record {
-      told = Some (record { node = node; part = None; ended = closed following.transfer micros Interrupted });
+      told = Some (record { node = node; part = None; ended = shown_end (broken_off following.transfer micros) });
       tracks = with_channel tracks place (after_boot following);
     }
 

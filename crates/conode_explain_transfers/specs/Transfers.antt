@@ -32,6 +32,7 @@ begun initiate micros bytes = record {
   begun = micros;
   newest = micros;
   by = Client;
+  went_on = false;
 }
 
 abbrev pub is_download : Direction → Bool

@@ -1,10 +1,14 @@
 //! A channel that is followed through a recording.
 
 ghost use Rattle.std.specs.Prelude.{◌≡◌, ◌+◌, [], ◌∷◌, List, IsSome, IfSome};
-ghost use Rattle.conode_explain_transfers.specs.declared.ended.Ending.TheVariants.{Interrupted, Unfinished};
+ghost use Rattle.conode_explain_transfers.specs.declared.ended.Ending.TheVariants.{Unfinished};
 ghost use Rattle.conode_explain_transfers.specs.Followed.{
   nothing_heard,
+  abort_ending,
+  boot_ending,
+  broken_off,
   closed,
+  ends_as,
   left_ending,
   one_more,
   begins,
@@ -26,13 +30,15 @@ ghost use Rattle.conode_explain_transfers.specs.Followed.{
 ghost use Rattle.conode_explain_transfers.specs.Readings.{IsReading};
 ghost use Rattle.conode_explain_transfers.specs.Transfers.{after};
 ghost use Rattle.conode_explain_transfers.specs.Turns.{turn_of};
+ghost use Rattle.conode_explain_transfers.specs.Unanswered.{is_no_abort};
 
 use crate::ended::{Ended, Ending};
 use crate::initiate::Initiate;
 use crate::kinds::{Side, What};
 use crate::reading::{Reading, reading_of};
 use crate::transfer::Transfer;
-use co_frame::Frame;
+use crate::unanswered::{number_of, went_on_with};
+use co_frame::{AbortCode, Frame};
 use co_value::Key;
 use std::marker::Model;
 
@@ -68,12 +74,30 @@ impl Transfer {
     fn left_ending(&self, frame: &Frame) -> Ending
         ensures { result ≡ left_ending self.now frame.now.bytes }
     {
+        if self.segment_follows(frame) {
+            return Ending::NotFollowed {
+                next: Some(number_of(frame)),
+            };
+        }
+        if self.is_lost() {
+            return Ending::NotFollowed { next: None };
+        }
         if self.is_same_request(frame) {
             return Ending::Repeated;
         }
         match self.by {
             Side::Client => Ending::Unanswered,
             Side::Server => Ending::Interrupted,
+        }
+    }
+
+    // How it ends with an abort by an end.
+    fn abort_ending(&self, by: Side, code: AbortCode, frame: &Frame) -> Ending
+        ensures { result ≡ abort_ending by (is_no_abort self.now frame.now.bytes) code }
+    {
+        match by {
+            Side::Client if self.is_no_abort(frame) => Ending::NotFollowed { next: None },
+            _ => Ending::Aborted { by, code },
         }
     }
 
@@ -104,6 +128,12 @@ impl Transfer {
     {
         match what {
             What::Overtaken => {}
+            What::Unexpected => {
+                self.went_on = went_on_with(side, self.stage, self.went_on);
+                self.count_frame();
+                self.newest = micros;
+                self.by = side;
+            }
             _ => {
                 self.count_frame();
                 self.newest = micros;
@@ -170,7 +200,7 @@ impl Channel {
 
     // The open transfer ends.
     fn close(&mut self, micros: u64, ending: Ending) -> Option<Ended>
-        ensures ended { result ≡ closed self.old.transfer micros ending }
+        ensures ended { result ≡ ends_as self.old.transfer micros ending }
         ensures next { self.new ≡ after_boot self.old }
     {
         let ended = match &self.transfer {
@@ -179,6 +209,16 @@ impl Channel {
         };
         self.transfer = None;
         ended
+    }
+
+    // How the open transfer ends with a boot-up of the server.
+    fn boot_ending(&self) -> Ending
+        ensures { result ≡ boot_ending self.now.transfer }
+    {
+        match &self.transfer {
+            Some(transfer) if transfer.is_lost() => Ending::NotFollowed { next: None },
+            _ => Ending::Interrupted,
+        }
     }
 
     // A frame that goes on with the open transfer.
@@ -233,10 +273,8 @@ impl Channel {
         match reading {
             Reading::Abort(code) => {
                 transfer.count_frame();
-                let ending = Ending::Aborted {
-                    by: side,
-                    code: *code,
-                };
+                let ending = transfer.abort_ending(side, *code, frame);
+                self.heard = self.heard && ending.is_followed();
                 let ended = self.close(micros, ending);
                 Heard {
                     what: What::Part,
@@ -272,22 +310,25 @@ impl Channel {
 
     /// The server booted up, at this stamp: an open transfer is interrupted.
     pub fn boot_up(&mut self, micros: u64) -> Option<Ended>
-        ensures ended { result ≡ closed self.old.transfer micros Interrupted }
+        ensures ended { result ≡ broken_off self.old.transfer micros }
         ensures next { self.new ≡ after_boot self.old }
         ensures stands { (log : List Event) → self.old ≡ following_after log →
             self.new ≡ following_after (BootedUp micros ∷ log) }
     {
-        self.close(micros, Ending::Interrupted)
+        let ending = self.boot_ending();
+        self.close(micros, ending)
     }
 
     /// The transfer that is open where the recording ends, as unfinished; `micros` is the stamp of
-    /// the recording's last frame.
+    /// the recording's last frame. `None` too for one that can't be followed.
     pub fn unfinished(&self, micros: u64) -> Option<Ended>
         ensures { result ≡ closed self.now.transfer micros Unfinished }
     {
         match &self.transfer {
-            Some(transfer) => Some(transfer.ended(micros, Ending::Unfinished)),
-            None => None,
+            Some(transfer) if !transfer.is_lost() => {
+                Some(transfer.ended(micros, Ending::Unfinished))
+            }
+            _ => None,
         }
     }
 }

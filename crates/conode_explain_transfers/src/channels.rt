@@ -1,8 +1,7 @@
 //! The SDO channels of a recording.
 
 ghost use Rattle.std.specs.Prelude.{◌≡◌, ◌<◌, ◌≤◌, [], length, OnOk, IfOk, IfSome};
-ghost use Rattle.conode_explain_transfers.specs.declared.ended.Ending.TheVariants.{Interrupted};
-ghost use Rattle.conode_explain_transfers.specs.Followed.{followed, closed, after_boot};
+ghost use Rattle.conode_explain_transfers.specs.Followed.{followed, broken_off, after_boot};
 ghost use Rattle.conode_explain_transfers.specs.Tracks.{
   place_of,
   track_at,
@@ -13,7 +12,8 @@ ghost use Rattle.conode_explain_transfers.specs.Tracks.{
 };
 ghost use Rattle.conode_explain_transfers.specs.Tellings.{is_boot_up, telling};
 
-use crate::told::{Part, Told};
+use crate::ended::shown_end;
+use crate::told::Told;
 use crate::track::Track;
 use crate::{Ended, Heard, Side};
 use co_frame::Frame;
@@ -109,7 +109,7 @@ impl Channels {
     fn boot_at(&mut self, place: usize, micros: u64) -> Option<Ended>
         requires { place < length self.old }
         ensures ended { result
-            ≡ closed (track_at self.old place).channel.transfer micros Interrupted }
+            ≡ broken_off (track_at self.old place).channel.transfer micros }
         ensures tracks { self.new
             ≡ with_channel self.old place (after_boot (track_at self.old place).channel) }
     {
@@ -136,16 +136,7 @@ impl Channels {
             return Ok(None);
         };
         let heard = self.take_at(place, micros, side, frame);
-        let part = Part {
-            side,
-            what: heard.what,
-            of: heard.of,
-        };
-        Ok(Some(Told {
-            node,
-            part: Some(part),
-            ended: heard.ended,
-        }))
+        Ok(Some(Told::by(side, node, heard)))
     }
 
     // A node booted up.
@@ -159,7 +150,7 @@ impl Channels {
         Some(Told {
             node,
             part: None,
-            ended,
+            ended: shown_end(ended),
         })
     }
 

@@ -1,7 +1,8 @@
 //! How transfers end.
 
 ghost use Rattle.std.specs.Prelude.{◌≡◌, take};
-ghost use Rattle.conode_explain_transfers.specs.Endings.{verdict, size_fault, ended};
+ghost use Rattle.conode_explain_transfers.specs.Endings.{verdict, size_fault, ended, is_followed};
+ghost use Rattle.conode_explain_transfers.specs.Tracks.{shown_end};
 
 use crate::kinds::{Direction, Protocol, Side};
 use crate::transfer::Transfer;
@@ -32,6 +33,11 @@ pub enum Ending {
     SizeDiffers { indicated: u32 },
     /// It was confirmed, but the CRC that came isn't that of the bytes.
     CrcDiffers { came: u16, computed: u16 },
+    /// It can't be followed: the client went on before the response to initiate. That isn't in the
+    /// recording; or what looked like the request was a segment of a sub-block whose begin isn't.
+    /// `next`: it went on with what looks like another request, and is the next segment, with this
+    /// number.
+    NotFollowed { next: Option<u8> },
 }
 
 /// A transfer that ended.
@@ -57,6 +63,32 @@ pub struct Ended {
     pub end: u64,
     /// How it ended.
     pub ending: Ending,
+}
+
+impl Ending {
+    /// Whether the transfer can be followed.
+    pub(crate) fn is_followed(self) -> bool
+        ensures { result ≡ is_followed self }
+    {
+        match self {
+            Ending::NotFollowed { next: _ } => false,
+            _ => true,
+        }
+    }
+}
+
+/// The transfer that ended; nothing is said of one that can't be followed.
+pub(crate) fn shown_end(ended: Option<Ended>) -> Option<Ended>
+    ensures { result ≡ shown_end ended }
+{
+    let Some(ended) = ended else {
+        return None;
+    };
+    if ended.ending.is_followed() {
+        Some(ended)
+    } else {
+        None
+    }
 }
 
 // the indicated size, if the number of bytes isn't that

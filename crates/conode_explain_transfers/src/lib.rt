@@ -19,6 +19,7 @@ mod stage;
 mod told;
 mod track;
 mod transfer;
+mod unanswered;
 
 pub use channel::{Channel, Heard};
 pub use channels::Channels;

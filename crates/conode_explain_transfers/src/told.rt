@@ -1,6 +1,10 @@
 //! What the channels say about a frame.
 
-use crate::{Ended, Side, What};
+ghost use Rattle.std.specs.Prelude.{◌≡◌};
+ghost use Rattle.conode_explain_transfers.specs.Tracks.{shown_what, told_by};
+
+use crate::ended::shown_end;
+use crate::{Ended, Ending, Heard, Side, What};
 use co_value::Key;
 
 /// What a frame is in the transfers of its channel.
@@ -24,4 +28,35 @@ pub struct Told {
     pub part: Option<Part>,
     /// The transfer that ended with it.
     pub ended: Option<Ended>,
+}
+
+// what a frame is; where it looks like an initiate request, and is a segment, that
+fn shown_what(what: What, ended: &Option<Ended>) -> What
+    ensures { result ≡ shown_what what ended.now }
+{
+    match ended {
+        Some(ended) => match ended.ending {
+            Ending::NotFollowed { next: Some(number) } => What::Segment { number },
+            _ => what,
+        },
+        None => what,
+    }
+}
+
+impl Told {
+    /// What is said about a frame of an end of a node's channel, which heard this.
+    pub fn by(side: Side, node: u8, heard: Heard) -> Told
+        ensures { result ≡ told_by side node heard }
+    {
+        let part = Part {
+            side,
+            what: shown_what(heard.what, &heard.ended),
+            of: heard.of,
+        };
+        Told {
+            node,
+            part: Some(part),
+            ended: shown_end(heard.ended),
+        }
+    }
 }

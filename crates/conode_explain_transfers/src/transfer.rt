@@ -52,6 +52,8 @@ pub(crate) struct Transfer {
     pub(crate) begun: u64,
     pub(crate) newest: u64,
     pub(crate) by: Side,
+    /// Whether the client went on before the response to initiate, with a frame that begins nothing.
+    pub(crate) went_on: bool,
 }
 
 impl Transfer {
@@ -82,6 +84,7 @@ impl Transfer {
             begun: micros,
             newest: micros,
             by: Side::Client,
+            went_on: false,
         }
     }
 

@@ -20,8 +20,8 @@ use Rattle.co_dict_faults.specs.AllBuildFaults.{bad_mappings, bad_words, build_f
 use Rattle.co_dict_faults.specs.MappingReasons.{is_empty, mapping_faults, side_of}
 use Rattle.co_dict_faults.specs.SoundPlans.{rests_mapping, sound_plan, sums_outside}
 use Rattle.co_dict_faults.specs.declared.mapping_fault.MappingFault.{MappingFault}
-use Rattle.conode_lint.specs.declared.mark.Mark.{Mark}
-use Rattle.conode_lint.specs.BuildLines.{build_marks, built_marks, mapping_mark, marks_with}
+use Rattle.conode_lint_marks.specs.declared.mark.Mark.{Mark}
+use Rattle.conode_lint_marks.specs.BuildLines.{build_marks, built_marks, mapping_mark, marks_with}
 use Rattle.conode_lint.specs.Linted.{has_error}
 
 -- a list has an element

@@ -1,72 +1,10 @@
--- Lines, formats and names that pass, evaluated.
-use Rattle.std.proofs.Common.{◌≡◌, ℕ, true, false, List, [], ◌∷◌, codes, Some, None, refl}
-use Rattle.co_value.specs.declared.key.Key.{Key}
-use Rattle.co_value.specs.declared.data_type.DataType.TheVariants.{Unsigned8}
-use Rattle.co_profile.specs.declared.access.Access.TheVariants.{Rw}
-use Rattle.co_sheet_rows.specs.declared.object.ObjectType.TheVariants.{Var}
-use Rattle.co_sheet.specs.Content.{Row, ObjectRow, SheetContent}
-use Rattle.co_sheet.specs.Limits.{absent}
-use Rattle.co_sheet_text.specs.Sections.{Property, TextSection}
-use Rattle.co_sheet_text.specs.declared.section_kind.SectionKind.TheVariants.{Object}
-use Rattle.co_dict_build.specs.declared.build_fault.BuildFault.TheVariants.{NodeId, ValueRange, BadCobId, PdoPair, BadMapping, TooMany}
-use Rattle.co_dict_faults.specs.declared.mapping_fault.MappingReason.TheVariants.{Missing}
-use Rattle.conode_lint.specs.declared.mark.OtherFormat.TheVariants.{Xml, EtherNetIp, Utf16}
-use Rattle.conode_lint.specs.declared.mark.Subject.TheVariants.{Build, Mapping}
-use Rattle.conode_lint.specs.Allowed.{passes_by}
-use Rattle.conode_lint.specs.BuildLines.{build_line, entry_line, marks_with, value_line}
+-- Formats, the node-ID and names that pass, evaluated.
+use Rattle.std.proofs.Common.{◌≡◌, true, false, [], ◌∷◌, codes, Some, None, refl}
+use Rattle.co_sheet.specs.Content.{SheetContent}
+use Rattle.conode_lint_marks.specs.declared.mark.OtherFormat.TheVariants.{Xml, EtherNetIp, Utf16}
+use Rattle.conode_lint.specs.Allowed.{name_allowed, name_in, names_in, passes_by}
 use Rattle.conode_lint.specs.Formats.{begins_with, has_line, other_format}
 use Rattle.conode_lint.specs.Marks.{format_of, node_for}
-
--- ---- 2000h at line 10, with a DefaultValue at 12 and a ParameterValue at 14; 2001h at line 20, with a DefaultValue at 22;
--- 2002h at line 30, without a value
-
-abbrev key : ℕ → ℕ → Key
-key index sub = record { index = index; sub = sub }
-
-abbrev row : ℕ → ℕ → Row
-row index line = record { key = key index 0; data_type = Unsigned8; access = Rw; low = None; high = None; default = absent; mappable = false; name = None; line = line }
-
-abbrev object : ℕ → ℕ → ObjectRow
-object index line = record { index = index; object_type = Var; name = None; line = line }
-
-abbrev sheet : SheetContent
-sheet = record {
-  objects = object 0x2000 10 ∷ object 0x2001 20 ∷ object 0x2002 30 ∷ [];
-  rows = row 0x2000 10 ∷ row 0x2001 20 ∷ row 0x2002 30 ∷ [];
-  sections = [];
-  notes = [];
-  dummies = [];
-  node_id = Some 7;
-}
-
-abbrev property : List ℕ → ℕ → Property
-property name line = record { name = name; value = codes "1"; line = line }
-
-abbrev section : ℕ → ℕ → List Property → TextSection
-section index line properties = record { kind = Object index; name = []; line = line; properties = properties }
-
-abbrev sections : List TextSection
-sections =
-    section 0x2000 10 (property (codes "DefaultValue") 12 ∷ property (codes "ParameterValue") 14 ∷ [])
-    ∷ section 0x2001 20 (property (codes "DefaultValue") 22 ∷ []) ∷ section 0x2002 30 [] ∷ []
-
--- the last two: a sub-index that isn't there, and an object that isn't
-entry_lines : entry_line sheet sections (key 0x2000 0) ∷ entry_line sheet sections (key 0x2001 0) ∷ entry_line sheet sections (key 0x2002 0)
-    ∷ entry_line sheet sections (key 0x2002 1) ∷ entry_line sheet sections (key 0x2003 0) ∷ [] ≡ 14 ∷ 22 ∷ 30 ∷ 30 ∷ 0 ∷ []
-unfolding entry_line value_line
-entry_lines = refl
-
--- of a value, of an object, and of none
-build_lines : build_line sheet sections (ValueRange (key 0x2000 0)) ∷ build_line sheet sections (BadCobId (key 0x2001 0)) ∷ build_line sheet sections (PdoPair 0x2001)
-    ∷ build_line sheet sections TooMany ∷ build_line sheet sections NodeId ∷ [] ≡ 14 ∷ 22 ∷ 20 ∷ 0 ∷ 0 ∷ []
-unfolding entry_line value_line
-build_lines = refl
-
--- a mapping has the marks of its words in place of its own
-mapping_words : marks_with sheet sections (PdoPair 0x2001 ∷ BadMapping (key 0x2000 0) ∷ []) (record { key = key 0x2000 0; reason = Missing } ∷ [])
-    ≡ record { line = 20; subject = Build (PdoPair 0x2001) } ∷ record { line = 14; subject = Mapping (record { key = key 0x2000 0; reason = Missing }) } ∷ []
-unfolding marks_with entry_line value_line
-mapping_words = refl
 
 -- ---- formats
 
@@ -103,8 +41,19 @@ sheet_format = refl
 
 -- ---- the node-ID: given, the sheet's own, none
 
+abbrev sheet : SheetContent
+sheet = record { objects = []; rows = []; sections = []; notes = []; dummies = []; node_id = Some 7 }
+
 nodes : node_for (Some 5) (Some sheet) ∷ node_for None (Some sheet) ∷ node_for (Some 5) None ∷ node_for None None ∷ [] ≡ Some 5 ∷ Some 7 ∷ Some 5 ∷ None ∷ []
 nodes = refl
+
+-- ---- names that a sheet allows: with blanks around `;`, or without; no name, no comment, other words
+
+allowed : names_in (codes "; lint: allow Unlisted" ∷ codes ";lint: allow BadList" ∷ codes " ;  lint: allow  SubNumber " ∷ codes ";lint: allow " ∷ codes "lint: allow LongLine" ∷ codes ";lint:allow LongLine"
+    ∷ codes ";; lint: allow LongLine" ∷ codes "; Lint: allow LongLine" ∷ codes "" ∷ codes ";" ∷ codes "DefaultValue=1 ; lint: allow LongLine" ∷ [])
+    ≡ codes "Unlisted" ∷ codes "BadList" ∷ codes "SubNumber" ∷ []
+unfolding name_in name_allowed
+allowed = refl
 
 -- ---- names that pass: by the words, by the sheet; in this case of letters alone
 

@@ -6,7 +6,8 @@ use Rattle.co_sheet.specs.Accepted.{IsAccepted, IsAnswered, first_fault, section
 use Rattle.co_sheet.specs.Content.{IsSheet, SheetContent, content_of}
 use Rattle.co_sheet_rows.specs.declared.fault.FaultKind.TheVariants.{Memory}
 use Rattle.co_sheet_faults.specs.AllFaults.{faults_of}
-use Rattle.conode_lint.specs.Marks.{IsFaultList, sheet_of}
+use Rattle.conode_lint.specs.Marks.{IsFaultList}
+use Rattle.conode_lint_marks.specs.Beside.{sheet_of}
 
 -- what was read is the sheet of the text
 pub sheet_read : (text : List ℕ) (sheet : SheetContent) → IsSheet text sheet → Some sheet ≡ sheet_of text

@@ -18,14 +18,16 @@ use Rattle.co_dict_build.specs.Built.{Plan, plan_of}
 use Rattle.co_dict_build.specs.BuildFaults.{build_fault}
 use Rattle.co_dict_build.specs.Capacities.{Limits, limits_view}
 use Rattle.co_dict_build.specs.declared.build_fault.BuildFault.{BuildFault}
-use Rattle.conode_lint.specs.declared.mark.Mark.{Mark}
-use Rattle.conode_lint.specs.declared.mark.OtherFormat.{OtherFormat}
+use Rattle.conode_lint_marks.specs.declared.mark.Mark.{Mark}
+use Rattle.conode_lint_marks.specs.declared.mark.OtherFormat.{OtherFormat}
 use Rattle.conode_lint.specs.declared.marks.Checks.{Checks}
-use Rattle.conode_lint.specs.BuildLines.{built_marks}
+use Rattle.conode_lint_marks.specs.BuildLines.{built_marks}
 use Rattle.conode_lint.specs.Formats.{other_format}
 use Rattle.co_sheet_warnings.specs.Lines.{text_lines}
 use Rattle.conode_lint.specs.Linted.{first_build_fault, has_error, is_good}
-use Rattle.conode_lint.specs.Marks.{IsAllFound, IsFaultList, IsFound, IsFoundIn, beside_marks, fault_mark, left_of, format_of, node_for, sheet_marks, sheet_of, text_marks, warning_mark}
+use Rattle.conode_lint.specs.Marks.{IsAllFound, IsFaultList, IsFound, IsFoundIn, fault_mark, left_of, format_of, node_for, sheet_marks, text_marks}
+use Rattle.conode_lint_marks.specs.Beside.{beside_marks, sheet_of}
+use Rattle.conode_lint_marks.specs.KnownWarnings.{warning_mark}
 use Rattle.conode_lint.proofs.BuildLaws.{has_any}
 
 -- ---- marks that are errors, and warnings

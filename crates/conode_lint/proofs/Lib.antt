@@ -1,5 +1,3 @@
-pub mod CutLemmas
-pub mod LoopLemmas
 mod FaultLemmas
 mod WordLemmas
 mod ReasonWordLemmas
@@ -7,5 +5,3 @@ mod MarkLemmas
 mod BuildLaws
 mod FoundLaws
 mod Examples
-mod KnownExamples
-mod KnownWarningExamples

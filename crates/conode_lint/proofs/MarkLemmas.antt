@@ -4,7 +4,7 @@ use Rattle.std.proofs.lemmas.Bool.{lt-ltb}
 use Rattle.std.proofs.lemmas.Bool.Decides.{nat_tests}
 use Rattle.std.proofs.lemmas.List.{append-nil}
 use Rattle.co_sheet_rows.specs.declared.fault.SheetFault.{SheetFault}
-use Rattle.co_sheet.specs.Content.{Row, SheetContent}
+use Rattle.co_sheet.specs.Content.{SheetContent}
 use Rattle.co_sheet_text.specs.LinesAtFault.{sections_read}
 use Rattle.co_sheet_text.specs.Sections.{TextSection}
 use Rattle.co_sheet_text.specs.declared.section_kind.SectionKind.{SectionKind}
@@ -13,37 +13,16 @@ use Rattle.co_sheet_warnings.specs.declared.warning.Warning.{Warning}
 use Rattle.co_sheet_mend.specs.ReadableTexts.{mended_in}
 use Rattle.co_sheet_warnings.specs.ReadTexts.{own_node, read_text}
 use Rattle.co_sheet_warnings.specs.Warnings.{IsByLine as IsWarningsByLine, all_warnings, warnings_of}
-use Rattle.co_dict_build.specs.Built.{Plan}
 use Rattle.co_dict_build.specs.Capacities.{Limits, limits_view}
-use Rattle.co_dict_build.specs.declared.build_fault.BuildFault.{BuildFault}
-use Rattle.co_dict_faults.specs.AllBuildFaults.{build_faults_of, mapping_faults_of}
-use Rattle.co_dict_faults.specs.declared.mapping_fault.MappingFault.{MappingFault}
 use Rattle.conode_lint.specs.declared.linted_text.Linted.{Linted}
-use Rattle.conode_lint.specs.declared.mark.Mark.{Mark}
+use Rattle.conode_lint_marks.specs.declared.mark.Mark.{Mark}
 use Rattle.conode_lint.specs.declared.marks.Checks.{Checks}
-use Rattle.conode_lint.specs.BuildLines.{built_marks, marks_with}
 use Rattle.co_sheet_warnings.specs.Lines.{text_lines}
-use Rattle.conode_lint.specs.KnownFaults.{known_marks, known_with}
-use Rattle.conode_lint.specs.KnownWarnings.{known_warnings}
+use Rattle.conode_lint_marks.specs.AtFault.{kinds_at_fault}
+use Rattle.conode_lint_marks.specs.KnownWarnings.{known_warnings, warning_mark}
 use Rattle.conode_lint.specs.Linted.{IsLinted, IsMadeOf, left}
-use Rattle.conode_lint.specs.Marks.{IsFound, IsMarked, fault_mark, node_for, sheet_marks, sheet_of, text_marks, text_sections, warning_mark, beside_for, beside_in, beside_marks, left_of}
-
--- of all faults of a build
-pub plan_marks : (sheet : SheetContent) (sections : List TextSection) (plan : Plan) (faults : List BuildFault) (mappings : List MappingFault) → faults ≡ build_faults_of plan → mappings ≡ mapping_faults_of plan
-    → marks_with sheet sections faults mappings ≡ built_marks sheet sections plan
-unfolding built_marks
-plan_marks sheet sections plan faults mappings is_faults is_mappings =
-    ap (λ (l : List BuildFault). marks_with sheet sections l mappings) is_faults ∙ ap (marks_with sheet sections (build_faults_of plan)) is_mappings
-
--- of those that rest on nothing at fault
-pub plan_known : (rows : List Row) (sections : List TextSection) (kinds : List SectionKind) (sheet : SheetContent) (plan : Plan) (faults : List BuildFault) (mappings : List MappingFault)
-    → rows ≡ sheet.rows → faults ≡ build_faults_of plan → mappings ≡ mapping_faults_of plan
-    → known_with rows sections kinds faults mappings ≡ known_marks sections kinds sheet plan
-unfolding known_marks
-plan_known rows sections kinds sheet plan faults mappings is_rows is_faults is_mappings =
-    ap (λ (l : List Row). known_with l sections kinds faults mappings) is_rows
-    ∙ ap (λ (l : List BuildFault). known_with sheet.rows sections kinds l mappings) is_faults
-    ∙ ap (known_with sheet.rows sections kinds (build_faults_of plan)) is_mappings
+use Rattle.conode_lint.specs.Marks.{IsFound, IsMarked, fault_mark, node_for, sheet_marks, text_marks, text_sections, left_of}
+use Rattle.conode_lint_marks.specs.Beside.{beside_for, beside_in, beside_marks, sheet_of}
 
 text_marks_with : (text : List ℕ) (checks : Checks) (sheet : Option SheetContent) (node : Option ℕ) → sheet ≡ sheet_of text → node ≡ node_for checks.node sheet
     → sheet_marks (limits_view checks.limits) (sections_read (lines_of text)) sheet node ≡ text_marks text checks.node (limits_view checks.limits)
@@ -101,14 +80,14 @@ unfolding mended_in
 not_mended zero text large = refl
 not_mended (suc rounds) text large = by_size (ltb 1048576 (length text)) _ (lt-ltb 1048576 (length text) large)
 
-beside_none : (limits : Limits) (faults : List SheetFault) (text : List ℕ) (sections : List TextSection) (own : Option ℕ) → mended_in 8 text ≡ None → beside_for limits faults text sections own ≡ []
-beside_none limits faults text sections (Some id) none = ap (beside_in limits faults sections id) none
-beside_none limits faults text sections None none = refl
+beside_none : (limits : Limits) (kinds : List SectionKind) (text : List ℕ) (sections : List TextSection) (own : Option ℕ) → mended_in 8 text ≡ None → beside_for limits kinds text sections own ≡ []
+beside_none limits kinds text sections (Some id) none = ap (beside_in limits kinds sections id) none
+beside_none limits kinds text sections None none = refl
 
 no_beside : (text : List ℕ) (checks : Checks) (faults : List SheetFault) → 1048576 < length text → beside_marks text checks.node (limits_view checks.limits) faults ≡ []
 no_beside text checks [] large = refl
 no_beside text checks (fault ∷ faults) large =
-    beside_none (limits_view checks.limits) (fault ∷ faults) text (sections_read (lines_of text)) (own_node checks.node (sections_read (lines_of text))) (not_mended 8 text large)
+    beside_none (limits_view checks.limits) (kinds_at_fault (fault ∷ faults) (sections_read (lines_of text))) text (sections_read (lines_of text)) (own_node checks.node (sections_read (lines_of text))) (not_mended 8 text large)
 
 -- a text that is too large has its fault alone
 pub marked_large : (text : List ℕ) (checks : Checks) (faults : List SheetFault) (sheet : Option SheetContent) (marks : List Mark)

@@ -1,23 +1,31 @@
 -- Which findings are allowed, and how many others are errors.
-use Rattle.std.specs.Prelude.{ℕ, Bool, true, false, nat_lt, ◌||◌, if◌then◌else◌, List, [], ◌∷◌, length, take, drop, option_to_list, codes, Option, Some, None}
+use Rattle.std.specs.Prelude.{ℕ, Bool, true, false, nat_lt, ◌==◌, ◌||◌, if◌then◌else◌, List, [], ◌∷◌, length, take, drop, option_to_list, codes, Option, Some, None}
 use Rattle.std.specs.List.{flat_map, list_any}
 use Rattle.std.specs.Str.{bytes_eq}
 use Rattle.co_sheet_text.specs.Text.{trim}
 use Rattle.conode_lint_text.specs.declared.finding.Severity.{Severity}
 use Rattle.conode_lint_text.specs.declared.finding.Severity.TheVariants.{Error, Warning}
-use Rattle.conode_lint.specs.declared.mark.Mark.{Mark}
+use Rattle.conode_lint_marks.specs.declared.mark.Mark.{Mark}
 use Rattle.conode_lint.specs.Words as words
 
 -- the beginning of a comment that allows findings of a name
 abbrev pub allow_words : List ℕ
-allow_words = codes "; lint: allow "
+allow_words = codes "lint: allow "
+
+-- the name that a comment allows
+unfoldable pub name_allowed : List ℕ → Option (List ℕ)
+name_allowed comment =
+    if nat_lt (length comment) 12 then None
+    else (if bytes_eq (take 12 comment) allow_words then Some (trim (drop 12 comment)) else None)
+
+-- the name that a line without blanks at its ends allows: `;` begins a comment
+abbrev pub name_at : List ℕ → Option (List ℕ)
+name_at [] = None
+name_at (b ∷ text) = if b == 59 then name_allowed (trim text) else None
 
 -- the name that a line allows
 unfoldable pub name_in : List ℕ → Option (List ℕ)
-name_in line =
-    let text = trim line in
-    if nat_lt (length text) 14 then None
-    else (if bytes_eq (take 14 text) allow_words then Some (trim (drop 14 text)) else None)
+name_in line = name_at (trim line)
 
 -- the names that lines allow
 abbrev pub names_in : List (List ℕ) → List (List ℕ)

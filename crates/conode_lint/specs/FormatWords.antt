@@ -1,7 +1,7 @@
 -- The words about a text that is no data sheet of CANopen.
 use Rattle.std.specs.Prelude.{List, ℕ, codes}
-use Rattle.conode_lint.specs.declared.mark.OtherFormat.{OtherFormat}
-use Rattle.conode_lint.specs.declared.mark.OtherFormat.TheVariants.{Xml, EtherNetIp, Utf16}
+use Rattle.conode_lint_marks.specs.declared.mark.OtherFormat.{OtherFormat}
+use Rattle.conode_lint_marks.specs.declared.mark.OtherFormat.TheVariants.{Xml, EtherNetIp, Utf16}
 
 -- what it is
 abbrev pub format_meaning : OtherFormat → List ℕ

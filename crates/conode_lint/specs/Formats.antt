@@ -3,8 +3,8 @@ use Rattle.std.specs.Prelude.{ℕ, nat_eq, nat_le, Bool, false, ◌&&◌, ◌||�
 use Rattle.std.specs.List.{list_any, starts_with}
 use Rattle.co_sheet_text.specs.Text.{same_name, trim}
 use Rattle.co_sheet_warnings.specs.Lines.{text_lines}
-use Rattle.conode_lint.specs.declared.mark.OtherFormat.{OtherFormat}
-use Rattle.conode_lint.specs.declared.mark.OtherFormat.TheVariants.{Xml, EtherNetIp, Utf16}
+use Rattle.conode_lint_marks.specs.declared.mark.OtherFormat.{OtherFormat}
+use Rattle.conode_lint_marks.specs.declared.mark.OtherFormat.TheVariants.{Xml, EtherNetIp, Utf16}
 
 -- a line begins with a word, in any case of letters
 abbrev pub begins_with : List ℕ → List ℕ → Bool

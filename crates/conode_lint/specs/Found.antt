@@ -1,16 +1,13 @@
--- The lines of a text, and what is found at them.
-use Rattle.std.specs.Prelude.{ℕ, ◌==◌, ◌-◌, if◌then◌else◌, List, [], take, get_or}
+-- What is found at the lines of a text.
+use Rattle.std.specs.Prelude.{ℕ, List}
 use Rattle.co_sheet_text.specs.Sections.{TextSection}
 use Rattle.conode_lint_text.specs.declared.finding.About.{About}
 use Rattle.conode_lint_text.specs.declared.finding.Finding.{Finding}
 use Rattle.conode_lint_text.specs.declared.finding.Place.{Place}
 use Rattle.conode_lint_text.specs.declared.finding.Severity.{Severity}
-use Rattle.conode_lint.specs.declared.mark.Mark.{Mark}
+use Rattle.conode_lint_marks.specs.Lines.{line_at}
+use Rattle.conode_lint_marks.specs.declared.mark.Mark.{Mark}
 use Rattle.conode_lint.specs.Words as words
-
--- a line by its number, from 1, at most its first 512 bytes; empty if there is no such line
-unfoldable pub line_at : List (List ℕ) → ℕ → List ℕ
-line_at lines number = if number == 0 then [] else take 512 (get_or lines (number - 1) [])
 
 -- a finding, with its texts as bytes
 pub record Seen : Type 0 where

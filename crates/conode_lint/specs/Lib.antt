@@ -1,4 +1,3 @@
-pub mod BuildLines
 pub mod BuildWords
 pub mod MappingWords
 pub mod FormatWords
@@ -7,8 +6,5 @@ pub mod Words
 pub mod Found
 pub mod Statuses
 pub mod Allowed
-pub mod AtFault
-pub mod KnownFaults
-pub mod KnownWarnings
 pub mod Marks
 pub mod Linted

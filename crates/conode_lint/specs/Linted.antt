@@ -9,12 +9,13 @@ use Rattle.co_dict_build.specs.BuildFaults.{build_fault}
 use Rattle.co_dict_build.specs.Capacities.{Limits}
 use Rattle.co_dict_build.specs.declared.build_fault.BuildFault.{BuildFault}
 use Rattle.conode_lint.specs.declared.linted_text.Linted.{Linted}
-use Rattle.conode_lint.specs.declared.mark.Mark.{Mark}
+use Rattle.conode_lint_marks.specs.declared.mark.Mark.{Mark}
 use Rattle.conode_lint.specs.declared.marks.Checks.{Checks}
 use Rattle.conode_lint.specs.Allowed.{error_count, is_error, kept, names_in, passes_by}
 use Rattle.co_sheet_warnings.specs.Lines.{text_lines}
 use Rattle.conode_lint.specs.Found.{finding_of, seen}
-use Rattle.conode_lint.specs.Marks.{IsFound, node_for, text_sections, sheet_of}
+use Rattle.conode_lint.specs.Marks.{IsFound, node_for, text_sections}
+use Rattle.conode_lint_marks.specs.Beside.{sheet_of}
 use Rattle.conode_lint.specs.Words.{severity_of}
 
 -- the marks whose names neither the command line nor the sheet allows

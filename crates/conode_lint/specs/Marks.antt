@@ -2,40 +2,31 @@
 use Rattle.std.specs.Prelude.{◌≡◌, ℕ, nat_lt, if◌then◌else◌, List, [], ◌∷◌, ◌++◌, length, map, Contains, Option, Some, None, option_and_then}
 use Rattle.std.specs.List.Sorted.{IsNonDecreasingBy, IsPermutation, IsStableByKey, IsStrictlySortedBy}
 use Rattle.std.specs.Ordering.{nat_cmp}
-use Rattle.std.specs.Option.{option_map_or, option_or}
+use Rattle.std.specs.Option.{option_or}
 use Rattle.co_sheet_rows.specs.declared.fault.SheetFault.{SheetFault}
-use Rattle.co_sheet.specs.Accepted.{first_fault, sections_in}
-use Rattle.co_sheet.specs.Content.{SheetContent, content_of}
+use Rattle.co_sheet.specs.Content.{SheetContent}
 use Rattle.co_sheet_text.specs.LinesAtFault.{sections_read}
 use Rattle.co_sheet_text.specs.Sections.{TextSection}
-use Rattle.co_sheet_text.specs.declared.section_kind.SectionKind.{SectionKind}
 use Rattle.co_sheet_text.specs.Text.{lines_of}
 use Rattle.co_sheet_faults.specs.AllFaults.{faults_of}
 use Rattle.co_sheet_faults.specs.FaultOrder.{fault_cmp}
-use Rattle.co_sheet_warnings.specs.declared.warning.Warning.{Warning as SheetWarning}
-use Rattle.co_sheet_mend.specs.ReadableTexts.{mended_in}
-use Rattle.co_sheet_warnings.specs.ReadTexts.{own_node}
+use Rattle.co_sheet_warnings.specs.declared.warning.Warning.{Warning}
 use Rattle.co_sheet_warnings.specs.Warnings.{IsByLine as IsWarningsByLine, warnings_of}
 use Rattle.co_dict_build.specs.Built.{plan_of}
 use Rattle.co_dict_build.specs.Capacities.{Limits, limits_view}
-use Rattle.conode_lint.specs.declared.mark.Mark.{Mark}
-use Rattle.conode_lint.specs.declared.mark.OtherFormat.{OtherFormat}
-use Rattle.conode_lint.specs.declared.mark.Subject.TheVariants.{Fault, Format, Warning}
+use Rattle.conode_lint_marks.specs.declared.mark.Mark.{Mark}
+use Rattle.conode_lint_marks.specs.declared.mark.OtherFormat.{OtherFormat}
+use Rattle.conode_lint_marks.specs.declared.mark.Subject.TheVariants.{Fault, Format}
 use Rattle.conode_lint.specs.declared.marks.Checks.{Checks}
-use Rattle.conode_lint.specs.AtFault.{kinds_at_fault}
-use Rattle.conode_lint.specs.BuildLines.{built_marks}
-use Rattle.conode_lint.specs.KnownFaults.{known_marks}
-use Rattle.conode_lint.specs.KnownWarnings.{known_warnings}
+use Rattle.conode_lint_marks.specs.BuildLines.{built_marks}
+use Rattle.conode_lint_marks.specs.Beside.{beside_marks, sheet_of}
+use Rattle.conode_lint_marks.specs.KnownWarnings.{known_warnings, warning_mark}
 use Rattle.conode_lint.specs.Formats.{other_format}
 use Rattle.co_sheet_warnings.specs.Lines.{text_lines}
 
 -- the mark of a fault
 abbrev pub fault_mark : SheetFault → Mark
 fault_mark fault = record { line = fault.line; subject = Fault fault.kind }
-
--- the mark of a warning
-abbrev pub warning_mark : SheetWarning → Mark
-warning_mark warning = record { line = warning.line; subject = Warning warning.kind }
 
 -- the mark of a text of another format
 abbrev pub format_mark : OtherFormat → Mark
@@ -47,11 +38,6 @@ text_sections text =
     if nat_lt 1048576 (length text) then [] else sections_read (lines_of text)
 
 -- ---- why no dictionary can be built
-
--- the sheet of a text, if it is one
-unfoldable pub sheet_of : List ℕ → Option SheetContent
-sheet_of text =
-    option_map_or (λ fault. None) (first_fault text) (Some (content_of (sections_in text)))
 
 -- the given node-ID, or else the sheet's own
 abbrev pub node_for : Option ℕ → Option SheetContent → Option ℕ
@@ -69,37 +55,6 @@ text_marks text node limits =
     let sheet = sheet_of text in
     sheet_marks limits (sections_read (lines_of text)) sheet (node_for node sheet)
 
--- ---- and beside other faults
-
--- those of the sheet that a text without what is at fault is, which rest on nothing at fault
-abbrev pub marks_of_mended : Limits → List TextSection → List SectionKind → ℕ → Option SheetContent
-    → List Mark
-marks_of_mended limits sections kinds id (Some sheet) =
-    known_marks sections kinds sheet (plan_of id limits sheet)
-marks_of_mended limits sections kinds id None = []
-
-abbrev pub beside_in : Limits → List SheetFault → List TextSection → ℕ → Option (List ℕ) → List Mark
-beside_in limits faults sections id (Some mended) =
-    marks_of_mended limits sections (kinds_at_fault faults sections) id (sheet_of mended)
-beside_in limits faults sections id None = []
-
-abbrev pub beside_for : Limits → List SheetFault → List ℕ → List TextSection → Option ℕ → List Mark
-beside_for limits faults text sections (Some id) =
-    beside_in limits faults sections id (mended_in 8 text)
-beside_for limits faults text sections None = []
-
--- none of a text without faults
-abbrev pub beside_with : Limits → List SheetFault → List ℕ → List TextSection → Option ℕ → List Mark
-beside_with limits [] text sections given = []
-beside_with limits (fault ∷ faults) text sections given =
-    beside_for limits (fault ∷ faults) text sections (own_node given sections)
-
--- the marks of a build that rest on nothing at fault, of a text with these faults, for the given
--- node-ID or else its own
-abbrev pub beside_marks : List ℕ → Option ℕ → Limits → List SheetFault → List Mark
-beside_marks text node limits faults =
-    beside_with limits faults text (sections_read (lines_of text)) node
-
 -- ---- all
 
 -- all faults of a text, in order
@@ -109,20 +64,21 @@ pub record IsFaultList (text : List ℕ) (faults : List SheetFault) : Type 0 whe
   pub increase : IsStrictlySortedBy fault_cmp faults
 
 -- the warnings of a text that rest on nothing at fault
-abbrev pub left_of : List ℕ → List SheetFault → List SheetWarning → List SheetWarning
-left_of text faults warnings = known_warnings (sections_read (lines_of text)) faults warnings
+abbrev pub left_of : List ℕ → List SheetFault → List Warning → List Warning
+left_of text faults warnings =
+    known_warnings (text_lines text) (sections_read (lines_of text)) faults warnings
 
 -- marks, and after them those of a text's warnings
 pub record AddsWarnings (text : List ℕ) (checks : Checks) (faults : List SheetFault)
     (before after : List Mark) : Type 0 where
-  pub warnings : List SheetWarning
+  pub warnings : List Warning
   pub by_line : IsWarningsByLine (warnings_of text checks.node checks.all) warnings
   pub are : after ≡ before ++ map warning_mark (left_of text faults warnings)
 
 -- the marks of a text: its faults, its build and its warnings
 pub record IsMarked (text : List ℕ) (checks : Checks) (faults : List SheetFault) (marks : List Mark)
     : Type 0 where
-  pub warnings : List SheetWarning
+  pub warnings : List Warning
   pub by_line : IsWarningsByLine (warnings_of text checks.node checks.all) warnings
   pub are : marks ≡ map fault_mark faults
       ++ (text_marks text checks.node (limits_view checks.limits)

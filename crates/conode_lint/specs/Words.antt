@@ -9,6 +9,8 @@ use Rattle.co_sheet_text.specs.Sections.{TextSection}
 use Rattle.co_sheet_warnings.specs.WarningWords as warnings
 use Rattle.co_sheet_warnings.specs.declared.warning.WarningKind.{WarningKind}
 use Rattle.co_sheet_warnings.specs.declared.warning.WarningKind.TheVariants as warning
+use Rattle.co_sheet_warnings.specs.Repeats.{first_equal}
+use Rattle.conode_lint_text.specs.Bounds as bounds
 use Rattle.conode_lint_text.specs.Facts as facts
 use Rattle.conode_lint_text.specs.declared.finding.About.{About}
 use Rattle.conode_lint_text.specs.declared.finding.About.TheVariants as about
@@ -16,9 +18,9 @@ use Rattle.conode_lint_text.specs.declared.finding.Place.{Place}
 use Rattle.conode_lint_text.specs.declared.finding.Place.TheVariants.{Beginning, Value}
 use Rattle.conode_lint_text.specs.declared.finding.Severity.{Severity}
 use Rattle.conode_lint_text.specs.declared.finding.Severity.TheVariants as severity
-use Rattle.conode_lint.specs.declared.mark.Mark.{Mark}
-use Rattle.conode_lint.specs.declared.mark.Subject.{Subject}
-use Rattle.conode_lint.specs.declared.mark.Subject.TheVariants.{Format, Fault, Build, Mapping, Warning}
+use Rattle.conode_lint_marks.specs.declared.mark.Mark.{Mark}
+use Rattle.conode_lint_marks.specs.declared.mark.Subject.{Subject}
+use Rattle.conode_lint_marks.specs.declared.mark.Subject.TheVariants.{Format, Fault, Build, Mapping, Warning}
 use Rattle.conode_lint.specs.BuildWords.{build_about, build_place, build_fix, build_meaning, build_subject}
 use Rattle.conode_lint.specs.MappingWords.{mapping_about, mapping_meaning, mapping_fix, mapping_subject}
 use Rattle.conode_lint.specs.FormatWords.{format_fix, format_meaning, format_subject}
@@ -62,15 +64,24 @@ fault_about sections line text fault.ListedTwice = facts.listed_twice sections t
 fault_about sections line text fault.MissingKey = facts.missing_key line sections
 fault_about sections line text fault.DuplicateKey = facts.duplicate_key line sections text
 fault_about sections line text fault.DuplicateSection = facts.duplicate_section sections text
+fault_about sections line text fault.BadLimits = bounds.bad_limits line sections text
+fault_about sections line text fault.BadDefault = bounds.bad_default line sections text
 fault_about sections line text other = about.Line
 
 abbrev pub warning_about : List TextSection → ℕ → List ℕ → WarningKind → About
 warning_about sections line text warning.SubNumber = facts.sub_number line sections text
 warning_about sections line text warning.SubIndex0 = facts.sub_index_0 line sections text
-warning_about sections line text warning.FileInfoKeys = facts.file_info line
-warning_about sections line text warning.DeviceInfoKeys = facts.device_info line
+warning_about sections line text (warning.FileInfoKeys missing) = facts.file_info line missing
+warning_about sections line text (warning.DeviceInfoKeys missing) =
+    facts.device_info line missing
 warning_about sections line text warning.PdoCount = facts.pdo_count sections text
 warning_about sections line text warning.IdentityNumber = facts.identity_number sections text
+warning_about sections line text (warning.SharedCobId node) =
+    facts.first_at (first_equal (warning.SharedCobId node) line sections)
+warning_about sections line text (warning.HeartbeatTwice given) =
+    facts.first_at (first_equal (warning.HeartbeatTwice given) line sections)
+warning_about sections line text warning.EqualNames =
+    facts.first_at (first_equal warning.EqualNames line sections)
 warning_about sections line text (warning.MisspeltKey known) = about.Misspelt
 warning_about sections line text other = about.Line
 

@@ -2,30 +2,48 @@
 
 ghost use Rattle.std.specs.Prelude.{◌≡◌, ◌++◌, [], map, option_to_list, OnOk};
 ghost use Rattle.std.specs.Option.{option_map};
-ghost use Rattle.conode_lint.specs.Allowed.{is_among, kept, kept_of, name_in, names_in, passes_by};
+ghost use Rattle.conode_lint.specs.Allowed.{
+  is_among,
+  kept,
+  kept_of,
+  name_allowed,
+  name_in,
+  names_in,
+  passes_by,
+};
 
-use crate::mark::Mark;
 use crate::words::name_of;
 use co_sheet_text::trim;
+use conode_lint_marks::Mark;
 use std::alloc::AllocError;
 
 /// The beginning of a comment that allows findings of a name.
-const ALLOW: &[u8] = b"; lint: allow ";
+const ALLOW: &[u8] = b"lint: allow ";
 
-/// The name that a line allows, as `; lint: allow Unlisted`.
-#[tactic(auto, unfolding(crate::specs::Allowed::name_in))]
-fn name_in(line: &[u8]) -> Option<&[u8]>
-    ensures { option_map (λ name. name.now) result ≡ name_in line.now }
+// the name that a comment allows
+#[tactic(auto, unfolding(crate::specs::Allowed::name_allowed))]
+fn name_allowed(comment: &[u8]) -> Option<&[u8]>
+    ensures { option_map (λ name. name.now) result ≡ name_allowed comment.now }
 {
-    let text = trim(line);
-    if text.len() < 14 {
+    if comment.len() < 12 {
         return None;
     }
-    let (words, name) = text.split_at(14);
+    let (words, name) = comment.split_at(12);
     if words == ALLOW {
         Some(trim(name))
     } else {
         None
+    }
+}
+
+/// The name that a line allows, as `; lint: allow Unlisted`; blanks after `;` may be left out.
+#[tactic(auto, unfolding(crate::specs::Allowed::name_in))]
+fn name_in(line: &[u8]) -> Option<&[u8]>
+    ensures { option_map (λ name. name.now) result ≡ name_in line.now }
+{
+    match trim(line) {
+        [b';', comment @ ..] => name_allowed(trim(comment)),
+        _ => None,
     }
 }
 

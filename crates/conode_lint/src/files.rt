@@ -86,23 +86,22 @@ impl Session {
         Ok(())
     }
 
-    // lints a text that was read, or names what can't be read
-    fn take_read<O: Write, E: Write>(
+    // lints a file, or standard input for `-`, or names what can't be read
+    fn take_file<R: Files + AllocGlobal + Input, O: Write, E: Write>(
         &mut self,
-        alloc: Global,
-        name: &str,
-        text: Result<Vec<u8>, CmdFault>,
+        rt: &R,
+        path: &str,
         options: &LintOptions<'_>,
         out: &mut O,
         err: &mut E,
     ) -> Result<(), CmdFault> {
-        match text {
-            Ok(text) => self.take_text(alloc, name, text.as_slice(), options, out),
-            Err(fault) => self.take_fault(name, fault, err),
+        match text_of(rt, path) {
+            Ok(text) => self.take_text(rt.alloc(), path, text.as_slice(), options, out),
+            Err(fault) => self.take_fault(path, fault, err),
         }
     }
 
-    fn take_sheets<R: Files + AllocGlobal, O: Write, E: Write>(
+    fn take_sheets<R: Files + AllocGlobal + Input, O: Write, E: Write>(
         &mut self,
         rt: &R,
         folder: &str,
@@ -111,9 +110,8 @@ impl Session {
         out: &mut O,
         err: &mut E,
     ) -> Result<(), CmdFault> {
-        for sheet in &sheets.paths {
-            let path = sheet.as_str();
-            attempt!(self.take_read(rt.alloc(), path, file_text(rt, path), options, out, err));
+        for path in &sheets.paths {
+            attempt!(self.take_file(rt, path.as_str(), options, out, err));
         }
         if sheets.are_all {
             return Ok(());
@@ -131,7 +129,7 @@ impl Session {
         err: &mut E,
     ) -> Result<(), CmdFault> {
         if path == "-" || !is_folder(rt, path) {
-            return self.take_read(rt.alloc(), path, text_of(rt, path), options, out, err);
+            return self.take_file(rt, path, options, out, err);
         }
         match sheets_in(rt, path) {
             Ok(sheets) => self.take_sheets(rt, path, &sheets, options, out, err),
@@ -168,8 +166,9 @@ impl Session {
     }
 }
 
-// the text of a path's file, or of standard input for `-`
-fn text_of<R: Files + AllocGlobal + Input>(rt: &R, path: &str) -> Result<Vec<u8>, CmdFault> {
+/// The text of a path's file, or of standard input for `-`. `Memory` if memory ran out, `Read` if
+/// it can't be read.
+pub fn text_of<R: Files + AllocGlobal + Input>(rt: &R, path: &str) -> Result<Vec<u8>, CmdFault> {
     if path != "-" {
         return file_text(rt, path);
     }

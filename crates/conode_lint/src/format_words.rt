@@ -3,7 +3,7 @@
 ghost use Rattle.std.specs.Prelude.{◌≡◌};
 ghost use Rattle.conode_lint.specs.FormatWords.{format_fix, format_meaning};
 
-use crate::mark::OtherFormat;
+use conode_lint_marks::OtherFormat;
 
 /// What it is, in one line.
 pub fn format_meaning(format: OtherFormat) -> &'static str

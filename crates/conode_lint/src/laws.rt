@@ -4,7 +4,7 @@ ghost use Rattle.std.specs.Prelude.{◌≡◌, ℕ, List, Contains, Some, None, 
 ghost use Rattle.co_sheet_rows.specs.declared.fault.SheetFault.{SheetFault as Fault};
 ghost use Rattle.co_sheet.specs.Accepted.{first_fault};
 ghost use Rattle.co_dict_build.specs.Capacities.{limits_view};
-ghost use Rattle.conode_lint.specs.declared.mark.Mark.{Mark};
+ghost use Rattle.conode_lint_marks.specs.declared.mark.Mark.{Mark};
 ghost use Rattle.conode_lint.specs.declared.marks.Checks.{Checks as Asked};
 ghost use Rattle.conode_lint.specs.Formats.{other_format};
 ghost use Rattle.co_sheet_warnings.specs.Lines.{text_lines};

@@ -11,14 +11,13 @@ ghost use Rattle.conode_lint.specs.Linted.{IsLinted, IsMadeOf, left};
 ghost use Rattle.conode_lint.specs.Marks.{text_sections};
 
 use crate::allowed::{add_kept, add_names};
-use crate::lines::line_at;
-use crate::mark::Mark;
 use crate::marks::{Checks, add_marks_of};
 use crate::words::{about_of, fix_of, meaning_of, name_of, place_of, severity_of, subject_of};
 use co_sheet::GREATEST_SIZE;
 use co_sheet_faults::read_sections;
 use co_sheet_text::{ParsedText, TextSection};
 use co_sheet_warnings::text_lines;
+use conode_lint_marks::{Mark, line_at};
 use conode_lint_text::{Finding, Severity};
 use std::alloc::{AllocError, Global};
 

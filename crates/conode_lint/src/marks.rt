@@ -6,7 +6,9 @@ ghost use Rattle.co_sheet_text.specs.Text.{lines_of};
 ghost use Rattle.co_sheet_text.specs.Views.{section_view};
 ghost use Rattle.co_dict_build.specs.Capacities.{limits_view};
 ghost use Rattle.co_sheet_warnings.specs.Lines.{text_lines};
-ghost use Rattle.conode_lint.specs.KnownWarnings.{known_warnings};
+ghost use Rattle.conode_lint_marks.specs.AtFault.{kinds_at_fault};
+ghost use Rattle.conode_lint_marks.specs.Beside.{sheet_of};
+ghost use Rattle.conode_lint_marks.specs.Doubts.{doubts_of};
 ghost use Rattle.conode_lint.specs.Marks.{
   AddsWarnings,
   IsByLine,
@@ -19,21 +21,19 @@ ghost use Rattle.conode_lint.specs.Marks.{
   format_of,
   node_for,
   sheet_marks,
-  sheet_of,
   text_sections,
-  warning_mark,
 };
 
-use crate::beside::add_beside;
-use crate::build_marks::add_build_marks;
-use crate::known_warnings::known_warnings;
-use crate::mark::{Mark, OtherFormat, Subject};
 use crate::other_format::other_format;
 use co_dict_build::Limits;
-use co_sheet::{FaultKind, GREATEST_SIZE, Sheet, SheetFault, read};
+use co_sheet::{GREATEST_SIZE, Sheet, SheetFault};
 use co_sheet_faults::{all_faults, find_faults};
 use co_sheet_text::TextSection;
-use co_sheet_warnings::{Warning, find_warnings};
+use co_sheet_warnings::find_warnings;
+use conode_lint_marks::{
+    AtFault, Mark, OtherFormat, Subject, add_beside, add_build_marks, add_known_warnings,
+    sections_at_fault, sheet_of,
+};
 use std::alloc::{AllocError, Global};
 
 /// What is looked for in a text.
@@ -59,31 +59,6 @@ fn add_faults(marks: &mut Vec<Mark>, faults: &[SheetFault]) -> Result<(), AllocE
         }));
     }
     Ok(())
-}
-
-fn add_warnings(marks: &mut Vec<Mark>, warnings: &[Warning]) -> Result<(), AllocError>
-    ensures { OnOk result (marks.new.items ≡ marks.old.items ++ map warning_mark warnings.now) }
-{
-    for warning in warnings {
-        attempt_in_memory!(marks.push(Mark {
-            line: warning.line,
-            subject: Subject::Warning(warning.kind),
-        }));
-    }
-    Ok(())
-}
-
-/// The sheet of a text, if it is one.
-#[tactic(auto, unfolding(crate::specs::Marks::sheet_of))]
-pub(crate) fn sheet_of(alloc: Global, text: &[u8]) -> Result<Option<Sheet<'_>>, AllocError>
-    ensures sheet { IfOk result (λ sheet. sheet ≡ sheet_of text.now) }
-    ensures small { IfOk result (λ sheet. IfSome sheet (λ _. length text.now ≤ 1048576)) }
-{
-    match read(alloc, text) {
-        Ok(sheet) => Ok(Some(sheet)),
-        Err(fault) if fault.kind == FaultKind::Memory => Err(AllocError),
-        Err(_) => Ok(None),
-    }
 }
 
 // all faults of a text; a sheet has none
@@ -133,23 +108,6 @@ fn add_built(
     }
 }
 
-// adds those of the warnings that rest on nothing at fault
-fn add_left(
-    alloc: Global,
-    marks: &mut Vec<Mark>,
-    sections: &[TextSection<'_, '_>],
-    faults: &[SheetFault],
-    warnings: &[Warning],
-) -> Result<(), AllocError>
-    ensures { OnOk result (marks.new.items ≡ marks.old.items ++ map warning_mark
-        (known_warnings (map section_view sections.now) faults.now warnings.now)) }
-{
-    match known_warnings(alloc, sections, faults, warnings) {
-        Ok(known) => add_warnings(marks, known.as_slice()),
-        Err(fault) => Err(fault),
-    }
-}
-
 // adds the warnings of a text with these lines, sections and faults
 fn add_suspicious<'s, 'a>(
     alloc: Global,
@@ -158,16 +116,23 @@ fn add_suspicious<'s, 'a>(
     lines: &'s [&'a [u8]],
     sections: &'s [TextSection<'s, 'a>],
     faults: &[SheetFault],
+    at_fault: &AtFault,
     checks: &Checks<'_>,
 ) -> Result<(), AllocError>
     requires size { length text.now ≤ 1048576 }
     requires lines { map (λ line. line.now) lines.now ≡ text_lines text.now }
     requires sections { map section_view sections.now ≡ sections_read (lines_of text.now) }
+    requires kinds { at_fault.now.kinds.items
+        ≡ kinds_at_fault faults.now (map section_view sections.now) }
+    requires doubts { at_fault.now.doubts.items ≡ doubts_of
+        (map (λ line. line.now) lines.now) faults.now (map section_view sections.now) }
     ensures { OnOk result
         (AddsWarnings text.now checks.now faults.now marks.old.items marks.new.items) }
 {
     match find_warnings(alloc, text, lines, sections, checks.node, checks.all) {
-        Ok(warnings) => add_left(alloc, marks, sections, faults, warnings.as_slice()),
+        Ok(warnings) => {
+            add_known_warnings(marks, sections, at_fault, faults, warnings.as_slice())
+        }
         Err(fault) => Err(fault),
     }
 }
@@ -194,16 +159,20 @@ fn add_marks<'s, 'a>(
     attempt!(add_faults(marks, faults));
     let node = node_for(checks.node, sheet);
     attempt!(add_built(alloc, marks, sections, sheet, node, &checks.limits));
+    let at_fault = attempt!(sections_at_fault(alloc, lines, faults, sections));
     attempt!(add_beside(
         alloc,
         marks,
         text,
         sections,
         faults,
+        &at_fault,
         checks.node,
         &checks.limits
     ));
-    add_suspicious(alloc, marks, text, lines, sections, faults, checks)
+    add_suspicious(
+        alloc, marks, text, lines, sections, faults, &at_fault, checks,
+    )
 }
 
 // adds the marks of a text that is too large to be read to none: only that fault

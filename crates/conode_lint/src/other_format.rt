@@ -10,9 +10,9 @@ ghost use Rattle.conode_lint.specs.Formats.{
   text_format,
 };
 
-use crate::mark::OtherFormat;
 use co_sheet_text::{same_name, trim};
 use co_sheet_warnings::text_lines;
+use conode_lint_marks::OtherFormat;
 use std::alloc::{AllocError, Global};
 
 // whether a line begins with a word, in any case of letters

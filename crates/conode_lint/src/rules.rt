@@ -1,11 +1,11 @@
 //! All kinds of findings, for a log of SARIF and for the names that may be allowed.
 
-use crate::mark::{Mark, OtherFormat, Subject};
 use crate::words::{fix_of, meaning_of, name_of, severity_of, subject_of};
 use co_dict_build::BuildFault;
 use co_sheet_faults::FaultKind;
 use co_sheet_warnings::{KnownKey, WarningKind};
 use co_value::Key;
+use conode_lint_marks::{Mark, OtherFormat, Subject};
 use conode_lint_text::Rule;
 use std::alloc::AllocError;
 
@@ -40,8 +40,8 @@ static SUBJECTS: [Subject; 50] = [
     Subject::Build(BuildFault::TooMany),
     Subject::Warning(WarningKind::SubNumber),
     Subject::Warning(WarningKind::SubIndex0),
-    Subject::Warning(WarningKind::FileInfoKeys),
-    Subject::Warning(WarningKind::DeviceInfoKeys),
+    Subject::Warning(WarningKind::FileInfoKeys([false; 10])),
+    Subject::Warning(WarningKind::DeviceInfoKeys([false; 22])),
     Subject::Warning(WarningKind::PdoCount),
     Subject::Warning(WarningKind::WrongList),
     Subject::Warning(WarningKind::Unlisted),
@@ -49,10 +49,10 @@ static SUBJECTS: [Subject; 50] = [
     Subject::Warning(WarningKind::FixedCobId),
     Subject::Warning(WarningKind::NodeIdPlace),
     Subject::Warning(WarningKind::MisspeltKey(KnownKey::AccessType)),
-    Subject::Warning(WarningKind::SharedCobId),
+    Subject::Warning(WarningKind::SharedCobId(0)),
     Subject::Warning(WarningKind::InhibitTime),
     Subject::Warning(WarningKind::OwnHeartbeat),
-    Subject::Warning(WarningKind::HeartbeatTwice),
+    Subject::Warning(WarningKind::HeartbeatTwice(None)),
     Subject::Warning(WarningKind::NoErrorControl),
     Subject::Warning(WarningKind::LongLine),
     Subject::Warning(WarningKind::Utf8),
@@ -64,6 +64,11 @@ static SUBJECTS: [Subject; 50] = [
     Subject::Warning(WarningKind::DateFormat),
     Subject::Warning(WarningKind::LineEnds),
 ];
+
+// the table as a slice: each function that names an array of this length repeats it
+fn subjects() -> &'static [Subject] {
+    &SUBJECTS
+}
 
 // the rule of a kind; what is wrong with a misspelt key doesn't ask for the one that is meant
 fn rule_of(subject: Subject) -> Rule<'static> {
@@ -82,7 +87,7 @@ fn rule_of(subject: Subject) -> Rule<'static> {
 
 /// Adds all kinds of findings. `Err`: out of memory.
 pub(crate) fn add_rules(rules: &mut Vec<Rule<'static>>) -> Result<(), AllocError> {
-    for subject in &SUBJECTS {
+    for subject in subjects() {
         attempt_in_memory!(rules.push(rule_of(*subject)));
     }
     Ok(())
@@ -99,7 +104,7 @@ pub(crate) fn unknown_name<'a>(names: &[&'a str]) -> Option<&'a str> {
 }
 
 fn is_known(name: &str) -> bool {
-    for subject in &SUBJECTS {
+    for subject in subjects() {
         if name_of(*subject) == name {
             return true;
         }

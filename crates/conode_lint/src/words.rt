@@ -21,13 +21,14 @@ ghost use Rattle.conode_lint.specs.Words.{
 use crate::build_words::{build_about, build_fix, build_meaning, build_place, build_subject};
 use crate::format_words::{format_fix, format_meaning};
 use crate::mapping_words::{mapping_about, mapping_fix, mapping_meaning};
-use crate::mark::{Mark, Subject};
 use co_sheet_faults::{FaultKind, SheetFault};
 use co_sheet_text::TextSection;
-use co_sheet_warnings::WarningKind;
+use co_sheet_warnings::{WarningKind, first_equal};
+use conode_lint_marks::{Mark, Subject};
 use conode_lint_text::{
-    About, Place, Severity, bad_list, device_info, duplicate_key, duplicate_section, file_info,
-    identity_number, listed_twice, missing_key, pdo_count, sub_index_0, sub_number,
+    About, Place, Severity, bad_default, bad_limits, bad_list, device_info, duplicate_key,
+    duplicate_section, file_info, first_at, identity_number, listed_twice, missing_key, pdo_count,
+    sub_index_0, sub_number,
 };
 
 /// Its name, as `BadList`.
@@ -94,6 +95,8 @@ fn fault_about(sections: &[TextSection<'_, '_>], line: usize, text: &[u8], kind:
         FaultKind::MissingKey => missing_key(sections, line),
         FaultKind::DuplicateKey => duplicate_key(sections, line, text),
         FaultKind::DuplicateSection => duplicate_section(sections, text),
+        FaultKind::BadLimits => bad_limits(sections, line, text),
+        FaultKind::BadDefault => bad_default(sections, line, text),
         _ => About::Line,
     }
 }
@@ -109,10 +112,13 @@ fn warning_about(
     match kind {
         WarningKind::SubNumber => sub_number(sections, line, text),
         WarningKind::SubIndex0 => sub_index_0(sections, line, text),
-        WarningKind::FileInfoKeys => file_info(line),
-        WarningKind::DeviceInfoKeys => device_info(line),
+        WarningKind::FileInfoKeys(missing) => file_info(line, missing),
+        WarningKind::DeviceInfoKeys(missing) => device_info(line, missing),
         WarningKind::PdoCount => pdo_count(sections, text),
         WarningKind::IdentityNumber => identity_number(sections, text),
+        WarningKind::SharedCobId(_) | WarningKind::HeartbeatTwice(_) | WarningKind::EqualNames => {
+            first_at(first_equal(kind, sections, line))
+        }
         WarningKind::MisspeltKey(_) => About::Misspelt,
         _ => About::Line,
     }

@@ -10,7 +10,7 @@ use Rattle.conode_lint_text.specs.declared.finding.Finding.{Finding}
 use Rattle.conode_lint_text.specs.declared.finding.Place.TheVariants.{Beginning, Value}
 use Rattle.conode_lint_text.specs.declared.finding.Severity.TheVariants.{Error, Warning}
 use Rattle.conode_lint_text.specs.declared.finding.About.TheVariants.{Line, Object, Entry, Bits}
-use Rattle.conode_lint_text.specs.Findings.{about_message, column_of, help_of, message_of, place_in, value_place}
+use Rattle.conode_lint_text.specs.Findings.{about_message, column_of, fix_with, help_of, message_of, place_in, value_place}
 use Rattle.conode_lint_text.specs.TextForm.{counted, finding_lines, more_line, position_text, summary_line}
 
 -- a tab, a control character below 20h and one above 7Fh, a blank and a letter
@@ -65,7 +65,7 @@ bad_type = record {
 -- at its value; without colours
 at_value : finding_lines false (codes "a.eds") bad_type
     ≡ codes "a.eds:7:5: error[BadType]: no type\n     T=\\t9\n  help: give one (CiA 306-1)\n"
-unfolding finding_lines position_text column_of place_in characters_of message_of about_message help_of filled shown chars is_utf8 digits lib.Utf8.encode
+unfolding finding_lines position_text column_of place_in characters_of message_of about_message fix_with help_of filled shown chars is_utf8 digits lib.Utf8.encode
 at_value = refl
 
 abbrev no_line : Finding
@@ -84,5 +84,5 @@ no_line = record {
 -- no line is to blame; in colours
 without_line : finding_lines true (codes "b") no_line
     ≡ 27 ∷ codes "[1mb:" ++ 27 ∷ codes "[0m " ++ 27 ∷ codes "[1;35mwarning[PdoPair]:" ++ 27 ∷ codes "[0m 1A00: m\n  " ++ 27 ∷ codes "[1;36mhelp:" ++ 27 ∷ codes "[0m f\n"
-unfolding finding_lines position_text column_of message_of about_message help_of filled shown digits_text lib.Utf8.encode
+unfolding finding_lines position_text column_of message_of about_message fix_with help_of filled shown digits_text lib.Utf8.encode
 without_line = refl

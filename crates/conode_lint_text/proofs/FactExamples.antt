@@ -1,5 +1,6 @@
 -- What a sheet has where a finding is, evaluated.
-use Rattle.std.proofs.Common.{◌≡◌, ℕ, List, [], ◌∷◌, codes, refl}
+use Rattle.std.proofs.Common.{◌≡◌, ℕ, true, false, List, Some, None, [], ◌∷◌, ◌++◌, codes, refl}
+use Rattle.std.specs.Prelude.{replicate}
 use Rattle.std.specs.Fmt.{digits}
 use Rattle.conode_text.specs.Filled.{filled}
 use Rattle.co_sheet_text.specs.declared.section_kind.SectionKind.{SectionKind}
@@ -8,9 +9,10 @@ use Rattle.co_sheet_text.specs.Sections.{Property, TextSection}
 use Rattle.conode_lint_text.specs.declared.finding.About.{About}
 use Rattle.conode_lint_text.specs.declared.finding.About.TheVariants.{Line, FirstAt, Misspelt, Fact}
 use Rattle.conode_lint_text.specs.declared.fact.Fact.TheVariants as fact
-use Rattle.conode_lint_text.specs.FactTexts.{count_text, fact_text}
-use Rattle.conode_lint_text.specs.Facts.{bad_list, count_fact, device_info, duplicate_key, duplicate_section, file_info, identity_number, list_fact, listed_twice, missing_key, pdo_count, sub_index_0, sub_number}
-use Rattle.conode_lint_text.specs.Findings.{about_message}
+use Rattle.conode_lint_text.specs.FactTexts.{count_text, device_lacks, fact_text, file_lacks, hexadecimal, identity_text, missing_text}
+use Rattle.conode_lint_text.specs.Facts.{bad_list, count_fact, device_info, duplicate_key, duplicate_section, file_info, first_at, identity_number, list_fact, listed_twice, missing_key, pdo_count, sub_index_0, sub_number}
+use Rattle.conode_lint_text.specs.Bounds.{bad_default, bad_limits}
+use Rattle.conode_lint_text.specs.Findings.{about_message, fix_with}
 
 -- ---- the sentences
 
@@ -25,11 +27,25 @@ keys : fact_text fact.NoType ∷ fact_text fact.NoAccess ∷ fact_text fact.NoTy
 unfolding fact_text
 keys = refl
 
-infos : fact_text fact.NoFileInfo ∷ fact_text fact.FileInfoLacks ∷ fact_text fact.NoDeviceInfo ∷ fact_text fact.DeviceInfoLacks ∷ []
-    ≡ codes "there is no section [FileInfo]" ∷ codes "FileInfo lacks a key that it has to have"
-    ∷ codes "there is no section [DeviceInfo]" ∷ codes "DeviceInfo lacks a key that it has to have" ∷ []
-unfolding fact_text
+infos : fact_text fact.NoFileInfo ∷ fact_text (fact.FileInfoLacks (true ∷ replicate 8 false ++ true ∷ [])) ∷ fact_text fact.NoDeviceInfo ∷ fact_text (fact.DeviceInfoLacks (replicate 21 false ++ true ∷ [])) ∷ []
+    ≡ codes "there is no section [FileInfo]" ∷ codes "FileInfo lacks FileName, ModifiedBy"
+    ∷ codes "there is no section [DeviceInfo]" ∷ codes "DeviceInfo lacks LSS_Supported" ∷ []
+unfolding fact_text file_lacks device_lacks missing_text
 infos = refl
+
+-- each key at its place
+all_missing : fact_text (fact.FileInfoLacks (replicate 10 true)) ∷ fact_text (fact.DeviceInfoLacks (replicate 22 true)) ∷ []
+    ≡ codes "FileInfo lacks FileName, FileVersion, FileRevision, Description, CreationTime, CreationDate, CreatedBy, ModificationTime, ModificationDate, ModifiedBy"
+    ∷ codes "DeviceInfo lacks VendorName, VendorNumber, ProductName, ProductNumber, RevisionNumber, OrderCode, BaudRate_10, BaudRate_20, BaudRate_50, BaudRate_125, BaudRate_250, BaudRate_500, BaudRate_800, BaudRate_1000, SimpleBootUpMaster, SimpleBootUpSlave, Granularity, DynamicChannelsSupported, GroupMessaging, NrOfRXPDO, NrOfTXPDO, LSS_Supported" ∷ []
+unfolding fact_text file_lacks device_lacks missing_text
+all_missing = refl
+
+-- which of the keys to add
+fixes : fix_with (Fact fact.NoType) (codes "f") ∷ fix_with (Fact fact.NoAccess) (codes "f") ∷ fix_with (Fact fact.NoTypeOrAccess) (codes "f") ∷ fix_with (Fact fact.NoCount) (codes "f") ∷ fix_with Line (codes "f") ∷ []
+    ≡ codes "add DataType; to an ARRAY or a RECORD add ObjectType=8 or ObjectType=9" ∷ codes "add AccessType; to an ARRAY or a RECORD add ObjectType=8 or ObjectType=9"
+    ∷ codes "add DataType and AccessType; to an ARRAY or a RECORD add ObjectType=8 or ObjectType=9" ∷ codes "f" ∷ codes "f" ∷ []
+unfolding fix_with
+fixes = refl
 
 counts : fact_text (fact.SubNumber 3 4) ∷ fact_text (fact.NoSubNumber 4) ∷ fact_text (fact.SubIndex0 2 4) ∷ []
     ≡ codes "SubNumber is 3, and the number of the object's sub-index sections is 4"
@@ -40,9 +56,14 @@ counts = refl
 
 device : fact_text (fact.RpdoCount 1 0) ∷ fact_text (fact.TpdoCount 2 4) ∷ fact_text (fact.Identity 5 61858) ∷ []
     ≡ codes "NrOfRXPDO is 1, and the number of the sheet's RPDOs is 0" ∷ codes "NrOfTXPDO is 2, and the number of the sheet's TPDOs is 4"
-    ∷ codes "the number is 5, and that of the identity object is 61858" ∷ []
-unfolding fact_text count_text filled digits
+    ∷ codes "the number is 0x5, and that of the identity object is 0xF1A2" ∷ []
+unfolding fact_text count_text identity_text hexadecimal filled digits
 device = refl
+
+bounds : fact_text (fact.BelowLow 7) ∷ fact_text (fact.AboveHigh 8) ∷ fact_text (fact.LimitsCrossed 9) ∷ []
+    ≡ codes "the value is below the LowLimit of line 7" ∷ codes "the value is above the HighLimit of line 8" ∷ codes "HighLimit is below the LowLimit of line 9" ∷ []
+unfolding fact_text count_text filled digits
+bounds = refl
 
 with_meaning : about_message (FirstAt 40) (codes "m") ∷ about_message Misspelt (codes "did you mean A") ∷ about_message (Fact fact.NoType) (codes "m") ∷ []
     ≡ codes "m, first at line 40" ∷ codes "the standard has no such key: did you mean A" ∷ codes "the entry has no DataType" ∷ []
@@ -127,10 +148,46 @@ pdo_counts : pdo_count sections (codes "NrOfRxPdo=3") ∷ pdo_count sections (co
     ≡ Fact (fact.RpdoCount 3 2) ∷ Fact (fact.TpdoCount 16 1) ∷ Line ∷ []
 pdo_counts = refl
 
-infos_at : file_info 0 ∷ file_info 1 ∷ device_info 0 ∷ device_info 1 ∷ [] ≡ Fact fact.NoFileInfo ∷ Fact fact.FileInfoLacks ∷ Fact fact.NoDeviceInfo ∷ Fact fact.DeviceInfoLacks ∷ []
+infos_at : file_info 0 [] ∷ file_info 1 (true ∷ []) ∷ device_info 0 [] ∷ device_info 1 (true ∷ []) ∷ []
+    ≡ Fact fact.NoFileInfo ∷ Fact (fact.FileInfoLacks (true ∷ [])) ∷ Fact fact.NoDeviceInfo ∷ Fact (fact.DeviceInfoLacks (true ∷ [])) ∷ []
 infos_at = refl
 
 -- DefaultValue, ParameterValue before it, and a sub-index that isn't there
 identities : identity_number sections (codes "VendorNumber=1") ∷ identity_number sections (codes "productnumber=1") ∷ identity_number sections (codes "RevisionNumber=1") ∷ []
-    ≡ Fact (fact.Identity 1 18) ∷ Fact (fact.Identity 1 4) ∷ Line ∷ []
+    ≡ Fact (fact.Identity 1 0x12) ∷ Fact (fact.Identity 1 4) ∷ Line ∷ []
 identities = refl
+
+first_of_two : first_at (Some 7) ∷ first_at None ∷ [] ≡ FirstAt 7 ∷ Line ∷ []
+first_of_two = refl
+
+-- ---- limits, of an UNSIGNED16 of 10 to 1000, and of an INTEGER8 of -2 to 2, whose hexadecimal numbers are two's complement
+
+abbrev limited : List TextSection
+limited =
+    section 1 (Object 0x2000) (property 2 (codes "DataType") (codes "6") ∷ property 3 (codes "lowlimit") (codes "10") ∷ property 4 (codes "HighLimit") (codes "0x3E8") ∷ [])
+    ∷ section 11 (Object 0x2001) (property 12 (codes "DataType") (codes "2") ∷ property 13 (codes "LowLimit") (codes "0xFE") ∷ property 14 (codes "HighLimit") (codes "2") ∷ [])
+    ∷ section 21 (Object 0x2002) (property 22 (codes "DataType") (codes "10") ∷ property 23 (codes "LowLimit") (codes "1") ∷ [])
+    ∷ section 31 (Object 0x2003) (property 33 (codes "LowLimit") (codes "1") ∷ [])
+    ∷ section 40 (Object 0x2004) (property 41 (codes "DataType") (codes "6") ∷ property 42 (codes "LowLimit") (codes "9") ∷ property 43 (codes "HighLimit") (codes "5") ∷ []) ∷ []
+
+defaults : bad_default 5 limited (codes "DefaultValue=9") ∷ bad_default 5 limited (codes "DefaultValue=10") ∷ bad_default 5 limited (codes "ParameterValue = 1000") ∷ bad_default 5 limited (codes "DefaultValue= 1001") ∷ bad_default 5 limited (codes "DefaultValue=$NODEID+2") ∷ bad_default 5 limited (codes "DefaultValue=x") ∷ bad_default 5 limited (codes "DefaultValue") ∷ []
+    ≡ Fact (fact.BelowLow 3) ∷ Line ∷ Line ∷ Fact (fact.AboveHigh 4) ∷ Line ∷ Line ∷ Line ∷ []
+defaults = refl
+
+signed_defaults : bad_default 15 limited (codes "DefaultValue=0xFD") ∷ bad_default 15 limited (codes "DefaultValue=-2") ∷ bad_default 15 limited (codes "DefaultValue=3") ∷ []
+    ≡ Fact (fact.BelowLow 13) ∷ Line ∷ Fact (fact.AboveHigh 14) ∷ []
+signed_defaults = refl
+
+-- a value outside the type; above a HighLimit that is below LowLimit, and so is itself at fault
+odd_defaults : bad_default 5 limited (codes "DefaultValue=65535") ∷ bad_default 5 limited (codes "DefaultValue=65536") ∷ bad_default 5 limited (codes "DefaultValue=-1") ∷ bad_default 45 limited (codes "DefaultValue=7") ∷ []
+    ≡ Fact (fact.AboveHigh 4) ∷ Line ∷ Line ∷ Fact (fact.BelowLow 42) ∷ []
+odd_defaults = refl
+
+-- the limits of an OCTET_STRING, and of an entry without a type, are passed over; before the first section there is none
+other_defaults : bad_default 24 limited (codes "DefaultValue=0") ∷ bad_default 34 limited (codes "DefaultValue=0") ∷ bad_default 1 limited (codes "DefaultValue=9") ∷ []
+    ≡ Line ∷ Line ∷ Line ∷ []
+other_defaults = refl
+
+limits : bad_limits 4 limited (codes "HighLimit=9") ∷ bad_limits 4 limited (codes "HighLimit=10") ∷ bad_limits 3 limited (codes "LowLimit=10") ∷ bad_limits 24 limited (codes "HighLimit=0") ∷ bad_limits 1 limited (codes "HighLimit=0") ∷ []
+    ≡ Fact (fact.LimitsCrossed 3) ∷ Line ∷ Line ∷ Line ∷ Line ∷ []
+limits = refl

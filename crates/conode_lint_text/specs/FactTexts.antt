@@ -1,13 +1,54 @@
 -- The sentence of a fact: what a sheet has where a finding is.
-use Rattle.std.specs.Prelude.{ℕ, List, [], ◌∷◌, codes, decimal}
+use Rattle.std.specs.Prelude.{ℕ, Bool, true, false, List, [], ◌∷◌, ◌++◌, codes, decimal}
+use Rattle.std.specs.Fmt.{digits}
 use Rattle.conode_text.specs.Filled.{filled}
 use Rattle.conode_lint_text.specs.declared.fact.Fact.{Fact}
-use Rattle.conode_lint_text.specs.declared.fact.Fact.TheVariants.{NoCount, ListCount, ListGap, HighIndex, NoType, NoAccess, NoTypeOrAccess, NoFileInfo, FileInfoLacks, NoDeviceInfo, DeviceInfoLacks, NoSubNumber, SubNumber, SubIndex0, RpdoCount, TpdoCount, Identity}
+use Rattle.conode_lint_text.specs.declared.fact.Fact.TheVariants.{NoCount, ListCount, ListGap, HighIndex, NoType, NoAccess, NoTypeOrAccess, NoFileInfo, FileInfoLacks, NoDeviceInfo, DeviceInfoLacks, NoSubNumber, SubNumber, SubIndex0, RpdoCount, TpdoCount, Identity, BelowLow, AboveHigh, LimitsCrossed}
 
 -- words with numbers in their places; those past the last place aren't written
 abbrev pub with_numbers : List ℕ → ℕ → ℕ → ℕ → List ℕ
 with_numbers words first second third =
     filled words (decimal first ∷ decimal second ∷ decimal third ∷ [])
+
+-- a number as sheets have it, in hexadecimal digits
+unfoldable pub hexadecimal : ℕ → List ℕ
+hexadecimal number = codes "0x" ++ digits 16 true number
+
+-- of the identity
+unfoldable pub identity_text : ℕ → ℕ → List ℕ
+identity_text number other =
+    codes "the number is " ++ hexadecimal number
+    ++ codes ", and that of the identity object is " ++ hexadecimal other
+
+-- of keys those that are missing, after these words, with commas between them
+unfoldable pub missing_text : List ℕ → List (List ℕ) → List Bool → List ℕ
+missing_text words (key ∷ keys) (true ∷ missing) =
+    words ++ key ++ missing_text (codes ", ") keys missing
+missing_text words (key ∷ keys) (false ∷ missing) = missing_text words keys missing
+missing_text words keys missing = []
+
+-- the keys that FileInfo and DeviceInfo must have (CiA 306-1, file information, device information)
+abbrev pub file_keys : List (List ℕ)
+file_keys =
+    codes "FileName" ∷ codes "FileVersion" ∷ codes "FileRevision" ∷ codes "Description"
+    ∷ codes "CreationTime" ∷ codes "CreationDate" ∷ codes "CreatedBy" ∷ codes "ModificationTime"
+    ∷ codes "ModificationDate" ∷ codes "ModifiedBy" ∷ []
+
+abbrev pub device_keys : List (List ℕ)
+device_keys =
+    codes "VendorName" ∷ codes "VendorNumber" ∷ codes "ProductName" ∷ codes "ProductNumber"
+    ∷ codes "RevisionNumber" ∷ codes "OrderCode" ∷ codes "BaudRate_10" ∷ codes "BaudRate_20"
+    ∷ codes "BaudRate_50" ∷ codes "BaudRate_125" ∷ codes "BaudRate_250" ∷ codes "BaudRate_500"
+    ∷ codes "BaudRate_800" ∷ codes "BaudRate_1000" ∷ codes "SimpleBootUpMaster"
+    ∷ codes "SimpleBootUpSlave" ∷ codes "Granularity" ∷ codes "DynamicChannelsSupported"
+    ∷ codes "GroupMessaging" ∷ codes "NrOfRXPDO" ∷ codes "NrOfTXPDO" ∷ codes "LSS_Supported" ∷ []
+
+-- which of them are missing
+unfoldable pub file_lacks : List Bool → List ℕ
+file_lacks missing = missing_text (codes "FileInfo lacks ") file_keys missing
+
+unfoldable pub device_lacks : List Bool → List ℕ
+device_lacks missing = missing_text (codes "DeviceInfo lacks ") device_keys missing
 
 -- of a fact with two numbers or three
 unfoldable pub count_text : Fact → List ℕ
@@ -27,8 +68,13 @@ count_text (RpdoCount number has) =
     with_numbers (codes "NrOfRXPDO is %, and the number of the sheet's RPDOs is %") number has 0
 count_text (TpdoCount number has) =
     with_numbers (codes "NrOfTXPDO is %, and the number of the sheet's TPDOs is %") number has 0
-count_text (Identity number other) =
-    with_numbers (codes "the number is %, and that of the identity object is %") number other 0
+count_text (Identity number other) = identity_text number other
+count_text (BelowLow line) =
+    with_numbers (codes "the value is below the LowLimit of line %") line 0 0
+count_text (AboveHigh line) =
+    with_numbers (codes "the value is above the HighLimit of line %") line 0 0
+count_text (LimitsCrossed line) =
+    with_numbers (codes "HighLimit is below the LowLimit of line %") line 0 0
 count_text other = []
 
 -- of any fact
@@ -39,9 +85,9 @@ fact_text NoType = codes "the entry has no DataType"
 fact_text NoAccess = codes "the entry has no AccessType"
 fact_text NoTypeOrAccess = codes "the entry has neither DataType nor AccessType"
 fact_text NoFileInfo = codes "there is no section [FileInfo]"
-fact_text FileInfoLacks = codes "FileInfo lacks a key that it has to have"
+fact_text (FileInfoLacks missing) = file_lacks missing
 fact_text NoDeviceInfo = codes "there is no section [DeviceInfo]"
-fact_text DeviceInfoLacks = codes "DeviceInfo lacks a key that it has to have"
+fact_text (DeviceInfoLacks missing) = device_lacks missing
 fact_text (NoSubNumber has) =
     with_numbers
     (codes "SubNumber is no number, and the number of the object's sub-index sections is %") has 0 0

@@ -163,6 +163,10 @@ abbrev pub duplicate_section : List TextSection → List ℕ → About
 duplicate_section sections text =
     option_map_or first_section (section_at (section_kind text) sections) Line
 
+-- of what comes twice: the line of the first, if it is known
+abbrev pub first_at : Option ℕ → About
+first_at line = option_map_or (λ n. FirstAt n) line Line
+
 -- ---- sub-indices
 
 -- the number of an object's sub-index sections
@@ -214,12 +218,15 @@ sub_index_0 line sections text =
 
 -- ---- file information and device information
 
--- of the FileInfoKeys and the DeviceInfoKeys of a line, which is 0 where there is no such section
-abbrev pub file_info : ℕ → About
-file_info line = if line == 0 then Fact fact.NoFileInfo else Fact fact.FileInfoLacks
+-- of the FileInfoKeys and the DeviceInfoKeys of a line, which is 0 where there is no such section:
+-- which keys are missing
+abbrev pub file_info : ℕ → List Bool → About
+file_info line missing =
+    if line == 0 then Fact fact.NoFileInfo else Fact (fact.FileInfoLacks missing)
 
-abbrev pub device_info : ℕ → About
-device_info line = if line == 0 then Fact fact.NoDeviceInfo else Fact fact.DeviceInfoLacks
+abbrev pub device_info : ℕ → List Bool → About
+device_info line missing =
+    if line == 0 then Fact fact.NoDeviceInfo else Fact (fact.DeviceInfoLacks missing)
 
 -- the number of objects in a range of indices
 abbrev pub is_object_in : ℕ → ℕ → SectionKind → Bool

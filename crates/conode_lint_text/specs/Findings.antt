@@ -6,6 +6,7 @@ use Rattle.conode_text.specs.Filled.{filled}
 use Rattle.conode_json.specs.Characters.{characters_of}
 use Rattle.conode_lint_text.specs.Characters.{blanks}
 use Rattle.conode_lint_text.specs.FactTexts.{fact_text}
+use Rattle.conode_lint_text.specs.declared.fact.Fact.TheVariants.{NoType, NoAccess, NoTypeOrAccess}
 use Rattle.conode_lint_text.specs.declared.finding.About.{About}
 use Rattle.conode_lint_text.specs.declared.finding.About.TheVariants.{Line, Object, Entry, Bits, FirstAt, Misspelt, Fact}
 use Rattle.conode_lint_text.specs.declared.finding.Finding.{Finding}
@@ -54,6 +55,19 @@ about_message (Fact fact) meaning = fact_text fact
 -- what is wrong
 unfoldable pub message_of : Finding → List ℕ
 message_of finding = about_message finding.about finding.meaning.now
+
+-- how to fix it: where keys of an entry are missing, which to add
+unfoldable pub fix_with : About → List ℕ → List ℕ
+fix_with (Fact NoType) fix =
+    codes "add DataType; to an ARRAY or a RECORD add ObjectType=8 or ObjectType=9"
+fix_with (Fact NoAccess) fix =
+    codes "add AccessType; to an ARRAY or a RECORD add ObjectType=8 or ObjectType=9"
+fix_with (Fact NoTypeOrAccess) fix =
+    codes "add DataType and AccessType; to an ARRAY or a RECORD add ObjectType=8 or ObjectType=9"
+fix_with about fix = fix
+
+abbrev pub fix_of : Finding → List ℕ
+fix_of finding = fix_with finding.about finding.fix.now
 
 -- how to fix it, and the subject of the standard
 unfoldable pub help_of : List ℕ → List ℕ → List ℕ

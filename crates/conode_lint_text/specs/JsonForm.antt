@@ -4,7 +4,7 @@ use Rattle.std.specs.List.{flat_map}
 use Rattle.json.specs.Token.{Token, begin_object, end_object, end_array}
 use Rattle.conode_json.specs.Characters.{utf8_of}
 use Rattle.conode_json.specs.Members.{array_begin, count_member, flag_member, object_begin, text_member}
-use Rattle.conode_lint_text.specs.Findings.{column_of, message_of, severity_name}
+use Rattle.conode_lint_text.specs.Findings.{column_of, fix_of, message_of, severity_name}
 use Rattle.conode_lint_text.specs.Members.{member_name}
 use Rattle.conode_lint_text.specs.TextForm.{piece_text}
 use Rattle.conode_lint_text.specs.declared.finding.Finding.{Finding}
@@ -40,7 +40,7 @@ word_members finding =
     text_member (codes "name") finding.name.now
     ++ text_member (codes "meaning") (message_of finding)
     ++ text_member (codes "text") (utf8_of finding.text.now)
-    ++ text_member (codes "fix") finding.fix.now
+    ++ text_member (codes "fix") (fix_of finding)
     ++ text_member (codes "subject") finding.subject.now
 
 -- a finding

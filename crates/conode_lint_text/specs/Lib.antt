@@ -1,6 +1,7 @@
 pub mod Characters
 pub mod FactTexts
 pub mod Facts
+pub mod Bounds
 pub mod Findings
 pub mod TextForm
 pub mod Members

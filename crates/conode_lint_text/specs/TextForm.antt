@@ -3,7 +3,7 @@ use Rattle.std.specs.Prelude.{ℕ, ◌==◌, Bool, if◌then◌else◌, List, []
 use Rattle.conode_text.specs.Filled.{filled}
 use Rattle.conode_json.specs.Characters.{characters_of}
 use Rattle.conode_lint_text.specs.Characters.{shown_all}
-use Rattle.conode_lint_text.specs.Findings.{column_of, help_of, message_of, severity_name}
+use Rattle.conode_lint_text.specs.Findings.{column_of, fix_of, help_of, message_of, severity_name}
 use Rattle.conode_lint_text.specs.declared.finding.Finding.{Finding}
 use Rattle.conode_lint_text.specs.declared.finding.Severity.{Severity as HowSevere}
 use Rattle.conode_lint_text.specs.declared.finding.Severity.TheVariants.{Error, Warning}
@@ -45,7 +45,7 @@ finding_lines colours file finding =
     ∷ message_of finding
     ∷ quoted_text finding.line (characters_of finding.text.now)
     ∷ begin_colour colours (codes "1;36") ∷ end_colour colours
-    ∷ help_of finding.fix.now finding.subject.now ∷ [])
+    ∷ help_of (fix_of finding) finding.subject.now ∷ [])
 
 -- the line of a file whose further findings aren't printed
 unfoldable pub more_line : List ℕ → ℕ → List ℕ

@@ -1,8 +1,16 @@
 //! What a sheet has at a finding, as numbers, and its sentence.
 
-ghost use Rattle.std.specs.Prelude.{◌≡◌, ◌++◌, [], ◌∷◌, decimal, OnOk, string_bytes};
+ghost use Rattle.std.specs.Prelude.{◌≡◌, ◌++◌, [], ◌∷◌, decimal, map, OnOk, string_bytes};
 ghost use Rattle.conode_text.specs.Filled.{filled};
-ghost use Rattle.conode_lint_text.specs.FactTexts.{count_text, fact_text};
+ghost use Rattle.conode_lint_text.specs.FactTexts.{
+  count_text,
+  device_lacks,
+  fact_text,
+  file_lacks,
+  hexadecimal,
+  identity_text,
+  missing_text,
+};
 
 use conode_text::{Value, push_filled};
 use std::alloc::AllocError;
@@ -26,12 +34,12 @@ pub enum Fact {
     NoTypeOrAccess,
     /// A sheet without the section FileInfo.
     NoFileInfo,
-    /// A FileInfo without a key that it must have.
-    FileInfoLacks,
+    /// A FileInfo without keys that it must have: of each whether it is missing.
+    FileInfoLacks([bool; 10]),
     /// A sheet without the section DeviceInfo.
     NoDeviceInfo,
-    /// A DeviceInfo without a key that it must have.
-    DeviceInfoLacks,
+    /// A DeviceInfo without keys that it must have: of each whether it is missing.
+    DeviceInfoLacks([bool; 22]),
     /// A SubNumber that is no number, and the number of the object's sub-index sections.
     NoSubNumber(usize),
     /// A SubNumber, and the number of the object's sub-index sections.
@@ -44,6 +52,12 @@ pub enum Fact {
     TpdoCount(u64, usize),
     /// A number of DeviceInfo, and that of the identity object.
     Identity(u64, u64),
+    /// A value below its LowLimit, by the line of the limit.
+    BelowLow(usize),
+    /// A value above its HighLimit, by the line of the limit.
+    AboveHigh(usize),
+    /// A HighLimit below its LowLimit, by the line of LowLimit.
+    LimitsCrossed(usize),
 }
 
 // words with numbers in their places
@@ -66,6 +80,24 @@ fn push_numbers(
             Value::Number(third),
         ],
     )
+}
+
+// words and a number as sheets have it, in hexadecimal digits
+#[tactic(auto, unfolding(crate::specs::FactTexts::hexadecimal))]
+fn push_hexadecimal(text: &mut String, words: &str, number: u64) -> Result<(), AllocError>
+    ensures { OnOk result
+        (string_bytes text.new ≡ string_bytes text.old ++ words.now ++ hexadecimal number) }
+{
+    write!(text, "{words}0x{number:X}")
+}
+
+#[tactic(auto, unfolding(crate::specs::FactTexts::identity_text))]
+fn push_identity(text: &mut String, number: u64, other: u64) -> Result<(), AllocError>
+    ensures { OnOk result
+        (string_bytes text.new ≡ string_bytes text.old ++ identity_text number other) }
+{
+    attempt!(push_hexadecimal(text, "the number is ", number));
+    push_hexadecimal(text, ", and that of the identity object is ", other)
 }
 
 #[tactic(auto, unfolding(crate::specs::FactTexts::count_text))]
@@ -115,15 +147,124 @@ fn push_count(text: &mut String, fact: Fact) -> Result<(), AllocError>
             has as u64,
             0,
         ),
-        Fact::Identity(number, other) => push_numbers(
-            text,
-            "the number is %, and that of the identity object is %",
-            number,
-            other,
-            0,
-        ),
+        Fact::Identity(number, other) => push_identity(text, number, other),
+        Fact::BelowLow(line) => {
+            push_numbers(
+                text,
+                "the value is below the LowLimit of line %",
+                line as u64,
+                0,
+                0,
+            )
+        }
+        Fact::AboveHigh(line) => {
+            push_numbers(
+                text,
+                "the value is above the HighLimit of line %",
+                line as u64,
+                0,
+                0,
+            )
+        }
+        Fact::LimitsCrossed(line) => {
+            push_numbers(
+                text,
+                "HighLimit is below the LowLimit of line %",
+                line as u64,
+                0,
+                0,
+            )
+        }
         _ => Ok(()),
     }
+}
+
+/// The keys that FileInfo must have.
+const FILE_KEYS: [&str; 10] = [
+    "FileName",
+    "FileVersion",
+    "FileRevision",
+    "Description",
+    "CreationTime",
+    "CreationDate",
+    "CreatedBy",
+    "ModificationTime",
+    "ModificationDate",
+    "ModifiedBy",
+];
+
+/// The keys that DeviceInfo must have.
+const DEVICE_KEYS: [&str; 22] = [
+    "VendorName",
+    "VendorNumber",
+    "ProductName",
+    "ProductNumber",
+    "RevisionNumber",
+    "OrderCode",
+    "BaudRate_10",
+    "BaudRate_20",
+    "BaudRate_50",
+    "BaudRate_125",
+    "BaudRate_250",
+    "BaudRate_500",
+    "BaudRate_800",
+    "BaudRate_1000",
+    "SimpleBootUpMaster",
+    "SimpleBootUpSlave",
+    "Granularity",
+    "DynamicChannelsSupported",
+    "GroupMessaging",
+    "NrOfRXPDO",
+    "NrOfTXPDO",
+    "LSS_Supported",
+];
+
+fn push_key(text: &mut String, words: &str, key: &str) -> Result<(), AllocError>
+    ensures { OnOk result
+        (string_bytes text.new ≡ string_bytes text.old ++ words.now ++ key.now) }
+{
+    attempt!(text.push_str(words));
+    text.push_str(key)
+}
+
+// the keys that are missing, after these words, with commas between them
+#[tactic(auto, unfolding(crate::specs::FactTexts::missing_text))]
+fn push_missing(
+    text: &mut String,
+    words: &'static str,
+    keys: &[&'static str],
+    missing: &[bool],
+) -> Result<(), AllocError>
+    ensures { OnOk result (string_bytes text.new ≡ string_bytes text.old
+        ++ missing_text words.now (map (λ key. key.now) keys.now) missing.now) }
+{
+    let [key, keys @ ..] = keys else {
+        return Ok(());
+    };
+    let [is_missing, missing @ ..] = missing else {
+        return Ok(());
+    };
+    if !*is_missing {
+        return push_missing(text, words, keys, missing);
+    }
+    attempt!(push_key(text, words, *key));
+    push_missing(text, ", ", keys, missing)
+}
+
+#[tactic(auto, unfolding(crate::specs::FactTexts::file_lacks))]
+fn push_file_lacks(text: &mut String, missing: &[bool]) -> Result<(), AllocError>
+    ensures { OnOk result
+        (string_bytes text.new ≡ string_bytes text.old ++ file_lacks missing.now) }
+{
+    push_missing(text, "FileInfo lacks ", &FILE_KEYS, missing)
+}
+
+#[tactic(auto, unfolding(crate::specs::FactTexts::device_lacks))]
+fn push_device_lacks(text: &mut String, missing: &[bool]) -> Result<(), AllocError>
+    ensures { OnOk result
+        (string_bytes text.new ≡ string_bytes text.old ++ device_lacks missing.now) }
+{
+    push_missing(text, "DeviceInfo lacks ", &DEVICE_KEYS, missing)
 }
 
 /// Appends the sentence of a fact. `Err`: out of memory; a part of the text may be there.
@@ -138,9 +279,9 @@ pub(crate) fn push_fact(text: &mut String, fact: Fact) -> Result<(), AllocError>
         Fact::NoAccess => text.push_str("the entry has no AccessType"),
         Fact::NoTypeOrAccess => text.push_str("the entry has neither DataType nor AccessType"),
         Fact::NoFileInfo => text.push_str("there is no section [FileInfo]"),
-        Fact::FileInfoLacks => text.push_str("FileInfo lacks a key that it has to have"),
+        Fact::FileInfoLacks(missing) => push_file_lacks(text, &missing),
         Fact::NoDeviceInfo => text.push_str("there is no section [DeviceInfo]"),
-        Fact::DeviceInfoLacks => text.push_str("DeviceInfo lacks a key that it has to have"),
+        Fact::DeviceInfoLacks(missing) => push_device_lacks(text, &missing),
         Fact::NoSubNumber(has) => push_numbers(
             text,
             "SubNumber is no number, and the number of the object's sub-index sections is %",

@@ -11,6 +11,7 @@ ghost use Rattle.conode_lint_text.specs.Facts.{
   duplicate_section,
   entry_fact,
   file_info,
+  first_at,
   first_key,
   first_listed,
   first_section,
@@ -77,8 +78,8 @@ fn section_on<'s, 'a>(
     None
 }
 
-// the section that a line is in: the last that begins before it
-fn section_before<'s, 'a>(
+/// The section that a line is in: the last that begins before it.
+pub(crate) fn section_before<'s, 'a>(
     sections: &'s [TextSection<'s, 'a>],
     line: usize,
 ) -> Option<&'s TextSection<'s, 'a>>
@@ -363,6 +364,16 @@ pub fn duplicate_section(sections: &[TextSection<'_, '_>], text: &[u8]) -> About
     }
 }
 
+/// Of what comes twice: the line of the first, if it is known.
+pub fn first_at(line: Option<usize>) -> About
+    ensures { result ≡ first_at line }
+{
+    match line {
+        Some(line) => About::FirstAt(line),
+        None => About::Line,
+    }
+}
+
 fn is_sub_index_of(index: u16, kind: SectionKind) -> bool
     ensures { result ≡ is_sub_index_of index kind }
 {
@@ -450,25 +461,25 @@ pub fn sub_index_0(sections: &[TextSection<'_, '_>], line: usize, text: &[u8]) -
     }
 }
 
-/// Of the FileInfoKeys of a line: whether there is the section.
-pub fn file_info(line: usize) -> About
-    ensures { result ≡ file_info line }
+/// Of the FileInfoKeys of a line: whether there is the section, and which keys are missing.
+pub fn file_info(line: usize, missing: [bool; 10]) -> About
+    ensures { result ≡ file_info line missing }
 {
     if line == 0 {
         About::Fact(Fact::NoFileInfo)
     } else {
-        About::Fact(Fact::FileInfoLacks)
+        About::Fact(Fact::FileInfoLacks(missing))
     }
 }
 
-/// Of the DeviceInfoKeys of a line: whether there is the section.
-pub fn device_info(line: usize) -> About
-    ensures { result ≡ device_info line }
+/// Of the DeviceInfoKeys of a line: whether there is the section, and which keys are missing.
+pub fn device_info(line: usize, missing: [bool; 22]) -> About
+    ensures { result ≡ device_info line missing }
 {
     if line == 0 {
         About::Fact(Fact::NoDeviceInfo)
     } else {
-        About::Fact(Fact::DeviceInfoLacks)
+        About::Fact(Fact::DeviceInfoLacks(missing))
     }
 }
 

@@ -14,6 +14,7 @@ use crate::finding::Finding;
 use crate::member::Member;
 use crate::parts::Part;
 use crate::pieces::Piece;
+use crate::words::fix_of;
 use conode_json::{Document, HasTokens, JsonWriter, put_parts};
 use std::alloc::{AllocError, Global};
 
@@ -36,7 +37,7 @@ fn put_finding<'p>(
             Part::Text(Member::Name, finding.name),
             Part::Piece(Member::Meaning, Piece::Message(finding)),
             Part::Line(Member::Text, finding.text),
-            Part::Text(Member::Fix, finding.fix),
+            Part::Text(Member::Fix, fix_of(finding)),
             Part::Text(Member::Subject, finding.subject),
             Part::EndObject,
         ],

@@ -11,6 +11,7 @@ macro_rules! attempt {
     };
 }
 
+mod bounds;
 mod characters;
 mod column;
 mod fact;
@@ -24,9 +25,10 @@ mod sarif_form;
 mod text_form;
 mod words;
 
+pub use bounds::{bad_default, bad_limits};
 pub use fact::Fact;
 pub use facts::{
-    bad_list, device_info, duplicate_key, duplicate_section, file_info, identity_number,
+    bad_list, device_info, duplicate_key, duplicate_section, file_info, first_at, identity_number,
     listed_twice, missing_key, pdo_count, sub_index_0, sub_number,
 };
 pub use finding::{About, Finding, Place, Rule, Severity};

@@ -14,6 +14,7 @@ ghost use Rattle.conode_lint_text.specs.TextForm.{
 use crate::column::column_of;
 use crate::finding::{Finding, Severity};
 use crate::pieces::Piece;
+use crate::words::fix_of;
 use conode_json::characters_of;
 use conode_text::push_filled;
 use std::alloc::{AllocError, Global};
@@ -62,7 +63,7 @@ fn push_lines<'p>(
             Piece::Quoted(finding.line, characters),
             Piece::Colour(colours, HELP),
             Piece::Colour(colours, END),
-            Piece::Help(finding.fix, finding.subject),
+            Piece::Help(fix_of(finding), finding.subject),
         ],
     )
 }

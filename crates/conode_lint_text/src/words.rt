@@ -1,9 +1,9 @@
 //! The words of a finding.
 
 ghost use Rattle.std.specs.Prelude.{◌≡◌, ◌++◌, OnOk, string_bytes};
-ghost use Rattle.conode_lint_text.specs.Findings.{about_message, help_of, message_of, severity_name};
+ghost use Rattle.conode_lint_text.specs.Findings.{about_message, fix_of, help_of, message_of, severity_name};
 
-use crate::fact::push_fact;
+use crate::fact::{Fact, push_fact};
 use crate::finding::{About, Finding, Severity};
 use conode_text::{Value, push_filled};
 use std::alloc::AllocError;
@@ -69,6 +69,25 @@ pub(crate) fn push_message(text: &mut String, finding: &Finding<'_>) -> Result<(
         (string_bytes text.new ≡ string_bytes text.old ++ message_of finding.now) }
 {
     push_about(text, finding.about, finding.meaning)
+}
+
+/// How to fix it: where keys of an entry are missing, which to add.
+#[tactic(auto, unfolding(crate::specs::Findings::fix_with))]
+pub(crate) fn fix_of<'a>(finding: &Finding<'a>) -> &'a str
+    ensures { result.now ≡ fix_of finding.now }
+{
+    match finding.about {
+        About::Fact(Fact::NoType) => {
+            "add DataType; to an ARRAY or a RECORD add ObjectType=8 or ObjectType=9"
+        }
+        About::Fact(Fact::NoAccess) => {
+            "add AccessType; to an ARRAY or a RECORD add ObjectType=8 or ObjectType=9"
+        }
+        About::Fact(Fact::NoTypeOrAccess) => {
+            "add DataType and AccessType; to an ARRAY or a RECORD add ObjectType=8 or ObjectType=9"
+        }
+        _ => finding.fix,
+    }
 }
 
 /// Appends how to fix it, and the subject of the standard. `Err`: out of memory; a part of the text

@@ -31,7 +31,7 @@ use Rattle.co_sheet_text.specs.Sections.{Property, TextSection}
 use Rattle.co_sheet_text.specs.Text.{lines_of, same_name}
 use Rattle.co_sheet_adapt.specs.Expanded.{expanded}
 use Rattle.co_sheet_changes.specs.Originals.{original_at}
-use Rattle.conode_lint.specs.declared.mark.OtherFormat.{OtherFormat}
+use Rattle.conode_lint_marks.specs.declared.mark.OtherFormat.{OtherFormat}
 use Rattle.conode_lint.specs.Formats.{text_format}
 use Rattle.conode_lint.specs.FormatWords.{format_meaning}
 use Rattle.conode_show.specs.declared.form.Form.{Form}

@@ -43,13 +43,13 @@ ghost use Rattle.conode_show.specs.Shown.{
 use crate::form::Form;
 use crate::json_form::{json_document, json_reason};
 use crate::retyped::{Retyped, all_retyped, sections_in as retyped_sections};
-use co_sheet::{GREATEST_SIZE, StreamFault, read_text};
+use co_sheet::GREATEST_SIZE;
 use co_sheet_adapt::expanded;
 use co_sheet_changes::Originals;
 use co_sheet_faults::read_sections;
 use co_sheet_text::{ParsedText, SectionKind, TextSection};
-use conode_io::{CmdFault, file_text, flushed, hand_over, no_text, out_of_memory, stopped};
-use conode_lint::{OtherFormat, format_meaning, text_format};
+use conode_io::{CmdFault, flushed, hand_over, no_text, out_of_memory, stopped};
+use conode_lint::{OtherFormat, format_meaning, text_format, text_of};
 use conode_show_text::{document, node_for, order};
 use std::alloc::{AllocError, Global};
 use std::io::{Input, Write};
@@ -320,19 +320,6 @@ fn status_of<O: Write, E: Write>(
         Ok(false) => ExitCode::FAILURE,
         Err(CmdFault::Memory) => out_of_memory(out),
         Err(fault) => stopped(fault, out, err).status(),
-    }
-}
-
-// the text of a path's file, or of standard input for `-`
-fn text_of<R: Files + AllocGlobal + Input>(rt: &R, path: &str) -> Result<Vec<u8>, CmdFault> {
-    if path != "-" {
-        return file_text(rt, path);
-    }
-    let mut text = Vec::new(rt.alloc());
-    match read_text(&mut rt.reader(), &mut text) {
-        Ok(()) => Ok(text),
-        Err(StreamFault::Memory) => Err(CmdFault::Memory),
-        Err(_) => Err(CmdFault::Read),
     }
 }
 

@@ -1,5 +1,5 @@
 -- What the tables of a text say, without where its bytes lie in memory.
-use Rattle.std.specs.Prelude.{◌≡◌, ◌==◌, ℕ, Bool, false, nat_eq, if◌then◌else◌, List, [], ◌∷◌, ◌++◌, map, filter_map, codes, Option, Some, None, option_map}
+use Rattle.std.specs.Prelude.{◌≡◌, ◌==◌, ℕ, Bool, false, nat_eq, if◌then◌else◌, List, [], ◌∷◌, ◌++◌, map, filter_map, codes, Option, Some, None}
 use Rattle.std.specs.List.{list_any}
 use Rattle.std.specs.Option.{option_map_or}
 use Rattle.std.specs.HashSet.{HashSet, contains}
@@ -9,9 +9,11 @@ use Rattle.co_sheet_warnings.specs.declared.keys.WrittenKey.{WrittenKey as CodeK
 use Rattle.co_sheet_warnings.specs.declared.lists.ListCheck.{ListCheck}
 use Rattle.co_sheet_warnings.specs.declared.lists.ListCheck.TheVariants.{Objects, Order}
 use Rattle.co_sheet_warnings.specs.declared.repeats.Once.{Once}
-use Rattle.co_sheet_warnings.specs.declared.repeats.Once.TheVariants.{Identifiers, Names}
+use Rattle.co_sheet_warnings.specs.declared.repeats.Once.TheVariants.{Identifiers, Consumed, Names}
 use Rattle.co_sheet_warnings.specs.declared.repeats.PlacedName.{PlacedName}
 use Rattle.co_sheet_warnings.specs.declared.repeats.ScopedName.{ScopedName as CodeName}
+use Rattle.co_sheet_warnings.specs.declared.repeats.Sought.{Sought}
+use Rattle.co_sheet_warnings.specs.declared.repeats.Sought.TheVariants.{At, Before}
 use Rattle.co_sheet_warnings.specs.declared.warning.WarningKind.{WarningKind}
 use Rattle.co_sheet_warnings.specs.declared.warning.WarningKind.TheVariants.{
   SubNumber,
@@ -49,15 +51,15 @@ use Rattle.co_sheet_warnings.specs.Keys.{WrittenKey}
 use Rattle.co_sheet_warnings.specs.Lines.{first_other, numbered}
 use Rattle.co_sheet_warnings.specs.Lists.{first_fall, wrong_listing}
 use Rattle.co_sheet_warnings.specs.ReadTexts.{ReadText}
-use Rattle.co_sheet_warnings.specs.Repeats.{Placed, ScopedName, equal_names, identifier_in, name_in, same_scoped, shared_cob_ids}
+use Rattle.co_sheet_warnings.specs.Repeats.{Placed, ScopedName, consumed_in, equal_names, identifier_name, is_at, is_before, name_in, repeats, same_scoped, shared_cob_ids}
 use Rattle.co_sheet_warnings.specs.SubIndices.{is_constant_word}
 
 -- the row of a kind in the tables of words
 abbrev pub kind_row : WarningKind → ℕ
 kind_row SubNumber = 0
 kind_row SubIndex0 = 1
-kind_row FileInfoKeys = 2
-kind_row DeviceInfoKeys = 3
+kind_row (FileInfoKeys missing) = 2
+kind_row (DeviceInfoKeys missing) = 3
 kind_row PdoCount = 4
 kind_row WrongList = 5
 kind_row Unlisted = 6
@@ -65,10 +67,10 @@ kind_row IdentityNumber = 7
 kind_row FixedCobId = 8
 kind_row NodeIdPlace = 9
 kind_row (MisspeltKey meant) = 10
-kind_row SharedCobId = 11
+kind_row (SharedCobId node) = 11
 kind_row InhibitTime = 12
 kind_row OwnHeartbeat = 13
-kind_row HeartbeatTwice = 14
+kind_row (HeartbeatTwice given) = 14
 kind_row NoErrorControl = 15
 kind_row LongLine = 16
 kind_row Utf8 = 17
@@ -113,17 +115,16 @@ scoped_view n = record { scope = n.scope; text = n.text.now }
 abbrev pub name_view : PlacedName → Placed ScopedName
 name_view n = record { key = scoped_view n.name; line = n.line }
 
--- an identifier as a name
-abbrev pub id_name : ℕ → ScopedName
-id_name n = record { scope = n; text = [] }
-
-abbrev pub as_name : Placed ℕ → Placed ScopedName
-as_name p = record { key = id_name p.key; line = p.line }
-
 -- what a section has of what should come once, and the lines of what comes again
 abbrev pub placed_in : Once → TextSection → Option (Placed ScopedName)
-placed_in (Identifiers node) s = option_map as_name (identifier_in node s)
+placed_in (Identifiers node) s = identifier_name node s
+placed_in (Consumed given) s = consumed_in given s
 placed_in Names s = name_in s
+
+-- whether it is what is looked for
+abbrev pub is_sought : Sought → Placed ScopedName → Bool
+is_sought (At line) p = is_at line p
+is_sought (Before line name) p = is_before line (scoped_view name) p
 
 -- where what a section has is among what earlier ones have, and what they have together
 abbrev pub again_at : List ScopedName → Option (Placed ScopedName) → List ℕ
@@ -137,6 +138,7 @@ kept_with before (Some p) =
 
 abbrev pub repeats_of : Once → List TextSection → List ℕ
 repeats_of (Identifiers node) sections = shared_cob_ids (Some node) sections
+repeats_of (Consumed given) sections = repeats same_scoped [] (filter_map (consumed_in given) sections)
 repeats_of Names sections = equal_names sections
 
 -- a text, by its lists

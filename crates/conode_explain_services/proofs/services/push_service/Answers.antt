@@ -6,4 +6,4 @@ use Rattle.conode_explain_services.proofs.services.push_service.Goals as goal
 
 pub returns-then-not-is_said-clause-words : goal.returns-then-not-is_said-clause-words
 returns-then-not-is_said-clause-words c =
-    none_added (string_bytes c.args.text.now) (service_words c.args.last c.args.frame.now) (sym c.is_said.ensures ∙ c.if-not-is_said.true)
+    none_added (string_bytes c.args.text.now) (service_words c.args.drive c.args.last c.args.frame.now) (sym c.is_said.ensures ∙ c.if-not-is_said.true)

@@ -1,6 +1,6 @@
 use Rattle.std.proofs.Common.{[], map, take_all}
 use Rattle.conode_lint.specs.Allowed.{kept_of, passes_by}
-use Rattle.conode_lint.proofs.LoopLemmas.{appended_more}
+use Rattle.conode_lint_marks.proofs.LoopLemmas.{appended_more}
 use Rattle.conode_lint.proofs.allowed.add_kept.Goals as goal
 
 pub loop-mark-preserved : goal.loop-mark-preserved

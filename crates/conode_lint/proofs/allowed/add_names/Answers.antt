@@ -1,7 +1,7 @@
 use Rattle.std.proofs.Common.{[], take_all}
 use Rattle.std.specs.Prelude.{option_to_list}
 use Rattle.conode_lint.specs.Allowed.{name_in}
-use Rattle.conode_lint.proofs.LoopLemmas.{appended_view_more}
+use Rattle.conode_lint_marks.proofs.LoopLemmas.{appended_view_more}
 use Rattle.conode_lint.proofs.allowed.add_names.Goals as goal
 
 pub loop-line-preserved : goal.loop-line-preserved

@@ -2,7 +2,7 @@ use Rattle.std.proofs.Common.{◌||◌, ◌∙◌, ℕ, List, map, refl, sym}
 use Rattle.std.specs.List.{list_any}
 use Rattle.std.specs.Str.{bytes_eq}
 use Rattle.std.proofs.lemmas.List.{drop_all}
-use Rattle.conode_lint.proofs.LoopLemmas.{found_here, passed_more}
+use Rattle.conode_lint_marks.proofs.LoopLemmas.{found_here, passed_more}
 use Rattle.conode_lint.proofs.allowed.is_among.Goals as goal
 
 pub loop-one-preserved : goal.loop-one-preserved

@@ -1,7 +1,7 @@
 use Rattle.std.proofs.Common.{map, take_all}
 use Rattle.co_sheet_text.specs.Views.{section_view}
 use Rattle.conode_lint.specs.Found.{finding_of, seen}
-use Rattle.conode_lint.proofs.LoopLemmas.{pushed_seen_more}
+use Rattle.conode_lint_marks.proofs.LoopLemmas.{pushed_seen_more}
 use Rattle.conode_lint.proofs.linted_text.add_findings.Goals as goal
 
 pub loop-mark-preserved : goal.loop-mark-preserved

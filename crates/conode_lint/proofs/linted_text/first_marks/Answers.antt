@@ -1,4 +1,4 @@
-use Rattle.conode_lint.proofs.CutLemmas.{short_stays}
+use Rattle.conode_lint_marks.proofs.CutLemmas.{short_stays}
 use Rattle.conode_lint.proofs.linted_text.first_marks.Goals as goal
 
 pub returns-in-None : goal.returns-in-None

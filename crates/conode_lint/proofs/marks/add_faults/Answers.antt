@@ -1,6 +1,6 @@
 use Rattle.std.proofs.Common.{take_all}
 use Rattle.conode_lint.specs.Marks.{fault_mark}
-use Rattle.conode_lint.proofs.LoopLemmas.{pushed_more}
+use Rattle.conode_lint_marks.proofs.LoopLemmas.{pushed_more}
 use Rattle.conode_lint.proofs.marks.add_faults.Goals as goal
 
 pub loop-fault-preserved : goal.loop-fault-preserved

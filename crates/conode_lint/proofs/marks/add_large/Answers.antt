@@ -1,6 +1,6 @@
 use Rattle.std.proofs.Common.{◌∙◌, ◌++◌, List, ap, map}
 use Rattle.std.proofs.lemmas.Result.{on_ok_weaker}
-use Rattle.conode_lint.specs.declared.mark.Mark.{Mark}
+use Rattle.conode_lint_marks.specs.declared.mark.Mark.{Mark}
 use Rattle.conode_lint.specs.Marks.{fault_mark}
 use Rattle.conode_lint.proofs.MarkLemmas.{marked_large}
 use Rattle.conode_lint.proofs.marks.add_large.Goals as goal

@@ -1,21 +1,32 @@
-use Rattle.std.proofs.Common.{◌∙◌, ◌++◌, List, map, ap}
+use Rattle.std.proofs.Common.{◌∙◌, ◌++◌, ℕ, List, map, ap}
 use Rattle.std.proofs.lemmas.Result.{on_ok_weaker}
+use Rattle.co_sheet_text.specs.declared.section_kind.SectionKind.{SectionKind}
 use Rattle.co_sheet_text.specs.Sections.{TextSection}
 use Rattle.co_sheet_text.specs.Views.{section_view}
 use Rattle.co_sheet_warnings.specs.declared.warning.Warning.{Warning}
-use Rattle.conode_lint.specs.KnownWarnings.{known_warnings}
-use Rattle.conode_lint.specs.Marks.{warning_mark}
+use Rattle.co_sheet_warnings.specs.Lines.{text_lines}
+use Rattle.conode_lint_marks.specs.declared.mark.Mark.{Mark}
+use Rattle.conode_lint_marks.specs.AtFault.{kinds_at_fault}
+use Rattle.conode_lint_marks.specs.KnownWarnings.{known_by, known_warnings, warning_mark}
 use Rattle.conode_lint.proofs.marks.add_suspicious.Goals as goal
 
 pub returns-in-Ok : goal.returns-in-Ok
+unfolding known_warnings
 returns-in-Ok c =
     let faults = c.args.faults.now in
     let marks = c.args.marks.now.items in
-    on_ok_weaker c.add_left.result
+    let at_fault = c.args.at_fault.now in
+    let lines = map (λ line. line.now) c.args.lines.now in
+    let sections = map section_view c.args.sections.now in
+    let found = c.in-Ok.warnings.items in
+    let by : List SectionKind → List SectionKind → List Warning → List Mark = λ kinds doubts ws. marks ++ map warning_mark (known_by sections kinds doubts faults ws) in
+    let added : List (List ℕ) → List TextSection → List Mark = λ ls ss. marks ++ map warning_mark (known_warnings ls ss faults found) in
+    on_ok_weaker c.add_known_warnings.result
     (λ h. record {
-      warnings = c.in-Ok.warnings.items;
+      warnings = found;
       by_line = c.in-Ok.ensures;
-      are = h ∙ ap (λ (l : List Warning). marks ++ map warning_mark (known_warnings (map section_view c.args.sections.now) faults l)) c.as_slice.ensures.value
-          ∙ ap (λ (s : List TextSection). marks ++ map warning_mark (known_warnings s faults c.in-Ok.warnings.items)) c.requires.sections;
+      are = h ∙ ap (by at_fault.kinds.items at_fault.doubts.items) c.as_slice.ensures.value ∙ ap (λ (k : List SectionKind). by k at_fault.doubts.items found) c.requires.kinds
+          ∙ ap (λ (d : List SectionKind). by (kinds_at_fault faults sections) d found) c.requires.doubts ∙ ap (λ (l : List (List ℕ)). added l sections) c.requires.lines
+          ∙ ap (λ (s : List TextSection). added (text_lines c.args.text.now) s) c.requires.sections;
     })
-    c.add_left.ensures
+    c.add_known_warnings.ensures

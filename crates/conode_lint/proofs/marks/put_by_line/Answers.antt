@@ -1,7 +1,7 @@
 use Rattle.std.proofs.Common.{ℕ, rules}
 use Rattle.std.proofs.lemmas.Fn.{always_returns_same}
 use Rattle.std.proofs.lemmas.List.Sorted.{IsNonDecreasingBy-from_sort_by_key}
-use Rattle.conode_lint.specs.declared.mark.Mark.{Mark}
+use Rattle.conode_lint_marks.specs.declared.mark.Mark.{Mark}
 use Rattle.conode_lint.proofs.marks.put_by_line.Goals as goal
 
 pub returns : goal.returns

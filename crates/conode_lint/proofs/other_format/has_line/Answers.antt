@@ -3,7 +3,7 @@ use Rattle.std.specs.List.{list_any}
 use Rattle.std.proofs.lemmas.List.{drop_all}
 use Rattle.co_sheet_text.specs.Text.{trim}
 use Rattle.conode_lint.specs.Formats.{begins_with, has_line}
-use Rattle.conode_lint.proofs.LoopLemmas.{found_here, passed_more}
+use Rattle.conode_lint_marks.proofs.LoopLemmas.{found_here, passed_more}
 use Rattle.conode_lint.proofs.other_format.has_line.Goals as goal
 
 pub loop-line-preserved : goal.loop-line-preserved

@@ -4,4 +4,4 @@ use Rattle.conode_lint_text.proofs.json_form.put_finding.Goals as goal
 
 pub returns : goal.returns
 unfolding finding_tokens count_member text_member
-returns c = c.put_parts.ensures
+returns c = rw c.fix_of.ensures at c.put_parts.ensures

@@ -1,7 +1,6 @@
 -- What is found next, and what is written of it.
-use Rattle.std.proofs.Common.{◌≡◌, ℕ, ◌+◌, List, refl, sym, ap, ◌∙◌, subst}
+use Rattle.std.proofs.Common.{◌≡◌, ◌+◌, refl, sym, ap, ◌∙◌, subst}
 use Rattle.co_stream.specs.declared.bounded_lines.Found.{Found}
-use Rattle.co_stream.specs.declared.bounded_lines.Found.TheVariants.{Line}
 use Rattle.co_stream.specs.Founds.{Finds}
 use Rattle.co_stream.specs.Held.{to_come}
 use Rattle.co_stream.specs.Readings.{Gave}
@@ -46,17 +45,15 @@ returns-in-Ok-take_log_line-clause-line g c =
     let holds = c.advance.new.self in
     let old = g.W.Write.contents c.args.out.now in
     let new = g.W.Write.contents c.take_log_line.new.out in
-    let line = c.line-line.result.now in
     let what = comparison_view c.args.settings.now in
     let log = c.args.self.now.log in
     let first = c.args.self.now.comparing in
     let found = subst (λ (f : Found). Gave held.ended holds.ended before after (λ had has. Finds (to_come held had) (to_come holds has) holds.line f)) c.in-Ok-Line.field-0-is c.in-Ok-Line.ensures.found in
-    let here = subst (λ (l : List ℕ). Gave held.ended holds.ended before after (λ had has. Finds (to_come held had) (to_come holds has) l Line)) (sym c.line-line.ensures) found in
     let said = c.in-Ok-take_log_line.ensures in
-    let noted : c.note_line-in-Ok-Line.new.self ≡ line_noted first line = c.in-Ok-note_line.ensures in
-    let next = subst (λ (n : Comparing). c.take_log_line.new.comparing ≡ said_with what n (line_at log line)) noted said.next in
-    let lines = subst (λ (n : Comparing). WritesLines old new (said_lines what c.args.number n (line_at log line))) noted said.lines in
-    takes_line what held holds before after c.args.number log first old new line c.take_log_line.new.log c.take_log_line.new.comparing said.log next lines here
+    let noted : c.note_line-in-Ok-Line.new.self ≡ line_noted first holds.line = c.in-Ok-note_line.ensures ∙ ap (line_noted first) c.line.ensures in
+    let next = subst (λ (n : Comparing). c.take_log_line.new.self.comparing ≡ said_with what n (line_at log holds.line)) noted said.next in
+    let lines = subst (λ (n : Comparing). WritesLines old new (said_lines what c.args.number n (line_at log holds.line))) noted said.lines in
+    rw said.held (takes_line what held holds before after c.args.number log first old new holds.line c.take_log_line.new.self.log c.take_log_line.new.self.comparing said.log next lines found)
 
 pub returns-in-Ok-Last-clause-line : goal.returns-in-Ok-Last-clause-line
 returns-in-Ok-Last-clause-line g c =

@@ -1,9 +1,0 @@
-use Rattle.std.proofs.Common.{◌≡◌, ◌++◌, map, take}
-use Rattle.std.specs.List.{flat_map}
-use Rattle.co_sheet_text.specs.Views.{section_view}
-use Rattle.conode_lint.specs.KnownFaults.{known_mark}
-use Rattle.conode_lint.proofs.known_marks.add_known_faults.Given as goal
-
-abbrev pub invariant-loop-fault : goal.invariant-loop-fault
-invariant-loop-fault l =
-    l.marks.items ≡ l.fn.marks.items ++ flat_map (known_mark (map section_view l.sections) l.kinds) (take l.fault-index l.faults)

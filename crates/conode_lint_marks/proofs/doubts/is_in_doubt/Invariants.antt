@@ -1,0 +1,7 @@
+use Rattle.std.proofs.Common.{◌≡◌, map, drop}
+use Rattle.conode_lint_marks.specs.Doubts.{is_in_doubt}
+use Rattle.conode_lint_marks.proofs.doubts.is_in_doubt.Given as goal
+
+-- what the rest gives is what all give
+abbrev pub invariant-loop-fault : goal.invariant-loop-fault
+invariant-loop-fault l = is_in_doubt (map (λ line. line.now) l.lines) l.section_line (drop l.fault-index l.faults) ≡ is_in_doubt (map (λ line. line.now) l.lines) l.section_line l.faults

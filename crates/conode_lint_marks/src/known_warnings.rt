@@ -1,0 +1,201 @@
+//! The warnings of a text that rest on nothing at fault.
+
+ghost use Rattle.std.specs.Prelude.{◌≡◌, ◌++◌, map, OnOk};
+ghost use Rattle.co_sheet_text.specs.Views.{section_view};
+ghost use Rattle.conode_lint_marks.specs.KnownWarnings.{
+  begins_at,
+  faults_from,
+  is_time_in_doubt,
+  is_time_with,
+  known_by,
+  known_in,
+  rests_on_fault,
+  unknown_of,
+  unless_at_fault,
+  warning_mark,
+};
+
+use crate::at_fault::{AtFault, faults_before, is_complete};
+use crate::build_lines::value_line;
+use crate::concerns::{Concern, is_any};
+use crate::mark::{Mark, Subject};
+use co_sheet::SheetFault;
+use co_sheet_text::{SectionKind, TextSection};
+use co_sheet_warnings::{Warning, WarningKind};
+use std::alloc::AllocError;
+
+/// What may be wrong in a text, since sections are at fault.
+#[derive(Clone, Copy)]
+pub(crate) struct Unknown {
+    /// Which sections there are.
+    sections: bool,
+    /// DeviceInfo, with CompactPDO.
+    info: bool,
+    /// What is listed.
+    lists: bool,
+    /// A COB-ID of EMCY, a PDO or an SDO channel.
+    cob_ids: bool,
+    /// A consumer of heartbeats, 1016h.
+    consumers: bool,
+    /// A number of the identity, 1018h.
+    identity: bool,
+}
+
+#[tactic(auto, unfolding(crate::specs::KnownWarnings::unknown_of))]
+fn unknown_of(
+    sections: &[TextSection<'_, '_>],
+    kinds: &[SectionKind],
+    doubts: &[SectionKind],
+) -> Unknown
+    ensures { result ≡ unknown_of (map section_view sections.now) kinds.now doubts.now }
+{
+    Unknown {
+        sections: is_any(Concern::SectionLine, kinds),
+        info: is_any(Concern::CompactPdo, kinds),
+        lists: !is_complete(sections, kinds),
+        cob_ids: is_any(Concern::CobId, doubts),
+        consumers: is_any(Concern::SubsOf(0x1016, 1, 255), doubts),
+        identity: is_any(Concern::SubsOf(0x1018, 1, 3), doubts),
+    }
+}
+
+// whether a section has the inhibit time at a line, and one of the two numbers of its TPDO may be
+// wrong
+fn is_time_with(doubts: &[SectionKind], line: usize, section: &TextSection<'_, '_>) -> bool
+    ensures { result ≡ is_time_with doubts.now line (section_view section.now) section.now.kind }
+{
+    match section.kind {
+        SectionKind::SubIndex(key) => {
+            key.sub == 3
+                && value_line(section) == line
+                && is_any(Concern::SubsOf(key.index, 2, 3), doubts)
+        }
+        _ => false,
+    }
+}
+
+fn is_time_in_doubt(sections: &[TextSection<'_, '_>], doubts: &[SectionKind], line: usize) -> bool
+    ensures { result ≡ is_time_in_doubt (map section_view sections.now) doubts.now line }
+{
+    for section in sections {
+        if is_time_with(doubts, line, section) {
+            return true;
+        }
+    }
+    false
+}
+
+fn begins_at(line: usize, faults: &[SheetFault]) -> bool
+    ensures { result ≡ begins_at line faults.now }
+{
+    match faults {
+        [first, ..] => first.line == line,
+        [] => false,
+    }
+}
+
+// whether a warning rests on what isn't known, or on a value with one of these faults
+fn rests_on_fault(
+    unknown: Unknown,
+    sections: &[TextSection<'_, '_>],
+    doubts: &[SectionKind],
+    faults: &[SheetFault],
+    line: usize,
+    kind: WarningKind,
+) -> bool
+    ensures { result ≡ rests_on_fault unknown
+        (map section_view sections.now) doubts.now faults.now line kind }
+{
+    match kind {
+        WarningKind::SubNumber => unknown.sections,
+        WarningKind::SubIndex0 => unknown.sections || begins_at(line, faults),
+        WarningKind::PdoCount => unknown.sections || unknown.info,
+        WarningKind::Unlisted | WarningKind::NoErrorControl => unknown.lists,
+        WarningKind::SharedCobId(_) => unknown.cob_ids,
+        WarningKind::HeartbeatTwice(_) => unknown.consumers,
+        WarningKind::IdentityNumber => unknown.identity,
+        WarningKind::InhibitTime => is_time_in_doubt(sections, doubts, line),
+        WarningKind::FixedCobId | WarningKind::NodeIdPlace | WarningKind::OwnHeartbeat => {
+            begins_at(line, faults)
+        }
+        _ => false,
+    }
+}
+
+// the faults from a line on
+fn faults_from(line: usize, faults: &[SheetFault]) -> &[SheetFault]
+    ensures { result.now ≡ faults_from line faults.now }
+{
+    let (_, later) = faults.split_at(faults_before(faults, line));
+    later
+}
+
+// adds the mark of a warning, unless it rests on what isn't known or on a value with one of these
+// faults
+fn add_unless_at_fault(
+    marks: &mut Vec<Mark>,
+    unknown: Unknown,
+    sections: &[TextSection<'_, '_>],
+    doubts: &[SectionKind],
+    faults: &[SheetFault],
+    warning: &Warning,
+) -> Result<(), AllocError>
+    ensures { OnOk result (marks.new.items ≡ marks.old.items ++ map warning_mark (unless_at_fault
+        unknown (map section_view sections.now) doubts.now faults.now warning.now)) }
+{
+    if !rests_on_fault(
+        unknown,
+        sections,
+        doubts,
+        faults,
+        warning.line,
+        warning.kind,
+    ) {
+        attempt_in_memory!(marks.push(Mark {
+            line: warning.line,
+            subject: Subject::Warning(warning.kind),
+        }));
+    }
+    Ok(())
+}
+
+fn add_known_in(
+    marks: &mut Vec<Mark>,
+    unknown: Unknown,
+    sections: &[TextSection<'_, '_>],
+    doubts: &[SectionKind],
+    faults: &[SheetFault],
+    warnings: &[Warning],
+) -> Result<(), AllocError>
+    ensures { OnOk result (marks.new.items ≡ marks.old.items ++ map warning_mark
+        (known_in unknown (map section_view sections.now) doubts.now faults.now warnings.now)) }
+{
+    let mut rest = warnings;
+    let mut left = faults;
+    while let [warning, more @ ..] = rest {
+        let from = faults_from(warning.line, left);
+        attempt!(add_unless_at_fault(marks, unknown, sections, doubts, from, warning));
+        rest = more;
+        left = from;
+    }
+    Ok(())
+}
+
+/// Adds the marks of those of the warnings that rest on nothing at fault, in a text with these
+/// sections and faults, by the sections at fault; all are in the order of their lines. `Err`: out
+/// of memory.
+pub fn add_known_warnings(
+    marks: &mut Vec<Mark>,
+    sections: &[TextSection<'_, '_>],
+    at_fault: &AtFault,
+    faults: &[SheetFault],
+    warnings: &[Warning],
+) -> Result<(), AllocError>
+    ensures { OnOk result (marks.new.items ≡ marks.old.items ++ map warning_mark (known_by
+        (map section_view sections.now) at_fault.now.kinds.items at_fault.now.doubts.items
+        faults.now warnings.now)) }
+{
+    let doubts = at_fault.doubts.as_slice();
+    let unknown = unknown_of(sections, at_fault.kinds.as_slice(), doubts);
+    add_known_in(marks, unknown, sections, doubts, faults, warnings)
+}

@@ -1,0 +1,85 @@
+-- Which bound of its entry a value or a limit exceeds (CiA 306-1, object description).
+use Rattle.std.specs.Prelude.{ℕ, ℤ, if◌then◌else◌, List, [], codes, Option, Some, None, option_and_then}
+use Rattle.std.specs.List.{list_any, after_first}
+use Rattle.std.specs.Option.{option_map_or}
+use Rattle.std.specs.Result.{result_ok}
+use Rattle.co_value.specs.declared.data_type.DataType.{DataType}
+use Rattle.co_sheet_text.specs.Properties.{number_at}
+use Rattle.co_sheet_text.specs.Sections.{Property, TextSection, is_equals, property_at}
+use Rattle.co_sheet_text.specs.Text.{trim}
+use Rattle.co_sheet.specs.Entries.{data_type_with}
+use Rattle.co_sheet.specs.Limits.{Default, number, at_most, is_in_type, is_numeric, numeric_default}
+use Rattle.conode_lint_text.specs.Facts.{section_before}
+use Rattle.conode_lint_text.specs.declared.fact.Fact.TheVariants as fact
+use Rattle.conode_lint_text.specs.declared.finding.About.{About}
+use Rattle.conode_lint_text.specs.declared.finding.About.TheVariants.{Line, Fact}
+
+-- the type of a section whose values are numbers
+abbrev pub if_numeric : DataType → Option DataType
+if_numeric t = if is_numeric t then Some t else None
+
+abbrev pub numeric_type : TextSection → Option DataType
+numeric_type s =
+    option_and_then if_numeric (option_and_then data_type_with (number_at (codes "DataType") s))
+
+-- the number that a value is at a type; a sum with `$NODEID` is none
+abbrev pub plain_number : Default → Option ℤ
+plain_number (number n) = Some n
+plain_number other = None
+
+abbrev pub number_of : DataType → List ℕ → Option ℤ
+number_of t value = option_and_then plain_number (result_ok (numeric_default t value))
+
+-- the line of a LowLimit that a number is below, and of a HighLimit that it is above
+abbrev pub line_if_below : DataType → Option ℤ → Property → Option ℕ
+line_if_below t n k = if at_most (number_of t k.value) n then None else Some k.line
+
+abbrev pub line_if_above : DataType → Option ℤ → Property → Option ℕ
+line_if_above t n k = if at_most n (number_of t k.value) then None else Some k.line
+
+abbrev pub below_low : DataType → Option ℤ → TextSection → Option ℕ
+below_low t n s = option_and_then (line_if_below t n) (property_at (codes "LowLimit") s)
+
+abbrev pub above_high : DataType → Option ℤ → TextSection → Option ℕ
+above_high t n s = option_and_then (line_if_above t n) (property_at (codes "HighLimit") s)
+
+-- of a value, and of a HighLimit
+abbrev pub value_fact : Option ℕ → Option ℕ → About
+value_fact (Some line) high = Fact (fact.BelowLow line)
+value_fact None (Some line) = Fact (fact.AboveHigh line)
+value_fact None None = Line
+
+abbrev pub limit_fact : Option ℕ → About
+limit_fact low = option_map_or (λ line. Fact (fact.LimitsCrossed line)) low Line
+
+-- the value of the key on a line
+abbrev pub key_value : List ℕ → List ℕ
+key_value text = if list_any is_equals text then trim (after_first is_equals text) else []
+
+-- of the BadDefault of a line: LowLimit comes first, since a HighLimit below it is itself at fault;
+-- of a value outside the type no limit is named
+abbrev pub limit_passed : DataType → Option ℤ → TextSection → About
+limit_passed t n s = value_fact (below_low t n s) (above_high t n s)
+
+abbrev pub value_of : TextSection → DataType → Option ℤ → About
+value_of s t (Some n) = if is_in_type t n then limit_passed t (Some n) s else Line
+value_of s t None = Line
+
+abbrev pub value_at_type : List ℕ → TextSection → DataType → About
+value_at_type text s t = value_of s t (number_of t (key_value text))
+
+abbrev pub value_in : List ℕ → TextSection → About
+value_in text s = option_map_or (value_at_type text s) (numeric_type s) Line
+
+abbrev pub bad_default : ℕ → List TextSection → List ℕ → About
+bad_default line sections text = option_map_or (value_in text) (section_before line sections) Line
+
+-- of the BadLimits of a line
+abbrev pub limit_at_type : List ℕ → TextSection → DataType → About
+limit_at_type text s t = limit_fact (below_low t (number_of t (key_value text)) s)
+
+abbrev pub limit_in : List ℕ → TextSection → About
+limit_in text s = option_map_or (limit_at_type text s) (numeric_type s) Line
+
+abbrev pub bad_limits : ℕ → List TextSection → List ℕ → About
+bad_limits line sections text = option_map_or (limit_in text) (section_before line sections) Line

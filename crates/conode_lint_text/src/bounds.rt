@@ -1,0 +1,145 @@
+//! Which bound of its entry a value or a limit exceeds.
+
+ghost use Rattle.std.specs.Prelude.{◌≡◌, map};
+ghost use Rattle.co_sheet_text.specs.Views.{section_view};
+ghost use Rattle.conode_lint_text.specs.Bounds.{
+  above_high,
+  bad_default,
+  bad_limits,
+  below_low,
+  key_value,
+  limit_in,
+  limit_passed,
+  number_of,
+  numeric_type,
+  value_in,
+};
+
+use crate::fact::Fact;
+use crate::facts::section_before;
+use crate::finding::About;
+use co_sheet::{Preset, at_most, data_type_with, is_in_type, numeric_default};
+use co_sheet_text::{TextSection, trim};
+use co_text::split_at_first;
+use co_value::DataType;
+
+// the type of a section whose values are numbers
+fn numeric_type(section: &TextSection<'_, '_>) -> Option<DataType>
+    ensures { result ≡ numeric_type (section_view section.now) }
+{
+    let Some(code) = section.number_at(b"DataType") else {
+        return None;
+    };
+    match data_type_with(code) {
+        Some(data_type) if data_type.width().is_some() => Some(data_type),
+        _ => None,
+    }
+}
+
+// the number that a value is at a type; a sum with `$NODEID` is none
+fn number_of(data_type: DataType, value: &[u8]) -> Option<i128>
+    ensures { result ≡ number_of data_type value.now }
+{
+    match numeric_default(data_type, value) {
+        Ok(Preset::Number(number)) => Some(number),
+        _ => None,
+    }
+}
+
+// the line of LowLimit, if a number is below it
+fn below_low(
+    data_type: DataType,
+    number: Option<i128>,
+    section: &TextSection<'_, '_>,
+) -> Option<usize>
+    ensures { result ≡ below_low data_type number (section_view section.now) }
+{
+    match section.property(b"LowLimit") {
+        Some(limit) if !at_most(number_of(data_type, limit.value), number) => Some(limit.line),
+        _ => None,
+    }
+}
+
+// the line of HighLimit, if a number is above it
+fn above_high(
+    data_type: DataType,
+    number: Option<i128>,
+    section: &TextSection<'_, '_>,
+) -> Option<usize>
+    ensures { result ≡ above_high data_type number (section_view section.now) }
+{
+    match section.property(b"HighLimit") {
+        Some(limit) if !at_most(number, number_of(data_type, limit.value)) => Some(limit.line),
+        _ => None,
+    }
+}
+
+// the value of the key on a line
+fn key_value(text: &[u8]) -> &[u8]
+    ensures { result.now ≡ key_value text.now }
+{
+    match split_at_first(text, b'=') {
+        Some((_, value)) => trim(value),
+        None => &[],
+    }
+}
+
+// the limit that a number exceeds
+fn limit_passed(data_type: DataType, number: Option<i128>, section: &TextSection<'_, '_>) -> About
+    ensures { result ≡ limit_passed data_type number (section_view section.now) }
+{
+    match below_low(data_type, number, section) {
+        Some(line) => About::Fact(Fact::BelowLow(line)),
+        None => match above_high(data_type, number, section) {
+            Some(line) => About::Fact(Fact::AboveHigh(line)),
+            None => About::Line,
+        },
+    }
+}
+
+fn value_in(section: &TextSection<'_, '_>, text: &[u8]) -> About
+    ensures { result ≡ value_in text.now (section_view section.now) }
+{
+    let Some(data_type) = numeric_type(section) else {
+        return About::Line;
+    };
+    match number_of(data_type, key_value(text)) {
+        Some(number) if is_in_type(data_type, number) => {
+            limit_passed(data_type, Some(number), section)
+        }
+        _ => About::Line,
+    }
+}
+
+/// Of the BadDefault of a line: the limit that its value exceeds.
+pub fn bad_default(sections: &[TextSection<'_, '_>], line: usize, text: &[u8]) -> About
+    ensures { result ≡ bad_default line (map section_view sections.now) text.now }
+{
+    match section_before(sections, line) {
+        Some(section) => value_in(section, text),
+        None => About::Line,
+    }
+}
+
+fn limit_in(section: &TextSection<'_, '_>, text: &[u8]) -> About
+    ensures { result ≡ limit_in text.now (section_view section.now) }
+{
+    let Some(data_type) = numeric_type(section) else {
+        return About::Line;
+    };
+    let number = number_of(data_type, key_value(text));
+    match below_low(data_type, number, section) {
+        Some(line) => About::Fact(Fact::LimitsCrossed(line)),
+        None => About::Line,
+    }
+}
+
+/// Of the BadLimits of a line: the LowLimit that its limit is below.
+pub fn bad_limits(sections: &[TextSection<'_, '_>], line: usize, text: &[u8]) -> About
+    ensures { result ≡ bad_limits line (map section_view sections.now) text.now }
+{
+    match section_before(sections, line) {
+        Some(section) => limit_in(section, text),
+        None => About::Line,
+    }
+}
