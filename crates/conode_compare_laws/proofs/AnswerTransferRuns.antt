@@ -23,7 +23,7 @@ use Rattle.conode_explain_transfers.specs.declared.kinds.What.TheVariants as wha
 use Rattle.conode_explain_transfers.specs.declared.transfer.Transfer.{Transfer}
 use Rattle.conode_explain_transfers.specs.BlockTurns.{is_block}
 use Rattle.conode_explain_transfers.specs.Endings.{ended}
-use Rattle.conode_explain_transfers.specs.Followed.{Followed, Following, abort_ending, followed, key_for, left, left_by, one_more, turns_at}
+use Rattle.conode_explain_transfers.specs.Followed.{Followed, Following, abort_ending, followed, key_for, left, left_by, one_more, turns_at, unless_lost}
 use Rattle.conode_explain_transfers.specs.Readings.{reading_of as their_reading_of}
 use Rattle.conode_explain_transfers.specs.Stages.{confirmed_with}
 use Rattle.conode_explain_transfers.specs.Transfers.{Turn, after, is_same_request}
@@ -67,9 +67,9 @@ no_other _ off = refl
 -- ---- a frame of the server
 
 says_is : (following : Following) (micros : ℕ) (side : Side) (bytes : List ℕ)
-    → (followed following micros side bytes).says ≡ record (reads following micros side bytes).says { of = key_for following.transfer (their_reading_of following.transfer side bytes) }
+    → (followed following micros side bytes).says ≡ record (reads following micros side bytes).says { of = unless_lost (reads following micros side bytes).next.transfer (key_for following.transfer (their_reading_of following.transfer side bytes)) }
 says_is following micros side bytes =
-    ap (λ (f : Followed). record f.says { of = key_for following.transfer (their_reading_of following.transfer side bytes) }) (same_reading following.heard following.transfer micros side bytes bytes).followed
+    ap (λ (f : Followed). record f.says { of = unless_lost f.next.transfer (key_for following.transfer (their_reading_of following.transfer side bytes)) }) (same_reading following.heard following.transfer micros side bytes bytes).followed
 
 no_breach : (answer started : ℕ) (d : Dialogue) (micros : ℕ) (frame : FrameContent) → Fine frame (reads d.channel micros Server frame.bytes).says
     → of_transfers (breach_finding (exchange_in answer started d micros Server frame).breach) ≡ []

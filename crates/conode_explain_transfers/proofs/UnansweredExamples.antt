@@ -9,7 +9,7 @@ use Rattle.conode_explain_transfers.specs.declared.kinds.Protocol.TheVariants.{U
 use Rattle.conode_explain_transfers.specs.declared.kinds.Side.TheVariants.{Client, Server}
 use Rattle.conode_explain_transfers.specs.declared.kinds.What.TheVariants.{Initiate, Part, Segment, Unexpected, Stray, BegunBefore}
 use Rattle.conode_explain_transfers.specs.Crc.{shifted, crc_with}
-use Rattle.conode_explain_transfers.specs.Followed.{broken_off, nothing_heard}
+use Rattle.conode_explain_transfers.specs.Followed.{broken_off, followed, nothing_heard}
 use Rattle.conode_explain_transfers.specs.Tellings.{telling}
 use Rattle.conode_explain_transfers.specs.Tracks.{placed, sdo_telling, shown_end}
 use Rattle.conode_explain_transfers.proofs.Dialogues.{Sent, after_all, c, ends_with, left_open, s, shown, told}
@@ -309,6 +309,29 @@ boot_up : map (λ frames. ends_with (shown_end (broken_off (after_all nothing_he
     ≡ (record { protocol = Undecided; bytes = 0; first = []; frames = 1; ending = Interrupted } ∷ []) ∷ [] ∷ []
 unfolding request_row_in response_row_in shifted crc_with
 boot_up = refl
+
+-- ---- whose entry a frame has
+
+-- that of the transfer, until the client goes on, and again once the response came
+entries : map (λ frames. (followed (after_all nothing_heard frames) 0 Client (c (codes "6000000000000000")).bytes).says.of)
+    ((c (codes "4000210000000000") ∷ [])
+    ∷ (c (codes "4000210000000000") ∷ c (codes "6000000000000000") ∷ [])
+    ∷ (c (codes "4000210000000000") ∷ c (codes "6000000000000000") ∷ s (codes "4100210009000000") ∷ [])
+    ∷ [])
+    ≡ None ∷ None ∷ Some (record { index = 0x2100; sub = 0 }) ∷ []
+unfolding request_row_in response_row_in shifted crc_with
+entries = refl
+
+-- of a segment of the server before and after that, and of segment 1 of a block download
+entries_of_others : map (λ frames. (followed (after_all nothing_heard frames) 0 Server (s (codes "0031323334353637")).bytes).says.of)
+    ((c (codes "4000210000000000") ∷ []) ∷ (c (codes "4000210000000000") ∷ c (codes "6000000000000000") ∷ []) ∷ [])
+    ≡ Some (record { index = 0x2100; sub = 0 }) ∷ None ∷ []
+unfolding request_row_in response_row_in shifted crc_with
+entries_of_others = refl
+
+entry_of_segment : (followed (after_all nothing_heard (c (codes "C000210000000000") ∷ [])) 0 Client (segment 1).bytes).says.of ≡ Some (record { index = 0x2100; sub = 0 })
+unfolding request_row_in response_row_in shifted crc_with
+entry_of_segment = refl
 
 -- ---- two channels
 

@@ -139,8 +139,13 @@ abbrev pub key_for : Option Transfer → Reading → Option Key
 key_for None reading = None
 key_for (Some transfer) reading = if has_key reading then None else Some transfer.key
 
+-- once the client went on before the response, that entry may be none
+abbrev pub unless_lost : Option Transfer → Option Key → Option Key
+unless_lost None of = of
+unless_lost (Some transfer) of = if is_lost transfer then None else of
+
 abbrev pub with_key : Option Key → Followed → Followed
-with_key of followed = record { says = record followed.says { of = of }; next = followed.next }
+with_key of followed = record { says = record followed.says { of = unless_lost followed.next.transfer of }; next = followed.next }
 
 -- a frame with its stamp, by an end, with these bytes
 abbrev pub followed : Following → ℕ → Side → List ℕ → Followed

@@ -17,6 +17,7 @@ ghost use Rattle.conode_explain_transfers.specs.Followed.{
   aborts,
   with_frame,
   key_for,
+  unless_lost,
   turns,
   followed_by,
   followed,
@@ -47,7 +48,8 @@ use std::marker::Model;
 pub struct Heard {
     /// What the frame is.
     pub what: What,
-    /// The open transfer's entry; `None` where the frame has a key of its own.
+    /// The open transfer's entry; `None` where the frame has a key of its own, and once the client
+    /// went on before the response to initiate.
     pub of: Option<Key>,
     /// The transfer that ended with the frame.
     pub ended: Option<Ended>,
@@ -182,6 +184,16 @@ impl Channel {
         }
     }
 
+    // That entry, but where the transfer can't be followed.
+    fn unless_lost(&self, of: Option<Key>) -> Option<Key>
+        ensures { result ≡ unless_lost self.now.transfer of }
+    {
+        match &self.transfer {
+            Some(transfer) if transfer.is_lost() => None,
+            _ => of,
+        }
+    }
+
     // A frame without an open transfer.
     fn stray(&self) -> Heard
         ensures { result ≡ (passes self.now.heard).says }
@@ -303,7 +315,7 @@ impl Channel {
         let heard = self.follow(&reading, micros, side, frame);
         Heard {
             what: heard.what,
-            of,
+            of: self.unless_lost(of),
             ended: heard.ended,
         }
     }
