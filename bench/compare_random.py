@@ -3,7 +3,8 @@
 
 A session is a random trace for the sensor or the I/O module of examples/: SDO requests of every kind, also broken ones, NMT commands to
 the device, to others and to all, SYNCs, RPDOs, another node's heartbeats, texts in segments. What `conode replay` says that the device sends is put into the
-trace behind the input that it follows. Such a recording has no difference: `conode compare` has to find none.
+trace behind the input that it follows. Such a recording has no difference: `conode compare` has to find none. One sheet has another SDO
+channel open, on which a second client sends too, in some sessions.
 """
 import os
 import random
@@ -20,8 +21,30 @@ SHEETS = [("examples/temperature-sensor.eds", 5, "1017:00,2000:00,2010:00")]
 SHEETS += [("examples/io-module.eds", 8, "1014:00,1015:00,1017:00,1800:01,1800:02,1A00:00,2001:00")]
 # and with what RPDOs write
 SHEETS += [("examples/io-module.eds", 8, "1017:00,1400:01,1400:02,1600:00,1600:01,6200:01,6200:02,6411:01")]
+# with another SDO channel, whose client may write each entry
+FURTHER = """[1201]
+ParameterName=SDO channel 2
+ObjectType=9
+[1201sub0]
+ParameterName=highest sub-index
+DataType=5
+AccessType=const
+DefaultValue=2
+[1201sub1]
+ParameterName=COB-ID client to server
+DataType=7
+AccessType=rw
+DefaultValue=$NODEID+0x640
+[1201sub2]
+ParameterName=COB-ID server to client
+DataType=7
+AccessType=rw
+DefaultValue=$NODEID+0x5C0
+"""
+SHEETS += [("further.eds", 8, "")]
 KEYS = [(0x1000, 0), (0x1001, 0), (0x1003, 0), (0x1008, 0), (0x1014, 0), (0x1015, 0), (0x1017, 0), (0x1018, 0), (0x1018, 1)]
 KEYS += [(0x1800, 1), (0x1800, 2), (0x1A00, 0), (0x2000, 0), (0x2001, 1), (0x1234, 0)]
+FURTHER_KEYS = [(0x1014, 0), (0x1015, 0), (0x1017, 0), (0x1017, 0), (0x1800, 1), (0x1800, 2), (0x1A00, 0)]
 RPDO_KEYS = [(0x1017, 0), (0x1400, 1), (0x1400, 2), (0x1600, 0), (0x1600, 1), (0x6200, 1), (0x6200, 2), (0x6411, 1)]
 
 
@@ -61,6 +84,17 @@ def text_of(it, node):
         yield 0x600 + node, bytes([first]) + bytes(it.randrange(0x41, 0x5B) for _ in range(count)) + bytes(7 - count)
 
 
+def write_further(folder):
+    """The I/O module with another SDO channel, and a heartbeat each 500 ms."""
+    with open("examples/io-module.eds", encoding="ascii") as file:
+        before, header, after = file.read().partition("[1017]\n")
+    text = before + header + after.replace("DefaultValue=0x0", "DefaultValue=500", 1)
+    head, _, tail = text.partition("[OptionalObjects]\nSupportedObjects=")
+    count, _, tail = tail.partition("\n")
+    with open(f"{folder}/further.eds", "w", encoding="ascii") as file:
+        file.write(f"{head}[OptionalObjects]\nSupportedObjects={int(count) + 1}\n{int(count) + 1}=0x1201\n{tail}\n{FURTHER}")
+
+
 def line(stamp, identifier, data):
     return f"({stamp:.6f}) can0 {identifier:03X}#{data.hex().upper()}"
 
@@ -77,6 +111,8 @@ def rpdo_of(it, node):
 def recording(it, sheet, node, folder, keys):
     """The lines of a session, with what the device sends."""
     stamp, inputs = 1000.0, []
+    # how often the second client sends, where there is one
+    second = it.choice([0, 0.1, 0.5]) if sheet.endswith("further.eds") else 0
     if keys is RPDO_KEYS:
         # a heartbeat each 100 ms, and operational
         inputs.append(line(stamp, 0x600 + node, b"\x2b\x17\x10\x00\x64" + bytes(3)))
@@ -91,7 +127,11 @@ def recording(it, sheet, node, folder, keys):
         elif keys is RPDO_KEYS and it.random() < 0.3:
             inputs.append(line(stamp, *rpdo_of(it, node)))
         else:
-            inputs.append(line(stamp, *data_of(it, node, keys)))
+            is_second = it.random() < second
+            identifier, data = data_of(it, node, FURTHER_KEYS if is_second else keys)
+            if is_second and identifier == 0x600 + node:
+                identifier = 0x640 + node
+            inputs.append(line(stamp, identifier, data))
     with open(f"{folder}/inputs.log", "w", encoding="ascii") as file:
         file.write("\n".join(inputs) + "\n")
     words = [*PROGRAM, "replay", sheet, f"{folder}/inputs.log", "--node", str(node)]
@@ -110,14 +150,17 @@ def recording(it, sheet, node, folder, keys):
 def main():
     different = 0
     with tempfile.TemporaryDirectory() as folder:
+        write_further(folder)
         for number in range(COUNT):
             it = random.Random(SEED * 1_000_000 + number)
             sheet, node, held = it.choice(SHEETS)
+            sheet = sheet.replace("further.eds", f"{folder}/further.eds")
             file = f"{folder}/session.log"
             with open(file, "w", encoding="ascii") as recorded:
                 recorded.write("\n".join(recording(it, sheet, node, folder, RPDO_KEYS if "6200" in held else KEYS)) + "\n")
             # with the room that the device has
-            words = [*PROGRAM, "compare", sheet, file, "--node", str(node), "--held", held, "--strings", "16", "--domains", "889"]
+            words = [*PROGRAM, "compare", sheet, file, "--node", str(node), "--strings", "16", "--domains", "889"]
+            words += ["--held", held] if held else []
             ran = subprocess.run(words, capture_output=True, text=True, check=False)
             if ran.returncode:
                 different += 1

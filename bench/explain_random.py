@@ -199,6 +199,8 @@ def line_of(interface, node, transfer, stamps, end, ending):
 def left_ending(before, stamps, transfer, now):
     """How a transfer ends where the client begins another one."""
     waited = seconds(now - stamps[-1])
+    if is_lost(before):
+        return None
     if [frame for _, frame, _ in before.frames] == [transfer.frames[0][1]]:
         return f"requested again after {waited}"
     if before.frames[-1][0] == SERVER:
@@ -210,6 +212,16 @@ def is_segment_after(frames, request):
     """Whether a request looks like the segment of a sub-block after a lone one without an answer (20h and 21h, 22h and 23h): nothing is
     said of that one's end, as docs/DECISIONS.md has it."""
     return len(frames) == 1 and frames[0][1][0] + 1 == request[0] % 128
+
+
+def is_lost(transfer):
+    """Whether it began with such a request, and had no answer: nothing is said of its end either."""
+    return transfer.is_after and all(side == CLIENT for side, _, _ in transfer.frames)
+
+
+def is_said(transfer):
+    """An abort of the client is said of such a transfer only where it has its multiplexer."""
+    return not is_lost(transfer) or transfer.frames[-1][1][1:4] == transfer.frames[0][1][1:4]
 
 
 class Session:
@@ -242,10 +254,13 @@ class Session:
             seen = seen or interface
             shown = f"{interface}  " if several else ""
             if place[1] == 0 and place[3] and self.r.random() < 0.2:
-                self.wanted.append(line_of(shown, node, *place[3], now, "interrupted"))
+                if not is_lost(place[3][0]):
+                    self.wanted.append(line_of(shown, node, *place[3], now, "interrupted"))
                 self.frames.append((channel, now, self.line(now, interface, 0x700 + node, b"\0")))
                 place[3] = None
                 continue
+            if place[1] == 0:
+                transfer.is_after = bool(place[3]) and is_segment_after(place[3][0].frames, transfer.frames[0][1])
             if place[1] == 0 and place[3]:
                 ending = left_ending(*place[3], transfer, now)
                 if ending:
@@ -257,7 +272,7 @@ class Session:
             place[1] += 1
             self.frames.append((channel, now, self.line(now, interface, side + node, frame)))
             if place[1] == len(transfer.frames):
-                if transfer.ending:
+                if transfer.ending and is_said(transfer):
                     line = line_of(shown, node, transfer, place[2], now, transfer.ending)
                     self.wanted.append(line)
                     if transfer.ending.startswith("done"):
@@ -281,6 +296,8 @@ class Session:
                 order.append(channel)
         lines = []
         for channel, (transfer, stamps) in sorted(self.open, key=lambda it: order.index(it[0])):
+            if is_lost(transfer):
+                continue
             shown = f"{channel[0]}  " if self.several or channel[0] != self.frames[0][0][0] else ""
             ending = f"unfinished where the recording ends, {seconds(self.last - stamps[-1])} after its last frame"
             lines.append(line_of(shown, channel[1], transfer, stamps, self.last, ending))

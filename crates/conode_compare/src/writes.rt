@@ -193,7 +193,9 @@ fn write_noted<W: Write>(
     write_choice(text, settings.recording, number, noted.choice, out)
 }
 
-/// Writes the lines of what is found at a line of the recording, then those of what is noted at it.
+/// Writes the lines of what is found at a line of the recording, then those of what is noted at it:
+/// of most nothing. Apart from `take_frame`, which would take what is found to pieces for it.
+#[inline(never)]
 #[tactic(auto, unfolding(crate::specs::Compared::shown_lines), using(conode_io::proofs::WriteLemmas::lines_after))]
 pub(crate) fn write_shown<W: Write>(
     text: &mut String,

@@ -21,6 +21,7 @@ use Rattle.conode_compare_rules.specs.declared.kind.FrameKind.TheVariants.{Comma
 use Rattle.conode_compare_rules.specs.declared.limits.Subject.{Subject}
 use Rattle.conode_compare_rules.specs.declared.progress.Progress.{Progress}
 use Rattle.conode_compare_rules.specs.Progresses.{before_recording}
+use Rattle.conode_compare_rules.specs.OtherClients.{no_clients}
 use Rattle.conode_compare_choices.specs.declared.choice.Choice.{Choice}
 use Rattle.conode_compare_choices.specs.declared.choice.Choice.TheVariants.{NoEmergency, OtherEmergency, Phase as PhaseChoice}
 use Rattle.conode_compare_choices.specs.declared.length_error.LengthError.TheVariants.{ShortRpdo, LongRpdo, OddSync}
@@ -32,7 +33,7 @@ use Rattle.conode_compare_choices.specs.declared.request.Request.{Request}
 use Rattle.conode_compare_choices.specs.LengthErrors as errors
 use Rattle.conode_compare_choices.specs.LengthErrors.{answers, awaited_after, awaited_with, booted_errors, code_of, error_choice, error_in, errors_with, is_missing, is_taken, length_error, may_send, no_errors, sync_error, sync_length}
 use Rattle.conode_compare_choices.specs.Phases as phases
-use Rattle.conode_compare_choices.specs.Phases.{early, is_open, no_phase, no_phases, phase_choice, phases_with, seen_in, synced}
+use Rattle.conode_compare_choices.specs.Phases.{early, has_presets, is_open, no_phase, no_phases, phase_choice, phases_with, seen_in, synced}
 use Rattle.conode_compare_choices.specs.RefusalCodes.{also_fits}
 use Rattle.conode_compare_choices.specs.Requests.{indicated_size, request_code, word_code}
 
@@ -83,7 +84,7 @@ abbrev pdos : Pdos
 pdos = record unknown_pdos { sync = Some 0x80; first = tpdo }
 
 abbrev facts : Facts
-facts = record { before = entries; booted = entries; pdos = pdos; starts_itself = false; modular = false; stores = false; as_sheet = true }
+facts = record { before = entries; booted = entries; pdos = pdos; clients = no_clients; starts_itself = false; modular = false; stores = false; as_sheet = true }
 
 abbrev subject : Subject
 subject = record {
@@ -121,6 +122,13 @@ storing = record subject { facts = record facts { pdos = unknown_pdos } }
 
 stored_start_value : map (λ all. is_open storing all 0) ([] ∷ (byte 0x1800 6 0 ∷ []) ∷ []) ≡ true ∷ false ∷ []
 stored_start_value = refl
+
+-- nor where the client of another SDO channel may write them
+abbrev further : Subject
+further = record subject { facts = record facts { clients = record { lowest = 0x645; highest = 0x645 } } }
+
+presets : map has_presets (subject ∷ storing ∷ further ∷ []) ≡ true ∷ false ∷ false ∷ []
+presets = refl
 
 abbrev waits : Phases
 waits = record no_phases { syncs = 1; first = record { free = true; awaited = true } }

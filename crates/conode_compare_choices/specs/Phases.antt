@@ -53,9 +53,9 @@ each change phases = record {
 -- ---- the SYNC start value
 
 -- After a boot-up entries have what the data sheet says: then the event timer of the first TPDO is
--- known, 0 where it has none.
+-- known, 0 where it has none. No client of another SDO channel may write them.
 abbrev pub has_presets : Subject → Bool
-has_presets subject = is_some subject.facts.pdos.first.parameters.timer
+has_presets subject = is_some subject.facts.pdos.first.parameters.timer && nat_lt subject.facts.clients.highest subject.facts.clients.lowest
 
 abbrev pub start_key : ℕ → Key
 start_key number = record { index = 0x1800 + number; sub = sync_start_value }

@@ -68,11 +68,13 @@ pub struct Phases {
     pub fourth: Phase,
 }
 
-/// Whether after a boot-up entries have what the data sheet says.
+/// Whether after a boot-up entries have what the data sheet says, and no client of another SDO
+/// channel may write them.
 pub(crate) fn has_presets(subject: &Subject) -> bool
     ensures { result ≡ has_presets subject.now }
 {
-    subject.facts.pdos.first.parameters.timer.is_some()
+    let clients = subject.facts.clients;
+    subject.facts.pdos.first.parameters.timer.is_some() && clients.highest < clients.lowest
 }
 
 /// Whether the state is pre-operational or stopped.

@@ -25,6 +25,7 @@ use Rattle.conode_compare_rules.specs.Progresses.{answer_findings, begun, booted
 use Rattle.conode_compare_rules.specs.States as states
 use Rattle.conode_compare_rules.specs.States.{after_boot_up, after_other, awaits_boot_up, is_settled}
 use Rattle.conode_compare_rules.specs.Verdicts.{found}
+use Rattle.conode_compare_rules.specs.OtherClients.{no_clients}
 use Rattle.conode_compare_laws.specs.AnswerFindings.{timeout_differences}
 use Rattle.conode_compare_laws.specs.Differences.{differences_in}
 use Rattle.conode_compare_laws.specs.Recordings.{Recorded, Stamped, recording, with_stamp}
@@ -40,7 +41,7 @@ abbrev subject : Subject
 subject = record {
   node = 5;
   limits = record { tolerance = 0; drift = 0; answer = 1; boot = 10000; time = Some 2 };
-  facts = record { before = sheet; booted = sheet; pdos = unknown_pdos; starts_itself = false; modular = false; stores = false; as_sheet = true };
+  facts = record { before = sheet; booted = sheet; pdos = unknown_pdos; clients = no_clients; starts_itself = false; modular = false; stores = false; as_sheet = true };
   held = record { entries = record { items = [] } };
   rooms = record { strings = None; domains = None };
 }

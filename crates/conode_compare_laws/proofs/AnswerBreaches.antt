@@ -25,12 +25,13 @@ use Rattle.conode_explain_transfers.specs.declared.kinds.What.TheVariants as wha
 use Rattle.conode_explain_transfers.specs.declared.stage.Stage.TheVariants.{DownloadSent, UploadAsked}
 use Rattle.conode_explain_transfers.specs.declared.transfer.Transfer.{Transfer}
 use Rattle.conode_explain_transfers.specs.Endings.{ended, size_fault, size_verdict, verdict}
-use Rattle.conode_explain_transfers.specs.Followed.{one_more, turns_at}
+use Rattle.conode_explain_transfers.specs.Followed.{abort_ending, one_more, turns_at}
 use Rattle.conode_explain_transfers.specs.SegmentedTurns.{download_stage, upload_stage}
 use Rattle.conode_explain_transfers.specs.Readings.{is_in_sub_block}
 use Rattle.conode_explain_transfers.specs.Stages.{confirmed_with}
 use Rattle.conode_explain_transfers.specs.Transfers.{Turn, after}
 use Rattle.conode_explain_transfers.specs.Turns.{response_turn}
+use Rattle.conode_explain_transfers.specs.Unanswered.{not_followed_by}
 use Rattle.conode_explain_laws.proofs.Views.{is_begin}
 use Rattle.conode_explain_laws.proofs.Follows.{none_of_server}
 use Rattle.conode_explain_laws.proofs.Readings.{Reading, Begin, Abort, Response, follows_by, reading_of, response_reading}
@@ -99,7 +100,7 @@ regular frame e Upload (Some size) = by (is_padded frame e size)
     by true = refl
     by false = refl
 
-confirmed_end : (frame : FrameContent) (e : Ended) (direction : Direction) (u : Transfer) → of_transfers (breach_finding (ending_breach frame e direction (verdict u None))) ≡ []
+pub confirmed_end : (frame : FrameContent) (e : Ended) (direction : Direction) (u : Transfer) → of_transfers (breach_finding (ending_breach frame e direction (verdict u None))) ≡ []
 confirmed_end frame e direction u = by u.irregular direction
   where
     by : (irregular : Bool) (direction : Direction) → of_transfers (breach_finding (ending_breach frame e direction (if irregular then Irregular else size_verdict (size_fault u.size u.taken.count) (Done false)))) ≡ []
@@ -153,7 +154,14 @@ abort_end frame e direction code fit = ap (λ b. of_transfers (breach_finding (i
 pub abort_fine : (heard : Bool) (t : Transfer) (code : AbortCode) (micros : ℕ) (frame : FrameContent) → (same_key (key_in frame) t.key || (code.0 == unknown_command)) ≡ true
     → Fine frame (follows_by heard (Some t) (Abort code) micros Server frame.bytes).says
 abort_fine heard t code micros frame fit =
-    fine (follows_by heard (Some t) (Abort code) micros Server frame.bytes).says frame refl (abort_end frame (ended (one_more t) micros (Aborted Server code)) t.direction code fit)
+    fine (follows_by heard (Some t) (Abort code) micros Server frame.bytes).says frame refl (by (not_followed_by Server t frame.bytes) t.direction)
+  where
+    -- nothing is found of what may be none of this transfer
+    by : (segment : Option (Option ℕ)) (direction : Direction)
+        → of_transfers (breach_finding (ending_breach frame (ended (one_more t) micros (abort_ending Server segment code)) direction (abort_ending Server segment code))) ≡ []
+    by None direction = abort_end frame (ended (one_more t) micros (Aborted Server code)) direction code fit
+    by (Some next) Download = refl
+    by (Some next) Upload = refl
 
 -- ---- where no transfer is open
 

@@ -13,7 +13,7 @@ use Rattle.conode_explain_transfers.specs.declared.kinds.What.{What}
 use Rattle.conode_explain_transfers.specs.declared.kinds.What.TheVariants as what
 use Rattle.conode_explain_transfers.specs.declared.transfer.Transfer.{Transfer}
 use Rattle.conode_explain_transfers.specs.Followed.{Followed, Following, followed}
-use Rattle.conode_explain_laws.proofs.Readings.{Begin, begun_with, follows_by, request_reading}
+use Rattle.conode_explain_laws.proofs.Readings.{Begin, begun_with, follows_by, request_reading, begun_after}
 use Rattle.conode_compare_transfers.specs.declared.dialogue.Asked.{Asked}
 use Rattle.conode_compare_transfers.specs.declared.dialogue.Dialogue.{Dialogue}
 use Rattle.conode_compare_transfers.specs.declared.left.Left.{Left}
@@ -181,8 +181,8 @@ pub record InitiateHeard (t : Transfer) (micros : ℕ) (d : Dialogue) : Type 0 w
   pub at_once : request.micros ≡ micros
 
 pub initiate_heard : (answer started : ℕ) (d : Dialogue) (micros : ℕ) (frame : FrameContent) (r : SdoRequest) (t : Transfer) → IfSome d.channel.transfer Sound → request_in frame.bytes ≡ Some r
-    → begun_with r micros frame.bytes ≡ Some t → request_reading (Some r) micros frame.bytes ≡ Begin t → Sound t
-    → InitiateHeard t micros (dialogue_heard answer started d micros Client frame)
+    → begun_with r micros frame.bytes ≡ Some t → request_reading (Some r) micros frame.bytes ≡ Begin t → Sound (begun_after d.channel.transfer frame.bytes t)
+    → InitiateHeard (begun_after d.channel.transfer frame.bytes t) micros (dialogue_heard answer started d micros Client frame)
 initiate_heard answer started d micros frame r t s is begun reading sound =
     let same : reads d.channel micros Client frame.bytes ≡ follows_by d.channel.heard d.channel.transfer (Begin t) micros Client frame.bytes =
     client_is d micros frame s ∙ ap (λ o. follows_by d.channel.heard d.channel.transfer (request_reading o micros frame.bytes) micros Client frame.bytes) is

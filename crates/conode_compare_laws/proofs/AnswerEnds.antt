@@ -31,7 +31,7 @@ use Rattle.conode_explain_transfers.specs.SegmentedTurns.{answering, segment_don
 use Rattle.conode_explain_transfers.specs.Stages.{confirmed_with, is_initiated}
 use Rattle.conode_explain_transfers.specs.Transfers.{Turn, after, awaited_number, is_download, overtaken, unexpected}
 use Rattle.conode_explain_transfers.specs.Turns.{response_turn}
-use Rattle.conode_explain_transfers.specs.Unanswered.{is_no_abort}
+use Rattle.conode_explain_transfers.specs.Unanswered.{not_followed_by}
 use Rattle.conode_explain_laws.proofs.Kept.{keeps}
 use Rattle.conode_explain_laws.proofs.Follows.{segment_spoils}
 use Rattle.conode_explain_laws.proofs.Readings.{Abort, Begin, Nothing, Reading, Request, Response, Segment, follows_by, reading_of, turn_of}
@@ -143,15 +143,14 @@ after_leads t turn (done s n) = done s n
 pub by_turn : (heard : Bool) (t : Transfer) (turn : Turn) (micros : ℕ) (side : Side) → Leads turn.transfer → Whole (turns_at (confirmed_with turn.transfer.stage) heard turn.what (after t turn) micros side)
 by_turn heard t turn micros side h = turn_whole (confirmed_with turn.transfer.stage) heard turn.what (after t turn) micros side refl (after_leads t turn h)
 
-pub abort_same : (side : Side) (lost : Bool) (code : AbortCode) → differs (abort_ending side lost code) ≡ false
-abort_same Server lost code = refl
-abort_same Client true code = refl
-abort_same Client false code = refl
+pub abort_same : (side : Side) (segment : Option (Option ℕ)) (code : AbortCode) → differs (abort_ending side segment code) ≡ false
+abort_same side None code = refl
+abort_same side (Some next) code = refl
 
 pub frame_whole : (heard : Bool) (t : Transfer) (reading : Reading) (micros : ℕ) (side : Side) (bytes : List ℕ) → is_begin reading ≡ false → Leads (turn_of t reading bytes).transfer
     → Whole (follows_by heard (Some t) reading micros side bytes)
 frame_whole heard t (Begin new) micros side bytes n h = absurd (false≢true (sym n))
-frame_whole heard t (Abort code) micros side bytes n h = record { ended = other_whole t.direction _ (abort_same side (is_no_abort t bytes) code); next = tt }
+frame_whole heard t (Abort code) micros side bytes n h = record { ended = other_whole t.direction _ (abort_same side (not_followed_by side t bytes) code); next = tt }
 frame_whole heard t (Segment segment) micros side bytes n h = by_turn heard t (turn_of t (Segment segment) bytes) micros side h
 frame_whole heard t (Request request) micros side bytes n h = by_turn heard t (turn_of t (Request request) bytes) micros side h
 frame_whole heard t (Response response) micros side bytes n h = by_turn heard t (turn_of t (Response response) bytes) micros side h
@@ -316,7 +315,7 @@ rest_answers stamp (answer ∷ later) v h =
 -- an abort
 aborted_whole : (heard : Bool) (current : Option Transfer) (reading : Reading) (micros : ℕ) (bytes : List ℕ) → is_abort_reading reading ≡ true → IsWhole (follows_by heard current reading micros Server bytes).says.ended
 aborted_whole heard None (Abort code) micros bytes h = tt
-aborted_whole heard (Some t) (Abort code) micros bytes h = other_whole t.direction _ refl
+aborted_whole heard (Some t) (Abort code) micros bytes h = other_whole t.direction _ (abort_same Server (not_followed_by Server t bytes) code)
 aborted_whole heard current _ micros bytes h = absurd (false≢true h)
 
 pub abort_answers : (stamp : ℕ → ℕ) (key : Key) (code : ℕ) (v : View) → AllWhole stamp (aborted key code) v

@@ -34,9 +34,10 @@ use Rattle.conode_explain_transfers.specs.declared.kinds.Protocol.TheVariants.{U
 use Rattle.conode_explain_transfers.specs.declared.transfer.Transfer.{Transfer}
 use Rattle.conode_explain_transfers.specs.Initiates.{data_of, has_crc, initiate_of}
 use Rattle.conode_explain_transfers.specs.Transfers.{begun}
+use Rattle.conode_explain_transfers.specs.Unanswered.{is_next_segment}
 use Rattle.conode_explain_laws.specs.Downloads.{is_block_begin}
 use Rattle.conode_explain_laws.proofs.Begins.{HasKey, has_key, outside_answers, small_index}
-use Rattle.conode_explain_laws.proofs.Readings.{Begin, begun_with, request_reading}
+use Rattle.conode_explain_laws.proofs.Readings.{Begin, begun_with, request_reading, begun_after, begun_on, went_on_as}
 use Rattle.conode_compare_transfers.specs.declared.dialogue.Dialogue.{Dialogue}
 use Rattle.conode_compare_transfers.specs.Dialogues.{dialogue_heard}
 use Rattle.conode_compare_rules.specs.declared.finding.NmtState.{NmtState}
@@ -274,32 +275,32 @@ AnswersRun subject rows micros t answers = (q : Progress) → Asks t micros q �
 pub small_key : (frame : List ℕ) (key : Key) → AreBytes frame → key ≡ key_in frame → key.index < 65536
 small_key frame key bytes is = subst (λ (k : Key). k.index < 65536) (sym is) (small_index frame bytes)
 
-upload_runs : (subject : Subject) (rows : List Row) (micros : ℕ) (refusal : Option ℕ) (key : Key) (value frame : List ℕ) → key.index < 65536
-    → AnswersRun subject rows micros (begun (initiate_of key Upload Undecided) micros frame) (unless_refused refusal key (upload_initiated key value))
-upload_runs subject rows micros refusal key value frame small = by (nat_le 1 (length value) && nat_le (length value) 4) refl
+upload_runs : (on : Bool) (subject : Subject) (rows : List Row) (micros : ℕ) (refusal : Option ℕ) (key : Key) (value frame : List ℕ) → key.index < 65536
+    → AnswersRun subject rows micros (went_on_as on (begun (initiate_of key Upload Undecided) micros frame)) (unless_refused refusal key (upload_initiated key value))
+upload_runs on subject rows micros refusal key value frame small = by (nat_le 1 (length value) && nat_le (length value) 4) refl
   where
     t : Transfer
-    t = begun (initiate_of key Upload Undecided) micros frame
+    t = went_on_as on (begun (initiate_of key Upload Undecided) micros frame)
 
     by : (b : Bool) → (nat_le 1 (length value) && nat_le (length value) 4) ≡ b
-        → AnswersRun subject rows micros (begun (initiate_of key Upload Undecided) micros frame)
+        → AnswersRun subject rows micros (went_on_as on (begun (initiate_of key Upload Undecided) micros frame))
         (unless_refused refusal key (if b then Replied (UploadExpedited key (Indicated (record { items = value }))) ∷ [] else Replied (UploadInitiated key (Some (length value))) ∷ []))
     by true is = λ q a. refused_runs subject rows micros t refusal key (Replied (UploadExpedited key (Indicated (record { items = value })))) q a
-        (λ heard. expedited_upload heard key value micros frame small (some_bytes value is) (few_bytes value is))
-    by false is = λ q a. refused_runs subject rows micros t refusal key (Replied (UploadInitiated key (Some (length value)))) q a (λ heard. segmented_upload heard key (length value) micros frame small)
+        (λ heard. expedited_upload heard on key value micros frame small (some_bytes value is) (few_bytes value is))
+    by false is = λ q a. refused_runs subject rows micros t refusal key (Replied (UploadInitiated key (Some (length value)))) q a (λ heard. segmented_upload heard on key (length value) micros frame small)
 
-initiate_runs : (subject : Subject) (rows : List Row) (micros : ℕ) (d : Description) (contents : Contents) (request : SdoRequest) (frame : List ℕ) → AreBytes frame → HasKey frame request → is_block_begin (Some request) ≡ false
-    → IfSome (begun_with request micros frame) (λ t. AnswersRun subject rows micros t (initiate_answers d contents request))
-initiate_runs subject rows micros d contents (DownloadExpedited key value) frame bytes has n =
-    λ q a. refused_runs subject rows micros _ _ key (Replied (DownloadDone key)) q a (λ heard. expedited_download heard key (record { items = data_of value }) micros frame (small_key frame key bytes has))
-initiate_runs subject rows micros d contents (DownloadInitiate key size) frame bytes has n =
-    λ q a. refused_runs subject rows micros _ _ key (Replied (DownloadDone key)) q a (λ heard. segmented_download heard key size micros frame (small_key frame key bytes has))
-initiate_runs subject rows micros d contents (UploadInitiate key) frame bytes has n = upload_runs subject rows micros _ key (value_at contents key) frame (small_key frame key bytes has)
-initiate_runs subject rows micros d contents (BlockUploadInitiate key block_size threshold) frame bytes has n =
+initiate_runs : (on : Bool) (subject : Subject) (rows : List Row) (micros : ℕ) (d : Description) (contents : Contents) (request : SdoRequest) (frame : List ℕ) → AreBytes frame → HasKey frame request → is_block_begin (Some request) ≡ false
+    → IfSome (begun_on on request micros frame) (λ t. AnswersRun subject rows micros t (initiate_answers d contents request))
+initiate_runs on subject rows micros d contents (DownloadExpedited key value) frame bytes has n =
+    λ q a. refused_runs subject rows micros _ _ key (Replied (DownloadDone key)) q a (λ heard. expedited_download heard on key (record { items = data_of value }) micros frame (small_key frame key bytes has))
+initiate_runs on subject rows micros d contents (DownloadInitiate key size) frame bytes has n =
+    λ q a. refused_runs subject rows micros _ _ key (Replied (DownloadDone key)) q a (λ heard. segmented_download heard on key size micros frame (small_key frame key bytes has))
+initiate_runs on subject rows micros d contents (UploadInitiate key) frame bytes has n = upload_runs on subject rows micros _ key (value_at contents key) frame (small_key frame key bytes has)
+initiate_runs on subject rows micros d contents (BlockUploadInitiate key block_size threshold) frame bytes has n =
     λ q a. refused_runs subject rows micros _ _ key (Replied (BlockUploadInitiated key (Some (length (value_at contents key))))) q a
-    (λ heard. block_upload heard (has_crc frame) key block_size (length (value_at contents key)) micros frame (small_key frame key bytes has))
-initiate_runs subject rows micros d contents (BlockDownloadInitiate key size) frame bytes has n = absurd (false≢true (sym n))
-initiate_runs subject rows micros d contents _ frame bytes has n = tt
+    (λ heard. block_upload heard on (has_crc frame) key block_size (length (value_at contents key)) micros frame (small_key frame key bytes has))
+initiate_runs on subject rows micros d contents (BlockDownloadInitiate key size) frame bytes has n = absurd (false≢true (sym n))
+initiate_runs on subject rows micros d contents _ frame bytes has n = tt
 
 -- ---- a request and its answers
 
@@ -335,25 +336,25 @@ module _ (subject : Subject) (rows : List Row) (micros : ℕ) (d : Description) 
       (client_quiet subject rows p micros frame (λ newest nmt x. Later (asks_in r) micros newest x)
       (record { now = ready.newest; heard = subst (λ o. LaterHeard (asks_in o) micros (dialogue_heard subject.limits.answer p.started p.dialogue micros Client frame)) is heard }))
 
-  begins_one : (request : SdoRequest) (t : Transfer) → request_in frame.bytes ≡ Some request → begun_with request micros frame.bytes ≡ Some t → request_reading (Some request) micros frame.bytes ≡ Begin t → Sound t
-      → AnswersRun subject rows micros t (initiate_answers d contents request) → Answered (initiate_answers d contents request)
+  begins_one : (request : SdoRequest) (t : Transfer) → request_in frame.bytes ≡ Some request → begun_with request micros frame.bytes ≡ Some t → request_reading (Some request) micros frame.bytes ≡ Begin t → Sound (begun_after p.dialogue.channel.transfer frame.bytes t)
+      → AnswersRun subject rows micros (begun_after p.dialogue.channel.transfer frame.bytes t) (initiate_answers d contents request) → Answered (initiate_answers d contents request)
   begins_one request t is begins reading sound runs =
-      quiet_map subject rows p micros (Sdo Client frame) (λ q. Asks t micros q) _ (λ q a. runs q a)
-      (quiet_map subject rows p micros (Sdo Client frame) (λ q. (q.newest ≡ Some micros) × (is_stopped q.nmt.state ≡ false) × InitiateHeard t micros q.dialogue) _
+      quiet_map subject rows p micros (Sdo Client frame) (λ q. Asks (begun_after p.dialogue.channel.transfer frame.bytes t) micros q) _ (λ q a. runs q a)
+      (quiet_map subject rows p micros (Sdo Client frame) (λ q. (q.newest ≡ Some micros) × (is_stopped q.nmt.state ≡ false) × InitiateHeard (begun_after p.dialogue.channel.transfer frame.bytes t) micros q.dialogue) _
       (λ q h. record { newest = h.0; running = h.1; heard = h.2 })
-      (client_quiet subject rows p micros frame (λ newest nmt x. (newest ≡ Some micros) × (is_stopped nmt.state ≡ false) × InitiateHeard t micros x)
+      (client_quiet subject rows p micros frame (λ newest nmt x. (newest ≡ Some micros) × (is_stopped nmt.state ≡ false) × InitiateHeard (begun_after p.dialogue.channel.transfer frame.bytes t) micros x)
       (ready.newest, ready.running, initiate_heard subject.limits.answer p.started p.dialogue micros frame request t ready.sound is begins reading sound)))
 
   by_request : (r : Option SdoRequest) → request_in frame.bytes ≡ r → AreBytes frame.bytes → IfSome r (HasKey frame.bytes) → is_block_begin r ≡ false → Answered (request_answers d contents current r)
   by_request None is bytes has n = begins_nothing None is refl
   by_request (Some (DownloadExpedited key value)) is bytes has n =
-      begins_one (DownloadExpedited key value) _ is refl refl (begins_sound (DownloadExpedited key value) micros frame.bytes refl) (initiate_runs subject rows micros d contents (DownloadExpedited key value) frame.bytes bytes has refl)
+      begins_one (DownloadExpedited key value) _ is refl refl (begins_sound (is_next_segment p.dialogue.channel.transfer frame.bytes) (DownloadExpedited key value) micros frame.bytes refl) (initiate_runs (is_next_segment p.dialogue.channel.transfer frame.bytes) subject rows micros d contents (DownloadExpedited key value) frame.bytes bytes has refl)
   by_request (Some (DownloadInitiate key size)) is bytes has n =
-      begins_one (DownloadInitiate key size) _ is refl refl (begins_sound (DownloadInitiate key size) micros frame.bytes refl) (initiate_runs subject rows micros d contents (DownloadInitiate key size) frame.bytes bytes has refl)
+      begins_one (DownloadInitiate key size) _ is refl refl (begins_sound (is_next_segment p.dialogue.channel.transfer frame.bytes) (DownloadInitiate key size) micros frame.bytes refl) (initiate_runs (is_next_segment p.dialogue.channel.transfer frame.bytes) subject rows micros d contents (DownloadInitiate key size) frame.bytes bytes has refl)
   by_request (Some (UploadInitiate key)) is bytes has n =
-      begins_one (UploadInitiate key) _ is refl refl (begins_sound (UploadInitiate key) micros frame.bytes refl) (initiate_runs subject rows micros d contents (UploadInitiate key) frame.bytes bytes has refl)
+      begins_one (UploadInitiate key) _ is refl refl (begins_sound (is_next_segment p.dialogue.channel.transfer frame.bytes) (UploadInitiate key) micros frame.bytes refl) (initiate_runs (is_next_segment p.dialogue.channel.transfer frame.bytes) subject rows micros d contents (UploadInitiate key) frame.bytes bytes has refl)
   by_request (Some (BlockUploadInitiate key size threshold)) is bytes has n =
-      begins_one (BlockUploadInitiate key size threshold) _ is refl refl (begins_sound (BlockUploadInitiate key size threshold) micros frame.bytes refl) (initiate_runs subject rows micros d contents (BlockUploadInitiate key size threshold) frame.bytes bytes has refl)
+      begins_one (BlockUploadInitiate key size threshold) _ is refl refl (begins_sound (is_next_segment p.dialogue.channel.transfer frame.bytes) (BlockUploadInitiate key size threshold) micros frame.bytes refl) (initiate_runs (is_next_segment p.dialogue.channel.transfer frame.bytes) subject rows micros d contents (BlockUploadInitiate key size threshold) frame.bytes bytes has refl)
   by_request (Some (BlockDownloadInitiate key size)) is bytes has n = absurd (false≢true (sym n))
   by_request (Some (Abandon key code)) is bytes has n = begins_nothing (Some (Abandon key code)) is refl
   by_request (Some (DownloadSegment toggle segment last)) is bytes has n = begins_nothing (Some (DownloadSegment toggle segment last)) is refl

@@ -41,11 +41,11 @@ use Rattle.conode_explain_transfers.specs.Initiates.{initiate_of}
 use Rattle.conode_explain_transfers.specs.Transfers.{Turn, after, begun}
 use Rattle.conode_explain_laws.specs.Downloads.{is_block_begin}
 use Rattle.conode_explain_transfers.specs.Turns.{request_turn, response_turn}
-use Rattle.conode_explain_transfers.specs.Unanswered.{is_no_abort}
+use Rattle.conode_explain_transfers.specs.Unanswered.{not_followed_by}
 use Rattle.conode_explain_laws.proofs.Begins.{response_is}
 use Rattle.conode_explain_laws.proofs.Follows.{none_of_server}
 use Rattle.conode_explain_laws.proofs.Kept.{Keeps, keeps}
-use Rattle.conode_explain_laws.proofs.Readings.{Reading, Segment, Begin, Abort, Request, Response, Nothing, begun_with, request_reading, response_reading, plain_reading, beginning, segment_reading, reading_of, turn_of, follows_by, same as same_reading}
+use Rattle.conode_explain_laws.proofs.Readings.{Reading, Segment, Begin, Abort, Request, Response, Nothing, begun_with, request_reading, response_reading, plain_reading, beginning, segment_reading, reading_of, turn_of, follows_by, same as same_reading, begun_on, went_on_as}
 use Rattle.conode_explain_laws.proofs.Views.{abort_is, is_abort_reading, is_begin, server_no_begin}
 use Rattle.conode_compare_transfers.specs.Dialogues.{continues, ends_in_doubt, is_initiate, is_known_end, is_odd, leaves_request_open}
 use Rattle.conode_compare_laws.proofs.AnswerTurns.{Asked, Blocks, Lasts, Plain, Sound, Turned, asked, asks_for_blocks, in_blocks, is_request, is_turned, lasts, turned, unconfirmed}
@@ -272,12 +272,12 @@ stray_open blocks true _ micros frame n = doubted blocks _ frame refl
 stray_open blocks false _ micros frame n = doubted blocks _ frame refl
 
 abort_open : (blocks heard : Bool) (t : Transfer) (code : AbortCode) (micros : ℕ) (frame : FrameContent) → GoesOpen blocks (follows_by heard (Some t) (Abort code) micros Client frame.bytes) frame
-abort_open blocks heard t code micros frame = doubted blocks _ frame (by (is_block t.protocol) (is_no_abort t frame.bytes))
+abort_open blocks heard t code micros frame = doubted blocks _ frame (by (is_block t.protocol) (not_followed_by Client t frame.bytes))
   where
-    by : (block lost : Bool) → not (not block && is_known_end (abort_ending Client lost code) t.key frame) ≡ true
-    by true lost = refl
-    by false true = refl
-    by false false = refl
+    by : (block : Bool) (segment : Option (Option ℕ)) → not (not block && is_known_end (abort_ending Client segment code) t.key frame) ≡ true
+    by true segment = refl
+    by false None = refl
+    by false (Some next) = refl
 
 nothing_open : (blocks heard : Bool) (t : Transfer) (micros : ℕ) (frame : FrameContent) → Sound t → GoesOpen blocks (follows_by heard (Some t) Nothing micros Client frame.bytes) frame
 nothing_open blocks heard t micros frame s = doubted blocks _ frame (by (confirmed_with t.stage))
@@ -340,13 +340,13 @@ upward : (x : Direction) (block : Bool) → x ≡ Upload → x ≡ Download → 
 upward x block up down = let no : Download ≡ Upload = sym down ∙ up in absurd (cc)
 
 -- whatever transfer an initiate request begins, it is none in blocks that goes down
-pub begins_sound : (request : SdoRequest) (micros : ℕ) (bytes : List ℕ) → is_block_begin (Some request) ≡ false → IfSome (begun_with request micros bytes) Sound
-begins_sound (DownloadExpedited key value) micros bytes n = begun_sound _ refl (λ down. refl)
-begins_sound (DownloadInitiate key size) micros bytes n = begun_sound _ refl (λ down. refl)
-begins_sound (UploadInitiate key) micros bytes n = begun_sound _ refl (λ down. refl)
-begins_sound (BlockUploadInitiate key size threshold) micros bytes n = begun_sound _ refl (upward _ true refl)
-begins_sound (BlockDownloadInitiate key size) micros bytes n = absurd (false≢true (sym n))
-begins_sound _ micros bytes n = tt
+pub begins_sound : (on : Bool) (request : SdoRequest) (micros : ℕ) (bytes : List ℕ) → is_block_begin (Some request) ≡ false → IfSome (begun_on on request micros bytes) Sound
+begins_sound on (DownloadExpedited key value) micros bytes n = begun_sound _ refl (λ down. refl)
+begins_sound on (DownloadInitiate key size) micros bytes n = begun_sound _ refl (λ down. refl)
+begins_sound on (UploadInitiate key) micros bytes n = begun_sound _ refl (λ down. refl)
+begins_sound on (BlockUploadInitiate key size threshold) micros bytes n = begun_sound _ refl (upward _ true refl)
+begins_sound on (BlockDownloadInitiate key size) micros bytes n = absurd (false≢true (sym n))
+begins_sound on _ micros bytes n = tt
 
 -- ---- the answer to an initiate request
 
@@ -365,20 +365,20 @@ part_by heard t response micros plain stage read part =
     ∙ turns_what (confirmed_with (response_turn t response (response_bytes response)).transfer.stage) heard (response_turn t response (response_bytes response)).what (after t (response_turn t response (response_bytes response))) micros Server
     ∙ part
 
-pub expedited_download : (heard : Bool) (key : Key) (bytes : ArrayVec ℕ) (micros : ℕ) (frame : List ℕ) → key.index < 65536
-    → says_of heard (begun (record (initiate_of key Download Expedited) { bytes = bytes }) micros frame) micros (response_bytes (DownloadDone key)) ≡ what.Part
-expedited_download heard key bytes micros frame small =
-    part_by heard (begun (record (initiate_of key Download Expedited) { bytes = bytes }) micros frame) (DownloadDone key) micros refl refl (done_read key small) (rw (same_key-refl key) refl)
+pub expedited_download : (heard on : Bool) (key : Key) (bytes : ArrayVec ℕ) (micros : ℕ) (frame : List ℕ) → key.index < 65536
+    → says_of heard (went_on_as on (begun (record (initiate_of key Download Expedited) { bytes = bytes }) micros frame)) micros (response_bytes (DownloadDone key)) ≡ what.Part
+expedited_download heard on key bytes micros frame small =
+    part_by heard (went_on_as on (begun (record (initiate_of key Download Expedited) { bytes = bytes }) micros frame)) (DownloadDone key) micros refl refl (done_read key small) (rw (same_key-refl key) refl)
 
-pub segmented_download : (heard : Bool) (key : Key) (size : Option ℕ) (micros : ℕ) (frame : List ℕ) → key.index < 65536
-    → says_of heard (begun (record (initiate_of key Download Segmented) { size = size }) micros frame) micros (response_bytes (DownloadDone key)) ≡ what.Part
-segmented_download heard key size micros frame small =
-    part_by heard (begun (record (initiate_of key Download Segmented) { size = size }) micros frame) (DownloadDone key) micros refl refl (done_read key small) (rw (same_key-refl key) refl)
+pub segmented_download : (heard on : Bool) (key : Key) (size : Option ℕ) (micros : ℕ) (frame : List ℕ) → key.index < 65536
+    → says_of heard (went_on_as on (begun (record (initiate_of key Download Segmented) { size = size }) micros frame)) micros (response_bytes (DownloadDone key)) ≡ what.Part
+segmented_download heard on key size micros frame small =
+    part_by heard (went_on_as on (begun (record (initiate_of key Download Segmented) { size = size }) micros frame)) (DownloadDone key) micros refl refl (done_read key small) (rw (same_key-refl key) refl)
 
-pub expedited_upload : (heard : Bool) (key : Key) (value : List ℕ) (micros : ℕ) (frame : List ℕ) → key.index < 65536 → 1 ≤ length value → length value ≤ 4
-    → says_of heard (begun (initiate_of key Upload Undecided) micros frame) micros (response_bytes (UploadExpedited key (Indicated (record { items = value })))) ≡ what.Part
-expedited_upload heard key value micros frame small some few =
-    part_by heard (begun (initiate_of key Upload Undecided) micros frame) (UploadExpedited key (Indicated (record { items = value }))) micros refl refl (expedited_sent_read key value small some few) (rw (same_key-refl key) refl)
+pub expedited_upload : (heard on : Bool) (key : Key) (value : List ℕ) (micros : ℕ) (frame : List ℕ) → key.index < 65536 → 1 ≤ length value → length value ≤ 4
+    → says_of heard (went_on_as on (begun (initiate_of key Upload Undecided) micros frame)) micros (response_bytes (UploadExpedited key (Indicated (record { items = value })))) ≡ what.Part
+expedited_upload heard on key value micros frame small some few =
+    part_by heard (went_on_as on (begun (initiate_of key Upload Undecided) micros frame)) (UploadExpedited key (Indicated (record { items = value }))) micros refl refl (expedited_sent_read key value small some few) (rw (same_key-refl key) refl)
 
 -- the size that is sent is read as its lowest four bytes
 two_bytes : (x : ℕ) → x < 65536 → unsigned_of (low_bytes 2 x) ≡ x
@@ -403,16 +403,16 @@ part_read heard t bytes response micros plain stage read part =
     first : t.stage ≡ Initiated → reading_of (Some t) Server micros bytes ≡ response_reading (response_in bytes)
     first e = rw (none_of_server t.stage t.direction t.protocol (ap is_in_sub_block e)) refl
 
-pub segmented_upload : (heard : Bool) (key : Key) (size : ℕ) (micros : ℕ) (frame : List ℕ) → key.index < 65536
-    → says_of heard (begun (initiate_of key Upload Undecided) micros frame) micros (response_bytes (UploadInitiated key (Some size))) ≡ what.Part
-segmented_upload heard key size micros frame small =
-    part_read heard (begun (initiate_of key Upload Undecided) micros frame) (response_bytes (UploadInitiated key (Some size))) (UploadInitiated key (Some (unsigned_of (low_bytes 4 size)))) micros refl refl (upload_read key size small)
+pub segmented_upload : (heard on : Bool) (key : Key) (size : ℕ) (micros : ℕ) (frame : List ℕ) → key.index < 65536
+    → says_of heard (went_on_as on (begun (initiate_of key Upload Undecided) micros frame)) micros (response_bytes (UploadInitiated key (Some size))) ≡ what.Part
+segmented_upload heard on key size micros frame small =
+    part_read heard (went_on_as on (begun (initiate_of key Upload Undecided) micros frame)) (response_bytes (UploadInitiated key (Some size))) (UploadInitiated key (Some (unsigned_of (low_bytes 4 size)))) micros refl refl (upload_read key size small)
     (rw (same_key-refl key) refl)
 
-pub block_upload : (heard crc : Bool) (key : Key) (block_size size : ℕ) (micros : ℕ) (frame : List ℕ) → key.index < 65536
-    → says_of heard (begun (record (initiate_of key Upload Block) { crc = crc; block_size = block_size }) micros frame) micros (response_bytes (BlockUploadInitiated key (Some size))) ≡ what.Part
-block_upload heard crc key block_size size micros frame small =
-    part_read heard (begun (record (initiate_of key Upload Block) { crc = crc; block_size = block_size }) micros frame) (response_bytes (BlockUploadInitiated key (Some size))) (BlockUploadInitiated key (Some (unsigned_of (low_bytes 4 size)))) micros refl refl
+pub block_upload : (heard on crc : Bool) (key : Key) (block_size size : ℕ) (micros : ℕ) (frame : List ℕ) → key.index < 65536
+    → says_of heard (went_on_as on (begun (record (initiate_of key Upload Block) { crc = crc; block_size = block_size }) micros frame)) micros (response_bytes (BlockUploadInitiated key (Some size))) ≡ what.Part
+block_upload heard on crc key block_size size micros frame small =
+    part_read heard (went_on_as on (begun (record (initiate_of key Upload Block) { crc = crc; block_size = block_size }) micros frame)) (response_bytes (BlockUploadInitiated key (Some size))) (BlockUploadInitiated key (Some (unsigned_of (low_bytes 4 size)))) micros refl refl
     (block_upload_read key size small) (rw (same_key-refl key) refl)
 
 -- an abort

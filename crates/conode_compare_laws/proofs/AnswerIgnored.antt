@@ -29,7 +29,7 @@ use Rattle.conode_explain_laws.proofs.AllInputs.{short_reading}
 use Rattle.conode_explain_laws.proofs.Follows.{BegunBy, begun_by, client_no_response, is_response}
 use Rattle.conode_explain_laws.proofs.Begins.{awaits}
 use Rattle.conode_explain_laws.proofs.Kept.{keeps}
-use Rattle.conode_explain_laws.proofs.Readings.{Abort, Begin, Nothing, Reading, Request, Response, Segment, follows_by, reading_of, request_reading, turn_of}
+use Rattle.conode_explain_laws.proofs.Readings.{Abort, Begin, Nothing, Reading, Request, Response, Segment, follows_by, reading_of, request_reading, turn_of, begun_after}
 use Rattle.conode_explain_laws.proofs.UploadStanding.{AtEnd, Follows, FollowsIn, IsWaiting, aside, asked, at_end, begun, blocks, gone, is_ended, segmented}
 use Rattle.conode_explain_laws.proofs.UploadViews.{hears}
 use Rattle.conode_explain_laws.proofs.Views.{View, is_begin}
@@ -238,7 +238,7 @@ module _ (micros : ℕ) (bytes : List ℕ) (heard : Bool) (got : List ℕ) where
   by_reading : (ended : Option Read) (held : Option Transfer) (reading : Reading) → reading_of held Client micros bytes ≡ reading → FollowsIn (Unit {0}) held got None ended → IfSome held (λ t. t.taken ≡ digest_of got)
       → Ignored None ended held reading
   by_reading ended held (Begin new) e h taken =
-      let b : BegunBy bytes micros new = begun_by held micros bytes new e in
+      let b : BegunBy bytes micros (begun_after held bytes new) = begun_by held micros bytes new e in
       (left_whole held micros bytes, λ next. asked tt (subst (λ o. IfSome o (λ t. t.stage ≡ Initiated)) b.initiates (awaits b.request micros bytes)))
   by_reading ended held reading e h taken = goes_on ended held reading e refl h taken
 

@@ -45,6 +45,7 @@ use Rattle.co_node_model.specs.Tpdos.{tpdo_frame}
 use Rattle.co_sheet.specs.Content.{Row}
 use Rattle.conode_explain_transfers.specs.declared.kinds.Side.TheVariants.{Client, Server}
 use Rattle.conode_explain_transfers.specs.declared.transfer.Transfer.{Transfer}
+use Rattle.conode_explain_transfers.specs.Unanswered.{is_next_segment}
 use Rattle.conode_explain_laws.specs.Downloads.{is_block_begin}
 use Rattle.conode_compare_transfers.specs.declared.dialogue.Asked.{Asked}
 use Rattle.conode_compare_transfers.specs.declared.dialogue.Dialogue.{Dialogue}
@@ -145,13 +146,13 @@ asked_by t micros d h = record { sound = subst (λ o. IfSome o Sound) (sym h.tra
 asked_now : (answer started : ℕ) (d : Dialogue) (micros : ℕ) (frame : FrameContent) (r : Option SdoRequest) → IfSome d.channel.transfer Sound → request_in frame.bytes ≡ r → initiates r ≡ true → is_block_begin r ≡ false
     → AskedNow micros (dialogue_heard answer started d micros Client frame)
 asked_now answer started d micros frame (Some (DownloadExpedited key value)) s is i n =
-    asked_by _ micros _ (initiate_heard answer started d micros frame (DownloadExpedited key value) _ s is refl refl (begins_sound (DownloadExpedited key value) micros frame.bytes refl))
+    asked_by _ micros _ (initiate_heard answer started d micros frame (DownloadExpedited key value) _ s is refl refl (begins_sound (is_next_segment d.channel.transfer frame.bytes) (DownloadExpedited key value) micros frame.bytes refl))
 asked_now answer started d micros frame (Some (DownloadInitiate key size)) s is i n =
-    asked_by _ micros _ (initiate_heard answer started d micros frame (DownloadInitiate key size) _ s is refl refl (begins_sound (DownloadInitiate key size) micros frame.bytes refl))
+    asked_by _ micros _ (initiate_heard answer started d micros frame (DownloadInitiate key size) _ s is refl refl (begins_sound (is_next_segment d.channel.transfer frame.bytes) (DownloadInitiate key size) micros frame.bytes refl))
 asked_now answer started d micros frame (Some (UploadInitiate key)) s is i n =
-    asked_by _ micros _ (initiate_heard answer started d micros frame (UploadInitiate key) _ s is refl refl (begins_sound (UploadInitiate key) micros frame.bytes refl))
+    asked_by _ micros _ (initiate_heard answer started d micros frame (UploadInitiate key) _ s is refl refl (begins_sound (is_next_segment d.channel.transfer frame.bytes) (UploadInitiate key) micros frame.bytes refl))
 asked_now answer started d micros frame (Some (BlockUploadInitiate key size threshold)) s is i n =
-    asked_by _ micros _ (initiate_heard answer started d micros frame (BlockUploadInitiate key size threshold) _ s is refl refl (begins_sound (BlockUploadInitiate key size threshold) micros frame.bytes refl))
+    asked_by _ micros _ (initiate_heard answer started d micros frame (BlockUploadInitiate key size threshold) _ s is refl refl (begins_sound (is_next_segment d.channel.transfer frame.bytes) (BlockUploadInitiate key size threshold) micros frame.bytes refl))
 asked_now answer started d micros frame (Some (BlockDownloadInitiate key size)) s is i n = absurd (false≢true (sym n))
 asked_now answer started d micros frame _ s is i n = absurd (false≢true i)
 

@@ -198,7 +198,7 @@ pub newest_stays : (answer started : ℕ) (d : Dialogue) (micros : ℕ) (frame :
 unfolding dialogue_heard
 newest_stays answer started d micros frame none = none_after _ (followed d.channel micros Server frame.bytes).says.what frame d.newest none
 
-newest_gone : (answer started : ℕ) (d : Dialogue) (micros : ℕ) (frame : FrameContent) → is_kept (reads d.channel micros Client frame.bytes).says.what ≡ false → (dialogue_heard answer started d micros Client frame).newest ≡ None
+pub newest_gone : (answer started : ℕ) (d : Dialogue) (micros : ℕ) (frame : FrameContent) → is_kept (reads d.channel micros Client frame.bytes).says.what ≡ false → (dialogue_heard answer started d micros Client frame).newest ≡ None
 unfolding dialogue_heard
 newest_gone answer started d micros frame n = none_comes _ (followed d.channel micros Client frame.bytes).says.what frame d.newest (ap is_kept (what_is d.channel micros Client frame.bytes) ∙ n)
 

@@ -35,7 +35,7 @@ use Rattle.conode_explain_transfers.specs.Transfers.{Turn, after, awaited_number
 use Rattle.conode_explain_transfers.specs.Turns.{request_turn, response_turn}
 use Rattle.conode_explain_laws.proofs.Follows.{BegunBy, begun_by}
 use Rattle.conode_explain_laws.proofs.Begins.{awaits}
-use Rattle.conode_explain_laws.proofs.Readings.{Abort, Begin, Nothing, Reading, Request, Response, Segment, begun_with, follows_by, reading_of, request_reading, turn_of, beginning, plain_reading, segment_reading}
+use Rattle.conode_explain_laws.proofs.Readings.{Abort, Begin, Nothing, Reading, Request, Response, Segment, begun_with, follows_by, reading_of, request_reading, turn_of, beginning, plain_reading, segment_reading, begun_after}
 use Rattle.conode_explain_laws.proofs.Views.{is_begin}
 use Rattle.conode_compare_transfers.specs.Dialogues.{continues}
 use Rattle.conode_compare_laws.proofs.AnswerFollowed.{reads}
@@ -293,10 +293,10 @@ initiates_it (BlockUploadInitiate key size threshold) micros bytes new e = refl
 initiates_it (BlockDownloadInitiate key size) micros bytes new e = refl
 initiates_it _ micros bytes new e = absurd (let f : None ≡ Some new = e in cc)
 
-begun_heard : (current : Option Transfer) (micros : ℕ) (bytes : List ℕ) (new : Transfer) (w : What) → reading_of current Client micros bytes ≡ Begin new → Heard (request_in bytes) w (Some new)
+begun_heard : (current : Option Transfer) (micros : ℕ) (bytes : List ℕ) (new : Transfer) (w : What) → reading_of current Client micros bytes ≡ Begin new → Heard (request_in bytes) w (Some (begun_after current bytes new))
 begun_heard current micros bytes new w e =
-    let b : BegunBy bytes micros new = begun_by current micros bytes new e in
-    begins_one (ap initiates b.is ∙ initiates_it b.request micros bytes new b.initiates) (subst (λ o. IfSome o (λ t. t.stage ≡ Initiated)) b.initiates (awaits b.request micros bytes))
+    let b : BegunBy bytes micros (begun_after current bytes new) = begun_by current micros bytes new e in
+    begins_one (ap initiates b.is ∙ initiates_it b.request micros bytes _ b.initiates) (subst (λ o. IfSome o (λ t. t.stage ≡ Initiated)) b.initiates (awaits b.request micros bytes))
 
 frame_stage : (w : What) (u : Transfer) (micros : ℕ) (stage : Stage) → u.stage ≡ stage → (with_frame w u micros Client).stage ≡ stage
 frame_stage what.Overtaken u micros stage e = e

@@ -1,5 +1,5 @@
--- A request on the default channel of a device without block transfers, and its answers: nothing is found within the transfer, and the
--- transfer that is open then is of the same entry for both.
+-- A request on the default channel of a device, within a transfer that isn't in blocks or that begins one, and its answers: nothing is found
+-- within the transfer, and the transfer that is open then is of the same entry for both.
 use Rattle.std.proofs.Common.{◌≡◌, ℕ, ◌+◌, ◌<◌, ◌≤◌, Bool, true, false, List, [], ◌∷◌, length, Option, Some, None, refl, sym, ap, ◌∙◌, ◌⊎◌, inl, inr, subst}
 use Rattle.std.specs.Prelude.{◌&&◌, if◌then◌else◌, IfSome, nat_le}
 use Rattle.std.proofs.lemmas.Bool.{false≢true}
@@ -14,7 +14,7 @@ use Rattle.co_frame.specs.SdoRequests.{request_in}
 use Rattle.co_frame.specs.SdoResponses.{response_bytes}
 use Rattle.co_frame.specs.declared.sdo_request.ExpeditedData.TheVariants.{Indicated}
 use Rattle.co_frame.specs.declared.sdo_request.SdoRequest.{SdoRequest}
-use Rattle.co_frame.specs.declared.sdo_request.SdoRequest.TheVariants.{DownloadExpedited, DownloadInitiate, DownloadSegment, Upload as UploadInitiate, UploadSegment as NextSegment, Abort as Abandon, BlockUploadInitiate, BlockUploadEnd as UploadEnd, BlockUploadAcknowledge, BlockUploadStart, BlockDownloadInitiate, BlockDownloadEnd}
+use Rattle.co_frame.specs.declared.sdo_request.SdoRequest.TheVariants.{DownloadExpedited, DownloadInitiate, DownloadSegment, Upload as UploadInitiate, UploadSegment as NextSegment, BlockUploadInitiate, BlockDownloadInitiate}
 use Rattle.co_frame.specs.declared.sdo_response.SdoResponse.TheVariants.{Abort as Refuse, DownloadDone, DownloadSegmentDone, UploadExpedited, UploadInitiated, UploadSegment}
 use Rattle.co_dict.specs.Rows.{Contents}
 use Rattle.co_dict.specs.Stores.{Description}
@@ -38,8 +38,8 @@ use Rattle.conode_explain_transfers.specs.Followed.{Followed, Following}
 use Rattle.conode_explain_transfers.specs.Initiates.{data_of, initiate_of}
 use Rattle.conode_explain_transfers.specs.Transfers.{begun}
 use Rattle.conode_explain_laws.specs.Downloads.{is_block_begin}
-use Rattle.conode_explain_laws.proofs.Begins.{HasKey, has_key, outside_answers}
-use Rattle.conode_explain_laws.proofs.Readings.{Begin, begun_with, request_reading, response_reading}
+use Rattle.conode_explain_laws.proofs.Begins.{HasKey, outside_answers}
+use Rattle.conode_explain_laws.proofs.Readings.{request_reading, response_reading, begun_on, went_on_as}
 use Rattle.conode_compare_transfers.specs.declared.dialogue.Dialogue.{Dialogue}
 use Rattle.conode_compare_transfers.specs.Dialogues.{dialogue_heard, leaves_request_open}
 use Rattle.conode_compare_rules.specs.declared.kind.FrameKind.{FrameKind}
@@ -53,8 +53,8 @@ use Rattle.conode_compare_laws.specs.AnswerSenders.{is_block_upload_begin}
 use Rattle.conode_compare_laws.proofs.AnswerTurns.{Sound}
 use Rattle.conode_compare_laws.proofs.AnswerFollowed.{begins_sound, no_begin, reads, upload_read}
 use Rattle.conode_compare_laws.proofs.AnswerBreaches.{Fine, own_fit, refusal_fine, response_fine, segment_done_fine, segment_fine, unknown_fit}
-use Rattle.conode_compare_laws.proofs.AnswerDialogues.{InitiateHeard, channel_is, client_is, doubted_by, initiate_heard}
-use Rattle.conode_compare_laws.proofs.AnswerOpened.{IsOf, asked_key, exchange_with, of_initiate, of_later}
+use Rattle.conode_compare_laws.proofs.AnswerDialogues.{channel_is, client_is, doubted_by}
+use Rattle.conode_compare_laws.proofs.AnswerOpened.{IsOf, asked_key, exchange_with, of_later}
 use Rattle.conode_compare_laws.proofs.AnswerTransfers.{Shape, StandsFor, StandsIn, later_stands, outside_sub_block, shape_goes}
 use Rattle.conode_compare_laws.proofs.AnswerTransferRuns.{HasShape, Quiet, client_quiet, doubt_runs, frame_runs, one_runs, sound_in}
 use Rattle.conode_compare_laws.proofs.AnswerExchange.{few_bytes, request_kind, small_key, some_bytes}
@@ -159,32 +159,32 @@ initiated_runs key subject rows micros None answer q t now here shape a = one_ru
 initiated_runs key subject rows micros (Some code) answer q t now here shape a = own_runs key subject rows micros q t now here shape key code refl
 
 -- what each is
-expedited_done : (key : Key) (bytes : ArrayVec ℕ) (micros : ℕ) (frame : List ℕ) → key.index < 65536
-    → Answered key micros (begun (record (initiate_of key Download Expedited) { bytes = bytes }) micros frame) (Replied (DownloadDone key))
-expedited_done key bytes micros frame small = record {
-  fine = λ id heard. response_fine heard (begun (record (initiate_of key Download Expedited) { bytes = bytes }) micros frame) (DownloadDone key) micros (record { id = id; bytes = response_bytes (DownloadDone key) }) refl
+expedited_done : (on : Bool) (key : Key) (bytes : ArrayVec ℕ) (micros : ℕ) (frame : List ℕ) → key.index < 65536
+    → Answered key micros (went_on_as on (begun (record (initiate_of key Download Expedited) { bytes = bytes }) micros frame)) (Replied (DownloadDone key))
+expedited_done on key bytes micros frame small = record {
+  fine = λ id heard. response_fine heard (went_on_as on (begun (record (initiate_of key Download Expedited) { bytes = bytes }) micros frame)) (DownloadDone key) micros (record { id = id; bytes = response_bytes (DownloadDone key) }) refl
       (ap response_reading (done_read key small)) (rw (same_key-refl key) (record { part = refl; crc = refl }));
 }
 
-segmented_done : (key : Key) (size : Option ℕ) (micros : ℕ) (frame : List ℕ) → key.index < 65536
-    → Answered key micros (begun (record (initiate_of key Download Segmented) { size = size }) micros frame) (Replied (DownloadDone key))
-segmented_done key size micros frame small = record {
-  fine = λ id heard. response_fine heard (begun (record (initiate_of key Download Segmented) { size = size }) micros frame) (DownloadDone key) micros (record { id = id; bytes = response_bytes (DownloadDone key) }) refl
+segmented_done : (on : Bool) (key : Key) (size : Option ℕ) (micros : ℕ) (frame : List ℕ) → key.index < 65536
+    → Answered key micros (went_on_as on (begun (record (initiate_of key Download Segmented) { size = size }) micros frame)) (Replied (DownloadDone key))
+segmented_done on key size micros frame small = record {
+  fine = λ id heard. response_fine heard (went_on_as on (begun (record (initiate_of key Download Segmented) { size = size }) micros frame)) (DownloadDone key) micros (record { id = id; bytes = response_bytes (DownloadDone key) }) refl
       (ap response_reading (done_read key small)) (rw (same_key-refl key) (record { part = refl; crc = tt }));
 }
 
-expedited_sent : (key : Key) (value : List ℕ) (micros : ℕ) (frame : List ℕ) → key.index < 65536 → 1 ≤ length value → length value ≤ 4
-    → Answered key micros (begun (initiate_of key Upload Undecided) micros frame) (Replied (UploadExpedited key (Indicated (record { items = value }))))
-expedited_sent key value micros frame small some few = record {
-  fine = λ id heard. response_fine heard (begun (initiate_of key Upload Undecided) micros frame) (UploadExpedited key (Indicated (record { items = value }))) micros
+expedited_sent : (on : Bool) (key : Key) (value : List ℕ) (micros : ℕ) (frame : List ℕ) → key.index < 65536 → 1 ≤ length value → length value ≤ 4
+    → Answered key micros (went_on_as on (begun (initiate_of key Upload Undecided) micros frame)) (Replied (UploadExpedited key (Indicated (record { items = value }))))
+expedited_sent on key value micros frame small some few = record {
+  fine = λ id heard. response_fine heard (went_on_as on (begun (initiate_of key Upload Undecided) micros frame)) (UploadExpedited key (Indicated (record { items = value }))) micros
       (record { id = id; bytes = response_bytes (UploadExpedited key (Indicated (record { items = value }))) }) refl
       (ap response_reading (expedited_sent_read key value small some few)) (rw (same_key-refl key) (record { part = refl; crc = refl }));
 }
 
-segmented_sent : (key : Key) (size : ℕ) (micros : ℕ) (frame : List ℕ) → key.index < 65536
-    → Answered key micros (begun (initiate_of key Upload Undecided) micros frame) (Replied (UploadInitiated key (Some size)))
-segmented_sent key size micros frame small = record {
-  fine = λ id heard. response_fine heard (begun (initiate_of key Upload Undecided) micros frame) (UploadInitiated key (Some (unsigned_of (low_bytes 4 size)))) micros
+segmented_sent : (on : Bool) (key : Key) (size : ℕ) (micros : ℕ) (frame : List ℕ) → key.index < 65536
+    → Answered key micros (went_on_as on (begun (initiate_of key Upload Undecided) micros frame)) (Replied (UploadInitiated key (Some size)))
+segmented_sent on key size micros frame small = record {
+  fine = λ id heard. response_fine heard (went_on_as on (begun (initiate_of key Upload Undecided) micros frame)) (UploadInitiated key (Some (unsigned_of (low_bytes 4 size)))) micros
       (record { id = id; bytes = response_bytes (UploadInitiated key (Some size)) }) refl
       (ap response_reading (upload_read key size small)) (rw (same_key-refl key) (record { part = refl; crc = tt }));
 }
@@ -196,45 +196,45 @@ InitiatedRun subject rows micros key t answers =
 fresh : (key : Key) (t : Transfer) → Sound t → is_block t.protocol ≡ false → t.key ≡ key → key.index < 65536 → Shape key t
 fresh key t s b k small = record { sound = s; block = b; of = k; small = small }
 
-upload_answered : (subject : Subject) (rows : List Row) (micros : ℕ) (refusal : Option ℕ) (key : Key) (value frame : List ℕ) → key.index < 65536 → Shape key (begun (initiate_of key Upload Undecided) micros frame)
-    → InitiatedRun subject rows micros key (begun (initiate_of key Upload Undecided) micros frame) (unless_refused refusal key (upload_initiated key value))
-upload_answered subject rows micros refusal key value frame small shape = by (nat_le 1 (length value) && nat_le (length value) 4) refl
+upload_answered : (on : Bool) (subject : Subject) (rows : List Row) (micros : ℕ) (refusal : Option ℕ) (key : Key) (value frame : List ℕ) → key.index < 65536 → Shape key (went_on_as on (begun (initiate_of key Upload Undecided) micros frame))
+    → InitiatedRun subject rows micros key (went_on_as on (begun (initiate_of key Upload Undecided) micros frame)) (unless_refused refusal key (upload_initiated key value))
+upload_answered on subject rows micros refusal key value frame small shape = by (nat_le 1 (length value) && nat_le (length value) 4) refl
   where
     t : Transfer
-    t = begun (initiate_of key Upload Undecided) micros frame
+    t = went_on_as on (begun (initiate_of key Upload Undecided) micros frame)
 
     by : (b : Bool) → (nat_le 1 (length value) && nat_le (length value) 4) ≡ b
-        → InitiatedRun subject rows micros key (begun (initiate_of key Upload Undecided) micros frame)
+        → InitiatedRun subject rows micros key (went_on_as on (begun (initiate_of key Upload Undecided) micros frame))
         (unless_refused refusal key (if b then Replied (UploadExpedited key (Indicated (record { items = value }))) ∷ [] else Replied (UploadInitiated key (Some (length value))) ∷ []))
     by true is = λ q now here. initiated_runs key subject rows micros refusal (Replied (UploadExpedited key (Indicated (record { items = value })))) q t now here shape
-        (expedited_sent key value micros frame small (some_bytes value is) (few_bytes value is))
-    by false is = λ q now here. initiated_runs key subject rows micros refusal (Replied (UploadInitiated key (Some (length value)))) q t now here shape (segmented_sent key (length value) micros frame small)
+        (expedited_sent on key value micros frame small (some_bytes value is) (few_bytes value is))
+    by false is = λ q now here. initiated_runs key subject rows micros refusal (Replied (UploadInitiated key (Some (length value)))) q t now here shape (segmented_sent on key (length value) micros frame small)
 
 -- the transfer that an initiate request begins, and its answer
 pub record Initiates (subject : Subject) (rows : List Row) (micros : ℕ) (key : Key) (answers : List Answer) (t : Transfer) : Type 0 where
   pub shape : Shape key t
   pub runs : InitiatedRun subject rows micros key t answers
 
-initiate_runs : (subject : Subject) (rows : List Row) (micros : ℕ) (d : Description) (contents : Contents) (request : SdoRequest) (frame : List ℕ) → AreBytes frame → HasKey frame request → is_block_begin (Some request) ≡ false
-    → is_block_upload_begin (Some request) ≡ false → IfSome (begun_with request micros frame) (Initiates subject rows micros (asked_key (Some request)) (initiate_answers d contents request))
-initiate_runs subject rows micros d contents (DownloadExpedited key value) frame bytes has n m =
-    let shape = fresh key (begun (record (initiate_of key Download Expedited) { bytes = record { items = data_of value } }) micros frame) (begins_sound (DownloadExpedited key value) micros frame refl) refl refl (small_key frame key bytes has) in
+pub initiate_runs : (on : Bool) (subject : Subject) (rows : List Row) (micros : ℕ) (d : Description) (contents : Contents) (request : SdoRequest) (frame : List ℕ) → AreBytes frame → HasKey frame request → is_block_begin (Some request) ≡ false
+    → is_block_upload_begin (Some request) ≡ false → IfSome (begun_on on request micros frame) (Initiates subject rows micros (asked_key (Some request)) (initiate_answers d contents request))
+initiate_runs on subject rows micros d contents (DownloadExpedited key value) frame bytes has n m =
+    let shape = fresh key (went_on_as on (begun (record (initiate_of key Download Expedited) { bytes = record { items = data_of value } }) micros frame)) (begins_sound on (DownloadExpedited key value) micros frame refl) refl refl (small_key frame key bytes has) in
     record {
       shape = shape;
-      runs = λ q now here. initiated_runs key subject rows micros _ (Replied (DownloadDone key)) q _ now here shape (expedited_done key (record { items = data_of value }) micros frame (small_key frame key bytes has));
+      runs = λ q now here. initiated_runs key subject rows micros _ (Replied (DownloadDone key)) q _ now here shape (expedited_done on key (record { items = data_of value }) micros frame (small_key frame key bytes has));
     }
-initiate_runs subject rows micros d contents (DownloadInitiate key size) frame bytes has n m =
-    let shape = fresh key (begun (record (initiate_of key Download Segmented) { size = size }) micros frame) (begins_sound (DownloadInitiate key size) micros frame refl) refl refl (small_key frame key bytes has) in
+initiate_runs on subject rows micros d contents (DownloadInitiate key size) frame bytes has n m =
+    let shape = fresh key (went_on_as on (begun (record (initiate_of key Download Segmented) { size = size }) micros frame)) (begins_sound on (DownloadInitiate key size) micros frame refl) refl refl (small_key frame key bytes has) in
     record {
       shape = shape;
-      runs = λ q now here. initiated_runs key subject rows micros _ (Replied (DownloadDone key)) q _ now here shape (segmented_done key size micros frame (small_key frame key bytes has));
+      runs = λ q now here. initiated_runs key subject rows micros _ (Replied (DownloadDone key)) q _ now here shape (segmented_done on key size micros frame (small_key frame key bytes has));
     }
-initiate_runs subject rows micros d contents (UploadInitiate key) frame bytes has n m =
-    let shape = fresh key (begun (initiate_of key Upload Undecided) micros frame) (begins_sound (UploadInitiate key) micros frame refl) refl refl (small_key frame key bytes has) in
-    record { shape = shape; runs = upload_answered subject rows micros _ key (value_at contents key) frame (small_key frame key bytes has) shape }
-initiate_runs subject rows micros d contents (BlockUploadInitiate key size threshold) frame bytes has n m = absurd (false≢true (sym m))
-initiate_runs subject rows micros d contents (BlockDownloadInitiate key size) frame bytes has n m = absurd (false≢true (sym n))
-initiate_runs subject rows micros d contents _ frame bytes has n m = tt
+initiate_runs on subject rows micros d contents (UploadInitiate key) frame bytes has n m =
+    let shape = fresh key (went_on_as on (begun (initiate_of key Upload Undecided) micros frame)) (begins_sound on (UploadInitiate key) micros frame refl) refl refl (small_key frame key bytes has) in
+    record { shape = shape; runs = upload_answered on subject rows micros _ key (value_at contents key) frame (small_key frame key bytes has) shape }
+initiate_runs on subject rows micros d contents (BlockUploadInitiate key size threshold) frame bytes has n m = absurd (false≢true (sym m))
+initiate_runs on subject rows micros d contents (BlockDownloadInitiate key size) frame bytes has n m = absurd (false≢true (sym n))
+initiate_runs on subject rows micros d contents _ frame bytes has n m = tt
 
 -- ---- a request and its answers
 
@@ -277,43 +277,14 @@ module _ (key : Key) (subject : Subject) (rows : List Row) (micros : ℕ) (d : D
             (later_next key subject.limits.answer p.started p.dialogue micros frame ready.shape off);
       }))
 
-  begins_one : (request : SdoRequest) (t : Transfer) → request_in frame.bytes ≡ Some request → initiates (Some request) ≡ true → begun_with request micros frame.bytes ≡ Some t
-      → request_reading (Some request) micros frame.bytes ≡ Begin t → Initiates subject rows micros (asked_key (Some request)) (initiate_answers d contents request) t → Goes (initiate_answers d contents request)
-  begins_one request t is i begins reading one =
-      let on : initiates (request_in frame.bytes) ≡ true = ap initiates is ∙ i in
-      let of : IsOf (asked_key (Some request)) (Exchanged (exchange_with d contents log frame.bytes) ∷ log) =
-      subst (λ o. IsOf (asked_key o) (Exchanged (exchange_with d contents log frame.bytes) ∷ log)) is (of_initiate (exchange_with d contents log frame.bytes) log ready.clean on) in
-      quiet_map subject rows p micros (Sdo Client frame) (λ q. (q.newest ≡ Some micros) × InitiateHeard t micros q.dialogue) _
-      (λ q a. map_runs subject rows micros (frames_on (0x580 + subject.node) (initiate_answers d contents request)) q (HasShape (asked_key (Some request))) (HasTied (Exchanged (exchange_with d contents log frame.bytes) ∷ log))
-      (λ x s. all_tied (asked_key (Some request)) (Exchanged (exchange_with d contents log frame.bytes) ∷ log) x.dialogue.channel.transfer of s)
-      (one.runs q a.0 a.1.transfer))
-      (client_quiet key subject rows p micros frame (λ newest x. (newest ≡ Some micros) × InitiateHeard t micros x) ready.shape
-      (ready.newest, initiate_heard subject.limits.answer p.started p.dialogue micros frame request t (sound_in key p.dialogue.channel.transfer ready.shape) is begins reading one.shape.sound))
-
-  by_request : (r : Option SdoRequest) → request_in frame.bytes ≡ r → AreBytes frame.bytes → IfSome r (HasKey frame.bytes) → is_block_begin r ≡ false → is_block_upload_begin r ≡ false → Goes (request_answers d contents (opened_after log) r)
-  by_request None is bytes has n m = begins_nothing None is refl
-  by_request (Some (DownloadExpedited k value)) is bytes has n m =
-      begins_one (DownloadExpedited k value) _ is refl refl refl (initiate_runs subject rows micros d contents (DownloadExpedited k value) frame.bytes bytes has refl refl)
-  by_request (Some (DownloadInitiate k size)) is bytes has n m =
-      begins_one (DownloadInitiate k size) _ is refl refl refl (initiate_runs subject rows micros d contents (DownloadInitiate k size) frame.bytes bytes has refl refl)
-  by_request (Some (UploadInitiate k)) is bytes has n m = begins_one (UploadInitiate k) _ is refl refl refl (initiate_runs subject rows micros d contents (UploadInitiate k) frame.bytes bytes has refl refl)
-  by_request (Some (BlockUploadInitiate k size threshold)) is bytes has n m = absurd (false≢true (sym m))
-  by_request (Some (BlockDownloadInitiate k size)) is bytes has n m = absurd (false≢true (sym n))
-  by_request (Some (Abandon k code)) is bytes has n m = begins_nothing (Some (Abandon k code)) is refl
-  by_request (Some (DownloadSegment toggle segment last)) is bytes has n m = begins_nothing (Some (DownloadSegment toggle segment last)) is refl
-  by_request (Some (NextSegment toggle)) is bytes has n m = begins_nothing (Some (NextSegment toggle)) is refl
-  by_request (Some UploadEnd) is bytes has n m = begins_nothing (Some UploadEnd) is refl
-  by_request (Some (BlockUploadAcknowledge sequence size)) is bytes has n m = begins_nothing (Some (BlockUploadAcknowledge sequence size)) is refl
-  by_request (Some BlockUploadStart) is bytes has n m = begins_nothing (Some BlockUploadStart) is refl
-  by_request (Some (BlockDownloadEnd unused)) is bytes has n m = begins_nothing (Some (BlockDownloadEnd unused)) is refl
-
-pub exchange_runs : (key : Key) (subject : Subject) (rows : List Row) (micros : ℕ) (d : Description) (contents : Contents) (log : Log) (frame : FrameContent) (p : Progress) → frame.id ≡ 0x600 + subject.node → AreBytes frame.bytes
-    → is_block_begin (request_in frame.bytes) ≡ false → is_block_upload_begin (request_in frame.bytes) ≡ false → is_inside (opened_after log) ≡ false → Ready key log micros (begun_progress subject p micros)
+-- a request that begins nothing, with its answers
+pub exchange_runs : (key : Key) (subject : Subject) (rows : List Row) (micros : ℕ) (d : Description) (contents : Contents) (log : Log) (frame : FrameContent) (p : Progress) → frame.id ≡ 0x600 + subject.node
+    → initiates (request_in frame.bytes) ≡ false → is_inside (opened_after log) ≡ false → Ready key log micros (begun_progress subject p micros)
     → AllRun transfer_differences subject rows micros p (frame ∷ [])
     (λ q. AllRun transfer_differences subject rows micros q (frames_on (0x580 + subject.node) (reply_to d contents log frame.bytes)) (HasTied (Exchanged (exchange_with d contents log frame.bytes) ∷ log)))
-exchange_runs key subject rows micros d contents log frame p id bytes n m out ready =
+exchange_runs key subject rows micros d contents log frame p id n out ready =
     frame_runs subject rows micros p frame (Sdo Client frame) _ (request_kind subject.node frame id)
     (subst (λ answers. Quiet subject rows (begun_progress subject p micros) micros (Sdo Client frame)
     (λ q. AllRun transfer_differences subject rows micros q (frames_on (0x580 + subject.node) answers) (HasTied (Exchanged (exchange_with d contents log frame.bytes) ∷ log))))
     (sym (outside_answers d contents (opened_after log) frame.bytes out))
-    (by_request key subject rows micros d contents log frame (begun_progress subject p micros) ready (request_in frame.bytes) refl bytes (has_key frame.bytes) n m))
+    (begins_nothing key subject rows micros d contents log frame (begun_progress subject p micros) ready (request_in frame.bytes) refl n))

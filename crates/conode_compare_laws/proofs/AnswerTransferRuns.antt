@@ -23,12 +23,12 @@ use Rattle.conode_explain_transfers.specs.declared.kinds.What.TheVariants as wha
 use Rattle.conode_explain_transfers.specs.declared.transfer.Transfer.{Transfer}
 use Rattle.conode_explain_transfers.specs.BlockTurns.{is_block}
 use Rattle.conode_explain_transfers.specs.Endings.{ended}
-use Rattle.conode_explain_transfers.specs.Followed.{Followed, Following, abort_ending, followed, key_for, left, left_by, one_more, turns_at}
+use Rattle.conode_explain_transfers.specs.Followed.{Followed, Following, abort_ending, followed, key_for, left, left_by, one_more, turns_at, unless_lost}
 use Rattle.conode_explain_transfers.specs.Readings.{reading_of as their_reading_of}
 use Rattle.conode_explain_transfers.specs.Stages.{confirmed_with}
 use Rattle.conode_explain_transfers.specs.Transfers.{Turn, after, is_same_request}
 use Rattle.conode_explain_transfers.specs.Turns.{request_turn}
-use Rattle.conode_explain_transfers.specs.Unanswered.{is_lost, is_no_abort, number_of, segment_follows}
+use Rattle.conode_explain_transfers.specs.Unanswered.{is_lost, not_followed_by, number_of, segment_follows}
 use Rattle.conode_explain_laws.proofs.Readings.{Request, Nothing, follows_by, request_reading, same as same_reading, turn_of}
 use Rattle.conode_explain_laws.proofs.Views.{server_no_begin}
 use Rattle.conode_compare_transfers.specs.declared.dialogue.Dialogue.{Dialogue}
@@ -67,9 +67,9 @@ no_other _ off = refl
 -- ---- a frame of the server
 
 says_is : (following : Following) (micros : ℕ) (side : Side) (bytes : List ℕ)
-    → (followed following micros side bytes).says ≡ record (reads following micros side bytes).says { of = key_for following.transfer (their_reading_of following.transfer side bytes) }
+    → (followed following micros side bytes).says ≡ record (reads following micros side bytes).says { of = unless_lost (reads following micros side bytes).next.transfer (key_for following.transfer (their_reading_of following.transfer side bytes)) }
 says_is following micros side bytes =
-    ap (λ (f : Followed). record f.says { of = key_for following.transfer (their_reading_of following.transfer side bytes) }) (same_reading following.heard following.transfer micros side bytes bytes).followed
+    ap (λ (f : Followed). record f.says { of = unless_lost f.next.transfer (key_for following.transfer (their_reading_of following.transfer side bytes)) }) (same_reading following.heard following.transfer micros side bytes bytes).followed
 
 no_breach : (answer started : ℕ) (d : Dialogue) (micros : ℕ) (frame : FrameContent) → Fine frame (reads d.channel micros Server frame.bytes).says
     → of_transfers (breach_finding (exchange_in answer started d micros Server frame).breach) ≡ []
@@ -95,7 +95,7 @@ leaves_as number follows lost same side =
     if follows then NotFollowed (Some number) else (if lost then NotFollowed None else (if same then Repeated else left_by side))
 
 -- how the transfer ends that another one follows, or the client's abort
-left_end : (frame : FrameContent) (current : Option Transfer) (micros : ℕ) (bytes : List ℕ) → FineEnd frame (left current micros bytes)
+pub left_end : (frame : FrameContent) (current : Option Transfer) (micros : ℕ) (bytes : List ℕ) → FineEnd frame (left current micros bytes)
 left_end frame None micros bytes = tt
 left_end frame (Some t) micros bytes = by t.direction (segment_follows t bytes) (is_lost t) (is_same_request t bytes) t.by
   where
@@ -112,12 +112,12 @@ left_end frame (Some t) micros bytes = by t.direction (segment_follows t bytes) 
     by Download false false false Server = refl
     by Upload false false false Server = refl
 
-abort_end : (frame : FrameContent) (t : Transfer) (code : AbortCode) (micros : ℕ) (direction : Direction) (lost : Bool)
-    → of_transfers (breach_finding (ending_breach frame (ended (one_more t) micros (abort_ending Client lost code)) direction (abort_ending Client lost code))) ≡ []
-abort_end frame t code micros Download true = refl
-abort_end frame t code micros Upload true = refl
-abort_end frame t code micros Download false = refl
-abort_end frame t code micros Upload false = refl
+abort_end : (frame : FrameContent) (t : Transfer) (code : AbortCode) (micros : ℕ) (direction : Direction) (segment : Option (Option ℕ))
+    → of_transfers (breach_finding (ending_breach frame (ended (one_more t) micros (abort_ending Client segment code)) direction (abort_ending Client segment code))) ≡ []
+abort_end frame t code micros Download None = refl
+abort_end frame t code micros Upload None = refl
+abort_end frame t code micros Download (Some next) = refl
+abort_end frame t code micros Upload (Some next) = refl
 
 -- no request confirms a transfer that isn't in blocks
 turn_end : (x : Option (Option ℕ)) (heard : Bool) (w : What) (u : Transfer) (micros : ℕ) (frame : FrameContent) → is_some x ≡ false → FineEnd frame (turns_at x heard w u micros Client).says.ended
@@ -143,7 +143,7 @@ client_end key heard current None micros frame s = by current s
     by None s = tt
     by (Some t) s = turn_end (confirmed_with t.stage) heard what.Unexpected (after t (turn_of t Nothing frame.bytes)) micros frame (ap is_some s.sound.unconfirmed)
 client_end key heard None (Some (Abandon k code)) micros frame s = tt
-client_end key heard (Some t) (Some (Abandon k code)) micros frame s = abort_end frame t code micros t.direction (is_no_abort t frame.bytes)
+client_end key heard (Some t) (Some (Abandon k code)) micros frame s = abort_end frame t code micros t.direction (not_followed_by Client t frame.bytes)
 client_end key heard current (Some (DownloadExpedited k value)) micros frame s = left_end frame current micros frame.bytes
 client_end key heard current (Some (DownloadInitiate k size)) micros frame s = left_end frame current micros frame.bytes
 client_end key heard current (Some (UploadInitiate k)) micros frame s = left_end frame current micros frame.bytes

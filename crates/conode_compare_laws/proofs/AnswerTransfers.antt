@@ -21,7 +21,7 @@ use Rattle.conode_explain_transfers.specs.Readings.{is_in_sub_block}
 use Rattle.conode_explain_transfers.specs.Stages.{confirmed_with}
 use Rattle.conode_explain_transfers.specs.Transfers.{Turn, after, is_download, unexpected}
 use Rattle.conode_explain_transfers.specs.Turns.{request_turn}
-use Rattle.conode_explain_transfers.specs.Unanswered.{is_no_abort}
+use Rattle.conode_explain_transfers.specs.Unanswered.{not_followed_by}
 use Rattle.conode_explain_laws.proofs.Readings.{Reading, Segment, Begin, Abort, Request, Response, Nothing, follows_by, request_reading, turn_of}
 use Rattle.conode_explain_laws.proofs.Views.{is_begin}
 use Rattle.conode_compare_transfers.specs.Dialogues.{continues, is_known_end, leaves_request_open}
@@ -208,12 +208,12 @@ stray_leaves true _ micros frame n = refl
 stray_leaves false _ micros frame n = refl
 
 abort_leaves : (heard : Bool) (t : Transfer) (code : AbortCode) (micros : ℕ) (frame : FrameContent) → Leaves (follows_by heard (Some t) (Abort code) micros Client frame.bytes) frame
-abort_leaves heard t code micros frame = by (is_block t.protocol) (is_no_abort t frame.bytes)
+abort_leaves heard t code micros frame = by (is_block t.protocol) (not_followed_by Client t frame.bytes)
   where
-    by : (block lost : Bool) → not (not block && is_known_end (abort_ending Client lost code) t.key frame) ≡ true
-    by true lost = refl
-    by false true = refl
-    by false false = refl
+    by : (block : Bool) (segment : Option (Option ℕ)) → not (not block && is_known_end (abort_ending Client segment code) t.key frame) ≡ true
+    by true segment = refl
+    by false None = refl
+    by false (Some next) = refl
 
 pub later_stands : (key : Key) (heard : Bool) (current : Option Transfer) (r : Option SdoRequest) (micros : ℕ) (frame : FrameContent) → IfSome current (Shape key) → initiates r ≡ false
     → Leaves (follows_by heard current (request_reading r micros frame.bytes) micros Client frame.bytes) frame

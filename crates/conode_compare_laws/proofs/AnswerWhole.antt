@@ -44,14 +44,14 @@ use Rattle.conode_explain_transfers.specs.Stages.{confirmed_with}
 use Rattle.conode_explain_transfers.specs.Transfers.{Turn, after, awaited_number, goes_on as part, irregular, is_download, is_same_request, takes_pending, unexpected}
 use Rattle.conode_explain_transfers.specs.Turns.{request_turn}
 use Rattle.conode_explain_transfers.proofs.DataLemmas.{taking}
-use Rattle.conode_explain_transfers.specs.Unanswered.{is_lost, is_no_abort, number_of, segment_follows}
+use Rattle.conode_explain_transfers.specs.Unanswered.{is_lost, is_next_segment, not_followed_by, number_of, segment_follows}
 use Rattle.conode_explain_laws.specs.Downloads.{Complete}
 use Rattle.conode_explain_laws.specs.Uploads.{Read}
 use Rattle.conode_explain_laws.proofs.Begins.{outside_answers}
 use Rattle.conode_explain_laws.proofs.Exchanges.{same_toggle}
-use Rattle.conode_explain_laws.proofs.Follows.{BegunBy, IsLate, begun_by, client_no_response, is_response, request_spoils, segment_spoils}
+use Rattle.conode_explain_laws.proofs.Follows.{BegunBy, IsLate, begun_by, client_no_response, is_response, request_spoils, segment_spoils, begun_of}
 use Rattle.conode_explain_laws.proofs.NoUploads.{begins_nothing}
-use Rattle.conode_explain_laws.proofs.Readings.{Abort, Begin, Nothing, Reading, Request, Response, Segment, begun_with, bytes_by, follows_by, plain_reading, reading_of, request_reading, response_reading, sub_block_reading, turn_of}
+use Rattle.conode_explain_laws.proofs.Readings.{Abort, Begin, Nothing, Reading, Request, Response, Segment, begun_with, bytes_by, follows_by, plain_reading, reading_of, request_reading, response_reading, sub_block_reading, turn_of, begun_after, begun_on}
 use Rattle.conode_explain_laws.proofs.UploadStanding.{AtEnd, FollowsIn, InUpload, IsWaiting, aside, asked, at_end, begun, blocks, gone, late_request, segmented, size_is}
 use Rattle.conode_explain_laws.proofs.UploadViews.{hears, hears_answers, holds, read_as}
 use Rattle.conode_explain_laws.proofs.Views.{View, is_begin, server_no_begin}
@@ -148,13 +148,13 @@ left_whole (Some t) micros bytes = other_whole t.direction _ (by (segment_follow
     by false false false Client = refl
     by false false false Server = refl
 
-begun_rests : (request : SdoRequest) (micros : ℕ) (bytes : List ℕ) → IfSome (begun_with request micros bytes) Rests
-begun_rests (DownloadExpedited key value) micros bytes = download refl
-begun_rests (DownloadInitiate key size) micros bytes = download refl
-begun_rests (BlockDownloadInitiate key size) micros bytes = download refl
-begun_rests (UploadInitiate key) micros bytes = first refl refl
-begun_rests (BlockUploadInitiate key size threshold) micros bytes = first refl refl
-begun_rests _ micros bytes = tt
+begun_rests : (on : Bool) (request : SdoRequest) (micros : ℕ) (bytes : List ℕ) → IfSome (begun_on on request micros bytes) Rests
+begun_rests on (DownloadExpedited key value) micros bytes = download refl
+begun_rests on (DownloadInitiate key size) micros bytes = download refl
+begun_rests on (BlockDownloadInitiate key size) micros bytes = download refl
+begun_rests on (UploadInitiate key) micros bytes = first refl refl
+begun_rests on (BlockUploadInitiate key size threshold) micros bytes = first refl refl
+begun_rests on _ micros bytes = tt
 
 -- the client's frames in an upload are read as requests
 pub upload_plain : (t : Transfer) (micros : ℕ) (bytes : List ℕ) → t.direction ≡ Upload → reading_of (Some t) Client micros bytes ≡ request_reading (request_in bytes) micros bytes
@@ -266,7 +266,7 @@ module _ (d : Description) (contents : Contents) (stamp : ℕ → ℕ) (frame : 
 
   gone_ends : (t : Transfer) (r : Option SdoRequest) → IsWaiting t → is_begin (request_reading r (stamp count) frame) ≡ false → IsWhole (follows_by heard (Some t) (request_reading r (stamp count) frame) (stamp count) Client frame).says.ended
   gone_ends t None h n = late_turn heard t (unexpected t) (stamp count) Client (inl refl)
-  gone_ends t (Some (Abandon key code)) h n = other_whole t.direction _ (abort_same Client (is_no_abort t frame) code)
+  gone_ends t (Some (Abandon key code)) h n = other_whole t.direction _ (abort_same Client (not_followed_by Client t frame) code)
   gone_ends t (Some (DownloadSegment toggle items last)) h n = gone_request t (DownloadSegment toggle items last) h
   gone_ends t (Some (NextSegment toggle)) h n = gone_request t (NextSegment toggle) h
   gone_ends t (Some BlockUploadStart) h n = gone_request t BlockUploadStart h
@@ -373,8 +373,8 @@ module _ (d : Description) (contents : Contents) (stamp : ℕ → ℕ) (frame : 
   by_reading : (current : Option OpenTransfer) (ended : Option Read) (held : Option Transfer) (reading : Reading) → reading_of held Client (stamp count) frame ≡ reading
       → FollowsIn (Unit {0}) held got current ended → IfSome held (λ t. t.taken ≡ digest_of got) → After current held reading
   by_reading current ended held (Begin new) e h kept =
-      let b : BegunBy frame (stamp count) new = begun_by held (stamp count) frame new e in
-      resting current held (Begin new) (record { ended = left_whole held (stamp count) frame; next = subst (λ o. IfSome o Rests) b.initiates (begun_rests b.request (stamp count) frame) })
+      let b : BegunBy frame (stamp count) (begun_after held frame new) = begun_by held (stamp count) frame new e in
+      resting current held (Begin new) (record { ended = left_whole held (stamp count) frame; next = subst (λ o. IfSome o Rests) (begun_of frame (stamp count) (begun_after held frame new) b) (begun_rests (is_next_segment held frame) b.request (stamp count) frame) })
   by_reading current ended held reading e h kept = goes_on current ended held reading e refl h kept
 
 -- after what has come of the upload, with what both have: nothing ends wrongly
@@ -418,7 +418,7 @@ kept_by heard (Some t) Nothing micros side bytes got b h = by_turn heard t (turn
 
 begins_empty : (current : Option Transfer) (side : Side) (micros : ℕ) (bytes : List ℕ) (new : Transfer) → reading_of current side micros bytes ≡ Begin new → new.taken ≡ digest_of []
 begins_empty current Client micros bytes new e =
-    let b : BegunBy bytes micros new = begun_by current micros bytes new e in subst (λ o. IfSome o (λ t. t.taken ≡ digest_of [])) b.initiates (begun_taken b.request micros bytes)
+    let b : BegunBy bytes micros (begun_after current bytes new) = begun_by current micros bytes new e in subst (λ o. IfSome o (λ t. t.taken ≡ digest_of [])) b.initiates (begun_taken b.request micros bytes)
 begins_empty current Server micros bytes new e = absurd (false≢true (sym (server_no_begin current micros bytes) ∙ ap is_begin e))
 
 abbrev pub HasTaken : View → Type 0

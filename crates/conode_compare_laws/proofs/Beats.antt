@@ -33,7 +33,8 @@ use Rattle.conode_compare_rules.specs.declared.limits.Subject.{Subject}
 use Rattle.conode_compare_rules.specs.declared.progress.Progress.{Progress}
 use Rattle.conode_compare_rules.specs.FrameKinds.{command_kind, command_to, control_kind, data_kind, emergency_kind, emergency_with, length_of, long_command_in}
 use Rattle.conode_compare_rules.specs.Answers.{confirmed_finding}
-use Rattle.conode_compare_rules.specs.EntriesInForce.{asked_to_write, done_word, is_channel, shown_inhibit, shown_period, with_inhibit, with_period}
+use Rattle.conode_compare_rules.specs.EntriesInForce.{asked_by, asked_to_write, done_word, overwritten, shown_inhibit, shown_period, with_inhibit, with_period}
+use Rattle.conode_compare_rules.specs.OtherClients.{is_channel}
 use Rattle.conode_compare_rules.specs.Heartbeats.{after_transfer, allowance, follows_closely, is_gap, late_finding, overdue_by, overdue_for, overdue_since, overdue_with, sent_after}
 use Rattle.conode_compare_rules.specs.Progresses as progresses
 use Rattle.conode_compare_rules.specs.Progresses.{
@@ -54,6 +55,7 @@ use Rattle.conode_compare_rules.specs.Progresses.{
   emergency_findings,
   entries_asked,
   entries_ended,
+  entries_heard,
   exchange_at,
   exchange_noted,
   findings_at,
@@ -61,6 +63,7 @@ use Rattle.conode_compare_rules.specs.Progresses.{
   free_at,
   is_missing_at,
   heartbeat_findings,
+  is_of_client,
   late_at,
   late_by,
   late_by_tpdo,
@@ -68,19 +71,22 @@ use Rattle.conode_compare_rules.specs.Progresses.{
   process_findings,
   progress_with,
   request_findings,
+  shown_beside,
   sighted,
   sighting_findings,
   with_gap,
 }
 use Rattle.conode_compare_rules.specs.Times.{drift_of}
 use Rattle.conode_compare_transfers.specs.declared.dialogue.Asked.{Asked}
-use Rattle.conode_compare_transfers.specs.Dialogues.{dialogue_heard, exchange_in}
+use Rattle.conode_compare_transfers.specs.Dialogues.{asks_to_write, dialogue_heard, exchange_in}
+use Rattle.conode_compare_transfers.specs.Breaches.{key_in}
 use Rattle.conode_compare_transfers.specs.Times.{micros_of}
 use Rattle.conode_compare_rules.specs.Verdicts.{found}
 use Rattle.conode_compare_laws.specs.Differences.{late_differences}
 use Rattle.conode_compare_laws.specs.Identifiers.{AreWithout}
 use Rattle.conode_compare_laws.specs.Periods.{KnowsPeriod}
 use Rattle.conode_compare_laws.proofs.LongCommands.{long_such}
+use Rattle.conode_compare_laws.proofs.NamedKeys.{beside_such}
 use Rattle.conode_compare_laws.proofs.Frames.{life_kind}
 use Rattle.conode_compare_laws.proofs.Runs.{AllRun}
 use Rattle.conode_compare_laws.proofs.ShowsWord.{AllShow, Shown, ShowsAt}
@@ -216,6 +222,30 @@ asked_known period entries (Some asked) h = by asked.writes (asked_to_write entr
     by true x g = g
     by false x g = h
 
+-- whatever such a request is to explain
+by_known : (period : ℕ) (entries : Entries) (side : Side) (frame : FrameContent) → IfSome entries.period (λ n. n ≡ period) → IfSome (asked_by side frame entries).period (λ n. n ≡ period)
+unfolding asked_to_write
+by_known period entries Server frame h = h
+by_known period entries Client frame h = by (asks_to_write frame) (forgets (same_key (key_in frame) producer_key || is_channel (key_in frame)))
+  where
+    forgets : (b : Bool) → IfSome (if b then None else entries.period) (λ n. n ≡ period)
+    forgets true = tt
+    forgets false = h
+
+    by : (b : Bool) → IfSome (asked_to_write entries (key_in frame)).period (λ n. n ≡ period) → IfSome (if b then asked_to_write entries (key_in frame) else entries).period (λ n. n ≡ period)
+    by true g = g
+    by false g = h
+
+-- or after a frame of the client of another SDO channel
+client_known : (period : ℕ) (entries : Entries) (b : Bool) → IfSome entries.period (λ n. n ≡ period) → IfSome (if b then overwritten entries else entries).period (λ n. n ≡ period)
+unfolding overwritten
+client_known period entries true h = tt
+client_known period entries false h = h
+
+booted_known : (period : ℕ) (subject : Subject) (b : Bool) → KnowsPeriod period subject → IfSome (if b then subject.facts.before else subject.facts.booted).period (λ n. n ≡ period)
+booted_known period subject true knows = knows.before
+booted_known period subject false knows = knows.booted
+
 -- the last heartbeat is as before, or counts from now
 ended_since : (beats : Heartbeats) (o : Option Ended) (micros ago : ℕ) → IfSome beats.since (λ last. micros ≤ last + ago) → IfSome (after_transfer beats o micros).since (λ last. micros ≤ last + ago)
 ended_since beats None micros ago h = h
@@ -229,12 +259,14 @@ sdo_begun : (subject : Subject) (p : Progress) (micros : ℕ) (side : Side) (fra
     → Begun period micros ago (after_sdo subject p micros side frame)
 unfolding channel_heard exchange_at exchange_in exchange_noted
 sdo_begun subject p micros side frame period ago shows h =
-    let o : Option Ended = (exchange_at subject p micros side frame).heard.ended in
+    let ended : Option Ended = (exchange_at subject p micros side frame).heard.ended in
+    let o : Option Ended = shown_beside p.other_client ended in
     record {
       free = h.free;
       newest = h.newest;
-      known = asked_known period (entries_ended p.entries o) (dialogue_heard subject.limits.answer p.started p.dialogue micros side frame).asked (ended_known period p.entries o shows h.known);
-      since = ended_since p.heartbeats o micros ago h.since;
+      known = by_known period (entries_heard p.entries o (dialogue_heard subject.limits.answer p.started p.dialogue micros side frame).asked) side frame
+          (asked_known period (entries_ended p.entries o) (dialogue_heard subject.limits.answer p.started p.dialogue micros side frame).asked (ended_known period p.entries o (beside_such (Shown producer_key period) p.other_client ended shows) h.known));
+      since = ended_since p.heartbeats ended micros ago h.since;
     }
 
 noted_shows : (subject : Subject) (p : Progress) (micros : ℕ) (frame : FrameContent) (period : ℕ) → ShowsAt producer_key period p micros (Sdo Server frame) → ShowsAt producer_key period (answer_noted subject p micros) micros (Sdo Server frame)
@@ -327,7 +359,7 @@ other_passes subject rows p micros (Process id length) period ago few is shows h
     record {
       none = sighted_none (late_by_tpdo subject p micros id length) id length (sighted subject p micros id length)
           (none_by subject p (is_some (sighted subject p micros id length)) micros period ago few h);
-      beats = record { fresh = e.fresh; known = e.known; since = said_since p.heartbeats.since (is_some (late_by_tpdo subject p micros id length)) micros ago e.since };
+      beats = record { fresh = e.fresh; known = client_known period p.entries (is_of_client subject id) e.known; since = said_since p.heartbeats.since (is_some (late_by_tpdo subject p micros id length)) micros ago e.since };
     })
 other_passes subject rows p micros Other period ago few is shows h =
     (let e : Beats period micros ago p = ended period micros ago p h in record { none = refl; beats = record { fresh = e.fresh; known = e.known; since = e.since } })
@@ -339,7 +371,7 @@ other_passes subject rows p micros _ period ago few is shows h = absurd (cc)
 boot_passes : (subject : Subject) (rows : List Row) (p : Progress) (micros period ago after : ℕ) → KnowsPeriod period subject → Begun period micros ago p → Passes subject rows p micros (Control 0) period after
 unfolding found booted
 boot_passes subject rows p micros period ago after knows h =
-    (let e : Beats period micros ago p = ended period micros ago p h in record { none = refl; beats = record { fresh = e.fresh; known = knows.booted; since = omega arith } })
+    (let e : Beats period micros ago p = ended period micros ago p h in record { none = refl; beats = record { fresh = e.fresh; known = booted_known period subject p.other_client knows; since = omega arith } })
 
 heartbeat_passes : (subject : Subject) (rows : List Row) (p : Progress) (micros byte period ago after : ℕ) → (byte == 0) ≡ false → (period ≡ 0) ⊎ (ago ≤ period * 1000) → Begun period micros ago p
     → Passes subject rows p micros (Control byte) period after

@@ -31,6 +31,7 @@ use Rattle.conode_compare_rules.specs.States as states
 use Rattle.conode_compare_rules.specs.States.{after_boot_up, after_other, awaits_boot_up, boot_finding, control_finding, is_settled, second_boot_up, state_finding}
 use Rattle.conode_compare_rules.specs.Verdicts.{found}
 use Rattle.conode_compare_rules.specs.Answers.{confirmed_finding}
+use Rattle.conode_compare_rules.specs.OtherClients.{no_clients}
 use Rattle.conode_compare_transfers.specs.Dialogues.{dialogue_heard, exchange_in, is_certain}
 use Rattle.conode_compare_laws.specs.Differences.{differences_in, emergency_differences, inhibit_differences, late_differences, state_differences}
 use Rattle.conode_compare_laws.specs.Identifiers.{IsUnnamed, IsUnnamedAt, JudgesNone}
@@ -63,7 +64,7 @@ abbrev subject : Subject
 subject = record {
   node = 5;
   limits = record { tolerance = 10; drift = 1; answer = 1000; boot = 10000; time = None };
-  facts = record { before = sheet; booted = sheet; pdos = unknown_pdos; starts_itself = false; modular = false; stores = false; as_sheet = true };
+  facts = record { before = sheet; booted = sheet; pdos = unknown_pdos; clients = no_clients; starts_itself = false; modular = false; stores = false; as_sheet = true };
   held = record { entries = record { items = [] } };
   rooms = record { strings = None; domains = None };
 }

@@ -32,9 +32,9 @@ use Rattle.conode_explain_transfers.specs.Readings.{awaits_segment}
 use Rattle.conode_explain_transfers.specs.SegmentedTurns.{confirmed}
 use Rattle.conode_explain_transfers.specs.Stages.{confirmed_with, is_initiated}
 use Rattle.conode_explain_transfers.specs.Transfers.{Turn, after, is_same_request, takes_data}
-use Rattle.conode_explain_transfers.specs.Unanswered.{is_lost, is_no_abort, number_of, segment_follows}
+use Rattle.conode_explain_transfers.specs.Unanswered.{is_lost, not_followed_by, number_of, segment_follows}
 use Rattle.conode_explain_laws.proofs.Follows.{is_response}
-use Rattle.conode_explain_laws.proofs.Readings.{Reading, Segment, Begin, Abort, Request, Response, Nothing, begun_with, beginning, follows_by, plain_reading, reading_of, response_reading, segment_reading, turn_of}
+use Rattle.conode_explain_laws.proofs.Readings.{Reading, Segment, Begin, Abort, Request, Response, Nothing, begun_with, beginning, follows_by, plain_reading, reading_of, response_reading, segment_reading, turn_of, begun_on}
 use Rattle.conode_explain_laws.proofs.Views.{is_begin, server_no_begin}
 use Rattle.co_frame.specs.BlockSegments.{block_segment_in, is_abort_in_sub_block}
 use Rattle.co_frame.specs.SdoParts.{code_in}
@@ -75,10 +75,9 @@ left_off t bytes = by (segment_follows t bytes) (is_lost t) (is_same_request t b
     by false false false Client = refl
     by false false false Server = refl
 
-abort_off : (side : Side) (lost : Bool) (code : AbortCode) → is_done (abort_ending side lost code) ≡ false
-abort_off Server lost code = refl
-abort_off Client true code = refl
-abort_off Client false code = refl
+abort_off : (side : Side) (segment : Option (Option ℕ)) (code : AbortCode) → is_done (abort_ending side segment code) ≡ false
+abort_off side None code = refl
+abort_off side (Some next) code = refl
 
 -- ---- the open transfer: of another entry, or one that isn't expedited, and of which nothing came before the answer to its request;
 -- where that is awaited still, it may be known to be spoilt
@@ -232,7 +231,7 @@ module _ (key : Key) (word : ℕ) where
 
   pub aborted_after : (spoilt : Bool) (heard : Bool) (t : Transfer) (code : AbortCode) (micros : ℕ) (side : Side) (bytes : List ℕ) → After key word spoilt (follows_by heard (Some t) (Abort code) micros side bytes)
   aborted_after spoilt heard t code micros side bytes = record {
-    ended = shown_none key word (ended (one_more t) micros (abort_ending side (is_no_abort t bytes) code)) (not_done t.protocol (abort_ending side (is_no_abort t bytes) code) _ (abort_off side (is_no_abort t bytes) code));
+    ended = shown_none key word (ended (one_more t) micros (abort_ending side (not_followed_by side t bytes) code)) (not_done t.protocol (abort_ending side (not_followed_by side t bytes) code) _ (abort_off side (not_followed_by side t bytes) code));
     next = tt;
   }
 
@@ -269,13 +268,13 @@ module _ (key : Key) (word : ℕ) where
   WritesNone (Some (DownloadExpedited named value)) = Differs key named
   WritesNone _ = Unit {0}
 
-  pub begun_suits : (request : SdoRequest) (micros : ℕ) (bytes : List ℕ) → WritesNone (Some request) → Keeps key false (begun_with request micros bytes)
-  begun_suits (DownloadExpedited named value) micros bytes n = inl n
-  begun_suits (DownloadInitiate named size) micros bytes n = inr (record { unconfirmed = refl; expedited = refl; taken = λ i. refl; odd = λ never. absurd (false≢true never) })
-  begun_suits (UploadInitiate named) micros bytes n = inr (record { unconfirmed = refl; expedited = refl; taken = λ i. refl; odd = λ never. absurd (false≢true never) })
-  begun_suits (BlockUploadInitiate named size threshold) micros bytes n = inr (record { unconfirmed = refl; expedited = refl; taken = λ i. refl; odd = λ never. absurd (false≢true never) })
-  begun_suits (BlockDownloadInitiate named size) micros bytes n = inr (record { unconfirmed = refl; expedited = refl; taken = λ i. refl; odd = λ never. absurd (false≢true never) })
-  begun_suits _ micros bytes n = tt
+  pub begun_suits : (on : Bool) (request : SdoRequest) (micros : ℕ) (bytes : List ℕ) → WritesNone (Some request) → Keeps key false (begun_on on request micros bytes)
+  begun_suits on (DownloadExpedited named value) micros bytes n = inl n
+  begun_suits on (DownloadInitiate named size) micros bytes n = inr (record { unconfirmed = refl; expedited = refl; taken = λ i. refl; odd = λ never. absurd (false≢true never) })
+  begun_suits on (UploadInitiate named) micros bytes n = inr (record { unconfirmed = refl; expedited = refl; taken = λ i. refl; odd = λ never. absurd (false≢true never) })
+  begun_suits on (BlockUploadInitiate named size threshold) micros bytes n = inr (record { unconfirmed = refl; expedited = refl; taken = λ i. refl; odd = λ never. absurd (false≢true never) })
+  begun_suits on (BlockDownloadInitiate named size) micros bytes n = inr (record { unconfirmed = refl; expedited = refl; taken = λ i. refl; odd = λ never. absurd (false≢true never) })
+  begun_suits on _ micros bytes n = tt
 
   pub begun_initiates : (request : SdoRequest) (micros : ℕ) (bytes : List ℕ) (new : Transfer) → begun_with request micros bytes ≡ Some new → initiates (Some request) ≡ true
   begun_initiates (DownloadExpedited named value) micros bytes new e = refl

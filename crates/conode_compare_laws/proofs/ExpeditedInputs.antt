@@ -44,7 +44,7 @@ use Rattle.conode_compare_rules.specs.FrameKinds.{data_kind}
 use Rattle.conode_compare_rules.specs.Progresses.{after_frame, before_recording, begun, channel_heard, exchange_noted, late_noted, progress_with}
 use Rattle.conode_compare_laws.specs.AnswerSenders.{AllSendOther, AreOther, HasBytes, HaveBytes, HaveOtherChannels, IsOther, SendsOther}
 use Rattle.conode_compare_laws.specs.Identifiers.{AreElsewhere, IsAside, IsElsewhere}
-use Rattle.conode_compare_laws.specs.ShownWords.{AllHaveWord, HasWord, is_expedited_download}
+use Rattle.conode_compare_laws.specs.ShownWords.{AllHaveWord, HasWord, is_expedited_download, number_asked}
 use Rattle.conode_compare_laws.specs.Recordings.{Stamped, frame_of, heard_from, recording}
 use Rattle.conode_compare_laws.proofs.AnswerCalm.{calm_exchange}
 use Rattle.conode_compare_laws.proofs.AnswerDevice.{IsNumbered, expired_at, found_with, no_exchange_of_event, none_at_event, none_at_frame, none_stopped, numbered, timed_out}
@@ -58,7 +58,8 @@ use Rattle.conode_compare_laws.proofs.AnswerTransferInputs.{answers_other, nmt_o
 use Rattle.conode_compare_laws.proofs.ExpeditedAnswers.{AllFit, aborted_fits, answers_fit}
 use Rattle.conode_compare_laws.proofs.ExpeditedFrames.{After, Fits, Keeps, server_after}
 use Rattle.conode_compare_laws.proofs.ExpeditedRefusals.{AllRefuse, AllRefused, RefusesAt, aborted_refused}
-use Rattle.conode_compare_laws.proofs.ExpeditedWrites.{AfterAll, HeardAll, Holds, Next, NotDone, begins, client_all, goes_on, less_held, lifted, server_all, writes}
+use Rattle.conode_compare_laws.proofs.ExpeditedSame.{AfterSure, server_sure, sure_held}
+use Rattle.conode_compare_laws.proofs.ExpeditedWrites.{AfterAll, AllSure, HeardAll, Holds, Next, NotDone, begins, client_all, goes_on, less_held, lifted, server_all, writes}
 use Rattle.conode_compare_laws.proofs.Frames.{life_kind}
 use Rattle.conode_compare_laws.proofs.Heard.{of_device}
 use Rattle.conode_compare_laws.proofs.ShowsWord.{AllShow, Shown, ShowsAt, ShowsFrom, joined_shows, mapped_shows, then_shows}
@@ -144,6 +145,17 @@ module _ (key : Key) (word : ℕ) where
       sdo_shows subject micros q (record { id = 0x580 + subject.node; bytes = answer_bytes answer }) (frames_on (0x580 + subject.node) later) Server (Keeps key false) (λ x. Keeps key false x.dialogue.channel.transfer)
       (answer_kind subject.node (answer_bytes answer)) one.ended one.next (λ x g. fits_show subject micros later x f.1 g)
 
+  -- such answers to one that asks for the number that the entry has
+  sure_show : (subject : Subject) (micros : ℕ) (answers : List Answer) (q : Progress) → AllFit key word answers → AllSure key word q.dialogue.channel.transfer
+      → AllShow key word subject micros q (frames_on (0x580 + subject.node) answers) (λ x. AllSure key word x.dialogue.channel.transfer)
+  sure_show subject micros [] q f h = h
+  sure_show subject micros (answer ∷ later) q f h =
+      let p : Progress = begun subject q micros in
+      let one : AfterSure key word (reads p.dialogue.channel micros Server (answer_bytes answer)) =
+      server_sure key word p.dialogue.channel micros (answer_bytes answer) (begun_has (AllSure key word) tt subject q micros h) f.0 in
+      sdo_shows subject micros q (record { id = 0x580 + subject.node; bytes = answer_bytes answer }) (frames_on (0x580 + subject.node) later) Server (AllSure key word) (λ x. AllSure key word x.dialogue.channel.transfer)
+      (answer_kind subject.node (answer_bytes answer)) one.ended one.next (λ x g. sure_show subject micros later x f.1 g)
+
   -- a request that isn't answered, and one with its answers
   module _ (subject : Subject) (micros : ℕ) (frame : FrameContent) (p : Progress) (id : frame.id ≡ 0x600 + subject.node) (h : Has false p) where
     heard : HeardAll key word (request_in frame.bytes) (reads (begun subject p micros).dialogue.channel micros Client frame.bytes)
@@ -151,7 +163,7 @@ module _ (key : Key) (word : ℕ) where
 
     any_next : (r : Option SdoRequest) (o : Option Transfer) → Next key word r o → Holds key false o
     any_next r o (begins i k) = lifted key false o k
-    any_next r o (writes i own k) = k
+    any_next r o (writes i own k sure) = k
     any_next r o (goes_on k) = less_held key o k
 
     ignored_shows : AllShow key word subject micros p (frame ∷ []) (Has false)
@@ -159,16 +171,21 @@ module _ (key : Key) (word : ℕ) where
         sdo_shows subject micros p frame [] Client (Next key word (request_in frame.bytes)) (Has false) (request_kind subject.node frame id) heard.ended heard.next
         (λ q g. any_next (request_in frame.bytes) q.dialogue.channel.transfer g)
 
-    answered : (answers : List Answer) (q : Progress) → (initiates (request_in frame.bytes) ≡ true → AllFit key word answers) → (is_expedited_download key (request_in frame.bytes) ≡ true → AllRefused key answers)
+    answered : (answers : List Answer) (q : Progress) → (initiates (request_in frame.bytes) ≡ true → AllFit key word answers) → (is_expedited_download key (request_in frame.bytes) ≡ true → (number_asked (request_in frame.bytes) ≡ word) ⊎ AllRefused key answers)
         → Next key word (request_in frame.bytes) q.dialogue.channel.transfer → AllShow key word subject micros q (frames_on (0x580 + subject.node) answers) (Has false)
     answered answers q fit refused (begins i k) =
         mapped_shows key word subject micros (frames_on (0x580 + subject.node) answers) q (λ x. Keeps key false x.dialogue.channel.transfer) (Has false) (λ x g. lifted key false x.dialogue.channel.transfer g)
         (fits_show subject micros answers q (fit i) k)
-    answered answers q fit refused (writes i own k) = answers_show false subject micros answers q (inr (fit i, refused own)) k
+    answered answers q fit refused (writes i own k sure) = elim (refused own) [
+      | inl asked ↦
+          mapped_shows key word subject micros (frames_on (0x580 + subject.node) answers) q (λ x. AllSure key word x.dialogue.channel.transfer) (Has false) (λ x g. sure_held key word x.dialogue.channel.transfer g)
+          (sure_show subject micros answers q (fit i) (sure asked))
+      | inr none ↦ answers_show false subject micros answers q (inr (fit i, none)) k
+    ]
     answered answers q fit refused (goes_on k) =
         mapped_shows key word subject micros (frames_on (0x580 + subject.node) answers) q (Has true) (Has false) (λ x g. less_held key x.dialogue.channel.transfer g) (answers_show true subject micros answers q (inl refl) k)
 
-    exchange_shows : (answers : List Answer) → (initiates (request_in frame.bytes) ≡ true → AllFit key word answers) → (is_expedited_download key (request_in frame.bytes) ≡ true → AllRefused key answers)
+    exchange_shows : (answers : List Answer) → (initiates (request_in frame.bytes) ≡ true → AllFit key word answers) → (is_expedited_download key (request_in frame.bytes) ≡ true → (number_asked (request_in frame.bytes) ≡ word) ⊎ AllRefused key answers)
         → AllShow key word subject micros p (frame ∷ []) (λ q. AllShow key word subject micros q (frames_on (0x580 + subject.node) answers) (Has false))
     exchange_shows answers fit refused =
         sdo_shows subject micros p frame [] Client (Next key word (request_in frame.bytes)) (λ q. AllShow key word subject micros q (frames_on (0x580 + subject.node) answers) (Has false)) (request_kind subject.node frame id)
@@ -179,7 +196,7 @@ module _ (key : Key) (word : ℕ) where
   record Given (k : Constants) (before : Inputs) (input : InputView) : Type 0 where
     answers : IsElsewhere (0x580 + k.description.node) input
     bytes : HasBytes input
-    refuses : RefusesAt key k before input
+    refuses : RefusesAt key word k before input
     has : HasWord key word (contents_of k before)
     other : SendsOther k (moment k (moments k before) input)
     sync : is_sync_id (contents_of k before) (0x600 + k.description.node) ≡ false
@@ -282,7 +299,7 @@ module _ (key : Key) (word : ℕ) where
 
   -- ---- all inputs
 
-  all_show : (k : Constants) (subject : Subject) (inputs : List Stamped) (before : Inputs) (p : Progress) → AreElsewhere (0x580 + k.description.node) inputs → HaveBytes inputs → AllRefuse key k before inputs
+  all_show : (k : Constants) (subject : Subject) (inputs : List Stamped) (before : Inputs) (p : Progress) → AreElsewhere (0x580 + k.description.node) inputs → HaveBytes inputs → AllRefuse key word k before inputs
       → AllHaveWord key word k before inputs → AllSendOther k before inputs → ((all : Inputs) → is_sync_id (contents_of k all) (0x600 + k.description.node) ≡ false) → AllByRecursion (IsNumbered k.description.node) (channels k)
       → Has false p → ShowsFrom key word (of_device k subject) p (heard_from k before inputs)
   all_show k subject [] before p answers bytes confirm words other sync all h = tt
@@ -291,7 +308,7 @@ module _ (key : Key) (word : ℕ) where
       (input_shows k subject s.micros before s.input p (record { answers = answers.0; bytes = bytes.0; refuses = confirm.0; has = words.0; other = other.0; sync = sync before; channels = all }) h)
       (λ q g. all_show k subject later (s.input ∷ before) q answers.1 bytes.1 confirm.1 words.1 other.1 sync all g)
 
-  pub recording_shows : (k : Constants) (subject : Subject) (inputs : List Stamped) → AreElsewhere (0x580 + k.description.node) inputs → HaveBytes inputs → AllRefuse key k [] inputs
+  pub recording_shows : (k : Constants) (subject : Subject) (inputs : List Stamped) → AreElsewhere (0x580 + k.description.node) inputs → HaveBytes inputs → AllRefuse key word k [] inputs
       → AllHaveWord key word k [] inputs → AllSendOther k [] inputs → ((all : Inputs) → is_sync_id (contents_of k all) (0x600 + k.description.node) ≡ false) → HaveOtherChannels k
       → AllByRecursion (λ c. IsAside k.description.node c.response) (channels k) → ShowsFrom key word (of_device k subject) (before_recording (of_device k subject)) (recording k inputs)
   recording_shows k subject [] answers bytes confirm words other sync others aside = tt

@@ -1,5 +1,5 @@
 -- A device confirms no expedited download of an entry where each that is asked for is refused.
-use Rattle.std.proofs.Common.{◌≡◌, ℕ, ◌+◌, Bool, true, false, List, [], ◌∷◌, length, Option, Some, None, refl, sym, ap, ◌∙◌, subst}
+use Rattle.std.proofs.Common.{◌≡◌, ℕ, ◌+◌, Bool, true, false, List, [], ◌∷◌, length, Option, Some, None, refl, sym, ap, ◌∙◌, subst, ◌⊎◌, inl, inr}
 use Rattle.std.specs.Prelude.{◌==◌, if◌then◌else◌}
 use Rattle.std.specs.List.{AllByRecursion}
 use Rattle.std.specs.Option.{option_map_or}
@@ -47,7 +47,7 @@ use Rattle.co_node_model.specs.Sdo.{channel_logs}
 use Rattle.co_node_model.specs.Sync.{is_sync_id}
 use Rattle.conode_compare_laws.specs.Periods.{AllKeepPeriod, KeepsPeriod}
 use Rattle.conode_compare_laws.specs.Recordings.{Stamped}
-use Rattle.conode_compare_laws.specs.ShownWords.{AllRefuseDownloads, RefusesDownload, is_expedited_download}
+use Rattle.conode_compare_laws.specs.ShownWords.{AllKeepWord, KeepsWord, is_expedited_download, number_asked}
 use Rattle.conode_compare_laws.proofs.ExpeditedWrites.{NotDone}
 
 -- ---- answers that confirm none
@@ -120,15 +120,17 @@ module _ (key : Key) where
 
   -- ---- at an input
 
-  abbrev pub RefusesAt : Constants → Inputs → InputView → Type 0
-  RefusesAt k before (Framed frame) = frame.id ≡ 0x600 + k.description.node → length frame.bytes ≡ 8 → is_state node.Stopped (state_of k before) ≡ false → is_expedited_download key (request_in frame.bytes) ≡ true
-      → AllRefused (reply_to k.description (contents_of k before) (channel_logs (moments k before) 0) frame.bytes)
-  RefusesAt k before Ticked = Unit {0}
-  RefusesAt k before (Applied event) = Unit {0}
+  -- it asks for the number that the entry has, or none of the answers confirms it
+  abbrev pub RefusesAt : ℕ → Constants → Inputs → InputView → Type 0
+  RefusesAt word k before (Framed frame) =
+      frame.id ≡ 0x600 + k.description.node → length frame.bytes ≡ 8 → is_state node.Stopped (state_of k before) ≡ false → is_expedited_download key (request_in frame.bytes) ≡ true
+      → (number_asked (request_in frame.bytes) ≡ word) ⊎ AllRefused (reply_to k.description (contents_of k before) (channel_logs (moments k before) 0) frame.bytes)
+  RefusesAt word k before Ticked = Unit {0}
+  RefusesAt word k before (Applied event) = Unit {0}
 
-  abbrev pub AllRefuse : Constants → Inputs → List Stamped → Type 0
-  AllRefuse k before [] = Unit {0}
-  AllRefuse k before (s ∷ later) = RefusesAt k before s.input × AllRefuse k (s.input ∷ before) later
+  abbrev pub AllRefuse : ℕ → Constants → Inputs → List Stamped → Type 0
+  AllRefuse word k before [] = Unit {0}
+  AllRefuse word k before (s ∷ later) = RefusesAt word k before s.input × AllRefuse word k (s.input ∷ before) later
 
 -- ---- where the entry isn't written at an input, none is done
 
@@ -153,24 +155,28 @@ mark_is k history frame id eight sync running =
     let received : marked_key (moment k history (Framed frame)).mark ≡ marked_key (written_mark (key_set (set_of (channels k) k.description (contents_at k history) (channel_logs history) frame))) = rw (address, running) refl in
     received ∙ written_key (key_set (set_of (channels k) k.description (contents_at k history) (channel_logs history) frame)) ∙ ap key_set (set_is k history frame id eight)
 
-refuses : (key : Key) (k : Constants) (before : Inputs) (input : InputView) → is_sync_id (contents_of k before) (0x600 + k.description.node) ≡ false → RefusesDownload key k before input → RefusesAt key k before input
-refuses key k before (Framed frame) sync h = λ id eight running own.
-    request_refused key k.description (contents_of k before) (channel_logs (moments k before) 0) frame.bytes (request_in frame.bytes) refl own
-    (subst (λ x. is_set x key ≡ false) (mark_is k (moments k before) frame id eight sync running) (h id own))
-refuses key k before Ticked sync h = tt
-refuses key k before (Applied event) sync h = tt
+refuses : (key : Key) (word : ℕ) (k : Constants) (before : Inputs) (input : InputView) → is_sync_id (contents_of k before) (0x600 + k.description.node) ≡ false → KeepsWord key word k before input → RefusesAt key word k before input
+refuses key word k before (Framed frame) sync h = λ id eight running own.
+    elim (h id own) [
+      | inl asked ↦ inl asked
+      | inr unset ↦ inr
+          (request_refused key k.description (contents_of k before) (channel_logs (moments k before) 0) frame.bytes (request_in frame.bytes) refl own
+          (subst (λ x. is_set x key ≡ false) (mark_is k (moments k before) frame id eight sync running) unset))
+    ]
+refuses key word k before Ticked sync h = tt
+refuses key word k before (Applied event) sync h = tt
 
-pub all_refuse : (key : Key) (k : Constants) (inputs : List Stamped) (before : Inputs) → ((all : Inputs) → is_sync_id (contents_of k all) (0x600 + k.description.node) ≡ false) → AllRefuseDownloads key k before inputs
-    → AllRefuse key k before inputs
-all_refuse key k [] before sync h = tt
-all_refuse key k (s ∷ later) before sync h = (refuses key k before s.input (sync before) h.0, all_refuse key k later (s.input ∷ before) sync h.1)
+pub all_refuse : (key : Key) (word : ℕ) (k : Constants) (inputs : List Stamped) (before : Inputs) → ((all : Inputs) → is_sync_id (contents_of k all) (0x600 + k.description.node) ≡ false) → AllKeepWord key word k before inputs
+    → AllRefuse key word k before inputs
+all_refuse key word k [] before sync h = tt
+all_refuse key word k (s ∷ later) before sync h = (refuses key word k before s.input (sync before) h.0, all_refuse key word k later (s.input ∷ before) sync h.1)
 
 -- so where 1017:00 isn't written
-kept_refuses : (k : Constants) (period : ℕ) (before : Inputs) (input : InputView) → KeepsPeriod period (moment k (moments k before) input) → RefusesDownload producer_key k before input
-kept_refuses k period before (Framed frame) keep = λ id own. keep.unwritten
+kept_refuses : (k : Constants) (period : ℕ) (before : Inputs) (input : InputView) → KeepsPeriod period (moment k (moments k before) input) → KeepsWord producer_key period k before input
+kept_refuses k period before (Framed frame) keep = λ id own. inr keep.unwritten
 kept_refuses k period before Ticked keep = tt
 kept_refuses k period before (Applied event) keep = tt
 
-pub period_refuses : (k : Constants) (period : ℕ) (inputs : List Stamped) (before : Inputs) → AllKeepPeriod period k before inputs → AllRefuseDownloads producer_key k before inputs
+pub period_refuses : (k : Constants) (period : ℕ) (inputs : List Stamped) (before : Inputs) → AllKeepPeriod period k before inputs → AllKeepWord producer_key period k before inputs
 period_refuses k period [] before keep = tt
 period_refuses k period (s ∷ later) before keep = (kept_refuses k period before s.input keep.0, period_refuses k period later (s.input ∷ before) keep.1)

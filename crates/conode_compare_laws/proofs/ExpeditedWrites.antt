@@ -1,9 +1,10 @@
 -- What one frame makes of explain's open transfer of an expedited download: it ends as done only with the server's confirmation.
-use Rattle.std.proofs.Common.{◌≡◌, ℕ, Bool, true, false, not, List, Option, Some, None, refl, sym, ap, ◌∙◌, ◌⊎◌, inl, inr, subst}
+use Rattle.std.proofs.Common.{◌≡◌, ℕ, Bool, true, false, not, List, [], ◌∷◌, take, Option, Some, None, refl, sym, ap, ◌∙◌, ◌⊎◌, inl, inr, subst, arith}
 use Rattle.std.specs.Prelude.{◌&&◌, if◌then◌else◌, length, IfSome}
 use Rattle.std.proofs.lemmas.Bool.{false≢true}
 use Rattle.co_value.specs.declared.key.Key.{Key}
 use Rattle.co_value.specs.Keys.{same_key, same_key-is}
+use Rattle.co_value.specs.Numbers.{unsigned_of}
 use Rattle.co_frame.specs.BlockSegments.{block_segment_in, is_abort_in_sub_block}
 use Rattle.co_frame.specs.SdoParts.{code_in}
 use Rattle.co_frame.specs.SdoRequests.{request_in}
@@ -22,17 +23,21 @@ use Rattle.conode_explain_transfers.specs.declared.kinds.What.TheVariants as wha
 use Rattle.conode_explain_transfers.specs.declared.stage.Stage.TheVariants.{Initiated}
 use Rattle.conode_explain_transfers.specs.declared.transfer.Transfer.{Transfer}
 use Rattle.conode_explain_transfers.specs.BlockTurns.{acknowledged, acknowledged_at, block_ended, block_ended_at, block_segment_at, crc_in, end_confirmed, end_confirmed_at, is_block, upload_started_at}
+use Rattle.conode_explain_transfers.specs.Digests.{digest_taking}
+use Rattle.conode_explain_transfers.specs.Initiates.{data_of}
 use Rattle.conode_explain_transfers.specs.Endings.{size_fault, size_verdict, verdict}
 use Rattle.conode_explain_transfers.specs.Followed.{Followed, Following, turns_at}
 use Rattle.conode_explain_transfers.specs.Readings.{awaits_segment}
 use Rattle.conode_explain_transfers.specs.SegmentedTurns.{answering, confirmed, download_answered, download_segment_at, segment_done_at, upload_request_at, upload_segment_at}
 use Rattle.conode_explain_transfers.specs.Stages.{confirmed_with, is_initiated}
 use Rattle.conode_explain_transfers.specs.Transfers.{Turn, after, is_download, overtaken, takes_pending, unexpected}
-use Rattle.conode_explain_laws.proofs.Follows.{BegunBy, begun_by, client_no_response, is_response}
-use Rattle.conode_explain_laws.proofs.Readings.{Reading, Segment, Begin, Abort, Request, Response, Nothing, begun_with, beginning, follows_by, plain_reading, reading_of, response_reading, segment_reading, turn_of}
+use Rattle.conode_explain_transfers.specs.Unanswered.{is_next_segment}
+use Rattle.conode_explain_laws.proofs.Follows.{BegunBy, begun_by, client_no_response, is_response, begun_of}
+use Rattle.conode_explain_laws.proofs.Readings.{Reading, Segment, Begin, Abort, Request, Response, Nothing, begun_with, beginning, follows_by, plain_reading, reading_of, response_reading, segment_reading, turn_of, begun_after, begun_on}
 use Rattle.conode_explain_laws.proofs.Views.{is_begin, server_no_begin}
+use Rattle.conode_compare_pdos.specs.SheetNumbers.{first_word}
 use Rattle.conode_compare_rules.specs.EntriesInForce.{done_word}
-use Rattle.conode_compare_laws.specs.ShownWords.{is_expedited_download}
+use Rattle.conode_compare_laws.specs.ShownWords.{is_expedited_download, number_asked}
 use Rattle.conode_compare_laws.proofs.AnswerFollowed.{reads}
 use Rattle.conode_compare_laws.proofs.ExpeditedFrames.{After, Fits, Keeps, Suits, aborted_after, begins_no_answer, begun_initiates, begun_suits, client_turn, left_after, less, never_answers, segment_no_answer, server_by, stray_after}
 use Rattle.conode_compare_laws.proofs.ShowsWord.{Shown}
@@ -44,9 +49,27 @@ pub record Writes (spoilt : Bool) (t : Transfer) : Type 0 where
   pub protocol : t.protocol ≡ Expedited
   pub odd : spoilt ≡ true → t.irregular ≡ true
 
+-- one that asks for this number: it shows it, where it is done
+pub record Sure (word : ℕ) (t : Transfer) : Type 0 where
+  pub stage : t.stage ≡ Initiated
+  pub direction : t.direction ≡ Download
+  pub protocol : t.protocol ≡ Expedited
+  pub shows : IfSome (first_word (digest_taking t.taken (Some (take (length t.pending.items) t.pending.items))).first.items) (λ n. n ≡ word)
+
+abbrev pub AllSure : Key → ℕ → Option Transfer → Type 0
+AllSure key word o = IfSome o (λ t. Suits key false t ⊎ Sure word t)
+
+asked_word : (word : ℕ) (bytes : List ℕ) → unsigned_of (take 2 bytes) ≡ word → IfSome (first_word (take 64 (take (length bytes) bytes))) (λ n. n ≡ word)
+asked_word word [] is = tt
+asked_word word (a ∷ []) is = tt
+asked_word word (a ∷ b ∷ []) is = omega (arith, is)
+asked_word word (a ∷ b ∷ c ∷ []) is = tt
+asked_word word (a ∷ b ∷ c ∷ d ∷ []) is = omega (arith, is)
+asked_word word (a ∷ b ∷ c ∷ d ∷ e ∷ more) is = tt
+
 -- ---- a turn
 
-data Outcome (t : Transfer) (reading : Reading) (turn : Turn) : Type 0 where
+pub data Outcome (t : Transfer) (reading : Reading) (turn : Turn) : Type 0 where
   spoils : turn ≡ unexpected t → Outcome t reading turn
   passes : is_response reading ≡ true → turn ≡ overtaken t → Outcome t reading turn
   done : (key : Key) → reading ≡ Response (DownloadDone key) → same_key key t.key ≡ true → turn ≡ takes_pending (confirmed t) (length t.pending.items) → Outcome t reading turn
@@ -92,7 +115,7 @@ module _ (t : Transfer) (s : t.stage ≡ Initiated) (down : t.direction ≡ Down
   by_response (BlockUploadEnd unused) bytes = spoils (ap (λ d. block_ended (not (is_download d)) t unused (crc_in bytes)) down)
   by_response _ bytes = spoils refl
 
-  outcome : (reading : Reading) (bytes : List ℕ) → Outcome t reading (turn_of t reading bytes)
+  pub outcome : (reading : Reading) (bytes : List ℕ) → Outcome t reading (turn_of t reading bytes)
   outcome (Segment one) bytes = spoils (ap (λ x. block_segment_at x t one) s ∙ no_block _)
   outcome (Request request) bytes = by_request request bytes
   outcome (Response response) bytes = by_response response bytes
@@ -214,20 +237,22 @@ module _ (key : Key) (word : ℕ) where
 
   pub data Next (r : Option SdoRequest) (o : Option Transfer) : Type 0 where
     begins : initiates r ≡ true → Keeps key false o → Next r o
-    writes : initiates r ≡ true → is_expedited_download key r ≡ true → Holds key false o → Next r o
+    writes : initiates r ≡ true → is_expedited_download key r ≡ true → Holds key false o → (number_asked r ≡ word → AllSure key word o) → Next r o
     goes_on : Holds key true o → Next r o
 
   pub record HeardAll (r : Option SdoRequest) (f : Followed) : Type 0 where
     pub ended : IfSome f.says.ended (Shown key word)
     pub next : Next r f.next.transfer
 
-  begun_next : (request : SdoRequest) (micros : ℕ) (bytes : List ℕ) (new : Transfer) → begun_with request micros bytes ≡ Some new → Next (Some request) (begun_with request micros bytes)
-  begun_next (DownloadExpedited named value) micros bytes new e = by (same_key named key) refl
+  begun_next : (on : Bool) (request : SdoRequest) (micros : ℕ) (bytes : List ℕ) (new : Transfer) → begun_with request micros bytes ≡ Some new → Next (Some request) (begun_on on request micros bytes)
+  begun_next on (DownloadExpedited named value) micros bytes new e = by (same_key named key) refl
     where
-      by : (b : Bool) → same_key named key ≡ b → Next (Some (DownloadExpedited named value)) (begun_with (DownloadExpedited named value) micros bytes)
-      by true own = writes refl own (inr (record { stage = refl; direction = refl; protocol = refl; odd = λ never. absurd (false≢true never) }))
+      by : (b : Bool) → same_key named key ≡ b → Next (Some (DownloadExpedited named value)) (begun_on on (DownloadExpedited named value) micros bytes)
+      by true own =
+          writes refl own (inr (record { stage = refl; direction = refl; protocol = refl; odd = λ never. absurd (false≢true never) }))
+          (λ asked. inr (record { stage = refl; direction = refl; protocol = refl; shows = asked_word word (data_of value) asked }))
       by false other = begins refl (inl other)
-  begun_next request micros bytes new e = begins (begun_initiates key word request micros bytes new e) (begun_suits key word request micros bytes tt)
+  begun_next on request micros bytes new e = begins (begun_initiates key word request micros bytes new e) (begun_suits key word on request micros bytes tt)
 
   from_all : (r : Option SdoRequest) (f : Followed) → AfterAll key word true f → HeardAll r f
   from_all r f h = record { ended = h.ended; next = goes_on h.next }
@@ -246,10 +271,11 @@ module _ (key : Key) (word : ℕ) where
   client_by : (heard : Bool) (o : Option Transfer) (reading : Reading) (micros : ℕ) (bytes : List ℕ) → Holds key false o → reading_of o Client micros bytes ≡ reading
       → HeardAll (request_in bytes) (follows_by heard o reading micros Client bytes)
   client_by heard o (Begin new) micros bytes k is =
-      let b : BegunBy bytes micros new = begun_by o micros bytes new is in
+      let b : BegunBy bytes micros (begun_after o bytes new) = begun_by o micros bytes new is in
       record {
         ended = left_after key word o micros bytes;
-        next = subst (λ r. Next r (Some new)) (sym b.is) (subst (Next (Some b.request)) b.initiates (begun_next b.request micros bytes new b.initiates));
+        next = subst (λ r. Next r (Some (begun_after o bytes new))) (sym b.is)
+            (subst (Next (Some b.request)) (begun_of bytes micros (begun_after o bytes new) b) (begun_next (is_next_segment o bytes) b.request micros bytes _ b.initiates));
       }
   client_by heard None reading micros bytes k is = from_all (request_in bytes) (follows_by heard None reading micros Client bytes) (of_after true _ (stray_after key word true heard reading micros Client bytes refl))
   client_by heard (Some t) (Abort code) micros bytes k is = from_all (request_in bytes) (follows_by heard (Some t) (Abort code) micros Client bytes) (of_after true _ (aborted_after key word true heard t code micros Client bytes))

@@ -37,6 +37,14 @@ pub mod AnswerTransferRuns
 pub mod AnswerTransferExchange
 pub mod AnswerOthers
 pub mod AnswerTransferInputs
+pub mod UploadLogs
+pub mod UploadAnswers
+pub mod UploadRequests
+pub mod UploadKnown
+pub mod UploadRuns
+pub mod UploadSteps
+pub mod UploadExchange
+pub mod UploadInputs
 pub mod AnswerEnds
 pub mod AnswerWhole
 pub mod AnswerIgnored
@@ -54,10 +62,12 @@ pub mod Expedited
 pub mod ExpeditedFrames
 pub mod ExpeditedAnswers
 pub mod ExpeditedWrites
+pub mod ExpeditedSame
 pub mod ExpeditedRefusals
 pub mod ExpeditedInputs
 mod ExpeditedExamples
 mod AbortExamples
+mod UploadExamples
 mod AnswerExamples
 mod Examples
 pub mod TpdoNames

@@ -25,6 +25,7 @@ use Rattle.conode_explain_transfers.specs.declared.kinds.Side.TheVariants.{Clien
 use Rattle.conode_explain_transfers.specs.declared.kinds.What.{What}
 use Rattle.conode_explain_transfers.specs.declared.kinds.What.TheVariants as what
 use Rattle.conode_explain_transfers.specs.declared.transfer.Transfer.{Transfer}
+use Rattle.conode_explain_transfers.specs.declared.ended.Ended.{Ended}
 use Rattle.conode_explain_transfers.specs.Followed.{Followed, Following, followed, stray, turns_at, with_frame}
 use Rattle.conode_explain_transfers.specs.Readings.{awaits_segment}
 use Rattle.conode_explain_transfers.specs.Stages.{confirmed_with}
@@ -42,6 +43,7 @@ use Rattle.conode_compare_rules.specs.declared.verdict.Findings.{Findings}
 use Rattle.conode_compare_rules.specs.FrameKinds.{command_kind, command_to, control_kind, data_kind, emergency_kind, emergency_with, length_of, long_command_in}
 use Rattle.conode_compare_rules.specs.Progresses as progresses
 use Rattle.conode_compare_rules.specs.Progresses.{
+  shown_beside,
   after_command,
   after_emergency,
   after_fault,
@@ -263,6 +265,11 @@ pub ended_such : (P : Key → Type 0) (subject : Subject) (p : Progress) (micros
     → IfSome (exchange_at subject p micros side frame).heard.ended (λ e. P e.key)
 unfolding exchange_at exchange_in
 ended_such P subject p micros side frame n h = (followed_such P p.dialogue.channel micros side frame.bytes n h).ended
+
+-- where it shows nothing beside another client it is as if none had ended
+pub beside_such : (P : Ended → Type 0) (other : Bool) (o : Option Ended) → IfSome o P → IfSome (shown_beside other o) P
+beside_such P true o h = tt
+beside_such P false o h = h
 
 sdo_open : (P : Key → Type 0) (subject : Subject) (p : Progress) (micros : ℕ) (side : Side) (frame : FrameContent) → NamesBy P side frame.bytes → IsOpenOn P p → IsOpenOn P (after_sdo subject p micros side frame)
 unfolding channel_heard exchange_noted dialogue_heard

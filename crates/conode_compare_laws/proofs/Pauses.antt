@@ -30,7 +30,8 @@ use Rattle.conode_compare_rules.specs.declared.limits.Limits.{Limits}
 use Rattle.conode_compare_rules.specs.declared.limits.Subject.{Subject}
 use Rattle.conode_compare_rules.specs.declared.progress.Progress.{Progress}
 use Rattle.conode_compare_rules.specs.EmergencyRules.{emergency_finding, gap_finding, has_register, inhibit_finding, inhibit_with, is_in_force, is_stopped, least_gap}
-use Rattle.conode_compare_rules.specs.EntriesInForce.{asked_to_write, done_word, is_channel, shown_inhibit, shown_period, with_inhibit, with_period}
+use Rattle.conode_compare_rules.specs.EntriesInForce.{asked_by, asked_to_write, done_word, overwritten, shown_inhibit, shown_period, with_inhibit, with_period}
+use Rattle.conode_compare_rules.specs.OtherClients.{is_channel}
 use Rattle.conode_compare_rules.specs.FrameKinds.{command_kind, command_to, control_kind, data_kind, emergency_kind, emergency_with, length_of, long_command_in}
 use Rattle.conode_compare_rules.specs.Progresses as progresses
 use Rattle.conode_compare_rules.specs.Progresses.{
@@ -47,9 +48,12 @@ use Rattle.conode_compare_rules.specs.Progresses.{
   emergency_findings,
   entries_asked,
   entries_ended,
+  entries_heard,
+  shown_beside,
   exchange_at,
   exchange_noted,
   findings_at,
+  is_of_client,
   findings_in,
   late_noted,
   progress_with,
@@ -59,12 +63,14 @@ use Rattle.conode_compare_rules.specs.States.{is_initialising, is_settled}
 use Rattle.conode_compare_rules.specs.Times.{drift_of}
 use Rattle.conode_compare_rules.specs.Verdicts.{found}
 use Rattle.conode_compare_transfers.specs.declared.dialogue.Asked.{Asked}
-use Rattle.conode_compare_transfers.specs.Dialogues.{dialogue_heard, exchange_in}
+use Rattle.conode_compare_transfers.specs.Dialogues.{asks_to_write, dialogue_heard, exchange_in}
+use Rattle.conode_compare_transfers.specs.Breaches.{key_in}
 use Rattle.conode_compare_transfers.specs.Times.{micros_of}
 use Rattle.conode_compare_laws.specs.Differences.{inhibit_differences, only_inhibit}
 use Rattle.conode_compare_laws.specs.Identifiers.{AreWithout}
 use Rattle.conode_compare_laws.specs.Periods.{KnowsInhibit}
 use Rattle.conode_compare_laws.proofs.LongCommands.{long_such}
+use Rattle.conode_compare_laws.proofs.NamedKeys.{beside_such}
 use Rattle.conode_compare_laws.proofs.Frames.{life_kind}
 use Rattle.conode_compare_laws.proofs.Runs.{AllRun}
 use Rattle.conode_compare_laws.proofs.ShowsWord.{AllShow, Shown, ShowsAt}
@@ -187,13 +193,29 @@ asked_known inhibit entries (Some asked) h = by asked.writes (asked_to_write ent
     by true x g = g
     by false x g = h
 
+-- whatever such a request is to explain
+by_known : (inhibit : ℕ) (entries : Entries) (side : Side) (frame : FrameContent) → IfSome entries.inhibit (λ n. n ≡ inhibit) → IfSome (asked_by side frame entries).inhibit (λ n. n ≡ inhibit)
+unfolding asked_to_write
+by_known inhibit entries Server frame h = h
+by_known inhibit entries Client frame h = by (asks_to_write frame) (forgets (same_key (key_in frame) emergency_inhibit_key || is_channel (key_in frame)))
+  where
+    forgets : (b : Bool) → IfSome (if b then None else entries.inhibit) (λ n. n ≡ inhibit)
+    forgets true = tt
+    forgets false = h
+
+    by : (b : Bool) → IfSome (asked_to_write entries (key_in frame)).inhibit (λ n. n ≡ inhibit) → IfSome (if b then asked_to_write entries (key_in frame) else entries).inhibit (λ n. n ≡ inhibit)
+    by true g = g
+    by false g = h
+
 sdo_calm : (inhibit micros : ℕ) (sent : List Sending) (subject : Subject) (p : Progress) (side : Side) (frame : FrameContent) → ShowsAt emergency_inhibit_key inhibit p micros (Sdo side frame)
     → Calm inhibit micros sent p → Calm inhibit micros sent (after_sdo subject p micros side frame)
 unfolding channel_heard exchange_at exchange_in exchange_noted
 sdo_calm inhibit micros sent subject p side frame shows h =
-    let o : Option Ended = (exchange_at subject p micros side frame).heard.ended in
+    let ended : Option Ended = (exchange_at subject p micros side frame).heard.ended in
+    let o : Option Ended = shown_beside p.other_client ended in
     record {
-      known = asked_known inhibit (entries_ended p.entries o) (dialogue_heard subject.limits.answer p.started p.dialogue micros side frame).asked (ended_known inhibit p.entries o shows h.known);
+      known = by_known inhibit (entries_heard p.entries o (dialogue_heard subject.limits.answer p.started p.dialogue micros side frame).asked) side frame
+          (asked_known inhibit (entries_ended p.entries o) (dialogue_heard subject.limits.answer p.started p.dialogue micros side frame).asked (ended_known inhibit p.entries o (beside_such (Shown emergency_inhibit_key inhibit) p.other_client ended shows) h.known));
       since = h.since;
     }
 
@@ -213,6 +235,16 @@ command_calm inhibit micros sent p EnterPreOperational own h = record { known = 
 command_calm inhibit micros sent p ResetNode own h = record { known = tt; since = tt }
 command_calm inhibit micros sent p ResetCommunication own h = record { known = tt; since = tt }
 
+-- after a frame of the client of another SDO channel nothing is known of it
+client_known : (inhibit : ℕ) (entries : Entries) (b : Bool) → IfSome entries.inhibit (λ n. n ≡ inhibit) → IfSome (if b then overwritten entries else entries).inhibit (λ n. n ≡ inhibit)
+unfolding overwritten
+client_known inhibit entries true h = tt
+client_known inhibit entries false h = h
+
+booted_known : (inhibit : ℕ) (subject : Subject) (b : Bool) → KnowsInhibit inhibit subject → IfSome (if b then subject.facts.before else subject.facts.booted).inhibit (λ n. n ≡ inhibit)
+booted_known inhibit subject true knows = knows.before
+booted_known inhibit subject false knows = knows.booted
+
 quiet_passes : (inhibit micros : ℕ) (sent : List Sending) (subject : Subject) (rows : List Row) (p : Progress) (kind : FrameKind) → is_quiet kind ≡ true → ShowsAt emergency_inhibit_key inhibit p micros kind
     → Calm inhibit micros sent p → Passes inhibit micros sent subject rows p kind
 unfolding after_process
@@ -224,7 +256,7 @@ quiet_passes inhibit micros sent subject rows p (Sdo Server frame) is shows h = 
   calm = sdo_calm inhibit micros sent subject (answer_noted subject p micros) Server frame (noted_shows inhibit micros subject p frame shows) (noted_calm inhibit micros sent subject p h);
 }
 quiet_passes inhibit micros sent subject rows p (Sdo Client frame) is shows h = record { none = refl; calm = sdo_calm inhibit micros sent subject p Client frame shows h }
-quiet_passes inhibit micros sent subject rows p (Process id length) is shows h = record { none = refl; calm = record { known = h.known; since = h.since } }
+quiet_passes inhibit micros sent subject rows p (Process id length) is shows h = record { none = refl; calm = record { known = client_known inhibit p.entries (is_of_client subject id) h.known; since = h.since } }
 quiet_passes inhibit micros sent subject rows p Other is shows h = record { none = refl; calm = record { known = h.known; since = h.since } }
 quiet_passes inhibit micros sent subject rows p _ is shows h = absurd (cc)
 
@@ -252,7 +284,7 @@ quiets inhibit micros sent subject rows (frame ∷ frames) p after knows emergen
 
 boot_passes : (inhibit micros : ℕ) (sent : List Sending) (subject : Subject) (rows : List Row) (p : Progress) → KnowsInhibit inhibit subject → Passes inhibit micros sent subject rows p (Control 0)
 unfolding booted
-boot_passes inhibit micros sent subject rows p knows = record { none = refl; calm = record { known = knows.booted; since = tt } }
+boot_passes inhibit micros sent subject rows p knows = record { none = refl; calm = record { known = booted_known inhibit subject p.other_client knows; since = tt } }
 
 -- whatever was sent before it
 pub boots : (inhibit micros : ℕ) (sent after : List Sending) (subject : Subject) (rows : List Row) (p : Progress) (life : Heartbeat) → state_byte life ≡ 0 → KnowsInhibit inhibit subject
@@ -263,7 +295,7 @@ boots inhibit micros sent after subject rows p life is knows =
 
 control_passes : (inhibit micros byte : ℕ) (sent : List Sending) (subject : Subject) (rows : List Row) (p : Progress) → KnowsInhibit inhibit subject → Calm inhibit micros sent p → Passes inhibit micros sent subject rows p (Control byte)
 unfolding booted progresses.after_control
-control_passes inhibit micros byte sent subject rows p knows h = record { none = refl; calm = by (byte == 0) _ _ (record { known = knows.booted; since = tt }) (record { known = h.known; since = h.since }) }
+control_passes inhibit micros byte sent subject rows p knows h = record { none = refl; calm = by (byte == 0) _ _ (record { known = booted_known inhibit subject p.other_client knows; since = tt }) (record { known = h.known; since = h.since }) }
   where
     by : (b : Bool) (x y : Progress) → Calm inhibit micros sent x → Calm inhibit micros sent y → Calm inhibit micros sent (if b then x else y)
     by true x y f g = f

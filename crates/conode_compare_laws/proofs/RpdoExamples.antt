@@ -32,6 +32,7 @@ use Rattle.conode_compare_rules.specs.Progresses.{after_command, after_process, 
 use Rattle.conode_compare_rules.specs.States as states
 use Rattle.conode_compare_rules.specs.States.{after_boot_up, after_other, awaits_boot_up, boot_finding, control_finding, is_settled, second_boot_up, state_finding}
 use Rattle.conode_compare_rules.specs.Verdicts.{found}
+use Rattle.conode_compare_rules.specs.OtherClients.{no_clients}
 use Rattle.conode_compare_receptions.specs.AllFrames.{program_over}
 use Rattle.conode_compare_receptions.specs.OtherIds.{other_ids_of}
 use Rattle.conode_compare_receptions.specs.Receptions.{booted_receptions, exchanged_by, is_sure, no_receptions, process_received, receptions_with, with_receptions}
@@ -65,7 +66,7 @@ abbrev subject : Subject
 subject = record {
   node = 5;
   limits = record { tolerance = 10; drift = 1; answer = 1000; boot = 10000; time = None };
-  facts = record { before = sheet; booted = sheet; pdos = unknown_pdos; starts_itself = false; modular = false; stores = false; as_sheet = true };
+  facts = record { before = sheet; booted = sheet; pdos = unknown_pdos; clients = no_clients; starts_itself = false; modular = false; stores = false; as_sheet = true };
   held = record { entries = record { items = record { key = record { index = 0x2000; sub = 0 }; width = 2; mappable = true } ∷ [] } };
   rooms = record { strings = None; domains = None };
 }

@@ -41,6 +41,7 @@ use Rattle.conode_compare_rules.specs.Progresses.{
 use Rattle.conode_compare_rules.specs.States as states
 use Rattle.conode_compare_rules.specs.States.{after_boot_up, awaits_boot_up, boot_finding, control_finding, is_settled, second_boot_up}
 use Rattle.conode_compare_rules.specs.Verdicts.{found}
+use Rattle.conode_compare_rules.specs.OtherClients.{no_clients}
 use Rattle.conode_compare_transfers.specs.Dialogues.{dialogue_heard, exchange_in, is_certain}
 use Rattle.conode_compare_laws.specs.Differences.{differences_in}
 use Rattle.conode_compare_laws.specs.NamedTpdos.{NameNoTpdos, NamesNoTpdo}
@@ -63,7 +64,7 @@ abbrev with_pdos : Pdos → Subject
 with_pdos pdos = record {
   node = 5;
   limits = record { tolerance = 10; drift = 1; answer = 1000; boot = 10000; time = None };
-  facts = record { before = sheet; booted = sheet; pdos = pdos; starts_itself = false; modular = false; stores = false; as_sheet = true };
+  facts = record { before = sheet; booted = sheet; pdos = pdos; clients = no_clients; starts_itself = false; modular = false; stores = false; as_sheet = true };
   held = record { entries = record { items = [] } };
   rooms = record { strings = None; domains = None };
 }

@@ -10,7 +10,7 @@ use Rattle.conode_compare_pdos.specs.declared.deviation.Deviation.{Deviation}
 use Rattle.conode_compare_pdos.specs.declared.pdos.Pdos.{Pdos}
 use Rattle.conode_compare_rules.specs.declared.limits.Subject.{Subject}
 use Rattle.conode_compare_rules.specs.declared.progress.Progress.{Progress}
-use Rattle.conode_compare_rules.specs.Progresses.{before_recording}
+use Rattle.conode_compare_rules.specs.Progresses.{before_recording, begun}
 use Rattle.conode_compare_laws.specs.Differences.{differences_from, differences_in}
 use Rattle.conode_compare_laws.specs.Identifiers.{AllSendAside, AreElsewhere, IsElsewhere, SendsAside}
 use Rattle.conode_compare_laws.specs.NamedTpdos.{NameNoTpdos, NamesNoTpdo}
@@ -72,6 +72,7 @@ module _ (is : Deviation → Bool) (k : Constants) (subject : Subject) (rows : L
       (λ q g. all_none later (s.input ∷ before) s.micros q all.1 g)
 
   pub of_recording : (inputs : List Stamped) → ((micros : ℕ) → I [] micros subject.facts.pdos) → ((last : ℕ) → AllInputs P [] last inputs) → differences_in (tpdo_differences is) (of_device k subject) rows (recording k inputs) ≡ []
+  unfolding begun
   of_recording [] begins all = refl
   of_recording (s ∷ later) begins all =
       let subj : Subject = of_device k subject in

@@ -18,15 +18,15 @@ use Rattle.conode_compare_pdos.specs.declared.pdos.Pdos.{Pdos}
 use Rattle.conode_compare_pdos.specs.Followed.{requested, transferred, unknown_pdos}
 use Rattle.conode_compare_rules.specs.declared.limits.Subject.{Subject}
 use Rattle.conode_compare_rules.specs.declared.progress.Progress.{Progress}
-use Rattle.conode_compare_rules.specs.EntriesInForce.{is_channel}
-use Rattle.conode_compare_rules.specs.Progresses.{after_sdo, channel_heard, exchange_at, exchange_noted, pdos_asked, pdos_ended}
+use Rattle.conode_compare_rules.specs.OtherClients.{is_channel}
+use Rattle.conode_compare_rules.specs.Progresses.{after_sdo, channel_heard, exchange_at, exchange_noted, pdos_asked, pdos_by, pdos_ended, pdos_heard, shown_beside}
 use Rattle.conode_compare_transfers.specs.declared.dialogue.Asked.{Asked}
 use Rattle.conode_compare_transfers.specs.Breaches as breaches
-use Rattle.conode_compare_transfers.specs.Dialogues.{asked_after, dialogue_heard, is_initiate}
+use Rattle.conode_compare_transfers.specs.Dialogues.{asked_after, asks_to_write, dialogue_heard, is_initiate}
 use Rattle.conode_compare_laws.specs.Identifiers.{AreNoSdo}
 use Rattle.conode_compare_laws.specs.NamedTpdos.{AreNoSdoSyncs, NameNoTpdos, NamesNoTpdo, NamesNone, is_tpdo_communication, is_tpdo_mapping_or_sync}
 use Rattle.conode_compare_laws.specs.Recordings.{Recorded, stamped}
-use Rattle.conode_compare_laws.proofs.NamedKeys.{IsOpenOn, NamesBy, Names, ended_such, initiated}
+use Rattle.conode_compare_laws.proofs.NamedKeys.{IsOpenOn, beside_such, NamesBy, Names, ended_such, initiated}
 
 -- ---- which frames these are
 
@@ -160,11 +160,28 @@ asked_heard subject p micros side frame n =
 
 -- ---- a frame of the channel
 
+-- whatever the frame is in the transfers of the channel
+by_kept : (I : Pdos → Type 0) (side : Side) (frame : FrameContent) (pdos : Pdos) (micros : ℕ) → I unknown_pdos → NamesNoneBy side frame → I pdos → I (pdos_by side frame pdos micros)
+by_kept I Server frame pdos micros unknown n h = h
+by_kept I Client frame pdos micros unknown n h = by (length frame.bytes == 8) (asks_to_write frame) (is_channel (breaches.key_in frame)) refl refl
+  where
+    by : (a b c : Bool) → (length frame.bytes == 8) ≡ a → asks_to_write frame ≡ b → I (if a && b then (if c then unknown_pdos else requested pdos (breaches.key_in frame) micros) else pdos)
+    by true true true eight asks = unknown
+    by true true false eight asks =
+        let full : length frame.bytes ≡ 8 = eqb-true (length frame.bytes) 8 eight in
+        let none : NamesNone frame = n full in
+        let same : key_in frame.bytes ≡ breaches.key_in frame = key_is frame full in
+        subst I
+        (sym (requested_same pdos (breaches.key_in frame) micros (subst IsApart same none.communication) (subst (λ key. is_tpdo_mapping_or_sync key ≡ false) same (none.written asks)))) h
+    by true false c eight asks = h
+    by false b c eight asks = h
+
 pub heard_kept : (I : Pdos → Type 0) (subject : Subject) (p : Progress) (micros : ℕ) (side : Side) (frame : FrameContent) → I unknown_pdos → NamesNoneBy side frame → IsOpenOn IsApart p → I p.pdos
     → I (after_sdo subject p micros side frame).pdos
 unfolding channel_heard exchange_noted
 heard_kept I subject p micros side frame unknown n opened h =
-    let ended : Option Ended = (exchange_at subject p micros side frame).heard.ended in
+    let ended : Option Ended = shown_beside p.other_client (exchange_at subject p micros side frame).heard.ended in
     let asked : Option Asked = (dialogue_heard subject.limits.answer p.started p.dialogue micros side frame).asked in
-    asked_kept I (pdos_ended p.pdos ended micros) asked micros unknown (asked_heard subject p micros side frame n)
-    (subst I (sym (ended_same p.pdos ended micros (ended_such IsApart subject p micros side frame (apart_by side frame n) opened))) h)
+    by_kept I side frame (pdos_heard p.pdos ended asked micros) micros unknown n
+    (asked_kept I (pdos_ended p.pdos ended micros) asked micros unknown (asked_heard subject p micros side frame n)
+    (subst I (sym (ended_same p.pdos ended micros (beside_such (λ e. IsApart e.key) p.other_client (exchange_at subject p micros side frame).heard.ended (ended_such IsApart subject p micros side frame (apart_by side frame n) opened)))) h))

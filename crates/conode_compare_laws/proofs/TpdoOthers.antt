@@ -62,6 +62,8 @@ use Rattle.conode_compare_rules.specs.Progresses.{
   sighting_findings,
   was_quiet,
   with_gap,
+  booted_pdos,
+  is_of_client,
 }
 use Rattle.conode_compare_rules.specs.Verdicts.{found}
 use Rattle.conode_compare_laws.specs.TpdoDifferences.{of_kind, tpdo_differences}
@@ -328,6 +330,10 @@ IsOtherKind facts (Process id length) = is_followed facts id ≡ false
 IsOtherKind facts Other = Unit {0}
 IsOtherKind facts _ = ⊥
 
+pub either_kept : (I : Pdos → Type 0) (b : Bool) (x y : Pdos) → I x → I y → I (if b then x else y)
+either_kept I true x y p q = p
+either_kept I false x y p q = q
+
 command_holds : (facts : Pdos) (I : Pdos → Type 0) (p : Progress) (micros : ℕ) (service : NmtService) (own : Bool) → IsKept facts I → IsNewest micros p → I p.pdos → Stays I (after_command p service own micros)
 unfolding after_command with_gap
 command_holds facts I p micros Start own kept new h = record { fresh = fresh micros p new; kept = kept.command p.pdos h }
@@ -347,7 +353,7 @@ other_passes is I subject rows p micros (OddEmergency length) kept other opened 
 other_passes is I subject rows p micros (Process id length) kept other opened new h = record {
   none = sighted_none is (late_by_tpdo subject p micros id length) id length (sighting (moment_at subject p micros) p.pdos id length)
       (all_fine is (moment_at subject p micros) p.pdos id length (unseen is (moment_at subject p micros) subject.facts.pdos p.pdos id length (kept.knows p.pdos h) other));
-  after = record { fresh = fresh micros p new; kept = kept.other p.pdos (moment_at subject p micros) id length other h };
+  after = record { fresh = fresh micros p new; kept = either_kept I (is_of_client subject id) _ _ kept.unknown (kept.other p.pdos (moment_at subject p micros) id length other h) };
 }
 other_passes is I subject rows p micros (Sdo side frame) kept other opened new h = sdo_passes is I subject rows p micros side frame kept.unknown other opened new h
 other_passes is I subject rows p micros Other kept other opened new h = record { none = refl; after = record { fresh = fresh micros p new; kept = h } }
@@ -400,7 +406,7 @@ others is I subject rows micros (frame ∷ later) p kept are h =
 
 -- ---- the boot-up, and heartbeats
 
-boot_passes : (is : Deviation → Bool) (I : Pdos → Type 0) (subject : Subject) (rows : List Row) (p : Progress) (micros : ℕ) → I subject.facts.pdos → IsNewest micros p → Passes is I subject rows p micros (Control 0)
+boot_passes : (is : Deviation → Bool) (I : Pdos → Type 0) (subject : Subject) (rows : List Row) (p : Progress) (micros : ℕ) → I (booted_pdos subject p) → IsNewest micros p → Passes is I subject rows p micros (Control 0)
 unfolding booted
 boot_passes is I subject rows p micros begins new = record { none = refl; after = record { fresh = fresh micros p new; kept = begins } }
 
@@ -409,15 +415,11 @@ life_names : (node : ℕ) (bytes : List ℕ) → NamesNoTpdo node (record { id =
 life_names node bytes = λ id eight. absurd (let same : 0x700 + node ≡ 0x600 + node = id in omega arith)
 
 -- whatever held before it
-pub boots : (is : Deviation → Bool) (I : Pdos → Type 0) (subject : Subject) (rows : List Row) (micros : ℕ) (p : Progress) → I subject.facts.pdos → IsFresh p → IsOpenOn IsApart p
+pub boots : (is : Deviation → Bool) (I : Pdos → Type 0) (subject : Subject) (rows : List Row) (micros : ℕ) (p : Progress) → I (booted_pdos subject (begun subject p micros)) → IsFresh p → IsOpenOn IsApart p
     → AllRun (tpdo_differences is) subject rows micros p (record { id = 0x700 + subject.node; bytes = heartbeat_bytes BootUp } ∷ []) (Holds I)
 boots is I subject rows micros p begins h opened =
     one is I subject rows micros p (record { id = 0x700 + subject.node; bytes = heartbeat_bytes BootUp }) (Control 0) (life_kind subject.node BootUp) (life_names subject.node (heartbeat_bytes BootUp)) opened
     (boot_passes is I subject rows (begun subject p micros) micros begins (begun_newest subject p micros h))
-
-either_kept : (I : Pdos → Type 0) (b : Bool) (x y : Pdos) → I x → I y → I (if b then x else y)
-either_kept I true x y p q = p
-either_kept I false x y p q = q
 
 heartbeat_passes : (is : Deviation → Bool) (I : Pdos → Type 0) (subject : Subject) (rows : List Row) (p : Progress) (micros : ℕ) (actual : NodeState) → IsKept subject.facts.pdos I → IsNewest micros p → I p.pdos
     → Passes is I subject rows p micros (Control (state_byte (heartbeat_of actual)))
@@ -430,7 +432,8 @@ heartbeat_passes is I subject rows p micros node.Stopped kept new h = record { n
 pub lives : (is : Deviation → Bool) (I : Pdos → Type 0) (subject : Subject) (rows : List Row) (micros : ℕ) (p : Progress) (reset due : Bool) (final : NodeState) → IsKept subject.facts.pdos I
     → (reset ≡ true → I subject.facts.pdos) → Holds I p
     → AllRun (tpdo_differences is) subject rows micros p (life_frames subject.node (if reset then Some BootUp else (if due then Some (heartbeat_of final) else None))) (Holds I)
-lives is I subject rows micros p true due final kept begins h = boots is I subject rows micros p (begins refl) h.fresh h.opened
+lives is I subject rows micros p true due final kept begins h =
+    boots is I subject rows micros p (either_kept I (begun subject p micros).other_client _ _ kept.unknown (begins refl)) h.fresh h.opened
 lives is I subject rows micros p false false final kept begins h = h
 lives is I subject rows micros p false true final kept begins h =
     one is I subject rows micros p (record { id = 0x700 + subject.node; bytes = heartbeat_bytes (heartbeat_of final) }) (Control (state_byte (heartbeat_of final))) (life_kind subject.node (heartbeat_of final))

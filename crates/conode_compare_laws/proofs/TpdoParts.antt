@@ -28,7 +28,7 @@ use Rattle.conode_compare_rules.specs.declared.limits.Subject.{Subject}
 use Rattle.conode_compare_rules.specs.declared.progress.Progress.{Progress}
 use Rattle.conode_compare_rules.specs.declared.verdict.Findings.{Findings}
 use Rattle.conode_compare_rules.specs.FrameKinds.{command_kind, control_kind, data_kind, emergency_kind, emergency_with, length_of}
-use Rattle.conode_compare_rules.specs.Progresses.{after_emergency, after_process, begun, late_by_tpdo, moment_at, process_findings, progress_with}
+use Rattle.conode_compare_rules.specs.Progresses.{after_emergency, after_process, begun, is_of_client, late_by_tpdo, moment_at, process_findings, progress_with}
 use Rattle.conode_compare_laws.specs.Identifiers.{AreAside, IsElsewhere, SendsAside}
 use Rattle.conode_compare_laws.specs.NamedTpdos.{NamesNoTpdo}
 use Rattle.conode_compare_laws.specs.Recordings.{frame_of}
@@ -39,7 +39,7 @@ use Rattle.conode_compare_laws.proofs.NamedKeys.{IsOpenOn, begun_open, first_of,
 use Rattle.conode_compare_laws.proofs.Runs.{AllRun, joined}
 use Rattle.conode_compare_laws.proofs.TpdoDue.{AreDistinct}
 use Rattle.conode_compare_laws.proofs.TpdoNames.{AllNameNone, IsApart, NamesNoneBy}
-use Rattle.conode_compare_laws.proofs.TpdoOthers.{AreFine, Holds, IsKept, IsNewest, IsOther, Passes, all_fine, begun_kept, begun_newest, fresh, lives, one, others, sdo_passes, sighted_none}
+use Rattle.conode_compare_laws.proofs.TpdoOthers.{AreFine, Holds, IsKept, IsNewest, IsOther, Passes, all_fine, begun_kept, begun_newest, either_kept, fresh, lives, one, others, sdo_passes, sighted_none}
 
 -- ---- which frames these are
 
@@ -106,12 +106,12 @@ unfolding after_emergency
 emergency_passes is J subject rows p micros length None new h = record { none = refl; after = record { fresh = fresh micros p new; kept = h } }
 emergency_passes is J subject rows p micros length (Some emergency) new h = record { none = refl; after = record { fresh = fresh micros p new; kept = h } }
 
-process_passes : (is : Deviation → Bool) (J : Pdos → Type 0) (subject : Subject) (rows : List Row) (p : Progress) (micros id length : ℕ) → is_unwatched subject.node id ≡ false → IsNewest micros p → Step is J subject p micros id length
+process_passes : (is : Deviation → Bool) (J : Pdos → Type 0) (subject : Subject) (rows : List Row) (p : Progress) (micros id length : ℕ) → J unknown_pdos → is_unwatched subject.node id ≡ false → IsNewest micros p → Step is J subject p micros id length
     → Passes is J subject rows p micros (Process id length)
 unfolding process_findings after_process
-process_passes is J subject rows p micros id length other new step = record {
+process_passes is J subject rows p micros id length unknown other new step = record {
   none = sighted_none is (late_by_tpdo subject p micros id length) id length (sighting (moment_at subject p micros) p.pdos id length) (all_fine is (moment_at subject p micros) p.pdos id length step.fine);
-  after = record { fresh = fresh micros p new; kept = step.kept other };
+  after = record { fresh = fresh micros p new; kept = either_kept J (is_of_client subject id) _ _ unknown (step.kept other) };
 }
 
 tpdo_passes : (is : Deviation → Bool) (J : Pdos → Type 0) (subject : Subject) (rows : List Row) (p : Progress) (micros : ℕ) (frame : FrameContent) → J unknown_pdos → IsTpdoFrame subject.node frame → IsOpenOn IsApart p → IsNewest micros p
@@ -131,7 +131,7 @@ tpdo_passes is J subject rows p micros frame unknown id opened new step =
     by false false true d e o other q s = sdo_passes is J subject rows p micros Server frame unknown tt opened new (step.unseen other)
     by false false false true e o other q s = sdo_passes is J subject rows p micros Client frame unknown (q refl) opened new (step.unseen other)
     by false false false false true o other q s = absurd (cc)
-    by false false false false false o other q s = process_passes is J subject rows p micros frame.id (length_of frame) other new step
+    by false false false false false o other q s = process_passes is J subject rows p micros frame.id (length_of frame) unknown other new step
 
 -- ---- the TPDOs that are due, one after another
 

@@ -33,7 +33,7 @@ use Rattle.conode_compare_rules.specs.declared.limits.Subject.{Subject}
 use Rattle.conode_compare_rules.specs.declared.progress.Progress.{Progress}
 use Rattle.conode_compare_rules.specs.declared.verdict.Findings.{Findings}
 use Rattle.conode_compare_rules.specs.FrameKinds.{data_kind, length_of}
-use Rattle.conode_compare_rules.specs.Progresses.{before_recording, is_idle, moment_at, progress_with, settled_when_free}
+use Rattle.conode_compare_rules.specs.Progresses.{before_recording, begun, is_idle, moment_at, progress_with, settled_when_free}
 use Rattle.conode_compare_laws.specs.Differences.{differences_from, differences_in, state_differences}
 use Rattle.conode_compare_laws.specs.Identifiers.{AllSendAside, AreElsewhere, IsElsewhere, SendsAside}
 use Rattle.conode_compare_laws.specs.NamedTpdos.{NameNoTpdos, NamesNoTpdo}
@@ -212,6 +212,7 @@ all_none k subject rows (s ∷ later) before p control no_tpdos aside off none h
 of_recording : (k : Constants) (subject : Subject) (rows : List Row) (inputs : List Stamped) → AreElsewhere (0x700 + k.description.node) inputs → AreNoTpdos subject.facts.pdos inputs
     → AllSendAside k [] inputs → AllSendBesideTpdos subject.facts.pdos k [] inputs → NameNoTpdos k.description.node (recording k inputs)
     → differences_in (tpdo_differences is_pdo_state) (of_device k subject) rows (recording k inputs) ≡ []
+unfolding begun
 of_recording k subject rows [] control no_tpdos aside off none = refl
 of_recording k subject rows (s ∷ later) control no_tpdos aside off none =
     let subj : Subject = of_device k subject in

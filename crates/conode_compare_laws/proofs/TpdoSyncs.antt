@@ -36,7 +36,7 @@ use Rattle.conode_compare_rules.specs.declared.kind.FrameKind.TheVariants.{Proce
 use Rattle.conode_compare_rules.specs.declared.limits.Subject.{Subject}
 use Rattle.conode_compare_rules.specs.declared.progress.Progress.{Progress}
 use Rattle.conode_compare_rules.specs.FrameKinds.{data_kind, length_of}
-use Rattle.conode_compare_rules.specs.Progresses.{after_process, begun, late_by_tpdo, moment_at, process_findings}
+use Rattle.conode_compare_rules.specs.Progresses.{after_process, begun, is_of_client, late_by_tpdo, moment_at, process_findings}
 use Rattle.conode_compare_laws.specs.Differences.{differences_in}
 use Rattle.conode_compare_laws.specs.Identifiers.{AllSendAside, AreElsewhere, IsElsewhere}
 use Rattle.conode_compare_laws.specs.NamedTpdos.{AreNoSdoSyncs, IsNoSdoSync, NameNoTpdos, NamesNoTpdo}
@@ -62,6 +62,7 @@ use Rattle.conode_compare_laws.proofs.TpdoOthers.{
   all_fine,
   begun_kept,
   begun_newest,
+  either_kept,
   fresh,
   is_of,
   knows_commanded,
@@ -386,7 +387,8 @@ sync_passes subject rows p micros id length due new knows off same = record {
       (all_fine is_pdo_sync (moment_at subject p micros) p.pdos id length (unseen is_pdo_sync (moment_at subject p micros) subject.facts.pdos p.pdos id length knows off));
   after = record {
     fresh = fresh micros p new;
-    kept = synced_has subject.facts.pdos due p.pdos (moment_at subject p micros) id length knows (known_sync subject.facts.pdos p.pdos id knows same);
+    kept = either_kept (HaveSync subject.facts.pdos true due) (is_of_client subject id) _ _ (sync_kept subject.facts.pdos true due).unknown
+        (synced_has subject.facts.pdos due p.pdos (moment_at subject p micros) id length knows (known_sync subject.facts.pdos p.pdos id knows same));
   };
 }
 

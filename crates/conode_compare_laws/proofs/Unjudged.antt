@@ -6,9 +6,11 @@ use Rattle.co_frame.specs.declared.nmt.NmtService.{NmtService}
 use Rattle.co_sheet.specs.Content.{Row}
 use Rattle.co_value.specs.declared.key.Key.{Key}
 use Rattle.conode_explain_transfers.specs.declared.ended.Ended.{Ended}
+use Rattle.conode_explain_transfers.specs.declared.kinds.Side.{Side}
 use Rattle.conode_explain_transfers.specs.declared.kinds.Side.TheVariants.{Client, Server}
 use Rattle.conode_compare_transfers.specs.declared.dialogue.Asked.{Asked}
-use Rattle.conode_compare_transfers.specs.Dialogues.{dialogue_heard}
+use Rattle.conode_compare_transfers.specs.Dialogues.{asks_to_write, dialogue_heard}
+use Rattle.conode_compare_transfers.specs.Breaches.{key_in}
 use Rattle.conode_compare_rules.specs.declared.entries.Entries.{Entries}
 use Rattle.conode_compare_rules.specs.declared.finding.Finding.{Finding}
 use Rattle.conode_compare_rules.specs.declared.kind.FrameKind.{FrameKind}
@@ -17,7 +19,7 @@ use Rattle.conode_compare_rules.specs.declared.limits.Subject.{Subject}
 use Rattle.conode_compare_rules.specs.declared.progress.Progress.{Progress}
 use Rattle.conode_compare_rules.specs.FrameKinds.{data_kind}
 use Rattle.conode_compare_rules.specs.EmergencyRules.{emergency_finding}
-use Rattle.conode_compare_rules.specs.EntriesInForce.{asked_to_write, shares_id, shown_inhibit, shown_period, with_inhibit, with_period, with_sharing}
+use Rattle.conode_compare_rules.specs.EntriesInForce.{asked_by, asked_to_write, overwritten, shares_id, shown_inhibit, shown_period, with_inhibit, with_period, with_sharing}
 use Rattle.conode_compare_rules.specs.Progresses as progresses
 use Rattle.conode_compare_rules.specs.Progresses.{
   after_command,
@@ -36,6 +38,7 @@ use Rattle.conode_compare_rules.specs.Progresses.{
   entries_heard,
   exchange_noted,
   findings_at,
+  is_of_client,
   late_noted,
   progress_with,
   with_gap,
@@ -93,8 +96,14 @@ asked_off : (e : Entries) (o : Option Asked) → e.emergencies ≡ false → (en
 asked_off e None off = off
 asked_off e (Some asked) off = written_off e asked.key asked.writes off
 
-heard_off : (e : Entries) (ended : Option Ended) (asked : Option Asked) (shares : Bool) → e.emergencies ≡ false → (with_sharing shares (entries_heard e ended asked)).emergencies ≡ false
-heard_off e ended asked shares off = and_off (not shares) (entries_heard e ended asked).emergencies (asked_off (entries_ended e ended) asked (ended_off e ended off))
+by_off : (e : Entries) (side : Side) (frame : FrameContent) → e.emergencies ≡ false → (asked_by side frame e).emergencies ≡ false
+by_off e Server frame off = off
+by_off e Client frame off = written_off e (key_in frame) (asks_to_write frame) off
+
+heard_off : (e : Entries) (ended : Option Ended) (asked : Option Asked) (shares : Bool) (side : Side) (frame : FrameContent) → e.emergencies ≡ false
+    → (with_sharing shares (asked_by side frame (entries_heard e ended asked))).emergencies ≡ false
+heard_off e ended asked shares side frame off =
+    and_off (not shares) (asked_by side frame (entries_heard e ended asked)).emergencies (by_off (entries_heard e ended asked) side frame (asked_off (entries_ended e ended) asked (ended_off e ended off)))
 
 either : (b : Bool) (x y : Progress) → IsOff x → IsOff y → IsOff (if b then x else y)
 either true x y p q = p
@@ -108,9 +117,13 @@ command_off : (p : Progress) (service : NmtService) (own : Bool) (micros : ℕ) 
 unfolding after_command with_gap
 command_off p service own micros off = either (is_reset service) _ _ off off
 
+booted_off : (subject : Subject) (b : Bool) → JudgesNone subject → (if b then subject.facts.before else subject.facts.booted).emergencies ≡ false
+booted_off subject true none = none.before
+booted_off subject false none = none.booted
+
 control_off : (subject : Subject) (p : Progress) (micros byte : ℕ) → JudgesNone subject → IsOff p → IsOff (after_frame subject p micros (Control byte))
 unfolding booted progresses.after_control
-control_off subject p micros byte none off = either (byte == 0) _ _ none.booted off
+control_off subject p micros byte none off = either (byte == 0) _ _ (booted_off subject p.other_client none) off
 
 odd_control_off : (subject : Subject) (p : Progress) (micros length : ℕ) → IsOff p → IsOff (after_frame subject p micros (OddControl length))
 unfolding after_odd_control
@@ -128,15 +141,20 @@ server_off : (subject : Subject) (p : Progress) (micros : ℕ) (frame : FrameCon
 unfolding channel_heard exchange_noted late_noted
 server_off subject p micros frame off =
     let noted : Progress = progresses.answer_noted subject p micros in
-    heard_off p.entries (progresses.exchange_at subject noted micros Server frame).heard.ended (dialogue_heard subject.limits.answer noted.started noted.dialogue micros Server frame).asked (shares_id subject.node Server frame) off
+    heard_off p.entries (progresses.shown_beside p.other_client (progresses.exchange_at subject noted micros Server frame).heard.ended) (dialogue_heard subject.limits.answer noted.started noted.dialogue micros Server frame).asked (shares_id subject.node Server frame) Server frame off
 
 client_off : (subject : Subject) (p : Progress) (micros : ℕ) (frame : FrameContent) → IsOff p → IsOff (after_frame subject p micros (Sdo Client frame))
 unfolding channel_heard exchange_noted
-client_off subject p micros frame off = heard_off p.entries _ _ _ off
+client_off subject p micros frame off = heard_off p.entries _ _ _ Client frame off
+
+client_off_by : (e : Entries) (b : Bool) → e.emergencies ≡ false → (if b then overwritten e else e).emergencies ≡ false
+unfolding overwritten
+client_off_by e true off = refl
+client_off_by e false off = off
 
 process_off : (subject : Subject) (p : Progress) (micros id length : ℕ) → IsOff p → IsOff (after_frame subject p micros (Process id length))
 unfolding after_process
-process_off subject p micros id length off = off
+process_off subject p micros id length off = client_off_by p.entries (is_of_client subject id) off
 
 fault_off : (p : Progress) (micros : ℕ) → IsOff p → IsOff (after_fault p micros)
 unfolding after_fault with_gap

@@ -39,18 +39,10 @@ BeginsNoBlocks node (Applied event) = Unit {0}
 abbrev pub BeginNoBlocks : ℕ → List Stamped → Type 0
 BeginNoBlocks node inputs = AllByRecursion (λ s. BeginsNoBlocks node s.input) inputs
 
--- nor a block upload (CiA 301, 7.2.4.3.13)
+-- a request begins a block upload (CiA 301, 7.2.4.3.13)
 abbrev pub is_block_upload_begin : Option SdoRequest → Bool
 is_block_upload_begin (Some (BlockUploadInitiate key block_size threshold)) = true
 is_block_upload_begin other = false
-
-abbrev pub BeginsNoBlockUpload : ℕ → InputView → Type 0
-BeginsNoBlockUpload node (Framed frame) = frame.id ≡ 0x600 + node → is_block_upload_begin (request_in frame.bytes) ≡ false
-BeginsNoBlockUpload node Ticked = Unit {0}
-BeginsNoBlockUpload node (Applied event) = Unit {0}
-
-abbrev pub BeginNoBlockUploads : ℕ → List Stamped → Type 0
-BeginNoBlockUploads node inputs = AllByRecursion (λ s. BeginsNoBlockUpload node s.input) inputs
 
 -- ---- frames of the device
 

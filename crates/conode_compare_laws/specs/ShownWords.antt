@@ -1,7 +1,8 @@
 -- What the laws about heartbeats and EMCY ask where clients read the entries of their times, 1017:00 and 1015:00.
-use Rattle.std.specs.Prelude.{◌≡◌, ◌⊎◌, ℕ, ◌+◌, Bool, true, false, List, [], ◌∷◌, length, Option, Some}
+use Rattle.std.specs.Prelude.{◌≡◌, ◌⊎◌, ℕ, ◌+◌, Bool, true, false, List, [], ◌∷◌, length, take, Option, Some}
 use Rattle.co_value.specs.declared.key.Key.{Key}
 use Rattle.co_value.specs.Keys.{same_key}
+use Rattle.co_value.specs.Numbers.{unsigned_of}
 use Rattle.co_frame.specs.SdoRequests.{request_in}
 use Rattle.co_frame.specs.declared.sdo_request.SdoRequest.{SdoRequest}
 use Rattle.co_frame.specs.declared.sdo_request.SdoRequest.TheVariants.{DownloadExpedited}
@@ -12,6 +13,7 @@ use Rattle.co_node_model.specs.Keys.{is_set}
 use Rattle.co_node_model.specs.Marks.{marked_key}
 use Rattle.co_node_model.specs.Moments.{Constants}
 use Rattle.co_sdo.specs.Uploads.{value_at}
+use Rattle.conode_explain_transfers.specs.Initiates.{data_of}
 use Rattle.conode_compare_laws.specs.Recordings.{Stamped}
 
 -- an entry has two bytes, or it isn't there; and it has this number
@@ -29,16 +31,21 @@ abbrev pub is_expedited_download : Key → Option SdoRequest → Bool
 is_expedited_download key (Some (DownloadExpedited named value)) = same_key named key
 is_expedited_download key other = false
 
--- one that an input asks for on the default channel isn't done: it is refused, or comes while the
--- device is stopped
-abbrev pub RefusesDownload : Key → Constants → Inputs → InputView → Type 0
-RefusesDownload key k before (Framed frame) =
+-- the number in its first two bytes
+abbrev pub number_asked : Option SdoRequest → ℕ
+number_asked (Some (DownloadExpedited named value)) = unsigned_of (take 2 (data_of value))
+number_asked other = 0
+
+-- one that an input asks for on the default channel asks for this number; or it isn't done: it is
+-- refused, or comes while the device is stopped
+abbrev pub KeepsWord : Key → ℕ → Constants → Inputs → InputView → Type 0
+KeepsWord key word k before (Framed frame) =
     frame.id ≡ 0x600 + k.description.node → is_expedited_download key (request_in frame.bytes) ≡ true
-    → is_set (marked_key (moment k (moments k before) (Framed frame)).mark) key ≡ false
-RefusesDownload key k before Ticked = Unit {0}
-RefusesDownload key k before (Applied event) = Unit {0}
+    → (number_asked (request_in frame.bytes) ≡ word) ⊎ (is_set (marked_key (moment k (moments k before) (Framed frame)).mark) key ≡ false)
+KeepsWord key word k before Ticked = Unit {0}
+KeepsWord key word k before (Applied event) = Unit {0}
 
 -- at each of these inputs, which come after those before
-abbrev pub AllRefuseDownloads : Key → Constants → Inputs → List Stamped → Type 0
-AllRefuseDownloads key k before [] = Unit {0}
-AllRefuseDownloads key k before (s ∷ later) = RefusesDownload key k before s.input × AllRefuseDownloads key k (s.input ∷ before) later
+abbrev pub AllKeepWord : Key → ℕ → Constants → Inputs → List Stamped → Type 0
+AllKeepWord key word k before [] = Unit {0}
+AllKeepWord key word k before (s ∷ later) = KeepsWord key word k before s.input × AllKeepWord key word k (s.input ∷ before) later

@@ -18,7 +18,6 @@ ghost use Rattle.conode_compare_laws.specs.AnswerFindings.{
 ghost use Rattle.conode_compare_laws.specs.AnswerEntries.{AllAreHeld};
 ghost use Rattle.conode_compare_laws.specs.AnswerSenders.{
   AllSendOther,
-  BeginNoBlockUploads,
   BeginNoBlocks,
   BeginsOther,
   HaveBytes,
@@ -98,18 +97,17 @@ pub fn built_no_answer_differences()
     no_answer_differences();
 }
 
-/// The recording of a device without block transfers, over whatever inputs with whatever stamps,
+/// The recording of a device without block downloads, over whatever inputs with whatever stamps,
 /// has no difference of these within its transfers: `answer-toggle`, `answer-form` of later
-/// answers, `abort-key` and `answer-crc` (CiA 301, 7.2.4.3). Requests may come while the device
-/// is stopped, out of turn, with wrong toggle bits, and of any length; transfers may time out;
-/// events of the application may come. Conditions: those of `no_answer_differences`, but for
-/// error control; and no frame begins a block upload on the default channel
-/// (`BeginNoBlockUploads`). This is a law: a call of it changes nothing.
+/// answers, `abort-key` and `answer-crc` (CiA 301, 7.2.4.3): in segments, and in the blocks of
+/// uploads, whose segments may be acknowledged in part, and asked for again. Requests may come
+/// while the device is stopped, out of turn, with wrong toggle bits and numbers, and of any
+/// length; transfers may time out; events of the application may come. Conditions: those of
+/// `no_answer_differences`, but for error control. This is a law: a call of it changes nothing.
 pub fn no_transfer_differences()
     ensures { (k : Constants) (subject : Subject) (rows : List Row) (inputs : List Stamped) →
         subject.node ≡ k.description.node → HaveBytes inputs →
         BeginNoBlocks k.description.node inputs →
-        BeginNoBlockUploads k.description.node inputs →
         AreElsewhere (0x580 + k.description.node) inputs → BeginsApart k → BeginsAside k →
         BeginsOther k →
         differences_in transfer_differences subject rows (recording k inputs) ≡ [] }
@@ -124,7 +122,6 @@ pub fn built_no_transfer_differences()
     ensures { (plan : Plan) (k : Constants) (subject : Subject) (rows : List Row)
         (inputs : List Stamped) → IsBuilt plan k → subject.node ≡ k.description.node →
         HaveBytes inputs → BeginNoBlocks k.description.node inputs →
-        BeginNoBlockUploads k.description.node inputs →
         AreElsewhere (0x580 + k.description.node) inputs →
         differences_in transfer_differences subject rows (recording k inputs) ≡ [] }
 {

@@ -21,7 +21,7 @@ ghost use Rattle.conode_compare_laws.specs.Identifiers.{
 };
 ghost use Rattle.conode_compare_laws.specs.Periods.{AllHaveInhibit, KnowsInhibit};
 ghost use Rattle.conode_compare_laws.specs.Recordings.{AreUnhurried, Stamped, recording};
-ghost use Rattle.conode_compare_laws.specs.ShownWords.{AllHaveWord, AllRefuseDownloads};
+ghost use Rattle.conode_compare_laws.specs.ShownWords.{AllHaveWord, AllKeepWord};
 
 use crate::answer_laws::{begins_other, sends_other};
 use crate::aside::sends_aside;
@@ -53,18 +53,18 @@ pub fn no_early_emergencies()
 
 /// So it has none where clients read 1015:00 on its default SDO channel, and ask to write it: what
 /// an expedited upload shows is the time. Conditions: those of `no_early_emergencies`, but that no
-/// client names 1015:00; each expedited download of it is refused (`AllRefuseDownloads`), as where it
-/// isn't written; the entry has two bytes, of that number, or it isn't there (`AllHaveWord`); frames
-/// have bytes (`HaveBytes`); no other node sends on the identifier of the answers (`AreElsewhere`);
-/// and the COB-IDs with which the device is built are apart from its default channel, from NMT and
-/// from its error control (`BeginsApart`, `BeginsAside`, `BeginsOther`). This is a law: a call of it
-/// changes nothing.
+/// client names 1015:00; each expedited download of it asks for the number that it has, or is
+/// refused, as where it isn't written (`AllKeepWord`); the entry has two bytes, of that number, or it
+/// isn't there (`AllHaveWord`); frames have bytes (`HaveBytes`); no other node sends on the identifier
+/// of the answers (`AreElsewhere`); and the COB-IDs with which the device is built are apart from its
+/// default channel, from NMT and from its error control (`BeginsApart`, `BeginsAside`,
+/// `BeginsOther`). This is a law: a call of it changes nothing.
 pub fn no_early_emergencies_shown()
     ensures { (k : Constants) (subject : Subject) (rows : List Row) (inhibit : ℕ)
         (inputs : List Stamped) → subject.node ≡ k.description.node →
         AllHaveInhibit inhibit k [] inputs → AllHaveWord emergency_inhibit_key inhibit k [] inputs →
         KnowsInhibit inhibit subject → AreUnhurried inputs → HaveBytes inputs →
-        AllRefuseDownloads emergency_inhibit_key k [] inputs →
+        AllKeepWord emergency_inhibit_key inhibit k [] inputs →
         AreElsewhere (0x700 + k.description.node) inputs →
         AreElsewhere (0x80 + k.description.node) inputs →
         AreElsewhere (0x580 + k.description.node) inputs → BeginsApart k → BeginsAside k →
@@ -88,7 +88,7 @@ pub fn built_no_early_emergencies()
         subject.node ≡ k.description.node → number_at k.start emergency_inhibit_key ≡ inhibit →
         AllHaveInhibit inhibit k [] inputs → KnowsInhibit inhibit subject →
         AreUnhurried inputs → HaveBytes inputs →
-        AllRefuseDownloads emergency_inhibit_key k [] inputs →
+        AllKeepWord emergency_inhibit_key inhibit k [] inputs →
         AreElsewhere (0x700 + k.description.node) inputs →
         AreElsewhere (0x80 + k.description.node) inputs →
         AreElsewhere (0x580 + k.description.node) inputs →

@@ -1,18 +1,26 @@
 -- What isn't known of a device with another SDO channel than the default one, on both sides of each edge.
 use Rattle.std.proofs.Common.{◌≡◌, ℕ, Bool, true, false, List, [], ◌∷◌, map, Option, Some, None, refl}
 use Rattle.std.specs.Prelude.{pos}
+use Rattle.co_frame.specs.SdoRequests.{request_row_in}
+use Rattle.co_frame.specs.SdoResponses.{response_row_in}
 use Rattle.co_profile.specs.declared.access.Access.TheVariants.{Rw}
 use Rattle.co_sheet.specs.Content.{Row}
 use Rattle.co_sheet.specs.Limits.{Default, absent, number, node_id}
 use Rattle.co_value.specs.declared.data_type.DataType.TheVariants.{Unsigned16, Unsigned32}
 use Rattle.co_value.specs.declared.key.Key.{Key}
-use Rattle.conode_compare_pdos.specs.Followed.{pdos_of, unknown_pdos}
+use Rattle.conode_compare_pdos.specs.Followed.{pdos_of, requested, unknown_pdos}
 use Rattle.conode_compare_pdos.specs.declared.pdos.Pdos.{Pdos}
+use Rattle.conode_explain_transfers.specs.declared.kinds.Side.{Side}
+use Rattle.conode_explain_transfers.specs.declared.kinds.Side.TheVariants.{Client, Server}
 use Rattle.conode_compare_transfers.specs.declared.dialogue.Asked.{Asked}
+use Rattle.conode_compare_transfers.specs.Dialogues.{dialogue_heard, exchange_in}
 use Rattle.conode_compare_rules.specs.declared.entries.Entries.{Entries}
-use Rattle.conode_compare_rules.specs.EntriesInForce.{asked_to_write, facts_of, initial_entries, is_channel, is_open, sheet_entries}
-use Rattle.conode_compare_rules.specs.Progresses.{pdos_asked}
-use Rattle.conode_compare_rules.proofs.Examples.{row}
+use Rattle.conode_compare_rules.specs.declared.limits.Subject.{Subject}
+use Rattle.conode_compare_rules.specs.declared.progress.Progress.{Progress}
+use Rattle.conode_compare_rules.specs.EntriesInForce.{asked_to_write, facts_of, initial_entries, overwritten, sheet_entries, shown_inhibit, shown_period}
+use Rattle.conode_compare_rules.specs.OtherClients.{clients_of, is_channel, is_open, may_send, no_clients}
+use Rattle.conode_compare_rules.specs.Progresses.{after_process, before_recording, begun, booted, channel_heard, exchange_at, pdos_asked, pdos_by}
+use Rattle.conode_compare_rules.proofs.Examples.{limits, row}
 
 abbrev key : ℕ → ℕ → Key
 key index sub = record { index = index; sub = sub }
@@ -35,23 +43,125 @@ with_channel sub default =
 abbrev known : ℕ → Default → Option ℕ
 known sub default = (facts_of (with_channel sub default) 5 false).booted.period
 
--- after a boot-up nothing but what never changes is known where its client's COB-ID is valid
-valid : known 1 (node_id 0x640) ∷ known 1 (number (pos 0x80000000)) ∷ known 1 absent ∷ known 2 (node_id 0x5C0) ∷ [] ≡ None ∷ Some 500 ∷ Some 500 ∷ Some 500 ∷ []
+-- after a boot-up all is known, where the client's frames can be told, or there is none
+told : known 1 (node_id 0x640) ∷ known 1 (number (pos 0x7FF)) ∷ known 1 (number (pos 0x80000000)) ∷ known 1 absent ∷ known 2 (node_id 0x600) ∷ []
+    ≡ Some 500 ∷ Some 500 ∷ Some 500 ∷ Some 500 ∷ Some 500 ∷ []
+unfolding facts_of sheet_entries
+told = refl
+
+-- An identifier of 29 bits; one of a channel that is set up while the device runs; those of its own EMCY, default
+-- SDO channel and error control, and that of a TPDO: then nothing is but what never changes.
+hidden : map (known 1) (number (pos 0x20000645) ∷ number (pos 0x40000645) ∷ number (pos 0x800) ∷ node_id 0x80 ∷ node_id 0x580 ∷ node_id 0x600 ∷ node_id 0x700 ∷ node_id 0x180 ∷ [])
+    ≡ None ∷ None ∷ None ∷ None ∷ None ∷ None ∷ None ∷ None ∷ []
 unfolding facts_of initial_entries sheet_entries
-valid = refl
+hidden = refl
 
-valid_pdos : (facts_of (with_channel 1 (node_id 0x640)) 5 false).pdos ≡ unknown_pdos
+hidden_pdos : (facts_of (with_channel 1 (node_id 0x600)) 5 false).pdos ≡ unknown_pdos
 unfolding facts_of
-valid_pdos = refl
+hidden_pdos = refl
 
-closed_pdos : (facts_of (with_channel 1 (number (pos 0x80000000))) 5 false).pdos ≡ pdos_of (with_channel 1 (number (pos 0x80000000))) 5
+told_pdos : (facts_of (with_channel 1 (node_id 0x640)) 5 false).pdos ≡ pdos_of (with_channel 1 (node_id 0x640)) 5
 unfolding facts_of
-closed_pdos = refl
+told_pdos = refl
 
--- ---- a request on the default channel to write its parameters
+-- ---- whose frames are its client's
+
+abbrev two_channels : List Row
+two_channels = row 0x1201 1 Unsigned32 Rw (node_id 0x6C0) ∷ row 0x1202 1 Unsigned32 Rw (node_id 0x640) ∷ row 0x1280 1 Unsigned32 Rw (node_id 0x600) ∷ []
+
+one_client : clients_of (with_channel 1 (node_id 0x640)) 5 ≡ record { lowest = 0x645; highest = 0x645 }
+one_client = refl
+
+two_clients : clients_of two_channels 5 ≡ record { lowest = 0x645; highest = 0x6C5 }
+two_clients = refl
+
+none_open : clients_of (with_channel 1 (number (pos 0x80000000))) 5 ≡ no_clients
+none_open = refl
+
+from_lowest : map (may_send (record { lowest = 0x645; highest = 0x6C5 })) (0x644 ∷ 0x645 ∷ 0x6C5 ∷ 0x6C6 ∷ []) ≡ false ∷ true ∷ true ∷ false ∷ []
+from_lowest = refl
+
+none_sends : map (may_send no_clients) (0 ∷ 1 ∷ 0x7FF ∷ []) ≡ false ∷ false ∷ false ∷ []
+none_sends = refl
+
+-- ---- a frame of its client, which may have written each entry
 
 abbrev entries : Entries
 entries = record { period = Some 500; emergencies = true; inhibit = Some 10; inhibit_shown = Some 7 }
+
+abbrev constant : Entries
+constant = record { period = Some 500; emergencies = false; inhibit = None; inhibit_shown = None }
+
+abbrev pdos : Pdos
+pdos = pdos_of (with_channel 1 absent) 5
+
+abbrev device : Subject
+device = record {
+  node = 5;
+  limits = limits;
+  facts = record {
+    before = constant;
+    booted = entries;
+    pdos = pdos;
+    clients = record { lowest = 0x645; highest = 0x645 };
+    starts_itself = false;
+    modular = false;
+    stores = false;
+    as_sheet = true;
+  };
+  held = record { entries = record { items = [] } };
+  rooms = record { strings = None; domains = None };
+}
+
+abbrev up : Progress
+up = record (before_recording device) { entries = entries; pdos = pdos }
+
+forgotten : (after_process device up 9 0x645 8).entries ≡ record { period = None; emergencies = false; inhibit = None; inhibit_shown = Some 7 }
+unfolding after_process overwritten
+forgotten = refl
+
+forgotten_pdos : (after_process device up 9 0x645 8).pdos ≡ unknown_pdos
+unfolding after_process
+forgotten_pdos = refl
+
+another_frame : (after_process device up 9 0x646 8).entries ≡ entries
+unfolding after_process
+another_frame = refl
+
+-- Then a transfer on the default channel shows nothing more, as here an upload of 1017:00 with 1000 ms: the device may take
+-- what the other client has asked for after that.
+abbrev shown_after : ℕ → Option ℕ
+shown_after id =
+    let asked = channel_heard device (after_process device up 9 id 8) 10 Client (record { id = 0x605; bytes = 0x40 ∷ 0x17 ∷ 0x10 ∷ 0 ∷ 0 ∷ 0 ∷ 0 ∷ 0 ∷ [] }) in
+    (channel_heard device asked 11 Server (record { id = 0x585; bytes = 0x4B ∷ 0x17 ∷ 0x10 ∷ 0 ∷ 0xE8 ∷ 3 ∷ 0 ∷ 0 ∷ [] })).entries.period
+
+shown_alone : shown_after 0x646 ≡ Some 1000
+unfolding request_row_in response_row_in exchange_in after_process channel_heard exchange_at dialogue_heard shown_period shown_inhibit asked_to_write
+shown_alone = refl
+
+shown_nothing : shown_after 0x645 ≡ None
+unfolding request_row_in response_row_in after_process overwritten channel_heard exchange_at dialogue_heard shown_period shown_inhibit asked_to_write
+shown_nothing = refl
+
+-- also where the recording begins anew, as a stamp steps back
+anew : (begun device (record (after_process device up 9 0x645 8) { newest = Some 9 }) 8).other_client ≡ true
+unfolding after_process begun
+anew = refl
+
+-- the device may take it after its boot-up: from then on each shows no more than what never changes
+abbrev boots : List ℕ → Progress
+boots [] = booted device up 20
+boots (id ∷ later) = booted device (after_process device (after_process device up 9 id 8) 10 0x181 8) 20
+
+boots_anew : map (λ ids. (boots ids).entries) ([] ∷ (0x646 ∷ []) ∷ (0x645 ∷ []) ∷ []) ≡ entries ∷ entries ∷ constant ∷ []
+unfolding after_process booted
+boots_anew = refl
+
+boots_pdos : map (λ ids. (boots ids).pdos) ([] ∷ (0x646 ∷ []) ∷ (0x645 ∷ []) ∷ []) ≡ pdos ∷ pdos ∷ unknown_pdos ∷ []
+unfolding after_process booted
+boots_pdos = refl
+
+-- ---- a request on the default channel to write its parameters
 
 opened : asked_to_write entries (key 0x1201 1) ≡ record { period = None; emergencies = false; inhibit = None; inhibit_shown = Some 7 }
 unfolding asked_to_write
@@ -60,9 +170,6 @@ opened = refl
 own : asked_to_write entries (key 0x1200 1) ≡ entries
 unfolding asked_to_write
 own = refl
-
-abbrev pdos : Pdos
-pdos = pdos_of (with_channel 1 absent) 5
 
 abbrev asks : Bool → ℕ → Option Asked
 asks writes index = Some (record { key = key index 1; micros = 9; writes = writes; switches = false })
@@ -73,3 +180,24 @@ opened_pdos = refl
 -- an upload changes nothing
 read_pdos : pdos_asked pdos (asks false 0x1201) 9 ≡ pdos
 read_pdos = refl
+
+-- ---- what a client's frame asks to write, whatever it is in the transfers: an entry of a TPDO, expedited; an upload of it; of seven bytes,
+-- which no request has; what a device sends; and a parameter of another channel
+
+abbrev writes_by : Side → List ℕ → Pdos
+writes_by side bytes = pdos_by side (record { id = 0x605; bytes = bytes }) pdos 9
+
+by_client : writes_by Client (0x2B ∷ 0 ∷ 0x18 ∷ 5 ∷ 0 ∷ 0 ∷ 0 ∷ 0 ∷ []) ≡ requested pdos (key 0x1800 5) 9
+by_client = refl
+
+by_upload : writes_by Client (0x40 ∷ 0 ∷ 0x18 ∷ 5 ∷ 0 ∷ 0 ∷ 0 ∷ 0 ∷ []) ≡ pdos
+by_upload = refl
+
+by_short : writes_by Client (0x2B ∷ 0 ∷ 0x18 ∷ 5 ∷ 0 ∷ 0 ∷ 0 ∷ []) ≡ pdos
+by_short = refl
+
+by_device : writes_by Server (0x2B ∷ 0 ∷ 0x18 ∷ 5 ∷ 0 ∷ 0 ∷ 0 ∷ 0 ∷ []) ≡ pdos
+by_device = refl
+
+by_channel : writes_by Client (0x23 ∷ 1 ∷ 0x12 ∷ 1 ∷ 0 ∷ 0 ∷ 0 ∷ 0 ∷ []) ≡ unknown_pdos
+by_channel = refl

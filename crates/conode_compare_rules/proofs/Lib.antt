@@ -2,4 +2,6 @@ mod AnswerExamples
 mod ChannelExamples
 mod Examples
 mod MissingExamples
+mod SheetExamples
 mod SilenceExamples
+mod StateExamples

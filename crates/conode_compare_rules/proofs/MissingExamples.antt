@@ -30,6 +30,7 @@ use Rattle.conode_compare_rules.specs.Progresses.{
 }
 use Rattle.conode_compare_rules.specs.States.{nothing_commanded}
 use Rattle.conode_compare_rules.specs.Verdicts.{found}
+use Rattle.conode_compare_rules.specs.OtherClients.{no_clients}
 use Rattle.conode_compare_rules.proofs.Examples.{limits}
 
 -- ---- node 5, whose first TPDO is on 185h, of four bytes and event-driven; 1017:00 has 1000 ms
@@ -44,7 +45,7 @@ abbrev pdos : Pdos
 pdos = record unknown_pdos { first = booted_tpdo event_driven }
 
 abbrev facts : Facts
-facts = record { before = sheet; booted = sheet; pdos = pdos; starts_itself = false; modular = false; stores = false; as_sheet = true }
+facts = record { before = sheet; booted = sheet; pdos = pdos; clients = no_clients; starts_itself = false; modular = false; stores = false; as_sheet = true }
 
 abbrev subject : Subject
 subject = record {

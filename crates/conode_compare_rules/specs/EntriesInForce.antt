@@ -1,7 +1,6 @@
 -- The entries that say what a device sends by itself: by its data sheet (CiA 301, 7.5.2.17,
 -- 7.5.2.18 and 7.5.2.20), and by what a recording shows.
-use Rattle.std.specs.Prelude.{ℕ, ◌+◌, ◌==◌, nat_lt, nat_le, Bool, true, false, not, ◌&&◌, ◌||◌, if◌then◌else◌, List, Option, Some, None, is_some}
-use Rattle.std.specs.List.{list_any}
+use Rattle.std.specs.Prelude.{ℕ, ◌+◌, ◌==◌, Bool, true, false, not, ◌&&◌, ◌||◌, if◌then◌else◌, List, Option, Some, None, is_some}
 use Rattle.std.specs.Option.{option_map_or}
 use Rattle.co_frame.specs.FrameContent.{FrameContent}
 use Rattle.co_profile.specs.Indices.{store_parameters}
@@ -24,6 +23,7 @@ use Rattle.conode_compare_transfers.specs.Breaches.{key_in}
 use Rattle.conode_compare_transfers.specs.Dialogues.{asks_to_write, word_written}
 use Rattle.conode_compare_rules.specs.declared.entries.Entries.{Entries}
 use Rattle.conode_compare_rules.specs.declared.entries.Facts.{Facts}
+use Rattle.conode_compare_rules.specs.OtherClients.{clients_of, has_hidden_channel, is_channel}
 
 -- ---- a data sheet
 
@@ -74,35 +74,18 @@ nmt_startup = 0x1F80
 abbrev pub module_list : ℕ
 module_list = 0x1027
 
--- 1201h to 127Fh, the parameters of SDO channels of the device other than the default one (CiA 301,
--- 7.5.2.33): the client of such a channel may write each entry
-abbrev pub is_channel : Key → Bool
-is_channel key = nat_le 0x1201 key.index && nat_le key.index 0x127F
-
--- the COB-ID from its client, sub-index 1, is valid: bit 31 isn't set; that of its answers may be
--- written later
-abbrev pub is_open : Option ℕ → Bool
-is_open None = false
-is_open (Some number) = nat_lt 0 number && nat_lt number 0x80000000
-
-abbrev pub is_open_channel : ℕ → Row → Bool
-is_open_channel node row = (is_channel row.key && (row.key.sub == 1)) && is_open (number_of node row.default)
-
--- after a boot-up the device has one, where nothing was stored
-abbrev pub has_open_channel : List Row → ℕ → Bool
-has_open_channel rows node = list_any (is_open_channel node) rows
-
 -- Before a boot-up only what never changes is known. After one what the data sheet has is; but
 -- where the device can store parameters, it may have stored others, the values of a configuration
 -- (DCF) are written by a master, or not yet, and those of a device with another SDO channel by its
--- client.
+-- client, whose frames perhaps can't be told.
 unfoldable pub facts_of : List Row → ℕ → Bool → Facts
 facts_of rows node configured =
     let sheet = sheet_entries rows node in
     record {
       before = initial_entries rows sheet;
-      booted = if has_object rows store_parameters || (configured || has_open_channel rows node) then initial_entries rows sheet else sheet;
-      pdos = if has_object rows store_parameters || (configured || has_open_channel rows node) then unknown_pdos else pdos_of rows node;
+      booted = if has_object rows store_parameters || (configured || has_hidden_channel rows node) then initial_entries rows sheet else sheet;
+      pdos = if has_object rows store_parameters || (configured || has_hidden_channel rows node) then unknown_pdos else pdos_of rows node;
+      clients = clients_of rows node;
       starts_itself = has_object rows nmt_startup;
       modular = has_object rows module_list;
       stores = has_object rows store_parameters && not configured;
@@ -121,8 +104,18 @@ asked_to_write entries key = record {
   inhibit_shown = entries.inhibit_shown;
 }
 
--- a client asks to write what may give a TPDO the identifier of EMCY, whatever its frame is in the
--- transfers of the channel: a server may have given up the one that was open
+-- a client of another SDO channel sends: it may have written each of these entries
+unfoldable pub overwritten : Entries → Entries
+overwritten entries = record { period = None; emergencies = false; inhibit = None; inhibit_shown = entries.inhibit_shown }
+
+-- What a client's frame asks to write, whatever it is in the transfers of the channel: a server may
+-- have given up the block download that was open, as one that was stopped, and then the frame isn't the
+-- segment that it seems to be.
+abbrev pub asked_by : Side → FrameContent → Entries → Entries
+asked_by Client frame entries = if asks_to_write frame then asked_to_write entries (key_in frame) else entries
+asked_by Server frame entries = entries
+
+-- so a client asks to write what may give a TPDO the identifier of EMCY
 abbrev pub shares_id : ℕ → Side → FrameContent → Bool
 shares_id node Client frame = asks_to_write frame && may_get (emergency_id node) (key_in frame) (word_written frame)
 shares_id node Server frame = false

@@ -5,5 +5,6 @@ pub mod EntriesInForce
 pub mod Heartbeats
 pub mod FrameKinds
 pub mod States
+pub mod OtherClients
 pub mod Times
 pub mod Verdicts

@@ -1,8 +1,9 @@
 -- What a recording shows of a device, frame by frame, and where it differs from CiA 301.
-use Rattle.std.specs.Prelude.{ℕ, ◌==◌, nat_lt, Bool, true, false, not, ◌&&◌, ◌||◌, if◌then◌else◌, List, Option, Some, None, is_some, option_map}
+use Rattle.std.specs.Prelude.{ℕ, ◌==◌, nat_lt, Bool, true, false, not, ◌&&◌, ◌||◌, if◌then◌else◌, List, length, Option, Some, None, is_some, option_map}
 use Rattle.std.specs.Option.{option_map_or, option_or}
 use Rattle.co_frame.specs.FrameContent.{FrameContent}
 use Rattle.co_frame.specs.declared.nmt.NmtService.{NmtService}
+use Rattle.co_value.specs.declared.key.Key.{Key}
 use Rattle.co_sheet.specs.Content.{Row}
 use Rattle.conode_explain_transfers.specs.declared.ended.Ended.{Ended}
 use Rattle.conode_explain_transfers.specs.declared.kinds.Side.{Side}
@@ -30,10 +31,12 @@ use Rattle.conode_compare_rules.specs.declared.kind.FrameKind.{FrameKind}
 use Rattle.conode_compare_rules.specs.declared.kind.FrameKind.TheVariants.{Command, CommandToAll, LongCommand, Guarding, Control, OddControl, Emergency, OddEmergency, Sdo, Process, Polled, Fault, Other}
 use Rattle.conode_compare_rules.specs.declared.verdict.Findings.{Findings}
 use Rattle.conode_compare_rules.specs.Answers.{answer_finding, confirmed_finding, held_finding, silence_finding, stopped_finding}
-use Rattle.conode_compare_transfers.specs.Dialogues.{dialogue_heard, given_up, interrupted, nothing_asked, nothing_left, exchange_in}
+use Rattle.conode_compare_transfers.specs.Dialogues.{asks_to_write, dialogue_heard, given_up, interrupted, nothing_asked, nothing_left, exchange_in}
+use Rattle.conode_compare_transfers.specs.Breaches.{key_in}
 use Rattle.conode_compare_values.specs.HeldNumbers.{is_kept, nothing_written, unmapped, with_process, written_heard}
 use Rattle.conode_compare_rules.specs.EmergencyRules.{emergency_finding, length_finding}
-use Rattle.conode_compare_rules.specs.EntriesInForce.{asked_to_write, ended_entries, is_channel, reset_entries, shares_id, with_sharing}
+use Rattle.conode_compare_rules.specs.EntriesInForce.{asked_by, asked_to_write, ended_entries, overwritten, reset_entries, shares_id, with_sharing}
+use Rattle.conode_compare_rules.specs.OtherClients.{is_channel, may_send}
 use Rattle.conode_compare_rules.specs.Heartbeats.{after_byte, after_transfer, early_remark, follows_closely, late_finding, no_heartbeat, is_gap, is_missing, with_shown}
 use Rattle.conode_compare_rules.specs.States as states
 use Rattle.conode_compare_rules.specs.States.{boot_finding, control_finding, is_operational, is_reset, is_settled, nothing_commanded, restart_remark}
@@ -53,6 +56,7 @@ before_recording subject = record {
   emergency = None;
   dialogue = nothing_asked;
   pdos = tpdos.unknown_pdos;
+  other_client = false;
   written = nothing_written;
   exchange = None;
   remark = None;
@@ -94,6 +98,7 @@ begun subject progress micros =
       started = micros;
       free = micros;
       dialogue = still_awaited progress.dialogue micros;
+      other_client = progress.other_client;
     }
     else record progress {
       newest = Some micros;
@@ -138,16 +143,24 @@ abbrev pub boot_findings : Subject → Progress → ℕ → Findings
 boot_findings subject progress micros =
     found None None None (control_finding subject progress.started progress.heartbeats.guarded progress.nmt progress.free micros 0) true
 
--- the entries have what the data sheet says, as far as that is known, and the next heartbeat is
--- awaited; no earlier request is answered any more, however long it took
+-- what the data sheet says of the entries and the TPDOs, as far as that is known; once the client of another
+-- SDO channel has sent, only what never changes: the device may take its request after the boot-up
+abbrev pub booted_entries : Subject → Progress → Entries
+booted_entries subject progress = if progress.other_client then subject.facts.before else subject.facts.booted
+
+abbrev pub booted_pdos : Subject → Progress → Pdos
+booted_pdos subject progress = if progress.other_client then tpdos.unknown_pdos else subject.facts.pdos
+
+-- the entries have that, and the next heartbeat is awaited; no earlier request is answered any more,
+-- however long it took
 unfoldable pub booted : Subject → Progress → ℕ → Progress
 booted subject progress micros = record progress {
   nmt = states.after_control subject.limits progress.started progress.nmt progress.free micros 0;
   heartbeats = record progress.heartbeats { since = Some micros; sent = Some progress.free };
-  entries = subject.facts.booted;
+  entries = booted_entries subject progress;
   emergency = None;
   dialogue = record (interrupted progress.dialogue micros) { slow = nothing_left; sub_block = false };
-  pdos = subject.facts.pdos;
+  pdos = booted_pdos subject progress;
   written = nothing_written;
   remark = restart_remark progress.nmt micros;
 }
@@ -248,6 +261,12 @@ emergency_noted subject progress micros =
 
 -- ---- the SDO channel
 
+-- A transfer that ended shows what an entry has. Once the client of another SDO channel has sent it
+-- shows nothing: that may write the entry meanwhile.
+abbrev pub shown_beside : Bool → Option Ended → Option Ended
+shown_beside true ended = None
+shown_beside false ended = ended
+
 -- what a transfer that ended shows, and what a request asks to write
 abbrev pub entries_ended : Entries → Option Ended → Entries
 entries_ended entries None = entries
@@ -264,14 +283,23 @@ abbrev pub pdos_ended : Pdos → Option Ended → ℕ → Pdos
 pdos_ended pdos None micros = pdos
 pdos_ended pdos (Some ended) micros = tpdos.transferred pdos ended micros
 
--- the client of another SDO channel may write the parameters of each
+-- a request to write an entry; the client of another SDO channel may write the parameters of each
+abbrev pub pdos_requested : Pdos → Key → ℕ → Pdos
+pdos_requested pdos key micros = if is_channel key then tpdos.unknown_pdos else tpdos.requested pdos key micros
+
 abbrev pub pdos_asked : Pdos → Option Asked → ℕ → Pdos
 pdos_asked pdos None micros = pdos
-pdos_asked pdos (Some asked) micros =
-    if asked.writes then (if is_channel asked.key then tpdos.unknown_pdos else tpdos.requested pdos asked.key micros) else pdos
+pdos_asked pdos (Some asked) micros = if asked.writes then pdos_requested pdos asked.key micros else pdos
 
 abbrev pub pdos_heard : Pdos → Option Ended → Option Asked → ℕ → Pdos
 pdos_heard pdos ended asked micros = pdos_asked (pdos_ended pdos ended micros) asked micros
+
+-- what a client's frame of eight bytes asks to write, whatever it is in the transfers of the channel, as
+-- in `asked_by`
+abbrev pub pdos_by : Side → FrameContent → Pdos → ℕ → Pdos
+pdos_by Client frame pdos micros =
+    if (length frame.bytes == 8) && asks_to_write frame then pdos_requested pdos (key_in frame) micros else pdos
+pdos_by Server frame pdos micros = pdos
 
 unfoldable pub exchange_at : Subject → Progress → ℕ → Side → FrameContent → Exchange
 exchange_at subject progress micros side frame = exchange_in subject.limits.answer progress.started progress.dialogue micros side frame
@@ -280,10 +308,11 @@ unfoldable pub channel_heard : Subject → Progress → ℕ → Side → FrameCo
 channel_heard subject progress micros side frame =
     let next = dialogue_heard subject.limits.answer progress.started progress.dialogue micros side frame in
     let ended = (exchange_at subject progress micros side frame).heard.ended in
+    let shown = shown_beside progress.other_client ended in
     record progress {
       heartbeats = after_transfer progress.heartbeats ended micros;
-      entries = with_sharing (shares_id subject.node side frame) (entries_heard progress.entries ended next.asked);
-      pdos = pdos_heard progress.pdos ended next.asked micros;
+      entries = with_sharing (shares_id subject.node side frame) (asked_by side frame (entries_heard progress.entries shown next.asked));
+      pdos = pdos_by side frame (pdos_heard progress.pdos shown next.asked micros) micros;
       dialogue = next;
     }
 
@@ -377,10 +406,23 @@ process_findings subject progress micros id length =
 abbrev pub with_rpdo : Subject → Written → Bool → ℕ → Written
 with_rpdo subject written own id = if own then written else with_process subject.held.entries.items written id
 
+-- the frame may be one of the client of another SDO channel, which may have written each entry
+abbrev pub is_of_client : Subject → ℕ → Bool
+is_of_client subject id = may_send subject.facts.clients id
+
+abbrev pub process_entries : Subject → Progress → ℕ → Entries
+process_entries subject progress id = if is_of_client subject id then overwritten progress.entries else progress.entries
+
+abbrev pub process_pdos : Subject → Progress → ℕ → ℕ → ℕ → Pdos
+process_pdos subject progress micros id length =
+    if is_of_client subject id then tpdos.unknown_pdos else tpdos.framed progress.pdos (moment_at subject progress micros) id length
+
 unfoldable pub after_process : Subject → Progress → ℕ → ℕ → ℕ → Progress
 after_process subject progress micros id length = record progress {
   heartbeats = heartbeats_by subject progress (is_some (sighted subject progress micros id length)) micros;
-  pdos = tpdos.framed progress.pdos (moment_at subject progress micros) id length;
+  entries = process_entries subject progress id;
+  pdos = process_pdos subject progress micros id length;
+  other_client = is_of_client subject id || progress.other_client;
   written = with_rpdo subject progress.written (is_some (sighted subject progress micros id length)) id;
 }
 

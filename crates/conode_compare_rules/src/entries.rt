@@ -6,17 +6,16 @@ ghost use Rattle.std.specs.List.{AllPairs};
 ghost use Rattle.co_sheet.specs.SheetViews.{row_view};
 ghost use Rattle.co_value.specs.Keys.{is_key_before};
 ghost use Rattle.conode_compare_rules.specs.EntriesInForce.{
+  asked_by,
   asked_to_write,
   done_word,
   ended_entries,
   facts_of,
   has_object,
   initial_entries,
-  has_open_channel,
   inhibit_of,
-  is_channel,
   is_constant,
-  is_open_channel,
+  overwritten,
   reset_entries,
   sheet_entries,
   shares_id,
@@ -24,6 +23,7 @@ ghost use Rattle.conode_compare_rules.specs.EntriesInForce.{
   shown_period,
 };
 
+use crate::clients::{OtherClients, has_hidden_channel, is_channel};
 use co_frame::Frame;
 use co_profile::keys::{EMERGENCY_COB_ID, EMERGENCY_INHIBIT_TIME, PRODUCER_HEARTBEAT};
 use co_profile::{Access, STORE_PARAMETERS};
@@ -57,10 +57,12 @@ pub struct Facts {
     pub before: Entries,
     /// What is known after each boot-up; nothing more where it can store parameters (1010h), of a
     /// configuration (DCF), which a master may have written or not, and of a device with another SDO
-    /// channel, whose client may write them.
+    /// channel, whose client may write them, where that client's frames can't be told.
     pub booted: Entries,
     /// What is known of its TPDOs after each boot-up; nothing in the same cases.
     pub pdos: Pdos,
+    /// The clients of its other SDO channels: once one sends, what it may have written is unknown.
+    pub clients: OtherClients,
     /// Whether it may enter operational by itself, and may be the NMT master, which needn't follow
     /// its own commands: it has the entry NMT startup, 1F80h (CiA 302-2).
     pub starts_itself: bool,
@@ -72,39 +74,6 @@ pub struct Facts {
     /// Whether its entries have the sheet's values after each boot-up: it can't store others, and
     /// the sheet is no configuration.
     pub as_sheet: bool,
-}
-
-/// Whether an entry is a parameter of an SDO channel of the device other than the default one, whose
-/// client may write each entry.
-pub(crate) fn is_channel(key: Key) -> bool
-    ensures { result ≡ is_channel key }
-{
-    0x1201 <= key.index && key.index <= 0x127F
-}
-
-// whether such a channel has a valid COB-ID of its client
-fn is_open_channel(row: &EntryRow<'_>, node: u8) -> bool
-    ensures { result ≡ is_open_channel node (row_view row.now) }
-{
-    if !is_channel(row.key) || row.key.sub != 1 {
-        return false;
-    }
-    match number_of(node, row.default) {
-        Some(number) => 0 < number && number < 0x8000_0000,
-        None => false,
-    }
-}
-
-// whether the device has one after a boot-up
-fn has_open_channel(rows: &[EntryRow<'_>], node: u8) -> bool
-    ensures { result ≡ has_open_channel (map row_view rows.now) node }
-{
-    for row in rows {
-        if is_open_channel(row, node) {
-            return true;
-        }
-    }
-    false
 }
 
 // NMT startup (CiA 302-2)
@@ -184,7 +153,7 @@ pub fn facts_of(rows: &[EntryRow<'_>], node: u8, configured: bool) -> Facts
     let sheet = sheet_entries(rows, node);
     let before = initial_entries(rows, sheet);
     let stores = has_object(rows, STORE_PARAMETERS);
-    let is_written = stores || configured || has_open_channel(rows, node);
+    let is_written = stores || configured || has_hidden_channel(rows, node);
     Facts {
         before,
         booted: if is_written { before } else { sheet },
@@ -193,6 +162,7 @@ pub fn facts_of(rows: &[EntryRow<'_>], node: u8, configured: bool) -> Facts
         } else {
             pdos_of(rows, node)
         },
+        clients: OtherClients::of(rows, node),
         modular: has_object(rows, MODULES),
         starts_itself: has_object(rows, NMT_STARTUP),
         stores: stores && !configured,
@@ -220,6 +190,31 @@ impl Entries {
             } else {
                 self.inhibit
             },
+            inhibit_shown: self.inhibit_shown,
+        }
+    }
+
+    /// What a client's frame asks to write, whatever it is in the transfers of the channel: a server
+    /// may have given up the block download that was open, and then the frame isn't the segment that
+    /// it seems to be.
+    pub(crate) fn asked_by(self, side: Side, frame: &Frame) -> Entries
+        ensures { result ≡ asked_by side frame.now self }
+    {
+        match side {
+            Side::Client if asks_to_write(frame) => self.asked_to_write(key_in(frame)),
+            _ => self,
+        }
+    }
+
+    /// The client of another SDO channel may have written each of them.
+    #[tactic(auto, unfolding(crate::specs::EntriesInForce::overwritten))]
+    pub(crate) fn overwritten(self) -> Entries
+        ensures { result ≡ overwritten self }
+    {
+        Entries {
+            period: None,
+            emergencies: false,
+            inhibit: None,
             inhibit_shown: self.inhibit_shown,
         }
     }

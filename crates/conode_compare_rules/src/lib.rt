@@ -3,9 +3,11 @@
 #![tactic(auto)]
 
 mod answers;
+mod clients;
 mod emergencies;
 mod entries;
 mod finding;
+mod gaps;
 mod heartbeats;
 mod kind;
 mod known;
@@ -15,6 +17,7 @@ mod process;
 mod progress;
 mod verdict;
 
+pub use clients::OtherClients;
 pub use entries::{Entries, Facts, facts_of};
 pub use finding::{Finding, NmtState, Remark};
 pub use kind::{FrameKind, kind_of};

@@ -1,18 +1,20 @@
 //! PDOs and SYNCs of a recording.
 
-ghost use Rattle.std.specs.Prelude.{◌≡◌};
+ghost use Rattle.std.specs.Prelude.{◌≡◌, true};
 ghost use Rattle.conode_compare_rules.specs.Progresses.{
   after_process,
   moment_at,
   process_findings,
   sighting_findings,
 };
+ghost use Rattle.conode_compare_rules.specs.EntriesInForce.{overwritten};
+ghost use Rattle.conode_compare_pdos.specs.Followed.{unknown_pdos};
 
 use crate::finding::{Finding, NmtState};
 use crate::limits::Subject;
 use crate::progress::Progress;
 use crate::verdict::Findings;
-use conode_compare_pdos::{Moment, Sighting};
+use conode_compare_pdos::{Moment, Pdos, Sighting};
 
 // what is found at a PDO, where a heartbeat is late or isn't
 fn sighting_findings(late: Option<Finding>, sighting: Option<Sighting>) -> Findings
@@ -55,8 +57,22 @@ impl Progress {
         }
     }
 
+    // what the client of another SDO channel may have written is unknown
+    fn note_client(&mut self)
+        ensures { self.new ≡ record self.old {
+          entries = overwritten self.old.entries;
+          pdos = unknown_pdos;
+          other_client = true;
+        } }
+    {
+        self.entries = self.entries.overwritten();
+        self.pdos = Pdos::unknown();
+        self.other_client = true;
+    }
+
     /// A data frame that is none of the others comes: a SYNC, or a PDO. Returns what is found at
-    /// it: by a TPDO a heartbeat may be missing. What an RPDO may have written to the entries that are held is unknown then.
+    /// it: by a TPDO a heartbeat may be missing. What an RPDO may have written to the entries that
+    /// are held is unknown then, and what the client of another SDO channel may have written.
     #[tactic(auto, unfolding(crate::specs::Progresses::process_findings, crate::specs::Progresses::after_process))]
     pub(crate) fn take_process(
         &mut self,
@@ -71,7 +87,11 @@ impl Progress {
         let moment = self.moment_at(subject, micros);
         let sighting = self.pdos.sighting(&moment, id, length);
         let late = self.notice_late(subject, sighting.is_some(), micros);
-        self.pdos.frame(&moment, id, length);
+        if subject.facts.clients.may_send(id) {
+            self.note_client();
+        } else {
+            self.pdos.frame(&moment, id, length);
+        }
         if sighting.is_none() {
             self.written.take_process(&subject.held, id);
         }

@@ -10,15 +10,14 @@ ghost use Rattle.conode_compare_rules.specs.Progresses.{
   after_command,
   after_control,
   after_emergency,
-  after_fault,
   after_odd_control,
   after_sdo,
   answer_findings,
   before_recording,
-  begins_anew,
-  begun,
   boot_findings,
   booted,
+  booted_entries,
+  booted_pdos,
   control_findings,
   control_judged,
   progress_with,
@@ -27,40 +26,42 @@ ghost use Rattle.conode_compare_rules.specs.Progresses.{
   entries_heard,
   findings_at,
   findings_in,
-  free_at,
   heartbeat_findings,
   is_judged,
   is_number_kept,
   late_by,
   odd_control_findings,
   odd_emergency_findings,
-  with_gap,
   after_frame,
+  pdos_by,
   pdos_heard,
+  shown_beside,
+  pdos_requested,
   request_findings,
   channel_heard,
   exchange_at,
   late_noted,
   heartbeats_by,
-  was_quiet,
   exchange_noted,
 };
 
 use crate::answers::{
     answer_finding, confirmed_finding, held_finding, silence_finding, stopped_finding,
 };
+use crate::clients::is_channel;
 use crate::emergencies::{emergency_finding, length_finding};
-use crate::entries::{Entries, is_channel, shares_id};
+use crate::entries::{Entries, shares_id};
 use crate::finding::{Finding, NmtState, Remark};
-use crate::heartbeats::{Heartbeats, follows_closely, is_gap};
+use crate::heartbeats::Heartbeats;
 use crate::kind::FrameKind;
-use crate::limits::{Limits, Subject};
+use crate::limits::Subject;
 use crate::nmt::{Nmt, is_reset};
 use crate::verdict::Findings;
 use co_frame::{Frame, NmtService};
 use co_sheet::EntryRow;
+use co_value::Key;
 use conode_compare_pdos::Pdos;
-use conode_compare_transfers::{Asked, Dialogue, Exchange, Left, is_past};
+use conode_compare_transfers::{Asked, Dialogue, Exchange, Left, asks_to_write, key_in};
 use conode_compare_values::Written;
 use conode_explain_transfers::{Ended, Side, What};
 
@@ -81,6 +82,8 @@ pub struct Progress {
     pub(crate) emergency: Option<u64>,
     pub(crate) dialogue: Dialogue,
     pub(crate) pdos: Pdos,
+    /// Whether a frame came that may be of the client of another SDO channel.
+    pub(crate) other_client: bool,
     /// What was written to the entries that are held.
     pub written: Written,
     /// What the newest frame is on its SDO channel, if it is of that.
@@ -89,13 +92,18 @@ pub struct Progress {
     pub remark: Option<Remark>,
 }
 
-// the entries after a frame of the SDO channel
-fn entries_heard(entries: Entries, ended: &Option<Ended>, asked: Option<Asked>) -> Entries
-    ensures { result ≡ entries_heard entries ended.now asked }
+// the entries after a frame of the SDO channel; `other`: the client of another channel has sent
+fn entries_heard(
+    entries: Entries,
+    other: bool,
+    ended: &Option<Ended>,
+    asked: Option<Asked>,
+) -> Entries
+    ensures { result ≡ entries_heard entries (shown_beside other ended.now) asked }
 {
     let entries = match ended {
-        Some(ended) => entries.ended(ended),
-        None => entries,
+        Some(ended) if !other => entries.ended(ended),
+        _ => entries,
     };
     match asked {
         Some(asked) if asked.writes => entries.asked_to_write(asked.key),
@@ -103,20 +111,38 @@ fn entries_heard(entries: Entries, ended: &Option<Ended>, asked: Option<Asked>) 
     }
 }
 
-// the TPDOs after a frame of the SDO channel
-fn hear_pdos(pdos: &mut Pdos, ended: &Option<Ended>, asked: Option<Asked>, micros: u64)
-    ensures { pdos.new ≡ pdos_heard pdos.old ended.now asked micros }
+// the TPDOs after a request to write an entry
+fn request_pdos(pdos: &mut Pdos, key: Key, micros: u64)
+    ensures { pdos.new ≡ pdos_requested pdos.old key micros }
 {
-    if let Some(ended) = ended {
-        pdos.transfer(ended, micros);
+    if is_channel(key) {
+        *pdos = Pdos::unknown();
+    } else {
+        pdos.request(key, micros);
+    }
+}
+
+// the TPDOs after a frame of the SDO channel; `other` as in `entries_heard`
+fn hear_pdos(pdos: &mut Pdos, other: bool, ended: &Option<Ended>, asked: Option<Asked>, micros: u64)
+    ensures { pdos.new ≡ pdos_heard pdos.old (shown_beside other ended.now) asked micros }
+{
+    match ended {
+        Some(ended) if !other => pdos.transfer(ended, micros),
+        _ => {}
     }
     match asked {
-        Some(asked) if asked.writes => {
-            if is_channel(asked.key) {
-                *pdos = Pdos::unknown();
-            } else {
-                pdos.request(asked.key, micros);
-            }
+        Some(asked) if asked.writes => request_pdos(pdos, asked.key, micros),
+        _ => {}
+    }
+}
+
+// the TPDOs by what a client's frame asks to write, whatever it is in the transfers of the channel
+fn hear_pdos_by(pdos: &mut Pdos, side: Side, frame: &Frame, micros: u64)
+    ensures { pdos.new ≡ pdos_by side frame.now pdos.old micros }
+{
+    match side {
+        Side::Client if frame.bytes().len() == 8 && asks_to_write(frame) => {
+            request_pdos(pdos, key_in(frame), micros)
         }
         _ => {}
     }
@@ -144,82 +170,11 @@ impl Progress {
             emergency: None,
             dialogue: Dialogue::new(),
             pdos: Pdos::unknown(),
+            other_client: false,
             written: Written::nothing(),
             exchange: None,
             remark: None,
         }
-    }
-
-    // Whether the recording begins anew: a stamp steps back, or the recorder may have rested.
-    fn begins_anew(&self, limits: &Limits, micros: u64) -> bool
-        ensures { result ≡ begins_anew limits.now self.now micros }
-    {
-        match self.newest {
-            Some(newest) => {
-                micros < newest || is_gap(limits, self.entries.period, newest, micros)
-            }
-            None => true,
-        }
-    }
-
-    // Whether nothing was recorded for longer than an answer may take.
-    fn was_quiet(&self, limits: &Limits, micros: u64) -> bool
-        ensures { result ≡ was_quiet limits.now self.now micros }
-    {
-        match self.newest {
-            Some(newest) => is_past(newest, limits.answer, micros),
-            None => false,
-        }
-    }
-
-    // When the bus was free last: frames that follow one another closely may have waited.
-    fn free_at(&self, micros: u64) -> u64
-        ensures { result ≡ free_at self.now.newest self.now.free micros }
-    {
-        match self.newest {
-            Some(newest) if follows_closely(newest, micros) => self.free,
-            _ => micros,
-        }
-    }
-
-    // A frame comes. Where the recording begins anew, nothing is known, but that an answer which
-    // may take long is awaited, and that a sub-block may be open; where it was quiet, no request is
-    // known.
-    #[tactic(auto, unfolding(crate::specs::Progresses::begun))]
-    fn begin(&mut self, subject: &Subject, micros: u64)
-        ensures { self.new ≡ begun subject.now self.old micros }
-    {
-        if self.begins_anew(&subject.limits, micros) {
-            self.dialogue.interrupt(micros);
-            let slow = self.dialogue.slow;
-            let sub_block = self.dialogue.sub_block;
-            *self = Progress::new(subject);
-            self.started = micros;
-            self.dialogue.slow = slow;
-            self.dialogue.sub_block = sub_block;
-        } else if self.was_quiet(&subject.limits, micros) {
-            self.dialogue.interrupt(micros);
-            self.pdos.interrupt();
-        }
-        self.free = self.free_at(micros);
-        self.newest = Some(micros);
-        if self.exchange.is_some() {
-            self.exchange = None;
-        }
-        self.remark = None;
-    }
-
-    // What is open is no longer known.
-    #[tactic(auto, unfolding(crate::specs::Progresses::with_gap))]
-    fn break_off(&mut self, micros: u64)
-        ensures { self.new ≡ with_gap self.old micros }
-    {
-        self.heartbeats.since = None;
-        self.heartbeats.sent = None;
-        self.emergency = None;
-        self.dialogue.interrupt(micros);
-        self.pdos.interrupt();
-        self.written = Written::nothing();
     }
 
     // A command; `own`: the device needn't follow it, since it may have sent it itself, or it has
@@ -238,14 +193,26 @@ impl Progress {
         }
     }
 
-    // an error frame: what came with it may be missing in the recording
-    #[tactic(auto, unfolding(crate::specs::Progresses::after_fault))]
-    fn take_fault(&mut self, micros: u64)
-        ensures { self.new ≡ after_fault self.old micros }
+    // what is known of the entries after a boot-up
+    fn booted_entries(&self, subject: &Subject) -> Entries
+        ensures { result ≡ booted_entries subject.now self.now }
     {
-        self.break_off(micros);
-        self.nmt = Nmt::new();
-        self.started = micros;
+        if self.other_client {
+            subject.facts.before
+        } else {
+            subject.facts.booted
+        }
+    }
+
+    // what is known of the TPDOs after a boot-up
+    fn booted_pdos(&self, subject: &Subject) -> Pdos
+        ensures { result ≡ booted_pdos subject.now self.now }
+    {
+        if self.other_client {
+            Pdos::unknown()
+        } else {
+            subject.facts.pdos
+        }
     }
 
     // a boot-up
@@ -265,8 +232,8 @@ impl Progress {
         self.break_off(micros);
         self.dialogue.slow = Left::new();
         self.dialogue.sub_block = false;
-        self.entries = subject.facts.booted;
-        self.pdos = subject.facts.pdos;
+        self.entries = self.booted_entries(subject);
+        self.pdos = self.booted_pdos(subject);
         self.heartbeats.since = Some(micros);
         self.heartbeats.sent = Some(self.free);
         Findings::of(None, None, None, frame, true)
@@ -454,17 +421,25 @@ impl Progress {
         let exchange = self
             .dialogue
             .hear(subject.limits.answer, self.started, micros, side, frame);
-        self.entries = entries_heard(self.entries, &exchange.heard.ended, self.dialogue.asked);
+        let entries = entries_heard(
+            self.entries,
+            self.other_client,
+            &exchange.heard.ended,
+            self.dialogue.asked,
+        );
+        self.entries = entries.asked_by(side, frame);
         if shares_id(subject.node, side, frame) {
             self.entries.emergencies = false;
         }
         self.heartbeats = self.heartbeats.heard(&exchange.heard.ended, micros);
         hear_pdos(
             &mut self.pdos,
+            self.other_client,
             &exchange.heard.ended,
             self.dialogue.asked,
             micros,
         );
+        hear_pdos_by(&mut self.pdos, side, frame, micros);
         exchange
     }
 

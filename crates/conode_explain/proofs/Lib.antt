@@ -1,3 +1,4 @@
+mod AbortExamples
 pub mod AbortLemmas
 pub mod AssumedLemmas
 pub mod Explaining

@@ -54,7 +54,7 @@ of_services : map subject (Sync ∷ Time ∷ Emergency 5 ∷ [])
     ≡ record { id = record { wide = false; number = 0x1C5 }; kind = kinds.Sync; node = None }
     ∷ record { id = record { wide = false; number = 0x1C5 }; kind = kinds.Other; node = None }
     ∷ record { id = record { wide = false; number = 0x1C5 }; kind = kinds.Emergency; node = Some 5 } ∷ []
-unfolding subject_of subject_at
+unfolding subject_by subject_of subject_at
 of_services = refl
 
 -- ---- marks

@@ -1,5 +1,5 @@
 -- Which lines are printed.
-use Rattle.std.specs.Prelude.{ℕ, ◌==◌, Bool, true, false, not, ◌&&◌, ◌||◌, if◌then◌else◌, List, [], ◌∷◌, length, Option, Some, None}
+use Rattle.std.specs.Prelude.{ℕ, ◌==◌, nat_lt, Bool, true, false, not, ◌&&◌, ◌||◌, if◌then◌else◌, List, [], ◌∷◌, length, Option, Some, None}
 use Rattle.std.specs.List.{list_any}
 use Rattle.conode_record.specs.declared.line.Record.{Record}
 use Rattle.conode_explain_filter.specs.Changes.{Said, is_new, kept}
@@ -25,9 +25,29 @@ abbrev pub first_node : List Claim → Option ℕ
 first_node [] = None
 first_node (claim ∷ claims) = Some claim.node
 
--- the kind and the node of a frame that is these PDOs: those of the first
+-- the parameter of a PDO that its node sends, 1800h to 19FFh; of one that it receives 1400h to 15FFh
+abbrev pub is_sent : Claim → Bool
+is_sent claim = nat_lt 0x17FF claim.index
+
+-- a PDO of another node that may be meant as well as the first: senders come first, and count alone
+abbrev pub is_rival : Claim → Claim → Bool
+is_rival first claim = not (claim.node == first.node) && (is_sent claim || not (is_sent first))
+
+-- of which of several nodes they are isn't known
+abbrev pub are_of_several : List Claim → Bool
+are_of_several [] = false
+are_of_several (first ∷ claims) = list_any (is_rival first) claims
+
+abbrev pub node_of_one : Bool → Option ℕ → Option ℕ
+node_of_one several node = if several then None else node
+
+abbrev pub of_one : Bool → Subject → Subject
+of_one several subject = record subject { node = node_of_one several subject.node }
+
+-- the kind and the node of a frame that is these PDOs: the node that sends it, else the one that receives
+-- it, where that is known
 abbrev pub subject_in : List Claim → Record → Subject
-subject_in claims frame = subject_of (first_node claims) frame.id frame.content
+subject_in claims frame = of_one (are_of_several claims) (subject_of (first_node claims) frame.id frame.content)
 
 -- of a service that a COB-ID names
 abbrev pub service_subject : NamedService → Subject → Subject
@@ -36,7 +56,7 @@ service_subject services.Time subject = record subject { kind = Other; node = No
 service_subject (services.Emergency node) subject = record subject { kind = Emergency; node = Some node }
 
 -- on an SDO channel other than a default one: of its server
-abbrev pub subject_by : Whose → List Claim → Record → Subject
+unfoldable pub subject_by : Whose → List Claim → Record → Subject
 subject_by (Channel place) claims frame = record (subject_in claims frame) { kind = Sdo; node = Some place.node }
 subject_by (Service service) claims frame = service_subject service (subject_in claims frame)
 subject_by Unnamed claims frame = subject_in claims frame

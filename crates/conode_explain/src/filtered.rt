@@ -1,14 +1,19 @@
 //! Which lines are printed.
 
 ghost use Rattle.std.specs.Prelude.{◌≡◌, IfOk, OnOk};
+ghost use Rattle.std.specs.List.{list_any};
 ghost use Rattle.conode_record.specs.Grammar.{IsIdentifier};
 ghost use Rattle.conode_explain_filter.specs.Filters.{passes};
 ghost use Rattle.conode_explain.specs.Filtered.{
+  are_of_several,
   channel_subject,
   first_node,
   is_news,
   is_repeating,
+  is_rival,
+  is_sent,
   lasts_told,
+  of_one,
   passes_as_any,
   passes_end,
   passes_frame,
@@ -38,6 +43,48 @@ fn first_node(claims: &[Claim]) -> Option<u8>
     }
 }
 
+fn is_sent(claim: Claim) -> bool
+    ensures { result ≡ is_sent claim }
+{
+    claim.index > 0x17FF
+}
+
+fn is_rival(first: Claim, claim: Claim) -> bool
+    ensures { result ≡ is_rival first claim }
+{
+    claim.node != first.node && (is_sent(claim) || !is_sent(first))
+}
+
+fn any_rival(first: Claim, claims: &[Claim]) -> bool
+    ensures { result ≡ list_any (is_rival first) claims.now }
+{
+    for claim in claims {
+        if is_rival(first, *claim) {
+            return true;
+        }
+    }
+    false
+}
+
+fn are_of_several(claims: &[Claim]) -> bool
+    ensures { result ≡ are_of_several claims.now }
+{
+    match claims {
+        [] => false,
+        [first, rest @ ..] => any_rival(*first, rest),
+    }
+}
+
+fn of_one(several: bool, subject: Subject) -> Subject
+    ensures { result ≡ of_one several subject }
+{
+    Subject {
+        id: subject.id,
+        kind: subject.kind,
+        node: if several { None } else { subject.node },
+    }
+}
+
 // of a service that a COB-ID names
 fn service_subject(service: NamedService, subject: Subject) -> Subject
     ensures { result ≡ service_subject service subject }
@@ -61,13 +108,18 @@ fn service_subject(service: NamedService, subject: Subject) -> Subject
     }
 }
 
-/// The kind and the node of a frame that is these PDOs; on an SDO channel other than a default one
-/// of its server; of a service that a COB-ID names by that.
+/// The kind and the node of a frame that is these PDOs; no node, where it isn't known which of
+/// several sends it; on an SDO channel other than a default one of its server; of a service that a
+/// COB-ID names by that.
+#[tactic(auto, unfolding(crate::specs::Filtered::subject_by))]
 pub(crate) fn subject_by(whose: Whose, claims: &[Claim], frame: &Record<'_>) -> Subject
     requires { IsIdentifier frame.now.id }
     ensures { result ≡ subject_by whose claims.now frame.now }
 {
-    let subject = Subject::of(first_node(claims), frame);
+    let subject = of_one(
+        are_of_several(claims),
+        Subject::of(first_node(claims), frame),
+    );
     match whose {
         Whose::Channel(place) => Subject {
             id: subject.id,

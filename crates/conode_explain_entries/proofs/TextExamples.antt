@@ -108,6 +108,6 @@ out_of_sequence : after_text (OutOfSequence 5 3) (Some (record { index = 0x2100;
 unfolding after_text of_text entry_text awaited_text digits_text digits filled
 out_of_sequence = refl
 
-odd_frames : after_text BegunBefore None [] ++ after_text AskedAgain None [] ≡ codes " (begun before the recording) (repeated)"
+odd_frames : after_text BegunBefore None [] ++ after_text AskedAgain None [] ≡ codes " (its begin isn't in the recording) (repeated)"
 unfolding after_text of_text remark_words
 odd_frames = refl

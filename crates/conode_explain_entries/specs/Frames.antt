@@ -39,7 +39,7 @@ remark_words Repeated = codes " (repeated)"
 remark_words Overtaken = codes " (overtaken)"
 remark_words Unexpected = codes " (unexpected)"
 remark_words Stray = codes " (no transfer is open)"
-remark_words BegunBefore = codes " (begun before the recording)"
+remark_words BegunBefore = codes " (its begin isn't in the recording)"
 remark_words _ = []
 
 unfoldable pub awaited_text : ℕ → List ℕ

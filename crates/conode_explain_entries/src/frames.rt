@@ -89,7 +89,7 @@ fn remark_words(what: What) -> &'static str
         What::Overtaken => " (overtaken)",
         What::Unexpected => " (unexpected)",
         What::Stray => " (no transfer is open)",
-        What::BegunBefore => " (begun before the recording)",
+        What::BegunBefore => " (its begin isn't in the recording)",
         _ => "",
     }
 }

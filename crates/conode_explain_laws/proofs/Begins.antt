@@ -40,7 +40,7 @@ use Rattle.conode_explain_transfers.specs.Initiates.{has_crc, data_of, initiate_
 use Rattle.conode_explain_transfers.specs.Readings.{is_in_sub_block as is_inside}
 use Rattle.conode_explain_transfers.specs.Transfers.{begun, is_download}
 use Rattle.conode_explain_laws.specs.Downloads.{Complete, entry_bytes, if_done}
-use Rattle.conode_explain_laws.proofs.Readings.{Reading, Response, begun_with, response_reading, reading_of}
+use Rattle.conode_explain_laws.proofs.Readings.{went_on_as, Reading, Response, begun_with, response_reading, reading_of}
 use Rattle.conode_explain_laws.proofs.Views.{View, read_as, hears_answers, KnowsAside, aside_turn, aside_answers, aborted_closes}
 use Rattle.conode_explain_laws.proofs.Follows.{asked, segmented, blocks, Ends, ends_closed, ends_aside, BegunBy, none_of_server}
 
@@ -185,13 +185,13 @@ pub expedited_bytes : (rows : Rows) (key : Key) (value : ExpeditedData) (r : Opt
 expedited_bytes rows key (Indicated counted) r e = rw e (take_all (length counted.items) counted.items (omega arith))
 expedited_bytes rows key (NotIndicated four) r e = rw e (ap (λ xs. take (capacity_at rows key) xs) (take_all (length four) four (omega arith)))
 
-expedited_done : (rows : Rows) (stamp : ℕ → ℕ) (key : Key) (value : ExpeditedData) (micros : ℕ) (frame : List ℕ) (done : List Complete) (count : ℕ) (next : Option OpenTransfer)
+expedited_done : (on : Bool) (rows : Rows) (stamp : ℕ → ℕ) (key : Key) (value : ExpeditedData) (micros : ℕ) (frame : List ℕ) (done : List Complete) (count : ℕ) (next : Option OpenTransfer)
     → request_in frame ≡ Some (DownloadExpedited key value) → key.index < 65536
-    → Ends next (whole key None (expedited_part rows key value)) done (hears_answers rows stamp (Replied (DownloadDone key) ∷ []) (asks (expedites key value micros frame) done count))
-expedited_done rows stamp key value micros frame done count next q k =
-    answered rows stamp (DownloadDone key) (asks (expedites key value micros frame) done count) (Response (DownloadDone key))
+    → Ends next (whole key None (expedited_part rows key value)) done (hears_answers rows stamp (Replied (DownloadDone key) ∷ []) (asks (went_on_as on (expedites key value micros frame)) done count))
+expedited_done on rows stamp key value micros frame done count next q k =
+    answered rows stamp (DownloadDone key) (asks (went_on_as on (expedites key value micros frame)) done count) (Response (DownloadDone key))
     (Ends next (whole key None (expedited_part rows key value)) done)
-    (response_is (DownloadDone key) (expedites key value micros frame) (stamp count) refl (done_read key k))
+    (response_is (DownloadDone key) (went_on_as on (expedites key value micros frame)) (stamp count) refl (done_read key k))
     (rw (same_key-refl key) (record {
       follows = tt;
       writes = inr (ap (λ xs. record { frame = suc count; key = key; bytes = xs } ∷ done) (expedited_bytes rows key value (request_in frame) q));
@@ -201,13 +201,13 @@ expedited_done rows stamp key value micros frame done count next q k =
 abbrev pub segments : Key → Option ℕ → ℕ → List ℕ → Transfer
 segments key size micros frame = begun (record (initiate_of key Download Segmented) { size = size }) micros frame
 
-segmented_begins : (rows : Rows) (stamp : ℕ → ℕ) (key : Key) (size : Option ℕ) (micros : ℕ) (frame : List ℕ) (done : List Complete) (count : ℕ)
+segmented_begins : (on : Bool) (rows : Rows) (stamp : ℕ → ℕ) (key : Key) (size : Option ℕ) (micros : ℕ) (frame : List ℕ) (done : List Complete) (count : ℕ)
     → request_in frame ≡ Some (DownloadInitiate key size) → key.index < 65536
-    → Ends (opened_at key (Receiving size false) []) None done (hears_answers rows stamp (Replied (DownloadDone key) ∷ []) (asks (segments key size micros frame) done count))
-segmented_begins rows stamp key size micros frame done count q k =
-    answered rows stamp (DownloadDone key) (asks (segments key size micros frame) done count) (Response (DownloadDone key))
+    → Ends (opened_at key (Receiving size false) []) None done (hears_answers rows stamp (Replied (DownloadDone key) ∷ []) (asks (went_on_as on (segments key size micros frame)) done count))
+segmented_begins on rows stamp key size micros frame done count q k =
+    answered rows stamp (DownloadDone key) (asks (went_on_as on (segments key size micros frame)) done count) (Response (DownloadDone key))
     (Ends (opened_at key (Receiving size false) []) None done)
-    (response_is (DownloadDone key) (segments key size micros frame) (stamp count) refl (done_read key k))
+    (response_is (DownloadDone key) (went_on_as on (segments key size micros frame)) (stamp count) refl (done_read key k))
     (rw (same_key-refl key) (record {
       follows = segmented false (record { direction = refl; stage = refl; request = q }) refl;
       writes = inl refl;
@@ -217,13 +217,13 @@ segmented_begins rows stamp key size micros frame done count q k =
 abbrev pub in_blocks : Key → Option ℕ → ℕ → List ℕ → Transfer
 in_blocks key size micros frame = begun (record (initiate_of key Download Block) { size = size; crc = has_crc frame; block_size = first_segment }) micros frame
 
-blocks_begin : (rows : Rows) (stamp : ℕ → ℕ) (key : Key) (size : Option ℕ) (micros : ℕ) (frame : List ℕ) (done : List Complete) (count : ℕ)
+blocks_begin : (on : Bool) (rows : Rows) (stamp : ℕ → ℕ) (key : Key) (size : Option ℕ) (micros : ℕ) (frame : List ℕ) (done : List Complete) (count : ℕ)
     → request_in frame ≡ Some (BlockDownloadInitiate key size) → key.index < 65536
-    → Ends (opened_at key (InSubBlock size 0) []) None done (hears_answers rows stamp (Replied (BlockDownloadInitiated key 127) ∷ []) (asks (in_blocks key size micros frame) done count))
-blocks_begin rows stamp key size micros frame done count q k =
-    answered rows stamp (BlockDownloadInitiated key 127) (asks (in_blocks key size micros frame) done count) (Response (BlockDownloadInitiated key 127))
+    → Ends (opened_at key (InSubBlock size 0) []) None done (hears_answers rows stamp (Replied (BlockDownloadInitiated key 127) ∷ []) (asks (went_on_as on (in_blocks key size micros frame)) done count))
+blocks_begin on rows stamp key size micros frame done count q k =
+    answered rows stamp (BlockDownloadInitiated key 127) (asks (went_on_as on (in_blocks key size micros frame)) done count) (Response (BlockDownloadInitiated key 127))
     (Ends (opened_at key (InSubBlock size 0) []) None done)
-    (response_is (BlockDownloadInitiated key 127) (in_blocks key size micros frame) (stamp count) refl (block_initiated_read key 127 k))
+    (response_is (BlockDownloadInitiated key 127) (went_on_as on (in_blocks key size micros frame)) (stamp count) refl (block_initiated_read key 127 k))
     (rw (same_key-refl key) (record {
       follows = blocks 0 size (record { is = record { direction = refl; protocol = refl; request = q }; stage = refl; pending = refl }) refl;
       writes = inl refl;
@@ -243,40 +243,43 @@ other x t e h = not_true (is_download t.direction) (sym (ap is_other e) ∙ h)
 
 -- by the request, outside a sub-block
 outside : (d : Description) (contents : Contents) (stamp : ℕ → ℕ) (current : Option OpenTransfer) (request : SdoRequest) (t : Transfer) (micros : ℕ) (frame : List ℕ) (done : List Complete) (count : ℕ)
-    → request_in frame ≡ Some request → begun_with request micros frame ≡ Some t → HasKey frame request → AreBytes frame
+    → request_in frame ≡ Some request → begun_with request micros frame ≡ Some (went_on_as false t) → HasKey frame request → AreBytes frame
     → Ends (after_request d contents current (Some request)) (set_by_request d contents current (Some request)) done
     (hears_answers d.rows stamp (request_answers d contents current (Some request)) (asks t done count))
 outside d contents stamp current (DownloadExpedited key value) t micros frame done count q e k small =
-    let same : expedites key value micros frame ≡ t = cc in
+    let first : expedites key value micros frame ≡ went_on_as false t = cc in
+    let same : went_on_as t.went_on (expedites key value micros frame) ≡ t = ap (went_on_as t.went_on) first in
     let index : key.index < 65536 = subst (λ x. x.index < 65536) (sym k) (small_index frame small) in
     let refusal = completion_refusal d contents key None (expedited_part d.rows key value) in
     subst (λ u. Ends None (unless refusal (whole key None (expedited_part d.rows key value))) done
     (hears_answers d.rows stamp (unless_refused refusal key (Replied (DownloadDone key) ∷ [])) (asks u done count))) same
-    (refused d.rows stamp refusal key (Replied (DownloadDone key) ∷ []) None _ done (asks (expedites key value micros frame) done count) refl
-    (λ n. rw n (expedited_done d.rows stamp key value micros frame done count None q index)))
+    (refused d.rows stamp refusal key (Replied (DownloadDone key) ∷ []) None _ done (asks (went_on_as t.went_on (expedites key value micros frame)) done count) refl
+    (λ n. rw n (expedited_done t.went_on d.rows stamp key value micros frame done count None q index)))
 outside d contents stamp current (DownloadInitiate key size) t micros frame done count q e k small =
-    let same : segments key size micros frame ≡ t = cc in
+    let first : segments key size micros frame ≡ went_on_as false t = cc in
+    let same : went_on_as t.went_on (segments key size micros frame) ≡ t = ap (went_on_as t.went_on) first in
     let index : key.index < 65536 = subst (λ x. x.index < 65536) (sym k) (small_index frame small) in
     let refusal = initiate_refusal d key size in
     subst (λ u. Ends (unless refusal (opened_at key (Receiving size false) [])) None done
     (hears_answers d.rows stamp (unless_refused refusal key (Replied (DownloadDone key) ∷ [])) (asks u done count))) same
-    (refused d.rows stamp refusal key (Replied (DownloadDone key) ∷ []) _ None done (asks (segments key size micros frame) done count) refl
-    (λ n. rw n (segmented_begins d.rows stamp key size micros frame done count q index)))
+    (refused d.rows stamp refusal key (Replied (DownloadDone key) ∷ []) _ None done (asks (went_on_as t.went_on (segments key size micros frame)) done count) refl
+    (λ n. rw n (segmented_begins t.went_on d.rows stamp key size micros frame done count q index)))
 outside d contents stamp current (UploadInitiate key) t micros frame done count q e k small =
-    let p : is_download t.direction ≡ false = other (begun_with (UploadInitiate key) micros frame) t e refl in
+    let p : is_download t.direction ≡ false = other (begun_with (UploadInitiate key) micros frame) (went_on_as false t) e refl in
     ends_aside _ _ done _ (aside_answers d.rows stamp (request_answers d contents current (Some (UploadInitiate key))) done (asks t done count) (record { holds = inr p; same = refl }))
 outside d contents stamp current (BlockUploadInitiate key block_size threshold) t micros frame done count q e k small =
-    let p : is_download t.direction ≡ false = other (begun_with (BlockUploadInitiate key block_size threshold) micros frame) t e refl in
+    let p : is_download t.direction ≡ false = other (begun_with (BlockUploadInitiate key block_size threshold) micros frame) (went_on_as false t) e refl in
     ends_aside _ _ done _ (aside_answers d.rows stamp (request_answers d contents current (Some (BlockUploadInitiate key block_size threshold))) done (asks t done count) (record { holds = inr p; same = refl }))
 outside d contents stamp current (BlockDownloadInitiate key size) t micros frame done count q e k small =
-    let same : in_blocks key size micros frame ≡ t = cc in
+    let first : in_blocks key size micros frame ≡ went_on_as false t = cc in
+    let same : went_on_as t.went_on (in_blocks key size micros frame) ≡ t = ap (went_on_as t.went_on) first in
     let index : key.index < 65536 = subst (λ x. x.index < 65536) (sym k) (small_index frame small) in
     let refusal = initiate_refusal d key size in
     subst (λ u. Ends (unless refusal (opened_at key (InSubBlock size 0) [])) None done
     (hears_answers d.rows stamp (unless_refused refusal key (Replied (BlockDownloadInitiated key 127) ∷ [])) (asks u done count))) same
-    (refused d.rows stamp refusal key (Replied (BlockDownloadInitiated key 127) ∷ []) _ None done (asks (in_blocks key size micros frame) done count) refl
-    (λ n. rw n (blocks_begin d.rows stamp key size micros frame done count q index)))
-outside d contents stamp current _ t micros frame done count q e k small = absurd (let f : None ≡ Some t = e in cc)
+    (refused d.rows stamp refusal key (Replied (BlockDownloadInitiated key 127) ∷ []) _ None done (asks (went_on_as t.went_on (in_blocks key size micros frame)) done count) refl
+    (λ n. rw n (blocks_begin t.went_on d.rows stamp key size micros frame done count q index)))
+outside d contents stamp current _ t micros frame done count q e k small = absurd (let f : None ≡ Some (went_on_as false t) = e in cc)
 
 -- a transfer that a request begins awaits its answer
 pub awaits : (request : SdoRequest) (micros : ℕ) (frame : List ℕ) → IfSome (begun_with request micros frame) (λ t. t.stage ≡ Initiated)

@@ -42,9 +42,9 @@ use Rattle.conode_explain_transfers.specs.Followed.{with_frame}
 use Rattle.conode_explain_transfers.specs.Initiates.{has_crc}
 use Rattle.conode_explain_transfers.specs.Transfers.{after, awaited_number, is_download, unexpected, goes_on, takes_pending}
 use Rattle.conode_explain_transfers.proofs.DataLemmas.{taking}
-use Rattle.conode_explain_transfers.specs.Unanswered.{is_no_abort}
+use Rattle.conode_explain_transfers.specs.Unanswered.{is_next_segment, not_followed_by}
 use Rattle.conode_explain_laws.specs.Downloads.{Complete, is_block_begin, entry_bytes, write_set, number_in, goes_up}
-use Rattle.conode_explain_laws.proofs.Readings.{Segment, Begin, Abort, Request, Response, request_reading, response_reading, plain_reading, beginning, segment_reading, sub_block_reading, reading_of}
+use Rattle.conode_explain_laws.proofs.Readings.{went_on_as, Segment, Begin, Abort, Request, Response, request_reading, response_reading, plain_reading, beginning, segment_reading, sub_block_reading, reading_of}
 use Rattle.conode_explain_laws.proofs.Views.{abort_no_write, View, read_as, hears, hears_answers, begin_writes, no_write, abort_closes}
 use Rattle.conode_explain_laws.proofs.Follows.{IsBlocks, AllSent, are_sent, response_read, answered_reads}
 use Rattle.conode_explain_laws.proofs.Begins.{HasKey, has_key, small_index, answered, asks, response_is, in_blocks, outside_answers, outside_opens, outside_sets, write_of}
@@ -116,20 +116,20 @@ and_false : (b : Bool) → b && false ≡ false
 and_false true = refl
 and_false false = refl
 
-blocks_begun : (newest : ℕ) (d : Description) (stamp : ℕ → ℕ) (key : Key) (size : Option ℕ) (micros : ℕ) (frame : List ℕ) (done : List Complete) (count : ℕ) → request_in frame ≡ Some (BlockDownloadInitiate key size) → key.index < 65536 → newest ≡ 0
+blocks_begun : (on : Bool) (newest : ℕ) (d : Description) (stamp : ℕ → ℕ) (key : Key) (size : Option ℕ) (micros : ℕ) (frame : List ℕ) (done : List Complete) (count : ℕ) → request_in frame ≡ Some (BlockDownloadInitiate key size) → key.index < 65536 → newest ≡ 0
     → (let refusal = initiate_refusal d key size in
     Orders newest (unless refusal (opened_at key (Taking size 0) [])) None done
-    (hears_answers d.rows stamp (unless_refused refusal key (Replied (BlockDownloadInitiated key 127) ∷ [])) (asks (in_blocks key size micros frame) done count)))
-blocks_begun newest d stamp key size micros frame done count q k n = by (initiate_refusal d key size)
+    (hears_answers d.rows stamp (unless_refused refusal key (Replied (BlockDownloadInitiated key 127) ∷ [])) (asks (went_on_as on (in_blocks key size micros frame)) done count)))
+blocks_begun on newest d stamp key size micros frame done count q k n = by (initiate_refusal d key size)
   where
     by : (refusal : Option ℕ)
         → Orders newest (unless refusal (opened_at key (Taking size 0) [])) None done
-        (hears_answers d.rows stamp (unless_refused refusal key (Replied (BlockDownloadInitiated key 127) ∷ [])) (asks (in_blocks key size micros frame) done count))
-    by (Some code) = closed_orders newest d.rows stamp key code done (asks (in_blocks key size micros frame) done count) refl
+        (hears_answers d.rows stamp (unless_refused refusal key (Replied (BlockDownloadInitiated key 127) ∷ [])) (asks (went_on_as on (in_blocks key size micros frame)) done count))
+    by (Some code) = closed_orders newest d.rows stamp key code done (asks (went_on_as on (in_blocks key size micros frame)) done count) refl
     by None =
-        answered d.rows stamp (BlockDownloadInitiated key 127) (asks (in_blocks key size micros frame) done count) (Response (BlockDownloadInitiated key 127))
+        answered d.rows stamp (BlockDownloadInitiated key 127) (asks (went_on_as on (in_blocks key size micros frame)) done count) (Response (BlockDownloadInitiated key 127))
         (Orders newest (opened_at key (Taking size 0) []) None done)
-        (response_is (BlockDownloadInitiated key 127) (in_blocks key size micros frame) (stamp count) refl (block_initiated_read key 127 k))
+        (response_is (BlockDownloadInitiated key 127) (went_on_as on (in_blocks key size micros frame)) (stamp count) refl (block_initiated_read key 127 k))
         (rw (same_key-refl key) (record {
           holds = inside 0 (record {
             is = record {
@@ -158,7 +158,7 @@ block_begins newest d contents stamp current key size frame heard held got done 
     (hears_answers d.rows stamp (request_answers d contents current (Some (BlockDownloadInitiate key size)))
     (read_as d.rows (stamp count) Client frame (record { following = record { heard = heard; transfer = held }; got = got; done = done; count = count }) (Begin (in_blocks key size (stamp count) frame)))))
     (begin_writes d.rows (stamp count) frame heard held got done count (in_blocks key size (stamp count) frame))
-    (blocks_begun newest d stamp key size (stamp count) frame _ (suc count) q index n)
+    (blocks_begun (is_next_segment held frame) newest d stamp key size (stamp count) frame _ (suc count) q index n)
 
 -- ---- inside a sub-block
 
@@ -427,7 +427,7 @@ module _ (newest : ℕ) (d : Description) (contents : Contents) (stamp : ℕ →
   sent_request (Some (BlockDownloadInitiate key size)) q few n kept lawful small = absurd (false≢true (sym n))
   sent_request (Some (Abandon key code)) q few n kept lawful small = record {
     holds = refl;
-    same = ap (λ w. w ++ done) (no_write (is_download t.direction) _ (abort_no_write Client (is_no_abort t frame) code _));
+    same = ap (λ w. w ++ done) (no_write (is_download t.direction) _ (abort_no_write Client (not_followed_by Client t frame) code _));
   }
   sent_request r q few n kept lawful small =
       closed_orders newest d.rows stamp t.key 0x05040001 done (read_as d.rows (stamp count) Client frame (holds heard t got done count) (request_reading r (stamp count) frame))
@@ -448,7 +448,7 @@ gone_request newest d contents stamp frame heard t got done count h (Some (Block
 gone_request newest d contents stamp frame heard t got done count h (Some (BlockDownloadInitiate key size)) q n small = absurd (false≢true (sym n))
 gone_request newest d contents stamp frame heard t got done count h (Some (Abandon key code)) q n small = record {
   holds = refl;
-  same = ap (λ w. w ++ done) (no_write (is_download t.direction) _ (abort_no_write Client (is_no_abort t frame) code _));
+  same = ap (λ w. w ++ done) (no_write (is_download t.direction) _ (abort_no_write Client (not_followed_by Client t frame) code _));
 }
 gone_request newest d contents stamp frame heard t got done count h r q n small =
     closed_orders newest d.rows stamp (record { index = 0; sub = 0 }) 0x05040001 done (read_as d.rows (stamp count) Client frame (holds heard t got done count) (request_reading r (stamp count) frame))

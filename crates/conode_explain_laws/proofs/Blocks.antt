@@ -37,7 +37,7 @@ use Rattle.conode_explain_transfers.specs.Data.{data_with}
 use Rattle.conode_explain_transfers.specs.Endings.{verdict}
 use Rattle.conode_explain_transfers.specs.Followed.{with_frame, turns}
 use Rattle.conode_explain_transfers.specs.Transfers.{Turn, after, awaited_number, is_download, goes_on, takes_pending, unexpected}
-use Rattle.conode_explain_transfers.specs.Unanswered.{is_no_abort}
+use Rattle.conode_explain_transfers.specs.Unanswered.{not_followed_by}
 use Rattle.conode_explain_laws.specs.Downloads.{Complete, initiated_by, entry_bytes, write_said}
 use Rattle.conode_explain_laws.proofs.Readings.{Reading, Segment, Begin, Abort, Request, Response, Nothing, request_reading, response_reading, plain_reading, beginning, segment_reading, sub_block_reading, reading_of}
 use Rattle.conode_explain_laws.proofs.Views.{abort_no_write, View, read_as, hears_answers, abort_closes, aside_turn, aside_answers, is_begin, no_write}
@@ -267,7 +267,7 @@ module _ (d : Description) (contents : Contents) (stamp : ℕ → ℕ) (frame : 
   by_abort true is =
       read_so (Abort (code_in frame)) is
       (ends_aside _ None done _
-      (aside_answers d.rows stamp (answers_for d.rows t.key (got ++ t.pending.items) taken (block_segment_in frame) (segment_taken taken (block_segment_in frame))) done _ (record { holds = tt; same = ap (λ w. w ++ done) (no_write (is_download t.direction) _ (abort_no_write Client (is_no_abort t frame) (code_in frame) _)) })))
+      (aside_answers d.rows stamp (answers_for d.rows t.key (got ++ t.pending.items) taken (block_segment_in frame) (segment_taken taken (block_segment_in frame))) done _ (record { holds = tt; same = ap (λ w. w ++ done) (no_write (is_download t.direction) _ (abort_no_write Client (not_followed_by Client t frame) (code_in frame) _)) })))
   by_abort false is = by_segment (block_segment_in frame) refl is
 
   pub sub_block_step : Ends (opened_next d contents (opened_at t.key (InSubBlock size taken) (got ++ t.pending.items)) frame) (set_next d contents (opened_at t.key (InSubBlock size taken) (got ++ t.pending.items)) frame) done

@@ -24,7 +24,7 @@ use Rattle.conode_explain_transfers.specs.Stages.{confirmed_with}
 use Rattle.conode_explain_transfers.specs.Readings.{awaits_segment}
 use Rattle.conode_explain_transfers.specs.Transfers.{after, unexpected}
 use Rattle.conode_explain_laws.specs.Clients.{IsCall}
-use Rattle.conode_explain_laws.proofs.Readings.{Begin, Nothing, request_reading, reading_of}
+use Rattle.conode_explain_laws.proofs.Readings.{Begin, Nothing, request_reading, reading_of, went_on_as}
 use Rattle.conode_explain_laws.proofs.ClientViews.{Seen, holds, says, hears, read_as, lost_answer}
 use Rattle.conode_explain_laws.proofs.ClientStanding.{IsDownload, IsBlockDownload, Sync, at_once, begun, sent, block_begun, block_sent, block_ended, asked, taking, block_asked, in_sub_block, all_taken, HasLost, SyncIn}
 
@@ -51,7 +51,7 @@ no_crc key false bytes = refl
 module _ (Loose : Type 0) (stamp : ℕ → ℕ) where
   -- a request that is read as itself, and begins this
   with_request : (call : Call) (request : SdoRequest) (read : SdoRequest) (t : Transfer) → request_in (request_bytes request) ≡ Some read
-      → request_reading (Some read) (stamp 0) (request_bytes request) ≡ Begin t → Sync Loose call t [] Begun [] 0
+      → request_reading (Some read) (stamp 0) (request_bytes request) ≡ Begin t → Sync Loose call (went_on_as false t) [] Begun [] 0
       → Begins Loose call (says call stamp (Asked request ∷ []) nothing)
   with_request call request read t e b h =
       subst (λ r. Begins Loose call (read_as call (stamp 0) Client (request_bytes request) nothing r)) (sym (ap (λ r. request_reading r (stamp 0) (request_bytes request)) e ∙ b))

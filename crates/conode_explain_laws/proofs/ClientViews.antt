@@ -27,7 +27,7 @@ use Rattle.conode_explain_transfers.specs.SegmentedTurns.{answering, segment_don
 use Rattle.conode_explain_transfers.specs.Stages.{is_initiated, confirmed_with}
 use Rattle.conode_explain_transfers.specs.Transfers.{Turn, after, is_download, awaited_number, irregular, unexpected, overtaken, goes_on, takes_pending}
 use Rattle.conode_explain_transfers.specs.Turns.{response_turn}
-use Rattle.conode_explain_transfers.specs.Unanswered.{is_no_abort}
+use Rattle.conode_explain_transfers.specs.Unanswered.{not_followed_by}
 use Rattle.conode_explain_laws.specs.Recordings.{and_frame}
 use Rattle.conode_explain_laws.specs.Downloads.{if_done}
 use Rattle.conode_explain_laws.specs.Clients.{Transferred, refuses, transfer_said, transfers_done, and_messages}
@@ -115,7 +115,7 @@ module _ (call : Call) where
   abort_closes micros side frame heard None got done count (Abort code) h = record { none = refl; same = refl }
   abort_closes micros side frame heard (Some t) got done count (Abort code) h = record {
     none = refl;
-    same = ap (λ w. w ++ done) (unless_none (refuses call.mode call.job t.protocol got) _ (abort_no_write side (is_no_abort t frame) code _));
+    same = ap (λ w. w ++ done) (unless_none (refuses call.mode call.job t.protocol got) _ (abort_no_write side (not_followed_by side t frame) code _));
   }
   abort_closes micros side frame heard current got done count _ h = absurd (false≢true h)
 
@@ -197,7 +197,7 @@ module _ (call : Call) where
   lost_reads micros side frame heard None got done count _ h n = record { lost = tt; same = refl }
   lost_reads micros side frame heard (Some t) got done count (Abort code) h n = record {
     lost = tt;
-    same = ap (λ w. w ++ done) (unless_none (refuses call.mode call.job t.protocol got) _ (abort_no_write side (is_no_abort t frame) code _));
+    same = ap (λ w. w ++ done) (unless_none (refuses call.mode call.job t.protocol got) _ (abort_no_write side (not_followed_by side t frame) code _));
   }
   lost_reads micros side frame heard (Some t) got done count (Segment segment) h n = lost_turn micros side frame heard t got done count (turn_of t (Segment segment) frame) (stays_lost t (Segment segment) frame h)
   lost_reads micros side frame heard (Some t) got done count (Request request) h n = lost_turn micros side frame heard t got done count (turn_of t (Request request) frame) (stays_lost t (Request request) frame h)

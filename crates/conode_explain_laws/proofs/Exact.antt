@@ -40,9 +40,9 @@ use Rattle.conode_explain_transfers.specs.Endings.{size_fault, verdict}
 use Rattle.conode_explain_transfers.specs.Transfers.{is_download}
 use Rattle.conode_explain_transfers.specs.Readings.{may_have_segment, is_sender}
 use Rattle.conode_explain_transfers.proofs.DataLemmas.{taking}
-use Rattle.conode_explain_transfers.specs.Unanswered.{is_no_abort}
+use Rattle.conode_explain_transfers.specs.Unanswered.{not_followed_by}
 use Rattle.conode_explain_laws.specs.Downloads.{Complete, is_block_begin, entry_bytes, if_done, write_set}
-use Rattle.conode_explain_laws.proofs.Readings.{Begin, Request, Response, begun_with, request_reading, response_reading, plain_reading, sub_block_reading, reading_of}
+use Rattle.conode_explain_laws.proofs.Readings.{begun_after, begun_so, went_on_as, Begin, Request, Response, begun_with, request_reading, response_reading, plain_reading, sub_block_reading, reading_of}
 use Rattle.conode_explain_laws.proofs.Views.{abort_no_write, View, read_as, hears, hears_answers, begin_writes, no_write, aborted_closes}
 use Rattle.conode_explain_laws.proofs.Follows.{InSegments, in_segments, response_read, answered_reads}
 use Rattle.conode_explain_laws.proofs.Begins.{HasKey, has_key, small_index, answered, asks, response_is, expedites, expedited_bytes, segments, outside_answers, outside_opens, outside_sets, write_of}
@@ -150,52 +150,54 @@ later_opens d contents current (Some _) h n = absurd (false≢true (sym n))
 
 -- ---- initiate requests
 
-expedited_exactly : (rows : Rows) (stamp : ℕ → ℕ) (refusal : Option ℕ) (key : Key) (value : ExpeditedData) (micros : ℕ) (frame : List ℕ) (done : List Complete) (count : ℕ)
+expedited_exactly : (on : Bool) (rows : Rows) (stamp : ℕ → ℕ) (refusal : Option ℕ) (key : Key) (value : ExpeditedData) (micros : ℕ) (frame : List ℕ) (done : List Complete) (count : ℕ)
     → request_in frame ≡ Some (DownloadExpedited key value) → key.index < 65536
     → Exactly None (unless refusal (whole key None (expedited_part rows key value))) done
-    (hears_answers rows stamp (unless_refused refusal key (Replied (DownloadDone key) ∷ [])) (asks (expedites key value micros frame) done count))
-expedited_exactly rows stamp (Some code) key value micros frame done count q k = closed_exactly rows stamp key code done (asks (expedites key value micros frame) done count) refl
-expedited_exactly rows stamp None key value micros frame done count q k =
-    answered rows stamp (DownloadDone key) (asks (expedites key value micros frame) done count) (Response (DownloadDone key))
+    (hears_answers rows stamp (unless_refused refusal key (Replied (DownloadDone key) ∷ [])) (asks (went_on_as on (expedites key value micros frame)) done count))
+expedited_exactly on rows stamp (Some code) key value micros frame done count q k = closed_exactly rows stamp key code done (asks (went_on_as on (expedites key value micros frame)) done count) refl
+expedited_exactly on rows stamp None key value micros frame done count q k =
+    answered rows stamp (DownloadDone key) (asks (went_on_as on (expedites key value micros frame)) done count) (Response (DownloadDone key))
     (Exactly None (whole key None (expedited_part rows key value)) done)
-    (response_is (DownloadDone key) (expedites key value micros frame) (stamp count) refl (done_read key k))
+    (response_is (DownloadDone key) (went_on_as on (expedites key value micros frame)) (stamp count) refl (done_read key k))
     (rw (same_key-refl key) (record {
       holds = refl;
       same = ap (λ bytes. write_of (suc count) key bytes ++ done) (expedited_bytes rows key value (request_in frame) q);
     }))
 
-segments_exactly : (rows : Rows) (stamp : ℕ → ℕ) (refusal : Option ℕ) (key : Key) (size : Option ℕ) (micros : ℕ) (frame : List ℕ) (done : List Complete) (count : ℕ)
+segments_exactly : (on : Bool) (rows : Rows) (stamp : ℕ → ℕ) (refusal : Option ℕ) (key : Key) (size : Option ℕ) (micros : ℕ) (frame : List ℕ) (done : List Complete) (count : ℕ)
     → request_in frame ≡ Some (DownloadInitiate key size) → key.index < 65536
     → Exactly (unless refusal (opened_at key (Receiving size false) [])) None done
-    (hears_answers rows stamp (unless_refused refusal key (Replied (DownloadDone key) ∷ [])) (asks (segments key size micros frame) done count))
-segments_exactly rows stamp (Some code) key size micros frame done count q k = closed_exactly rows stamp key code done (asks (segments key size micros frame) done count) refl
-segments_exactly rows stamp None key size micros frame done count q k =
-    answered rows stamp (DownloadDone key) (asks (segments key size micros frame) done count) (Response (DownloadDone key))
+    (hears_answers rows stamp (unless_refused refusal key (Replied (DownloadDone key) ∷ [])) (asks (went_on_as on (segments key size micros frame)) done count))
+segments_exactly on rows stamp (Some code) key size micros frame done count q k = closed_exactly rows stamp key code done (asks (went_on_as on (segments key size micros frame)) done count) refl
+segments_exactly on rows stamp None key size micros frame done count q k =
+    answered rows stamp (DownloadDone key) (asks (went_on_as on (segments key size micros frame)) done count) (Response (DownloadDone key))
     (Exactly (opened_at key (Receiving size false) []) None done)
-    (response_is (DownloadDone key) (segments key size micros frame) (stamp count) refl (done_read key k))
+    (response_is (DownloadDone key) (went_on_as on (segments key size micros frame)) (stamp count) refl (done_read key k))
     (rw (same_key-refl key) (record {
       holds = exact_segments false (record { in_turn = record { direction = refl; stage = refl; request = q }; regular = refl }) refl;
       same = refl;
     }))
 
 begins_exactly : (d : Description) (contents : Contents) (stamp : ℕ → ℕ) (current : Option OpenTransfer) (request : SdoRequest) (t : Transfer) (micros : ℕ) (frame : List ℕ) (done : List Complete) (count : ℕ)
-    → request_in frame ≡ Some request → begun_with request micros frame ≡ Some t → HasKey frame request → AreBytes frame → is_block_begin (Some request) ≡ false
+    → request_in frame ≡ Some request → begun_with request micros frame ≡ Some (went_on_as false t) → HasKey frame request → AreBytes frame → is_block_begin (Some request) ≡ false
     → Exactly (after_request d contents current (Some request)) (set_by_request d contents current (Some request)) done
     (hears_answers d.rows stamp (request_answers d contents current (Some request)) (asks t done count))
 begins_exactly d contents stamp current (DownloadExpedited key value) t micros frame done count q e k small n =
-    let same : expedites key value micros frame ≡ t = cc in
+    let first : expedites key value micros frame ≡ went_on_as false t = cc in
+    let same : went_on_as t.went_on (expedites key value micros frame) ≡ t = ap (went_on_as t.went_on) first in
     let index : key.index < 65536 = subst (λ x. x.index < 65536) (sym k) (small_index frame small) in
     let refusal = completion_refusal d contents key None (expedited_part d.rows key value) in
     subst (λ u. Exactly None (unless refusal (whole key None (expedited_part d.rows key value))) done
     (hears_answers d.rows stamp (unless_refused refusal key (Replied (DownloadDone key) ∷ [])) (asks u done count))) same
-    (expedited_exactly d.rows stamp refusal key value micros frame done count q index)
+    (expedited_exactly t.went_on d.rows stamp refusal key value micros frame done count q index)
 begins_exactly d contents stamp current (DownloadInitiate key size) t micros frame done count q e k small n =
-    let same : segments key size micros frame ≡ t = cc in
+    let first : segments key size micros frame ≡ went_on_as false t = cc in
+    let same : went_on_as t.went_on (segments key size micros frame) ≡ t = ap (went_on_as t.went_on) first in
     let index : key.index < 65536 = subst (λ x. x.index < 65536) (sym k) (small_index frame small) in
     let refusal = initiate_refusal d key size in
     subst (λ u. Exactly (unless refusal (opened_at key (Receiving size false) [])) None done
     (hears_answers d.rows stamp (unless_refused refusal key (Replied (DownloadDone key) ∷ [])) (asks u done count))) same
-    (segments_exactly d.rows stamp refusal key size micros frame done count q index)
+    (segments_exactly t.went_on d.rows stamp refusal key size micros frame done count q index)
 begins_exactly d contents stamp current (UploadInitiate key) t micros frame done count q e k small n =
     let up : IsUpload t = subst (λ x. IfSome x IsUpload) e refl in
     uploads_exactly (after_initiate d contents (UploadInitiate key)) done _
@@ -208,7 +210,7 @@ begins_exactly d contents stamp current (BlockUploadInitiate key block_size thre
     (unless_no_download (first_of (reading_refusal d contents key) (block_size_refusal block_size)) (opened_at key (Begun block_size) (value_at contents key)) refl)
     (upload_answers d.rows stamp (request_answers d contents current (Some (BlockUploadInitiate key block_size threshold))) done (asks t done count) (record { holds = up; same = refl }))
 begins_exactly d contents stamp current (BlockDownloadInitiate key size) t micros frame done count q e k small n = absurd (false≢true (sym n))
-begins_exactly d contents stamp current _ t micros frame done count q e k small n = absurd (let f : None ≡ Some t = e in cc)
+begins_exactly d contents stamp current _ t micros frame done count q e k small n = absurd (let f : None ≡ Some (went_on_as false t) = e in cc)
 
 -- ---- a segment
 
@@ -330,7 +332,7 @@ begin_comes d contents stamp current request t frame heard held got done count q
     (hears_answers d.rows stamp (request_answers d contents current (Some request))
     (read_as d.rows (stamp count) Client frame (record { following = record { heard = heard; transfer = held }; got = got; done = done; count = count }) (Begin t))))
     (begin_writes d.rows (stamp count) frame heard held got done count t)
-    (begins_exactly d contents stamp current request t (stamp count) frame _ (suc count) q e (subst (λ r. IfSome r (HasKey frame)) q k) small n)
+    (begins_exactly d contents stamp current request (begun_after held frame t) (stamp count) frame _ (suc count) q (begun_so request (stamp count) frame t e) (subst (λ r. IfSome r (HasKey frame)) q k) small n)
 
 -- explain has an upload, or nothing
 to_upload : (d : Description) (contents : Contents) (stamp : ℕ → ℕ) (current : Option OpenTransfer) (frame : List ℕ) (heard : Bool) (held : Option Transfer) (got : List ℕ) (done : List Complete) (count : ℕ) → IfSome held IsUpload
@@ -374,7 +376,7 @@ to_segments d contents stamp frame heard t got done count toggle h kept lawful s
     segment_comes d contents stamp (stamp count) frame heard t got done count toggle toggled last segment h kept lawful
 to_segments d contents stamp frame heard t got done count toggle h kept lawful small (Some (Abandon key code)) q n = record {
   holds = refl;
-  same = ap (λ w. w ++ done) (no_write (is_download t.direction) _ (abort_no_write Client (is_no_abort t frame) code _));
+  same = ap (λ w. w ++ done) (no_write (is_download t.direction) _ (abort_no_write Client (not_followed_by Client t frame) code _));
 }
 to_segments d contents stamp frame heard t got done count toggle h kept lawful small r q n =
     closed_exactly d.rows stamp t.key 0x05040001 done
@@ -398,7 +400,7 @@ to_dropped d contents stamp frame heard t got done count toggle h small (Some (B
 to_dropped d contents stamp frame heard t got done count toggle h small (Some (BlockDownloadInitiate key size)) q n = absurd (false≢true (sym n))
 to_dropped d contents stamp frame heard t got done count toggle h small (Some (Abandon key code)) q n = record {
   holds = refl;
-  same = ap (λ w. w ++ done) (no_write (is_download t.direction) _ (abort_no_write Client (is_no_abort t frame) code _));
+  same = ap (λ w. w ++ done) (no_write (is_download t.direction) _ (abort_no_write Client (not_followed_by Client t frame) code _));
 }
 to_dropped d contents stamp frame heard t got done count toggle h small r q n =
     closed_exactly d.rows stamp (record { index = 0; sub = 0 }) 0x05040001 done

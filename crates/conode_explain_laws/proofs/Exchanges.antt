@@ -36,7 +36,7 @@ use Rattle.conode_explain_transfers.specs.Followed.{with_frame}
 use Rattle.conode_explain_transfers.specs.SegmentedTurns.{segment_pending}
 use Rattle.conode_explain_transfers.specs.Transfers.{after, is_download, goes_on as part, takes_pending}
 use Rattle.conode_explain_laws.specs.Downloads.{Complete, entry_bytes, if_done}
-use Rattle.conode_explain_laws.proofs.Readings.{Reading, Begin, Request, Response, request_reading, response_reading, reading_of}
+use Rattle.conode_explain_laws.proofs.Readings.{begun_after, Reading, Begin, Request, Response, request_reading, response_reading, reading_of}
 use Rattle.conode_explain_laws.proofs.Views.{View, read_as, hears, hears_answers, Knows, KnowsAside, aside_reads, aside_answers, begin_writes, is_begin}
 use Rattle.conode_explain_laws.proofs.Follows.{Follows, aside, asked, gone, segmented, blocks, all_sent, InSegments, in_segments, Ends, ends_aside, begun_by, client_no_response, is_response, Stays, answered_reads, asked_reads, is_first, again, response_read}
 use Rattle.conode_explain_laws.proofs.Begins.{answered, refused, closed, maybe_write, write_of, begins}
@@ -295,7 +295,7 @@ by_reading d contents stamp frame current heard held got done count (Begin new) 
     subst (λ before. Ends (opened_next d contents current frame) (set_next d contents current frame) before
     (hears_answers d.rows stamp (answers_to d contents current frame)
     (read_as d.rows (stamp count) Client frame (record { following = record { heard = heard; transfer = held }; got = got; done = done; count = count }) (Begin new)))) same
-    (begins d contents stamp current new (stamp count) frame _ (suc count) b small)
+    (begins d contents stamp current (begun_after held frame new) (stamp count) frame _ (suc count) b small)
 by_reading d contents stamp frame current heard held got done count reading e small h = goes_on d contents stamp frame current heard held got done count reading e refl h
 
 pub exchange : (d : Description) (contents : Contents) (stamp : ℕ → ℕ) (frame : List ℕ) (current : Option OpenTransfer) (v : View) → AreBytes frame → Following v current

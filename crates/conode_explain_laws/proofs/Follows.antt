@@ -38,9 +38,9 @@ use Rattle.conode_explain_transfers.specs.SegmentedTurns.{download_segment_at, u
 use Rattle.conode_explain_transfers.specs.Stages.{is_initiated, confirmed_with}
 use Rattle.conode_explain_transfers.specs.Transfers.{Turn, after, is_download, awaited_number, unexpected, repeated}
 use Rattle.conode_explain_transfers.specs.Turns.{request_turn}
-use Rattle.conode_explain_transfers.specs.Unanswered.{is_no_abort}
+use Rattle.conode_explain_transfers.specs.Unanswered.{is_next_segment, not_followed_by}
 use Rattle.conode_explain_laws.specs.Downloads.{Complete, initiated_by, write_said, write_set}
-use Rattle.conode_explain_laws.proofs.Readings.{Reading, Segment, Begin, Abort, Request, Response, Nothing, begun_with, begins_or, request_reading, response_reading, plain_reading, beginning, segment_reading, sub_block_reading, reading_of, turn_of}
+use Rattle.conode_explain_laws.proofs.Readings.{begun_after, begun_so, went_on_as, Reading, Segment, Begin, Abort, Request, Response, Nothing, begun_with, begins_or, request_reading, response_reading, plain_reading, beginning, segment_reading, sub_block_reading, reading_of, turn_of, begun_on, with_client}
 use Rattle.conode_explain_laws.proofs.Kept.{keeps}
 use Rattle.conode_explain_laws.proofs.Views.{abort_no_write, View, read_as, Knows, Closes, IsAside, KnowsAside, aside_turn, is_begin, no_write, aside_write}
 
@@ -112,11 +112,14 @@ ends_aside next set done v h = record { follows = aside_follows v.following.tran
 
 -- ---- how a frame is read
 
--- the request that a frame begins this transfer with
+-- the request that a frame begins this transfer with, whether its client went on or not
 pub record BegunBy (frame : List ℕ) (micros : ℕ) (new : Transfer) : Type 0 where
   pub request : SdoRequest
   pub is : request_in frame ≡ Some request
-  pub initiates : begun_with request micros frame ≡ Some new
+  pub initiates : begun_with request micros frame ≡ Some (went_on_as false new)
+
+pub begun_of : (frame : List ℕ) (micros : ℕ) (new : Transfer) (b : BegunBy frame micros new) → begun_on new.went_on b.request micros frame ≡ Some new
+begun_of frame micros new b = ap (with_client new.went_on) b.initiates
 
 beginning_is : (reading : Reading) (new : Transfer) → beginning reading ≡ Begin new → reading ≡ Begin new
 beginning_is (Begin other) new h = h
@@ -141,19 +144,19 @@ plain_is (Some t) micros frame new h = by (awaits_segment t Client) (is_abort_in
     by true false h = beginning_is (plain_reading Client micros frame) new (segment_is t.block_size (block_segment_in frame) _ new h)
     by false abort h = h
 
-begun_or : (frame : List ℕ) (micros : ℕ) (new : Transfer) (request : SdoRequest) (x : Option Transfer) → request_in frame ≡ Some request → begun_with request micros frame ≡ x
-    → begins_or x (Request request) ≡ Begin new → BegunBy frame micros new
-begun_or frame micros new request None q e h = absurd (let f : Request request ≡ Begin new = h in cc)
-begun_or frame micros new request (Some other) q e h =
-    let same : other ≡ new = cc in record { request = request; is = q; initiates = e ∙ ap (λ x. Some x) same }
+begun_or : (on : Bool) (frame : List ℕ) (micros : ℕ) (new : Transfer) (request : SdoRequest) (x : Option Transfer) → request_in frame ≡ Some request → begun_with request micros frame ≡ x
+    → begins_or x (Request request) ≡ Begin new → BegunBy frame micros (went_on_as on new)
+begun_or on frame micros new request None q e h = absurd (let f : Request request ≡ Begin new = h in cc)
+begun_or on frame micros new request (Some other) q e h =
+    let same : other ≡ new = cc in record { request = request; is = q; initiates = begun_so request micros frame new (e ∙ ap (λ x. Some x) same) }
 
-begun_request : (frame : List ℕ) (micros : ℕ) (new : Transfer) (r : Option SdoRequest) → request_in frame ≡ r → request_reading r micros frame ≡ Begin new → BegunBy frame micros new
-begun_request frame micros new None q h = absurd (let f : Nothing ≡ Begin new = h in cc)
-begun_request frame micros new (Some (Abandon key code)) q h = absurd (let f : Abort code ≡ Begin new = h in cc)
-begun_request frame micros new (Some request) q h = begun_or frame micros new request (begun_with request micros frame) q refl h
+begun_request : (on : Bool) (frame : List ℕ) (micros : ℕ) (new : Transfer) (r : Option SdoRequest) → request_in frame ≡ r → request_reading r micros frame ≡ Begin new → BegunBy frame micros (went_on_as on new)
+begun_request on frame micros new None q h = absurd (let f : Nothing ≡ Begin new = h in cc)
+begun_request on frame micros new (Some (Abandon key code)) q h = absurd (let f : Abort code ≡ Begin new = h in cc)
+begun_request on frame micros new (Some request) q h = begun_or on frame micros new request (begun_with request micros frame) q refl h
 
-pub begun_by : (current : Option Transfer) (micros : ℕ) (frame : List ℕ) (new : Transfer) → reading_of current Client micros frame ≡ Begin new → BegunBy frame micros new
-begun_by current micros frame new h = begun_request frame micros new (request_in frame) refl (plain_is current micros frame new h)
+pub begun_by : (current : Option Transfer) (micros : ℕ) (frame : List ℕ) (new : Transfer) → reading_of current Client micros frame ≡ Begin new → BegunBy frame micros (begun_after current frame new)
+begun_by current micros frame new h = begun_request (is_next_segment current frame) frame micros new (request_in frame) refl (plain_is current micros frame new h)
 
 -- outside a sub-block no segment is awaited of the server
 pub none_of_server : (stage : Stage) (direction : Direction) (protocol : Protocol) → is_in_sub_block stage ≡ false
@@ -324,7 +327,7 @@ answered_reads rows micros frame heard t got done count (Begin new) h n m = absu
 answered_reads rows micros frame heard t got done count (Response response) h n m = absurd (false≢true (sym m))
 answered_reads rows micros frame heard t got done count (Abort code) h n m = record {
   holds = tt;
-  same = ap (λ w. w ++ done) (no_write (is_download t.direction) _ (abort_no_write Client (is_no_abort t frame) code _));
+  same = ap (λ w. w ++ done) (no_write (is_download t.direction) _ (abort_no_write Client (not_followed_by Client t frame) code _));
 }
 answered_reads rows micros frame heard t got done count (Segment segment) h n m =
     answered_turn rows micros Client frame heard t got done count (Segment segment) h (late_segment_at t.stage t segment h.unconfirmed)
@@ -372,7 +375,7 @@ asked_reads rows micros frame heard t got done count (Begin new) h n m = absurd 
 asked_reads rows micros frame heard t got done count (Response response) h n m = absurd (false≢true (sym m))
 asked_reads rows micros frame heard t got done count (Abort code) h n m = record {
   holds = tt;
-  same = ap (λ w. w ++ done) (no_write (is_download t.direction) _ (abort_no_write Client (is_no_abort t frame) code _));
+  same = ap (λ w. w ++ done) (no_write (is_download t.direction) _ (abort_no_write Client (not_followed_by Client t frame) code _));
 }
 asked_reads rows micros frame heard t got done count (Segment segment) h n m =
     aside_turn rows micros Client frame heard t got done count (Segment segment) (inl (segment_spoils t segment h))

@@ -15,7 +15,7 @@ use Rattle.conode_explain_transfers.specs.Data.{data_with}
 use Rattle.conode_explain_transfers.specs.Followed.{with_frame, turns, turns_at}
 use Rattle.conode_explain_transfers.specs.Stages.{confirmed_with}
 use Rattle.conode_explain_transfers.specs.Transfers.{after, is_download}
-use Rattle.conode_explain_transfers.specs.Unanswered.{is_no_abort}
+use Rattle.conode_explain_transfers.specs.Unanswered.{not_followed_by}
 use Rattle.conode_explain_laws.specs.Downloads.{Complete, initiated_by, write_said}
 use Rattle.conode_explain_laws.proofs.Readings.{Reading, Segment, Begin, Abort, Request, Response, Nothing, reading_of, turn_of}
 use Rattle.conode_explain_laws.proofs.Kept.{keeps}
@@ -66,7 +66,7 @@ upload_reads rows micros side frame heard current got done count (Begin new) h n
 upload_reads rows micros side frame heard None got done count _ h n = record { holds = tt; same = refl }
 upload_reads rows micros side frame heard (Some t) got done count (Abort code) h n = record {
   holds = tt;
-  same = ap (λ w. w ++ done) (no_write (is_download t.direction) _ (abort_no_write side (is_no_abort t frame) code _));
+  same = ap (λ w. w ++ done) (no_write (is_download t.direction) _ (abort_no_write side (not_followed_by side t frame) code _));
 }
 upload_reads rows micros side frame heard (Some t) got done count (Segment segment) h n = upload_turn rows micros side frame heard t got done count (Segment segment) h
 upload_reads rows micros side frame heard (Some t) got done count (Request request) h n = upload_turn rows micros side frame heard t got done count (Request request) h

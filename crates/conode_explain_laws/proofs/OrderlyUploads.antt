@@ -29,7 +29,7 @@ use Rattle.conode_explain_transfers.specs.declared.transfer.Transfer.{Transfer}
 use Rattle.conode_explain_transfers.specs.Digests.{digest_of}
 use Rattle.conode_explain_laws.specs.Downloads.{Complete, is_block_begin, goes_up}
 use Rattle.conode_explain_laws.specs.Uploads.{Read, ended_by, read_served}
-use Rattle.conode_explain_laws.proofs.Readings.{Reading, Begin, Abort, request_reading, plain_reading, beginning, segment_reading, sub_block_reading, reading_of}
+use Rattle.conode_explain_laws.proofs.Readings.{begun_after, Reading, Begin, Abort, request_reading, plain_reading, beginning, segment_reading, sub_block_reading, reading_of}
 use Rattle.conode_explain_laws.proofs.Views.{View, is_begin}
 use Rattle.conode_explain_laws.proofs.Follows.{begun_by}
 use Rattle.conode_explain_laws.proofs.Begins.{in_blocks as blocks_asked, outside_answers, outside_opens}
@@ -206,7 +206,7 @@ module _ (d : Description) (contents : Contents) (stamp : ℕ → ℕ) (frame : 
       (hears_answers stamp (answers_to d contents current frame) y)) read
       (subst (λ before. GoesOn (opened_next d contents current frame) (acknowledged_next current frame) (answered_next d contents current frame) (read_served (ended_by (request_in frame) ended) (suc count) ++ before)
       (hears_answers stamp (answers_to d contents current frame) v)) (begin_writes (stamp count) frame heard held got done count new)
-      (from_ends _ _ _ _ _ _ (begins ⊥ d contents stamp current ended new (stamp count) frame v.done (suc count) (suc count) begun small lawful (inr n) (inr o))))
+      (from_ends _ _ _ _ _ _ (begins ⊥ d contents stamp current ended (begun_after held frame new) (stamp count) frame v.done (suc count) (suc count) begun small lawful (inr n) (inr o))))
   by_reading reading e n is a b x =
       to_after (read_as (stamp count) Client frame held_so reading) (ap (read_as (stamp count) Client frame held_so) (sym e))
       (later_goes d contents stamp frame current ended heard held got done count reading refl (begins_nothing (request_in frame) (stamp count) frame (sym (ap is_begin is))) a b o x)

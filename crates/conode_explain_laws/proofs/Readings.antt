@@ -1,6 +1,6 @@
 -- What explain reads frames as, under names of this crate: its own types aren't public. Each frame makes the same of a channel.
-use Rattle.std.proofs.Common.{◌≡◌, ℕ, Bool, true, false, List, [], Option, Some, None, refl}
-use Rattle.std.specs.Prelude.{if◌then◌else◌, nat_le}
+use Rattle.std.proofs.Common.{◌≡◌, ℕ, Bool, true, false, List, [], Option, Some, None, refl, ap, ◌∙◌, subst}
+use Rattle.std.specs.Prelude.{if◌then◌else◌, IfSome, nat_le}
 use Rattle.co_frame.specs.declared.abort_code.AbortCode.{AbortCode}
 use Rattle.co_frame.specs.declared.block_segment.BlockSegment.{BlockSegment}
 use Rattle.co_frame.specs.declared.sdo_request.SdoRequest.{SdoRequest}
@@ -24,6 +24,7 @@ use Rattle.conode_explain_transfers.specs.Initiates.{has_crc, data_of, initiate_
 use Rattle.conode_explain_transfers.specs.Readings.{reading_of as their_reading_of, plain_reading as their_plain_reading, request_reading as their_request_reading, response_reading as their_response_reading, sub_block_reading as their_sub_block_reading, segment_reading as their_segment_reading, beginning as their_beginning, awaits_segment}
 use Rattle.conode_explain_transfers.specs.Transfers.{Turn, begun, unexpected}
 use Rattle.conode_explain_transfers.specs.Turns.{request_turn, response_turn}
+use Rattle.conode_explain_transfers.specs.Unanswered.{is_next_segment}
 
 -- ---- readings
 
@@ -49,6 +50,32 @@ begun_with (BlockUploadInitiate key block_size threshold) micros frame =
 begun_with (BlockDownloadInitiate key size) micros frame =
     Some (begun (record (initiate_of key Download Block) { size = size; crc = has_crc frame; block_size = first_segment }) micros frame)
 begun_with _ micros frame = None
+
+-- a transfer of a client that went on, or not
+abbrev pub went_on_as : Bool → Transfer → Transfer
+went_on_as on t = record t { went_on = on }
+
+-- what a request begins, of such a client
+abbrev pub with_client : Bool → Option Transfer → Option Transfer
+with_client on None = None
+with_client on (Some t) = Some (went_on_as on t)
+
+abbrev pub begun_on : Bool → SdoRequest → ℕ → List ℕ → Option Transfer
+begun_on on request micros frame = with_client on (begun_with request micros frame)
+
+-- the client of that didn't go on
+pub begun_first : (request : SdoRequest) (micros : ℕ) (frame : List ℕ) → IfSome (begun_with request micros frame) (λ t. t.went_on ≡ false)
+begun_first (DownloadExpedited key value) micros frame = refl
+begun_first (DownloadInitiate key size) micros frame = refl
+begun_first (UploadInitiate key) micros frame = refl
+begun_first (BlockUploadInitiate key block_size threshold) micros frame = refl
+begun_first (BlockDownloadInitiate key size) micros frame = refl
+begun_first _ micros frame = tt
+
+pub begun_so : (request : SdoRequest) (micros : ℕ) (frame : List ℕ) (t : Transfer) → begun_with request micros frame ≡ Some t → begun_with request micros frame ≡ Some (went_on_as false t)
+begun_so request micros frame t e =
+    let first : t.went_on ≡ false = subst (λ x. IfSome x (λ t. t.went_on ≡ false)) e (begun_first request micros frame) in
+    e ∙ ap (λ on. Some (went_on_as on t)) first
 
 abbrev pub begins_or : Option Transfer → Reading → Reading
 begins_or (Some t) otherwise = Begin t
@@ -94,10 +121,14 @@ turn_of t (Request request) frame = request_turn t request frame
 turn_of t (Response response) frame = response_turn t response frame
 turn_of t _ frame = unexpected t
 
+-- one that begins after what is open: where its request may be a segment, the client went on
+abbrev pub begun_after : Option Transfer → List ℕ → Transfer → Transfer
+begun_after current frame t = went_on_as (is_next_segment current frame) t
+
 abbrev pub follows_by : Bool → Option Transfer → Reading → ℕ → Side → List ℕ → Followed
 follows_by heard current (Begin t) micros side frame = record {
   says = record { what = Initiate; of = None; ended = left current micros frame };
-  next = record { heard = true; transfer = Some t };
+  next = record { heard = true; transfer = Some (begun_after current frame t) };
 }
 follows_by heard None _ micros side frame = passes heard
 follows_by heard (Some t) (Abort code) micros side frame = aborts heard t side code micros frame

@@ -40,10 +40,10 @@ use Rattle.conode_explain_transfers.specs.Readings.{may_have_segment, is_sender}
 use Rattle.conode_explain_transfers.specs.Stages.{confirmed_with}
 use Rattle.conode_explain_transfers.specs.Transfers.{after, is_download, goes_on as part, takes_pending, unexpected}
 use Rattle.conode_explain_transfers.proofs.DataLemmas.{taking}
-use Rattle.conode_explain_transfers.specs.Unanswered.{is_no_abort}
+use Rattle.conode_explain_transfers.specs.Unanswered.{not_followed_by}
 use Rattle.conode_explain_laws.specs.Downloads.{Complete, is_block_begin, if_done}
 use Rattle.conode_explain_laws.specs.Uploads.{is_upload, Read, ended_by, read_served}
-use Rattle.conode_explain_laws.proofs.Readings.{Reading, Segment, Begin, Abort, Request, Response, Nothing, request_reading, response_reading, plain_reading, sub_block_reading, reading_of, turn_of}
+use Rattle.conode_explain_laws.proofs.Readings.{begun_after, Reading, Segment, Begin, Abort, Request, Response, Nothing, request_reading, response_reading, plain_reading, sub_block_reading, reading_of, turn_of}
 use Rattle.conode_explain_laws.proofs.Views.{abort_no_write, View, Closes, no_write, is_begin}
 use Rattle.conode_explain_laws.proofs.Follows.{begun_by, client_no_response, is_response, request_spoils, segment_spoils}
 use Rattle.conode_explain_laws.proofs.Begins.{outside_answers, outside_opens, write_of}
@@ -467,7 +467,7 @@ asked_reads Loose micros frame heard t got done count (Begin new) l h n m = absu
 asked_reads Loose micros frame heard t got done count (Response response) l h n m = absurd (false≢true (sym m))
 asked_reads Loose micros frame heard t got done count (Abort code) l h n m = record {
   holds = tt;
-  same = ap (λ w. w ++ done) (no_write (is_upload t.direction) _ (abort_no_write Client (is_no_abort t frame) code _));
+  same = ap (λ w. w ++ done) (no_write (is_upload t.direction) _ (abort_no_write Client (not_followed_by Client t frame) code _));
 }
 asked_reads Loose micros frame heard t got done count (Segment segment) l h n m = aside_turn Loose micros Client frame heard t got done count (Segment segment) (inl (l, segment_spoils t segment h))
 asked_reads Loose micros frame heard t got done count (Request request) l h n m = aside_turn Loose micros Client frame heard t got done count (Request request) (inl (l, request_spoils t request frame h))
@@ -546,7 +546,7 @@ module _ (Loose : Type 0) (d : Description) (contents : Contents) (stamp : ℕ �
       let first : Loose ⊎ (is_block_begin (request_in frame) ≡ false) = elim plain [ inl l ↦ inl l | inr p ↦ inr p.0 ] in
       subst (λ before. Ends Loose (opened_next d contents current frame) (acknowledged_next current frame) (answered_next d contents current frame) (read_served (ended_by (request_in frame) ended) (suc count) ++ before) before
       (hears_answers stamp (answers_to d contents current frame) v)) (begin_writes (stamp count) frame heard held got done count new)
-      (begins Loose d contents stamp current ended new (stamp count) frame v.done (suc count) (suc count) b small lawful first (outside_or Loose held got current ended h))
+      (begins Loose d contents stamp current ended (begun_after held frame new) (stamp count) frame v.done (suc count) (suc count) b small lawful first (outside_or Loose held got current ended h))
   by_reading current held reading e small lawful h kept plain = goes_on current held reading e refl h kept plain
 
 pub exchange : (Loose : Type 0) (d : Description) (contents : Contents) (stamp : ℕ → ℕ) (frame : List ℕ) (current : Option OpenTransfer) (ended : Option Read) (v : View) → AreBytes frame → IsDictionary d contents

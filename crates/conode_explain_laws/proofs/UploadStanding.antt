@@ -48,10 +48,10 @@ use Rattle.conode_explain_transfers.specs.Initiates.{has_crc, initiate_of}
 use Rattle.conode_explain_transfers.specs.Stages.{confirmed_with}
 use Rattle.conode_explain_transfers.specs.Transfers.{Turn, begun as begun_with_initiate, is_download, unexpected}
 use Rattle.conode_explain_transfers.specs.Turns.{request_turn}
-use Rattle.conode_explain_transfers.specs.Unanswered.{is_no_abort}
+use Rattle.conode_explain_transfers.specs.Unanswered.{not_followed_by}
 use Rattle.conode_explain_laws.specs.Downloads.{Complete, is_block_begin, if_done}
 use Rattle.conode_explain_laws.specs.Uploads.{is_upload, Read, ended_by, read_served}
-use Rattle.conode_explain_laws.proofs.Readings.{Reading, Segment, Begin, Abort, Request, Response, Nothing, begun_with, begins_or, request_reading, response_reading, reading_of, turn_of}
+use Rattle.conode_explain_laws.proofs.Readings.{went_on_as, Reading, Segment, Begin, Abort, Request, Response, Nothing, begun_with, begins_or, request_reading, response_reading, reading_of, turn_of}
 use Rattle.conode_explain_laws.proofs.Views.{abort_no_write, View, Closes, no_write, is_begin}
 use Rattle.conode_explain_laws.proofs.Follows.{IsLate, late_segment_at, late_other, BegunBy, is_response}
 use Rattle.conode_explain_laws.proofs.Begins.{HasKey, has_key, small_index, inside_answers, outside_answers, outside_opens, response_is, acknowledged_spoils, awaits}
@@ -244,39 +244,39 @@ pub few : (value : List ℕ) → (nat_le 1 (length value) && nat_le (length valu
 few value e = grind (arith, nat_tests)
 
 -- it is answered at once
-pub expedited_done : (Loose : Type 0) (stamp : ℕ → ℕ) (key : Key) (value : List ℕ) (micros : ℕ) (frame : List ℕ) (done : List Complete) (count : ℕ)
+pub expedited_done : (on : Bool) (Loose : Type 0) (stamp : ℕ → ℕ) (key : Key) (value : List ℕ) (micros : ℕ) (frame : List ℕ) (done : List Complete) (count : ℕ)
     → key.index < 65536 → (nat_le 1 (length value) && nat_le (length value) 4) ≡ true
-    → Ends Loose None None (Some (record { key = key; bytes = value })) done done (hears_answers stamp (Replied (UploadExpedited key (Indicated (record { items = value }))) ∷ []) (asks (uploads key micros frame) done count))
-expedited_done Loose stamp key value micros frame done count k e =
+    → Ends Loose None None (Some (record { key = key; bytes = value })) done done (hears_answers stamp (Replied (UploadExpedited key (Indicated (record { items = value }))) ∷ []) (asks (went_on_as on (uploads key micros frame)) done count))
+expedited_done on Loose stamp key value micros frame done count k e =
     let response = UploadExpedited key (Indicated (record { items = value })) in
-    answered stamp response (asks (uploads key micros frame) done count) (Response response) (Ends Loose None None (Some (record { key = key; bytes = value })) done done)
-    (response_is response (uploads key micros frame) (stamp count) refl (expedited_sent_read key value k (is_some value e) (few value e)))
+    answered stamp response (asks (went_on_as on (uploads key micros frame)) done count) (Response response) (Ends Loose None None (Some (record { key = key; bytes = value })) done done)
+    (response_is response (went_on_as on (uploads key micros frame)) (stamp count) refl (expedited_sent_read key value k (is_some value e) (few value e)))
     (rw (same_key-refl key) (record { follows = inr (record { none = refl; no_end = refl }); reads = inr refl }))
 
 -- it is answered in segments
-pub segments_begin : (Loose : Type 0) (stamp : ℕ → ℕ) (key : Key) (value : List ℕ) (micros : ℕ) (frame : List ℕ) (done : List Complete) (count : ℕ)
+pub segments_begin : (on : Bool) (Loose : Type 0) (stamp : ℕ → ℕ) (key : Key) (value : List ℕ) (micros : ℕ) (frame : List ℕ) (done : List Complete) (count : ℕ)
     → key.index < 65536 → length value ≤ 65535
-    → Ends Loose (opened_at key (Uploading 0) value) None None done done (hears_answers stamp (Replied (UploadInitiated key (Some (length value))) ∷ []) (asks (uploads key micros frame) done count))
-segments_begin Loose stamp key value micros frame done count k m =
+    → Ends Loose (opened_at key (Uploading 0) value) None None done done (hears_answers stamp (Replied (UploadInitiated key (Some (length value))) ∷ []) (asks (went_on_as on (uploads key micros frame)) done count))
+segments_begin on Loose stamp key value micros frame done count k m =
     let response = UploadInitiated key (Some (length value)) in
-    answered stamp response (asks (uploads key micros frame) done count) (Response response) (Ends Loose (opened_at key (Uploading 0) value) None None done done)
+    answered stamp response (asks (went_on_as on (uploads key micros frame)) done count) (Response response) (Ends Loose (opened_at key (Uploading 0) value) None None done done)
     (ap response_reading (upload_initiated_read key (length value) k (omega (arith, m))))
     (rw (same_key-refl key) (record {
       follows = segmented 0 value (record { direction = refl; stage = refl; regular = refl; size = refl; few = m }) refl refl refl;
       reads = inr refl;
     }))
 
-pub upload_begins : (Loose : Type 0) (stamp : ℕ → ℕ) (key : Key) (value : List ℕ) (micros : ℕ) (frame : List ℕ) (done : List Complete) (count : ℕ)
+pub upload_begins : (on : Bool) (Loose : Type 0) (stamp : ℕ → ℕ) (key : Key) (value : List ℕ) (micros : ℕ) (frame : List ℕ) (done : List Complete) (count : ℕ)
     → key.index < 65536 → length value ≤ 65535
     → Ends Loose (after_upload_initiate key value) None (if nat_le 1 (length value) && nat_le (length value) 4 then Some (record { key = key; bytes = value }) else None) done done
-    (hears_answers stamp (upload_initiated key value) (asks (uploads key micros frame) done count))
-upload_begins Loose stamp key value micros frame done count k m = by (nat_le 1 (length value) && nat_le (length value) 4) refl
+    (hears_answers stamp (upload_initiated key value) (asks (went_on_as on (uploads key micros frame)) done count))
+upload_begins on Loose stamp key value micros frame done count k m = by (nat_le 1 (length value) && nat_le (length value) 4) refl
   where
     by : (short : Bool) → (nat_le 1 (length value) && nat_le (length value) 4) ≡ short
         → Ends Loose (if short then None else opened_at key (Uploading 0) value) None (if short then Some (record { key = key; bytes = value }) else None) done done
-        (hears_answers stamp (if short then Replied (UploadExpedited key (Indicated (record { items = value }))) ∷ [] else Replied (UploadInitiated key (Some (length value))) ∷ []) (asks (uploads key micros frame) done count))
-    by true e = expedited_done Loose stamp key value micros frame done count k e
-    by false e = segments_begin Loose stamp key value micros frame done count k m
+        (hears_answers stamp (if short then Replied (UploadExpedited key (Indicated (record { items = value }))) ∷ [] else Replied (UploadInitiated key (Some (length value))) ∷ []) (asks (went_on_as on (uploads key micros frame)) done count))
+    by true e = expedited_done on Loose stamp key value micros frame done count k e
+    by false e = segments_begin on Loose stamp key value micros frame done count k m
 
 -- an upload in blocks
 abbrev pub in_blocks : Key → ℕ → ℕ → List ℕ → Transfer
@@ -296,12 +296,12 @@ block_size_small size h =
     let within : nat_le size 127 ≡ true = second_true (nat_le 1 size) (nat_le size 127) (not_refused _ _ h) in
     grind (arith, nat_tests)
 
-pub blocks_begin : (Loose : Type 0) (stamp : ℕ → ℕ) (key : Key) (block_size : ℕ) (value : List ℕ) (micros : ℕ) (frame : List ℕ) (done : List Complete) (count : ℕ)
+pub blocks_begin : (on : Bool) (Loose : Type 0) (stamp : ℕ → ℕ) (key : Key) (block_size : ℕ) (value : List ℕ) (micros : ℕ) (frame : List ℕ) (done : List Complete) (count : ℕ)
     → key.index < 65536 → length value ≤ 65535 → block_size < 128
-    → Ends Loose (opened_at key (Begun block_size) value) None None done done (hears_answers stamp (Replied (BlockUploadInitiated key (Some (length value))) ∷ []) (asks (in_blocks key block_size micros frame) done count))
-blocks_begin Loose stamp key block_size value micros frame done count k m small =
+    → Ends Loose (opened_at key (Begun block_size) value) None None done done (hears_answers stamp (Replied (BlockUploadInitiated key (Some (length value))) ∷ []) (asks (went_on_as on (in_blocks key block_size micros frame)) done count))
+blocks_begin on Loose stamp key block_size value micros frame done count k m small =
     let response = BlockUploadInitiated key (Some (length value)) in
-    answered stamp response (asks (in_blocks key block_size micros frame) done count) (Response response) (Ends Loose (opened_at key (Begun block_size) value) None None done done)
+    answered stamp response (asks (went_on_as on (in_blocks key block_size micros frame)) done count) (Response response) (Ends Loose (opened_at key (Begun block_size) value) None None done done)
     (ap response_reading (block_upload_initiated_read key (length value) k (omega (arith, m))))
     (rw (same_key-refl key) (record {
       follows = begun block_size value
@@ -329,42 +329,44 @@ module _ (Loose : Type 0) (d : Description) (contents : Contents) (stamp : ℕ �
       Ends Loose (after_request d contents current (Some request)) (acknowledged_by current (Some request)) (answered_by d contents current (Some request))
       (read_served (ended_by (Some request) ended) n ++ done) done (hears_answers stamp (request_answers d contents current (Some request)) (asks t done count))
 
-  pub outside : (request : SdoRequest) → begun_with request micros frame ≡ Some t → HasKey frame request → AreBytes frame → IsDictionary d contents → Loose ⊎ (is_block_begin (Some request) ≡ false) → Begins request
+  pub outside : (request : SdoRequest) → begun_with request micros frame ≡ Some (went_on_as false t) → HasKey frame request → AreBytes frame → IsDictionary d contents → Loose ⊎ (is_block_begin (Some request) ≡ false) → Begins request
   outside (UploadInitiate key) e k small lawful plain =
-      let same : uploads key micros frame ≡ t = cc in
+      let first : uploads key micros frame ≡ went_on_as false t = cc in
+      let same : went_on_as t.went_on (uploads key micros frame) ≡ t = ap (went_on_as t.went_on) first in
       let index : key.index < 65536 = subst (λ x. x.index < 65536) (sym k) (small_index frame small) in
       let value = value_at contents key in
       let refusal = reading_refusal d contents key in
       let answer : Option Read = if nat_le 1 (length value) && nat_le (length value) 4 then Some (record { key = key; bytes = value }) else None in
       subst (λ u. Ends Loose (unless refusal (after_upload_initiate key value)) None (unless refusal answer) done done
       (hears_answers stamp (unless_refused refusal key (upload_initiated key value)) (asks u done count))) same
-      (refused Loose stamp refusal key (upload_initiated key value) (after_upload_initiate key value) answer done (asks (uploads key micros frame) done count) refl
-      (λ r. upload_begins Loose stamp key value micros frame done count index (few_bytes d contents key lawful)))
+      (refused Loose stamp refusal key (upload_initiated key value) (after_upload_initiate key value) answer done (asks (went_on_as t.went_on (uploads key micros frame)) done count) refl
+      (λ r. upload_begins t.went_on Loose stamp key value micros frame done count index (few_bytes d contents key lawful)))
   outside (BlockUploadInitiate key block_size threshold) e k small lawful plain =
-      let same : in_blocks key block_size micros frame ≡ t = cc in
+      let first : in_blocks key block_size micros frame ≡ went_on_as false t = cc in
+      let same : went_on_as t.went_on (in_blocks key block_size micros frame) ≡ t = ap (went_on_as t.went_on) first in
       let index : key.index < 65536 = subst (λ x. x.index < 65536) (sym k) (small_index frame small) in
       let value = value_at contents key in
       let refusal = first_of (reading_refusal d contents key) (block_size_refusal block_size) in
       let response = BlockUploadInitiated key (Some (length value)) in
       subst (λ u. Ends Loose (unless refusal (opened_at key (Begun block_size) value)) None None done done
       (hears_answers stamp (unless_refused refusal key (Replied response ∷ [])) (asks u done count))) same
-      (refused_begin Loose stamp refusal key (Replied response ∷ []) (opened_at key (Begun block_size) value) done (asks (in_blocks key block_size micros frame) done count) refl
-      (λ r. blocks_begin Loose stamp key block_size value micros frame done count index (few_bytes d contents key lawful)
+      (refused_begin Loose stamp refusal key (Replied response ∷ []) (opened_at key (Begun block_size) value) done (asks (went_on_as t.went_on (in_blocks key block_size micros frame)) done count) refl
+      (λ r. blocks_begin t.went_on Loose stamp key block_size value micros frame done count index (few_bytes d contents key lawful)
       (block_size_small block_size (second_none (reading_refusal d contents key) (block_size_refusal block_size) r))))
   outside (DownloadExpedited key value) e k small lawful plain =
-      let p : t.direction ≡ Download = download (begun_with (DownloadExpedited key value) micros frame) t e refl in
+      let p : t.direction ≡ Download = download (begun_with (DownloadExpedited key value) micros frame) (went_on_as false t) e refl in
       ends_aside Loose _ _ done done _ (inr (record { none = refl; no_end = refl }))
       (aside_answers Loose stamp (request_answers d contents current (Some (DownloadExpedited key value))) done (asks t done count) (record { holds = inr p; same = refl }))
   outside (DownloadInitiate key size) e k small lawful plain =
-      let p : t.direction ≡ Download = download (begun_with (DownloadInitiate key size) micros frame) t e refl in
+      let p : t.direction ≡ Download = download (begun_with (DownloadInitiate key size) micros frame) (went_on_as false t) e refl in
       ends_aside Loose _ _ done done _ (inr (record { none = unless_no_upload (initiate_refusal d key size) (opened_at key (Receiving size false) []) refl; no_end = refl }))
       (aside_answers Loose stamp (request_answers d contents current (Some (DownloadInitiate key size))) done (asks t done count) (record { holds = inr p; same = refl }))
   outside (BlockDownloadInitiate key size) e k small lawful (inr plain) = absurd (false≢true (sym plain))
   outside (BlockDownloadInitiate key size) e k small lawful (inl l) =
-      let p : t.direction ≡ Download = download (begun_with (BlockDownloadInitiate key size) micros frame) t e refl in
+      let p : t.direction ≡ Download = download (begun_with (BlockDownloadInitiate key size) micros frame) (went_on_as false t) e refl in
       ends_aside Loose _ _ done done _ (inl l)
       (aside_answers Loose stamp (request_answers d contents current (Some (BlockDownloadInitiate key size))) done (asks t done count) (record { holds = inr p; same = refl }))
-  outside _ e k small lawful plain = absurd (let f : None ≡ Some t = e in cc)
+  outside _ e k small lawful plain = absurd (let f : None ≡ Some (went_on_as false t) = e in cc)
 
 pub outside_answered : (d : Description) (contents : Contents) (current : Option OpenTransfer) (frame : List ℕ) → is_in_sub_block current ≡ false → answered_next d contents current frame ≡ answered_by d contents current (request_in frame)
 outside_answered d contents current frame h = rw h refl
@@ -434,7 +436,7 @@ pub quiet : (micros : ℕ) (frame : List ℕ) (heard : Bool) (t : Transfer) (got
     → (read_as micros Client frame (holds heard (Some t) got done count) reading).done ≡ done
 quiet micros frame heard t got done count (Begin new) u n m late = absurd (false≢true (sym n))
 quiet micros frame heard t got done count (Response response) u n m late = absurd (false≢true (sym m))
-quiet micros frame heard t got done count (Abort code) u n m late = ap (λ w. w ++ done) (no_write (is_upload t.direction) _ (abort_no_write Client (is_no_abort t frame) code _))
+quiet micros frame heard t got done count (Abort code) u n m late = ap (λ w. w ++ done) (no_write (is_upload t.direction) _ (abort_no_write Client (not_followed_by Client t frame) code _))
 quiet micros frame heard t got done count (Segment segment) u n m late = late_turn micros Client heard t got done count (turn_of t (Segment segment) frame) (late_segment_at t.stage t segment u)
 quiet micros frame heard t got done count (Request request) u n m late = late_turn micros Client heard t got done count (turn_of t (Request request) frame) late
 quiet micros frame heard t got done count Nothing u n m late = late_turn micros Client heard t got done count (turn_of t Nothing frame) (inl refl)

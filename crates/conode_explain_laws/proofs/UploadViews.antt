@@ -17,7 +17,7 @@ use Rattle.conode_explain_transfers.specs.Endings.{verdict}
 use Rattle.conode_explain_transfers.specs.Followed.{Event, Followed, following_after, with_frame, turns, turns_at}
 use Rattle.conode_explain_transfers.specs.Stages.{confirmed_with}
 use Rattle.conode_explain_transfers.specs.Transfers.{Turn, after, is_same_request}
-use Rattle.conode_explain_transfers.specs.Unanswered.{is_lost, is_no_abort, number_of, segment_follows}
+use Rattle.conode_explain_transfers.specs.Unanswered.{is_lost, not_followed_by, number_of, segment_follows}
 use Rattle.conode_explain_laws.specs.Recordings.{and_frame, and_answers}
 use Rattle.conode_explain_laws.specs.Downloads.{Complete, if_done}
 use Rattle.conode_explain_laws.specs.Uploads.{is_upload, read_said, uploads_done}
@@ -95,7 +95,7 @@ pub abort_closes : (micros : ℕ) (side : Side) (frame : List ℕ) (heard : Bool
 abort_closes micros side frame heard None got done count (Abort code) h = record { none = refl; same = refl }
 abort_closes micros side frame heard (Some t) got done count (Abort code) h = record {
   none = refl;
-  same = ap (λ w. w ++ done) (no_write (is_upload t.direction) _ (abort_no_write side (is_no_abort t frame) code _));
+  same = ap (λ w. w ++ done) (no_write (is_upload t.direction) _ (abort_no_write side (not_followed_by side t frame) code _));
 }
 abort_closes micros side frame heard current got done count _ h = absurd (false≢true h)
 
@@ -182,7 +182,7 @@ module _ (Loose : Type 0) where
   aside_reads micros side frame heard None got done count _ h n = record { holds = tt; same = refl }
   aside_reads micros side frame heard (Some t) got done count (Abort code) h n = record {
     holds = tt;
-    same = ap (λ w. w ++ done) (no_write (is_upload t.direction) _ (abort_no_write side (is_no_abort t frame) code _));
+    same = ap (λ w. w ++ done) (no_write (is_upload t.direction) _ (abort_no_write side (not_followed_by side t frame) code _));
   }
   aside_reads micros side frame heard (Some t) got done count (Segment segment) h n = aside_kept micros side frame heard t got done count (Segment segment) h
   aside_reads micros side frame heard (Some t) got done count (Request request) h n = aside_kept micros side frame heard t got done count (Request request) h

@@ -26,7 +26,7 @@ use Rattle.conode_explain_transfers.specs.Followed.{Event, Following, Followed, 
 use Rattle.conode_explain_transfers.specs.Readings.{awaits_segment}
 use Rattle.conode_explain_transfers.specs.Stages.{confirmed_with}
 use Rattle.conode_explain_transfers.specs.Transfers.{after, is_download, is_same_request}
-use Rattle.conode_explain_transfers.specs.Unanswered.{is_lost, is_no_abort, number_of, segment_follows}
+use Rattle.conode_explain_transfers.specs.Unanswered.{is_lost, not_followed_by, number_of, segment_follows}
 use Rattle.conode_explain_laws.specs.Recordings.{and_frame, and_answers}
 use Rattle.conode_explain_laws.specs.Downloads.{Complete, initiated_by, if_done, write_said, downloads_done}
 use Rattle.conode_explain_laws.proofs.Readings.{Reading, Segment, Begin, Abort, Request, Response, Nothing, response_reading, plain_reading, beginning, segment_reading, sub_block_reading, reading_of, turn_of, follows_by, bytes_by, same as same_reading}
@@ -107,10 +107,9 @@ left_no_write false false true number by write = refl
 left_no_write false false false number Client write = refl
 left_no_write false false false number Server write = refl
 
-pub abort_no_write : {A : Type 0} (side : Side) (none : Bool) (code : AbortCode) (write : List A) → if_done (abort_ending side none code) write ≡ []
-abort_no_write Server none code write = refl
-abort_no_write Client true code write = refl
-abort_no_write Client false code write = refl
+pub abort_no_write : {A : Type 0} (side : Side) (segment : Option (Option ℕ)) (code : AbortCode) (write : List A) → if_done (abort_ending side segment code) write ≡ []
+abort_no_write side None code write = refl
+abort_no_write side (Some next) code write = refl
 
 -- ---- an initiate request
 
@@ -138,7 +137,7 @@ pub abort_closes : (rows : Rows) (micros : ℕ) (side : Side) (frame : List ℕ)
 abort_closes rows micros side frame heard None got done count (Abort code) h = record { none = refl; same = refl }
 abort_closes rows micros side frame heard (Some t) got done count (Abort code) h = record {
   none = refl;
-  same = ap (λ w. w ++ done) (no_write (is_download t.direction) _ (abort_no_write side (is_no_abort t frame) code _));
+  same = ap (λ w. w ++ done) (no_write (is_download t.direction) _ (abort_no_write side (not_followed_by side t frame) code _));
 }
 abort_closes rows micros side frame heard current got done count _ h = absurd (false≢true h)
 
@@ -201,7 +200,7 @@ aside_reads rows micros side frame heard current got done count (Begin new) h n 
 aside_reads rows micros side frame heard None got done count _ h n = record { holds = tt; same = refl }
 aside_reads rows micros side frame heard (Some t) got done count (Abort code) h n = record {
   holds = tt;
-  same = ap (λ w. w ++ done) (no_write (is_download t.direction) _ (abort_no_write side (is_no_abort t frame) code _));
+  same = ap (λ w. w ++ done) (no_write (is_download t.direction) _ (abort_no_write side (not_followed_by side t frame) code _));
 }
 aside_reads rows micros side frame heard (Some t) got done count (Segment segment) h n =
     aside_turn rows micros side frame heard t got done count (Segment segment) (stays_aside t (turn_of t (Segment segment) frame).transfer (keeps t (Segment segment) frame) h)

@@ -17,8 +17,7 @@ use Rattle.conode_explain_values.specs.Values.{entry_text, value_text}
 use Rattle.conode_explain_pdo.specs.declared.cob_id.SheetCobId.{SheetCobId}
 use Rattle.conode_explain_pdo.specs.declared.entry_bits.EntryBits.{EntryBits}
 use Rattle.conode_explain_pdo.specs.EntryBits.{entry_bits, place_from, shown_bits}
-use Rattle.conode_explain_services.specs.Codes.{code_words, known_class, single_words}
-use Rattle.conode_explain_services.specs.Drives.{command_words, controlword_words, drive_words, meaning_at, mode_words, state_words, statusword_words, word_text}
+use Rattle.conode_explain_services.specs.Drives.{drive_words, meaning_at, mode_words, state_words, statusword_words, word_text}
 use Rattle.conode_explain_pdo.specs.KnownEntries.{Device, is_node_drive, known_text}
 use Rattle.conode_text.specs.Filled.{filled}
 use Rattle.conode_explain_pdo.specs.Mappings.{addressed_text, addressing_word, bits_at, data_text, mapped_text, missing_text, more_parts, more_text, multiplexed_data, multiplexed_text, part_bytes, part_text, parts_text, short_text}

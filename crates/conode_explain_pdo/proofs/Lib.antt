@@ -1,5 +1,6 @@
 pub mod Claims
 pub mod Examples
+pub mod NamedIds
 pub mod NoClaims
 pub mod Parts
 pub mod Pieces

@@ -10,9 +10,10 @@ use Rattle.conode_explain_entries.specs.declared.entries.ShownPdo.{ShownPdo}
 use Rattle.conode_explain_pdo.specs.declared.claim.Claim.{Claim}
 use Rattle.conode_explain_pdo.specs.declared.sheet.SheetPdo.{SheetPdo}
 use Rattle.conode_explain_pdo.specs.Buses.{Bus}
-use Rattle.conode_explain_pdo.specs.Claims.{both_claims, claim_of, sheet_may_have, may_be_shown, kind_claims, may_be_claimed, may_have, sheet_claim, sheet_claims, sheets_claims, shown_claim}
+use Rattle.conode_explain_pdo.specs.Claims.{both_claims, claim_of, sheet_may_have, may_be_shown, kind_claims, may_be_claimed, sheet_claim, sheet_claims, sheets_claims, shown_claim}
 use Rattle.conode_explain_pdo.specs.CobIds.{node_with}
 use Rattle.conode_explain_pdo.specs.Known.{KnownSheet, is_on}
+use Rattle.conode_explain_pdo.specs.Named.{may_have}
 
 if_none : {A B : Type 0} (test : Bool) (f : A → Option B) (found : Option A) → is_some found ≡ false
     → (if test then option_and_then f found else None) ≡ None

@@ -13,7 +13,8 @@ use Rattle.conode_explain_entries.specs.Histories.{assumed_values}
 use Rattle.conode_explain_pdo.specs.declared.service_ids.NamedService.{NamedService}
 use Rattle.conode_explain_pdo.specs.declared.service_ids.NamedService.TheVariants.{Sync, Time, Emergency}
 use Rattle.conode_explain_pdo.specs.Known.{KnownSheet}
-use Rattle.conode_explain_pdo.specs.ServiceIds.{names_id, service_by_sheet, service_by_shown, service_with, service_word}
+use Rattle.conode_explain_pdo.specs.Named.{names_id}
+use Rattle.conode_explain_pdo.specs.ServiceIds.{service_by_sheet, service_by_shown, service_with, service_word}
 use Rattle.conode_explain_pdo.specs.SheetServices.{is_service_index, service_in_row, sheet_services}
 
 -- ---- a COB-ID

@@ -1,5 +1,5 @@
 -- Whose PDOs have an identifier, by the data sheets and by what the recording shows.
-use Rattle.std.specs.Prelude.{ℕ, Bool, false, not, ◌&&◌, ◌||◌, if◌then◌else◌, List, [], ◌∷◌, ◌++◌, filter_map, Option, Some, None, option_and_then, is_none, is_some}
+use Rattle.std.specs.Prelude.{ℕ, Bool, false, not, ◌&&◌, ◌||◌, if◌then◌else◌, List, [], ◌∷◌, ◌++◌, filter_map, Option, Some, None, option_and_then, is_none}
 use Rattle.std.specs.List.{list_any}
 use Rattle.std.specs.Option.{option_map_or}
 use Rattle.std.specs.Str.{bytes_eq}
@@ -15,6 +15,7 @@ use Rattle.conode_explain_pdo.specs.Buses.{Bus}
 use Rattle.conode_explain_pdo.specs.CobIds.{has_identifier, may_be_pdo, node_with}
 use Rattle.conode_explain_pdo.specs.InForce.{is_from, state_at}
 use Rattle.conode_explain_pdo.specs.Known.{KnownSheet, is_on, sheet_for}
+use Rattle.conode_explain_pdo.specs.Named.{may_have}
 
 -- ---- by the data sheets
 
@@ -74,10 +75,6 @@ abbrev pub both_claims : Bus → ℕ → List Claim
 both_claims bus id = kind_claims bus tpdo_communication id ++ kind_claims bus rpdo_communication id
 
 -- ---- a look before: most identifiers are no PDO's
-
--- a sheet's PDO would have the identifier, whatever else the recording shows
-abbrev pub may_have : Option ℕ → ℕ → SheetPdo → Bool
-may_have only id pdo = is_some (node_with only pdo.cob_id id)
 
 abbrev pub sheet_may_have : ℕ → KnownSheet → Bool
 sheet_may_have id sheet = list_any (may_have sheet.names.only id) sheet.pdos

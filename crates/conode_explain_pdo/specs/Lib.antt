@@ -9,6 +9,7 @@ pub mod InForce
 pub mod Known
 pub mod KnownEntries
 pub mod Mappings
+pub mod Named
 pub mod Pdos
 pub mod ServiceIds
 pub mod SheetServices

@@ -1,6 +1,6 @@
 -- Which of SYNC, TIME and the emergencies a frame is, by the COB-IDs of data sheets and of the
 -- recording: 1005h, 1012h and 1014h (CiA 301, 7.5.2.5, 7.5.2.15 and 7.5.2.17).
-use Rattle.std.specs.Prelude.{ℕ, ◌/◌, ◌%◌, ◌^◌, ◌==◌, nat_lt, Bool, true, false, not, ◌&&◌, ◌||◌, if◌then◌else◌, List, [], ◌∷◌, filter_map, find, Option, Some, None, is_none, option_map}
+use Rattle.std.specs.Prelude.{ℕ, ◌==◌, Bool, false, not, ◌&&◌, if◌then◌else◌, List, [], ◌∷◌, filter_map, find, Option, Some, None, is_none, option_map}
 use Rattle.std.specs.Option.{option_map_or}
 use Rattle.std.specs.Str.{bytes_eq}
 use Rattle.conode_explain_entries.specs.declared.entries.ShownPdo.{ShownPdo}
@@ -14,22 +14,10 @@ use Rattle.conode_explain_pdo.specs.ChannelWords.{shown_in}
 use Rattle.conode_explain_pdo.specs.CobIds.{is_node, may_be_pdo, node_for, word_for}
 use Rattle.conode_explain_pdo.specs.InForce.{number_by, state_at, value_at}
 use Rattle.conode_explain_pdo.specs.Known.{KnownSheet, is_on, services_for}
+use Rattle.conode_explain_pdo.specs.Named.{may_name, names_id}
 use Rattle.conode_explain_pdo.specs.SheetServices.{is_service_index}
 
 -- ---- what a COB-ID says
-
--- an identifier of 11 bits: bit 29 is clear
-abbrev pub has_base : ℕ → ℕ → Bool
-has_base word id = (word / 2 ^ 29 % 2 == 0) && (word % 2 ^ 11 == id)
-
--- SYNC has its identifier whether the device sends it (bit 30) or not; TIME, where the device takes
--- it (bit 31) or sends it (bit 30); emergencies, where they exist (bit 31 is clear)
-abbrev pub is_used : ℕ → ℕ → Bool
-is_used index word =
-    if index == 0x1014 then nat_lt word (2 ^ 31) else (if index == 0x1012 then not (word / 2 ^ 30 % 4 == 0) else true)
-
-abbrev pub names_id : ℕ → ℕ → ℕ → Bool
-names_id index word id = has_base word id && is_used index word
 
 -- the service of an entry of a node
 abbrev pub service_of : ℕ → ℕ → NamedService
@@ -51,10 +39,6 @@ abbrev pub is_named : Bus → ℕ → ℕ → ℕ → Bool
 is_named bus node index id = option_map_or (λ word. names_id index word id) (service_word bus node index) false
 
 -- ---- by the data sheets
-
--- a sheet would name it, whatever the recording shows
-abbrev pub may_name : Option ℕ → ℕ → SheetService → Bool
-may_name only id service = names_id service.index (word_for service.cob_id (node_for only service.cob_id id)) id
 
 -- SYNC and TIME of a sheet that is for all nodes are no node's
 abbrev pub is_for_all : Option ℕ → SheetService → Bool

@@ -1,6 +1,6 @@
 //! Whose PDOs have an identifier, by the data sheets and by what the recording shows.
 
-ghost use Rattle.std.specs.Prelude.{◌≡◌, ◌++◌, [], OnOk, filter_map, map};
+ghost use Rattle.std.specs.Prelude.{◌≡◌, ◌++◌, [], false, OnOk, filter_map, map};
 ghost use Rattle.std.specs.List.{list_any};
 ghost use Rattle.std.specs.Option.{option_to_list};
 ghost use Rattle.co_sheet_changes.specs.Names.{names_view};
@@ -17,7 +17,6 @@ ghost use Rattle.conode_explain_pdo.specs.Claims.{
   is_shown,
   kind_claims,
   may_be_claimed,
-  may_have,
   sheet_claim,
   sheet_claims,
   sheets_claims,
@@ -232,29 +231,12 @@ fn add_kind(
     add_shown(claims, bus, range, id)
 }
 
-fn may_have(only: Option<u8>, id: u16, pdo: &SheetPdo) -> bool
-    ensures { result ≡ may_have only id pdo.now }
-{
-    pdo.cob_id.node_with(only, id).is_some()
-}
-
-fn sheet_may_have(sheet: &KnownSheet<'_, '_>, id: u16) -> bool
-    ensures { result ≡ sheet_may_have id (known_view sheet.now) }
-{
-    let pdos = sheet.pdos.as_slice();
-    for pdo in pdos {
-        if may_have(sheet.names.only, id, pdo) {
-            return true;
-        }
-    }
-    false
-}
-
+// whether one may have a PDO with an identifier, or names it otherwise
 fn sheets_may_have(sheets: &[KnownSheet<'_, '_>], id: u16) -> bool
-    ensures { result ≡ list_any (sheet_may_have id) (map known_view sheets.now) }
+    ensures { result ≡ false → list_any (sheet_may_have id) (map known_view sheets.now) ≡ false }
 {
     for sheet in sheets {
-        if sheet_may_have(sheet, id) {
+        if sheet.may_name(id) {
             return true;
         }
     }
@@ -273,7 +255,7 @@ fn any_may_be_shown(pdos: &[ShownPdo], id: u16) -> bool
 }
 
 fn may_be_claimed(bus: Bus<'_, '_, '_, '_, '_>, id: u16) -> bool
-    ensures { result ≡ may_be_claimed (bus_view bus.entry) id }
+    ensures { result ≡ false → may_be_claimed (bus_view bus.entry) id ≡ false }
 {
     sheets_may_have(bus.sheets, id) || any_may_be_shown(bus.entries.shown(), id)
 }

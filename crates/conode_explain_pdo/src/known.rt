@@ -6,10 +6,14 @@ ghost use Rattle.co_sheet_changes.specs.Names.{are_for, names_view};
 ghost use Rattle.conode_explain_pdo.specs.Known.{fits, is_on, known_sheet, known_view, names_for, sheet_for};
 
 use crate::known_sheet::KnownSheet;
+use crate::named::named_below;
 use crate::sheet::sheet_pdos;
 use crate::sheet_services::sheet_services;
 use co_sheet_changes::Names;
 use std::alloc::{AllocError, Global};
+
+/// One more than the greatest identifier of 11 bits.
+const IDENTIFIERS: u16 = 2048;
 
 fn are_for(only: Option<u8>, node: u8) -> bool
     ensures { result ≡ are_for only node }
@@ -33,11 +37,19 @@ impl<'s, 'a> KnownSheet<'s, 'a> {
     {
         let pdos = attempt_value!(sheet_pdos(alloc, names));
         let services = attempt_value!(sheet_services(alloc, names));
+        let named = attempt_value!(named_below(
+            alloc,
+            names.only,
+            pdos.as_slice(),
+            services.as_slice(),
+            IDENTIFIERS,
+        ));
         Ok(KnownSheet {
             interface,
             names,
             pdos,
             services,
+            named,
         })
     }
 

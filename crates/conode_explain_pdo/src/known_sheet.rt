@@ -2,6 +2,7 @@
 
 ghost use Rattle.std.specs.Prelude.{◌≡◌};
 ghost use Rattle.co_sheet_changes.specs.Names.{names_view};
+ghost use Rattle.conode_explain_pdo.specs.Named.{named_below};
 ghost use Rattle.conode_explain_pdo.specs.Sheets.{sheet_pdos};
 ghost use Rattle.conode_explain_pdo.specs.SheetServices.{sheet_services};
 
@@ -20,8 +21,12 @@ pub struct KnownSheet<'s, 'a> {
     pub pdos: Vec<SheetPdo>,
     /// Its COB-IDs of SYNC, TIME and emergencies.
     pub services: Vec<SheetService>,
+    // of each identifier of 11 bits whether one of these may name it
+    pub(crate) named: Vec<bool>,
     // its PDOs are those of the data sheet
     ghost its_pdos: { pdos.items ≡ sheet_pdos (names_view names) },
     // and so are these COB-IDs
     ghost its_services: { services.items ≡ sheet_services (names_view names) },
+    // and whether they may name an identifier
+    ghost its_named: { named.items ≡ named_below (names_view names).only pdos.items services.items 2048 },
 }

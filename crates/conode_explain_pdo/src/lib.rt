@@ -34,6 +34,7 @@ mod known;
 mod known_entry;
 mod known_sheet;
 mod mapping;
+mod named;
 mod pdo;
 mod service_ids;
 mod sheet;

@@ -6,12 +6,8 @@ ghost use Rattle.conode_explain_pdo.specs.Buses.{bus_view};
 ghost use Rattle.conode_explain_pdo.specs.Known.{known_view, services_for};
 ghost use Rattle.conode_explain_pdo.specs.ServiceIds.{
   first_service,
-  has_base,
   is_for_all,
   is_named,
-  is_used,
-  may_name,
-  names_id,
   service_at,
   service_by_sheet,
   service_by_shown,
@@ -30,6 +26,7 @@ use crate::cob_id::{is_node, may_be_pdo};
 use crate::in_force::value_at;
 use crate::known::sheet_for;
 use crate::known_sheet::KnownSheet;
+use crate::named::{may_name, names_id};
 use crate::sheet_services::{SheetService, is_service_index};
 use co_value::Key;
 use conode_explain_entries::{ShownPdo, Value};
@@ -43,30 +40,6 @@ pub enum NamedService {
     Time,
     /// The emergencies of a node (CiA 301, 7.2.7).
     Emergency { node: u8 },
-}
-
-fn has_base(word: u64, id: u16) -> bool
-    ensures { result ≡ has_base word id }
-{
-    word / 0x2000_0000 % 2 == 0 && word % 0x800 == id as u64
-}
-
-fn is_used(index: u16, word: u64) -> bool
-    ensures { result ≡ is_used index word }
-{
-    if index == 0x1014 {
-        word < 0x8000_0000
-    } else if index == 0x1012 {
-        word / 0x4000_0000 % 4 != 0
-    } else {
-        true
-    }
-}
-
-fn names_id(index: u16, word: u64, id: u16) -> bool
-    ensures { result ≡ names_id index word id }
-{
-    has_base(word, id) && is_used(index, word)
 }
 
 fn service_of(index: u16, node: u8) -> NamedService
@@ -123,13 +96,6 @@ fn is_named(bus: Bus<'_, '_, '_, '_, '_>, node: u8, index: u16, id: u16) -> bool
         Some(word) => names_id(index, word, id),
         None => false,
     }
-}
-
-fn may_name(only: Option<u8>, id: u16, service: &SheetService) -> bool
-    ensures { result ≡ may_name only id service.now }
-{
-    let node = service.cob_id.node_for(only, id);
-    names_id(service.index, service.cob_id.word_for(node), id)
 }
 
 fn is_for_all(only: Option<u8>, service: &SheetService) -> bool
@@ -190,6 +156,9 @@ fn service_on(
 ) -> Option<NamedService>
     ensures { result ≡ service_on (bus_view bus.entry) id (known_view sheet.now) }
 {
+    if !sheet.may_name(id) {
+        return None;
+    }
     if !sheet.is_on(bus.interface) {
         return None;
     }

@@ -69,6 +69,70 @@ error_code : map (λ high. means 0x603F (0x10 ∷ high ∷ [])) (0x23 ∷ 0x81 �
 unfolding drive_words meaning_at word_text code_words known_class single_words drive_class_words drive_code_words filled
 error_code = refl
 
+-- ---- the codes of CiA 402, each by its number
+codes_of_currents : map drive_code_words
+    (0x2110 ∷ 0x2120 ∷ 0x2130 ∷ 0x2213 ∷ 0x2214 ∷ 0x2220 ∷ 0x2230 ∷ 0x2240 ∷ 0x2250 ∷ 0x2310 ∷ 0x2320 ∷ 0x2330 ∷ 0x2340 ∷ [])
+    ≡ codes "short circuit or earth leakage" ∷ codes "earth leakage" ∷ codes "short circuit" ∷ codes "overcurrent in the ramp"
+    ∷ codes "overcurrent in the sequence" ∷ codes "continuous overcurrent" ∷ codes "short circuit or earth leakage"
+    ∷ codes "earth leakage" ∷ codes "short circuit" ∷ codes "continuous overcurrent" ∷ codes "short circuit or earth leakage"
+    ∷ codes "earth leakage" ∷ codes "short circuit" ∷ []
+unfolding drive_code_words
+codes_of_currents = refl
+
+codes_of_voltages : map drive_code_words
+    (0x3110 ∷ 0x3120 ∷ 0x3130 ∷ 0x3134 ∷ 0x3140 ∷ 0x3141 ∷ 0x3142 ∷ 0x3210 ∷ 0x3220 ∷ 0x3230 ∷ 0x3310 ∷ 0x3320 ∷ 0x3321 ∷ 0x3330 ∷ 0x3331 ∷ [])
+    ≡ codes "overvoltage" ∷ codes "undervoltage" ∷ codes "phase failure" ∷ codes "phase sequence" ∷ codes "frequency"
+    ∷ codes "frequency too great" ∷ codes "frequency too small" ∷ codes "DC link overvoltage" ∷ codes "DC link undervoltage"
+    ∷ codes "load error" ∷ codes "overvoltage" ∷ codes "armature circuit" ∷ codes "armature circuit interrupted"
+    ∷ codes "field circuit" ∷ codes "field circuit interrupted" ∷ []
+unfolding drive_code_words
+codes_of_voltages = refl
+
+codes_of_temperatures : map drive_code_words
+    (0x4110 ∷ 0x4120 ∷ 0x4130 ∷ 0x4140 ∷ 0x4210 ∷ 0x4220 ∷ 0x4310 ∷ 0x4320 ∷ 0x4410 ∷ 0x4420 ∷ [])
+    ≡ codes "too high" ∷ codes "too low" ∷ codes "supply air" ∷ codes "air outlet" ∷ codes "too high" ∷ codes "too low"
+    ∷ codes "too high" ∷ codes "too low" ∷ codes "too high" ∷ codes "too low" ∷ []
+unfolding drive_code_words
+codes_of_temperatures = refl
+
+codes_of_hardware : map drive_code_words
+    (0x5110 ∷ 0x5111 ∷ 0x5112 ∷ 0x5113 ∷ 0x5120 ∷ 0x5210 ∷ 0x5220 ∷ 0x5410 ∷ 0x5420 ∷ 0x5430 ∷ 0x5440 ∷ 0x5450 ∷ 0x5510 ∷ 0x5520 ∷ 0x5530 ∷ [])
+    ≡ codes "low-voltage supply" ∷ codes "+/-15 V supply" ∷ codes "+24 V supply" ∷ codes "+5 V supply" ∷ codes "intermediate circuit"
+    ∷ codes "measurement circuit" ∷ codes "computing circuit" ∷ codes "output stages" ∷ codes "chopper" ∷ codes "input stages"
+    ∷ codes "contacts" ∷ codes "fuses" ∷ codes "working memory" ∷ codes "program memory" ∷ codes "non-volatile memory" ∷ []
+unfolding drive_code_words
+codes_of_hardware = refl
+
+codes_of_software_and_modules : map drive_code_words
+    (0x6010 ∷ 0x6310 ∷ 0x6320 ∷ 0x7110 ∷ 0x7111 ∷ 0x7112 ∷ 0x7113 ∷ 0x7120 ∷ 0x7121 ∷ 0x7122 ∷ 0x7123 ∷ [])
+    ≡ codes "software reset by the watchdog" ∷ codes "loss of parameters" ∷ codes "parameter error" ∷ codes "brake chopper"
+    ∷ codes "brake chopper failed" ∷ codes "brake chopper overcurrent" ∷ codes "brake chopper protective circuit" ∷ codes "motor"
+    ∷ codes "motor blocked" ∷ codes "motor error or commutation malfunction" ∷ codes "motor tilted" ∷ []
+unfolding drive_code_words
+codes_of_software_and_modules = refl
+
+codes_of_sensors : map drive_code_words
+    (0x7301 ∷ 0x7302 ∷ 0x7303 ∷ 0x7304 ∷ 0x7305 ∷ 0x7306 ∷ 0x7307 ∷ 0x7310 ∷ 0x7320 ∷ 0x7510 ∷ 0x7520 ∷ [])
+    ≡ codes "tacho fault" ∷ codes "tacho with wrong polarity" ∷ codes "resolver 1 fault" ∷ codes "resolver 2 fault"
+    ∷ codes "incremental sensor 1 fault" ∷ codes "incremental sensor 2 fault" ∷ codes "incremental sensor 3 fault" ∷ codes "speed"
+    ∷ codes "position" ∷ codes "serial interface 1" ∷ codes "serial interface 2" ∷ []
+unfolding drive_code_words
+codes_of_sensors = refl
+
+codes_of_control : map drive_code_words
+    (0x8311 ∷ 0x8312 ∷ 0x8313 ∷ 0x8321 ∷ 0x8331 ∷ 0x8611 ∷ 0x8612 ∷ 0xF001 ∷ 0xF002 ∷ 0xF003 ∷ 0xF004 ∷ [])
+    ≡ codes "excess torque" ∷ codes "difficult start-up" ∷ codes "standstill torque" ∷ codes "insufficient torque"
+    ∷ codes "torque fault" ∷ codes "following error" ∷ codes "reference limit" ∷ codes "deceleration"
+    ∷ codes "sub-synchronous run" ∷ codes "stroke operation" ∷ codes "control" ∷ []
+unfolding drive_code_words
+codes_of_control = refl
+
+-- and none beside them, where no group of a table begins
+codes_beside : map drive_code_words (0x2111 ∷ 0x3135 ∷ 0x5114 ∷ 0x6300 ∷ 0x7114 ∷ 0x7308 ∷ 0x7500 ∷ 0x8613 ∷ 0xF005 ∷ [])
+    ≡ [] ∷ [] ∷ [] ∷ [] ∷ [] ∷ [] ∷ [] ∷ [] ∷ [] ∷ []
+unfolding drive_code_words
+codes_beside = refl
+
 -- ---- which entries: each axis, and beside; sub-indices; other numbers of bytes
 axes : map (λ index. means index (0x06 ∷ 0 ∷ [])) (0x6840 ∷ 0x9840 ∷ 0x5840 ∷ 0xA040 ∷ 0x6042 ∷ 0x603E ∷ [])
     ≡ codes " (0006, shutdown)" ∷ codes " (0006, shutdown)" ∷ [] ∷ [] ∷ [] ∷ [] ∷ []

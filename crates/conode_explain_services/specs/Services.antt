@@ -1,6 +1,6 @@
 -- What a frame says by its service, where the text of `conode decode` says less or nothing (CiA
 -- 301, 7.3.3; CiA 305).
-use Rattle.std.specs.Prelude.{ℕ, ◌-◌, ◌==◌, nat_lt, ◌&&◌, ◌||◌, Bool, if◌then◌else◌, List, [], codes, length, slice_index, take, drop, Option, Some, None}
+use Rattle.std.specs.Prelude.{ℕ, ◌-◌, ◌==◌, nat_lt, ◌&&◌, ◌||◌, Bool, if◌then◌else◌, List, [], codes, length, slice_index, take, drop, Option, Some}
 use Rattle.co_frame.specs.FrameContent.{FrameContent}
 use Rattle.co_frame.specs.declared.emergency.Emergency.{Emergency}
 use Rattle.co_value.specs.Numbers.{unsigned_of}

@@ -17,7 +17,7 @@ use Rattle.conode_explain_transfers.specs.Readings.{reading_of}
 use Rattle.conode_explain_transfers.specs.Stages.{confirmed_with}
 use Rattle.conode_explain_transfers.specs.Transfers.{after, is_same_request}
 use Rattle.conode_explain_transfers.specs.Turns.{turn_of}
-use Rattle.conode_explain_transfers.specs.Unanswered.{is_lost, is_no_abort, number_of, segment_follows}
+use Rattle.conode_explain_transfers.specs.Unanswered.{is_lost, not_followed_by, number_of, segment_follows}
 use Rattle.conode_explain_transfers.proofs.Confirmations.{frame_confirms}
 use Rattle.conode_explain_transfers.proofs.DataLemmas.{IsOpenWith, StaysOpen, open_after, taking}
 
@@ -55,10 +55,9 @@ left_not_done false false true number by fact = tt
 left_not_done false false false number Client fact = tt
 left_not_done false false false number Server fact = tt
 
-abort_not_done : (side : Side) (none : Bool) (code : AbortCode) (fact : Bool → Type 0) → IfDone (abort_ending side none code) fact
-abort_not_done Server none code fact = tt
-abort_not_done Client true code fact = tt
-abort_not_done Client false code fact = tt
+abort_not_done : (side : Side) (segment : Option (Option ℕ)) (code : AbortCode) (fact : Bool → Type 0) → IfDone (abort_ending side segment code) fact
+abort_not_done side None code fact = tt
+abort_not_done side (Some next) code fact = tt
 
 -- what is done with a frame that goes on with the open transfer
 abbrev DoneWith : Transfer → Reading → List ℕ → List ℕ → Bool → Type 0
@@ -115,7 +114,7 @@ frame_done heard None Nothing micros side frame bytes h = tt
 frame_done heard (Some transfer) (Begin request) micros side frame bytes h =
     left_not_done (segment_follows transfer frame) (is_lost transfer) (is_same_request transfer frame) (number_of frame) transfer.by
     (DoneBy (Some transfer) (Begin request) frame bytes)
-frame_done heard (Some transfer) (Abort code) micros side frame bytes h = abort_not_done side (is_no_abort transfer frame) code (DoneBy (Some transfer) (Abort code) frame bytes)
+frame_done heard (Some transfer) (Abort code) micros side frame bytes h = abort_not_done side (not_followed_by side transfer frame) code (DoneBy (Some transfer) (Abort code) frame bytes)
 frame_done heard (Some transfer) (Segment segment) micros side frame bytes h = turn_done heard transfer (Segment segment) frame micros side bytes h
 frame_done heard (Some transfer) (Request request) micros side frame bytes h = turn_done heard transfer (Request request) frame micros side bytes h
 frame_done heard (Some transfer) (Response response) micros side frame bytes h = turn_done heard transfer (Response response) frame micros side bytes h

@@ -9,7 +9,7 @@ use Rattle.conode_explain_transfers.specs.declared.kinds.Protocol.TheVariants.{U
 use Rattle.conode_explain_transfers.specs.declared.kinds.Side.TheVariants.{Client, Server}
 use Rattle.conode_explain_transfers.specs.declared.kinds.What.TheVariants.{Initiate, Part, Segment, Unexpected, Stray, BegunBefore}
 use Rattle.conode_explain_transfers.specs.Crc.{shifted, crc_with}
-use Rattle.conode_explain_transfers.specs.Followed.{broken_off, nothing_heard}
+use Rattle.conode_explain_transfers.specs.Followed.{broken_off, followed, nothing_heard}
 use Rattle.conode_explain_transfers.specs.Tellings.{telling}
 use Rattle.conode_explain_transfers.specs.Tracks.{placed, sdo_telling, shown_end}
 use Rattle.conode_explain_transfers.proofs.Dialogues.{Sent, after_all, c, ends_with, left_open, s, shown, told}
@@ -50,7 +50,7 @@ heard_at_30_of_34 : told at_30_of_34
       whats = BegunBefore ∷ BegunBefore ∷ Initiate ∷ Initiate ∷ Initiate ∷ Unexpected ∷ Unexpected ∷ Part ∷ BegunBefore ∷ BegunBefore ∷ BegunBefore ∷ Initiate ∷ Part ∷ [];
       ends = record { protocol = Segmented; bytes = 0; first = []; frames = 1; ending = NotFollowed (Some 33) }
           ∷ record { protocol = Segmented; bytes = 0; first = []; frames = 1; ending = NotFollowed (Some 34) }
-          ∷ record { protocol = Expedited; bytes = 0; first = []; frames = 4; ending = NotFollowed None }
+          ∷ record { protocol = Expedited; bytes = 0; first = []; frames = 4; ending = NotFollowed (Some 2) }
           ∷ record { protocol = Expedited; bytes = 1; first = 0xAA ∷ []; frames = 2; ending = Done false } ∷ [];
     }
 unfolding request_row_in response_row_in shifted crc_with
@@ -58,7 +58,7 @@ heard_at_30_of_34 = refl
 
 shown_at_30_of_34 : shown at_30_of_34
     ≡ record {
-      whats = BegunBefore ∷ BegunBefore ∷ Initiate ∷ Segment 33 ∷ Segment 34 ∷ Unexpected ∷ Unexpected ∷ Part ∷ BegunBefore ∷ BegunBefore ∷ BegunBefore ∷ Initiate ∷ Part ∷ [];
+      whats = BegunBefore ∷ BegunBefore ∷ Initiate ∷ Segment 33 ∷ Segment 34 ∷ Unexpected ∷ Unexpected ∷ Segment 2 ∷ BegunBefore ∷ BegunBefore ∷ BegunBefore ∷ Initiate ∷ Part ∷ [];
       ends = record { protocol = Expedited; bytes = 1; first = 0xAA ∷ []; frames = 2; ending = Done false } ∷ [];
     }
 unfolding request_row_in response_row_in shifted crc_with
@@ -260,8 +260,10 @@ given_up_as_another : map (λ abort. (shown (c (codes "4000210000000000") ∷ c 
 unfolding request_row_in response_row_in shifted crc_with
 given_up_as_another = refl
 
--- before the response 81h and 9Fh may be segments; after it they are read as aborts
-given_up_with : map (λ abort. (shown (c (codes "4000210000000000") ∷ c abort ∷ [])).ends) (codes "8100210000000405" ∷ codes "9F00210000000405" ∷ []) ≡ [] ∷ [] ∷ []
+-- before the response 81h and 9Fh may be segments, and by the standard they are no aborts: directly after the request too. After it they are
+-- read as aborts
+given_up_with : map (λ abort. shown (c (codes "4000210000000000") ∷ c abort ∷ [])) (codes "8100210000000405" ∷ codes "9F00210000000405" ∷ [])
+    ≡ record { whats = Initiate ∷ Segment 1 ∷ []; ends = [] } ∷ record { whats = Initiate ∷ Segment 31 ∷ []; ends = [] } ∷ []
 unfolding request_row_in response_row_in shifted crc_with
 given_up_with = refl
 
@@ -274,7 +276,7 @@ given_up_within = refl
 
 -- at 32 of 34 of a sub-block, and the next one has one segment
 one_segment : shown (map segment (32 ∷ 33 ∷ 34 ∷ []) ++ s (codes "A2227F0000000000") ∷ segment 0x81 ∷ s (codes "A2017F0000000000") ∷ block_end)
-    ≡ record { whats = Initiate ∷ Segment 33 ∷ Segment 34 ∷ Unexpected ∷ Part ∷ BegunBefore ∷ BegunBefore ∷ BegunBefore ∷ []; ends = [] }
+    ≡ record { whats = Initiate ∷ Segment 33 ∷ Segment 34 ∷ Unexpected ∷ Segment 1 ∷ BegunBefore ∷ BegunBefore ∷ BegunBefore ∷ []; ends = [] }
 unfolding request_row_in response_row_in shifted crc_with
 one_segment = refl
 
@@ -294,6 +296,106 @@ after_an_abort : shown (c (codes "4000210000000000") ∷ c (codes "6000000000000
     }
 unfolding request_row_in response_row_in shifted crc_with
 after_an_abort = refl
+
+-- after one with another multiplexer, as 0000:00, none is open either; 81h may be of one that began before the recording
+after_another_abort : map (λ abort. shown (c (codes "4000210000000000") ∷ c (codes "6000000000000000") ∷ c abort ∷ s (codes "A100000000000000") ∷ [])) (codes "8000000000000405" ∷ codes "8100000000000405" ∷ [])
+    ≡ record { whats = Initiate ∷ Unexpected ∷ Part ∷ Stray ∷ []; ends = [] }
+    ∷ record { whats = Initiate ∷ Unexpected ∷ Segment 1 ∷ BegunBefore ∷ []; ends = [] } ∷ []
+unfolding request_row_in response_row_in shifted crc_with
+after_another_abort = refl
+
+-- ---- a block upload whose response isn't in the recording
+
+-- its only segment, and its last one: numbers 1 and 31
+segment_uploaded : map (λ first. shown (c (codes "A00021007F000000") ∷ uploaded first ∷ [])) (0x81 ∷ 0x9F ∷ [])
+    ≡ record { whats = Initiate ∷ Segment 1 ∷ []; ends = [] } ∷ record { whats = Initiate ∷ Segment 31 ∷ []; ends = [] } ∷ []
+unfolding request_row_in response_row_in shifted crc_with
+segment_uploaded = refl
+
+-- the client starts it, and two segments come
+upload_started : shown (c (codes "A00021007F000000") ∷ c (codes "A300000000000000") ∷ uploaded 1 ∷ uploaded 0x82 ∷ c (codes "A2027F0000000000") ∷ s (codes "C100000000000000") ∷ c (codes "A100000000000000") ∷ [])
+    ≡ record { whats = Initiate ∷ Unexpected ∷ Unexpected ∷ Segment 2 ∷ BegunBefore ∷ BegunBefore ∷ BegunBefore ∷ []; ends = [] }
+unfolding request_row_in response_row_in shifted crc_with
+upload_started = refl
+
+-- 80h is the server's abort, whatever its multiplexer, and after the start too
+upload_refused : map (λ frames. (shown (c (codes "A00021007F000000") ∷ frames)).ends)
+    ((s (codes "8000210000000206") ∷ []) ∷ (s (codes "8000000000000206") ∷ []) ∷ (c (codes "A300000000000000") ∷ s (codes "8000000000000206") ∷ []) ∷ [])
+    ≡ (record { protocol = Block; bytes = 0; first = []; frames = 2; ending = Aborted Server (record { 0 = 0x06020000 }) } ∷ [])
+    ∷ (record { protocol = Block; bytes = 0; first = []; frames = 2; ending = Aborted Server (record { 0 = 0x06020000 }) } ∷ [])
+    ∷ (record { protocol = Block; bytes = 0; first = []; frames = 3; ending = Aborted Server (record { 0 = 0x06020000 }) } ∷ [])
+    ∷ []
+unfolding request_row_in response_row_in shifted crc_with
+upload_refused = refl
+
+-- where no segment of the server is awaited, 81h is read as an abort: of an upload that isn't in blocks, of a block download, and once the
+-- response came
+refused_with : map (λ frames. ends_with (followed (after_all nothing_heard frames) 0 Server (s (codes "8100210000000206")).bytes).says.ended [])
+    ((c (codes "4000210000000000") ∷ []) ∷ (c (codes "C000210000000000") ∷ []) ∷ (c (codes "A00021007F000000") ∷ s (codes "C000210000000000") ∷ []) ∷ [])
+    ≡ (record { protocol = Undecided; bytes = 0; first = []; frames = 2; ending = Aborted Server (record { 0 = 0x06020000 }) } ∷ [])
+    ∷ (record { protocol = Block; bytes = 0; first = []; frames = 2; ending = Aborted Server (record { 0 = 0x06020000 }) } ∷ [])
+    ∷ (record { protocol = Block; bytes = 0; first = []; frames = 3; ending = Aborted Server (record { 0 = 0x06020000 }) } ∷ [])
+    ∷ []
+unfolding request_row_in response_row_in shifted crc_with
+refused_with = refl
+
+-- ---- what begins with such a segment
+
+-- nothing is said of its end: where another request follows, or after a frame of the server
+third_request : map shown
+    ((c (codes "22002100AABBCCDD") ∷ c (codes "23012100AABBCCDD") ∷ c (codes "4000210000000000") ∷ [])
+    ∷ (c (codes "22002100AABBCCDD") ∷ c (codes "23012100AABBCCDD") ∷ s (codes "3000000000000000") ∷ c (codes "4000210000000000") ∷ [])
+    ∷ [])
+    ≡ record { whats = Initiate ∷ Segment 35 ∷ Initiate ∷ []; ends = [] }
+    ∷ record { whats = Initiate ∷ Segment 35 ∷ Unexpected ∷ Initiate ∷ []; ends = [] }
+    ∷ []
+unfolding request_row_in response_row_in shifted crc_with
+third_request = refl
+
+-- nor where the recording ends, or the server boots up
+pair_left : left_open (c (codes "22002100AABBCCDD") ∷ c (codes "23012100AABBCCDD") ∷ []) ≡ []
+unfolding request_row_in response_row_in shifted crc_with
+pair_left = refl
+
+pair_broken : ends_with (shown_end (broken_off (after_all nothing_heard (c (codes "22002100AABBCCDD") ∷ c (codes "23012100AABBCCDD") ∷ [])).transfer 0)) [] ≡ []
+unfolding request_row_in response_row_in shifted crc_with
+pair_broken = refl
+
+-- once its response came it is one, and its end is said
+pair_answered : shown (c (codes "4000210000000000") ∷ c (codes "4101210000000000") ∷ s (codes "4101210009000000") ∷ c (codes "4002210000000000") ∷ [])
+    ≡ record {
+      whats = Initiate ∷ Segment 65 ∷ Part ∷ Initiate ∷ [];
+      ends = record { protocol = Segmented; bytes = 0; first = []; frames = 2; ending = Interrupted } ∷ [];
+    }
+unfolding request_row_in response_row_in shifted crc_with
+pair_answered = refl
+
+-- ---- whose entry a frame has
+
+-- that of the transfer, until the client goes on, and again once the response came
+entries : map (λ frames. (followed (after_all nothing_heard frames) 0 Client (c (codes "6000000000000000")).bytes).says.of)
+    ((c (codes "4000210000000000") ∷ [])
+    ∷ (c (codes "4000210000000000") ∷ c (codes "6000000000000000") ∷ [])
+    ∷ (c (codes "4000210000000000") ∷ c (codes "6000000000000000") ∷ s (codes "4100210009000000") ∷ [])
+    ∷ [])
+    ≡ None ∷ None ∷ Some (record { index = 0x2100; sub = 0 }) ∷ []
+unfolding request_row_in response_row_in shifted crc_with
+entries = refl
+
+-- of a segment of the server before and after that, and where what began may be a segment
+entries_of_others : map (λ frames. (followed (after_all nothing_heard frames) 0 Server (s (codes "0031323334353637")).bytes).says.of)
+    ((c (codes "4000210000000000") ∷ [])
+    ∷ (c (codes "4000210000000000") ∷ c (codes "6000000000000000") ∷ [])
+    ∷ (c (codes "4000210000000000") ∷ c (codes "4101210000000000") ∷ [])
+    ∷ [])
+    ≡ Some (record { index = 0x2100; sub = 0 }) ∷ None ∷ None ∷ []
+unfolding request_row_in response_row_in shifted crc_with
+entries_of_others = refl
+
+-- of segment 1 of a block download: the response is missing, and the segment goes on with it
+entry_of_segment : (followed (after_all nothing_heard (c (codes "C000210000000000") ∷ [])) 0 Client (segment 1).bytes).says.of ≡ Some (record { index = 0x2100; sub = 0 })
+unfolding request_row_in response_row_in shifted crc_with
+entry_of_segment = refl
 
 -- ---- where the recording ends, and the server boots up
 

@@ -1,5 +1,5 @@
 -- A channel that is followed through a recording, frame by frame.
-use Rattle.std.specs.Prelude.{ℕ, ◌+◌, ◌&&◌, Bool, true, false, if◌then◌else◌, List, [], ◌∷◌, Option, Some, None}
+use Rattle.std.specs.Prelude.{ℕ, ◌+◌, ◌&&◌, not, Bool, true, false, if◌then◌else◌, List, [], ◌∷◌, Option, Some, None}
 use Rattle.co_value.specs.declared.key.Key.{Key}
 use Rattle.co_frame.specs.declared.abort_code.AbortCode.{AbortCode}
 use Rattle.conode_explain_transfers.specs.declared.channel.Heard.{Heard}
@@ -15,12 +15,12 @@ use Rattle.conode_explain_transfers.specs.declared.reading.Reading.{Reading}
 use Rattle.conode_explain_transfers.specs.declared.reading.Reading.TheVariants.{Begin, Abort}
 use Rattle.conode_explain_transfers.specs.declared.transfer.Transfer.{Transfer}
 use Rattle.conode_explain_transfers.specs.Digests.{counted}
-use Rattle.conode_explain_transfers.specs.Endings.{verdict, ended, is_followed}
+use Rattle.conode_explain_transfers.specs.Endings.{verdict, ended}
 use Rattle.conode_explain_transfers.specs.Readings.{reading_of, has_key}
 use Rattle.conode_explain_transfers.specs.Stages.{confirmed_with}
 use Rattle.conode_explain_transfers.specs.Transfers.{Turn, begun, is_same_request, after}
 use Rattle.conode_explain_transfers.specs.Turns.{turn_of}
-use Rattle.conode_explain_transfers.specs.Unanswered.{is_lost, is_no_abort, number_of, segment_follows, went_on_with}
+use Rattle.conode_explain_transfers.specs.Unanswered.{is_lost, is_next_segment, may_be_segment, not_followed_by, number_of, segment_follows, went_on_with}
 
 -- whether an initiate request came, and the open transfer
 pub record Following : Type 0 where
@@ -78,11 +78,16 @@ closed (Some transfer) micros ending = if is_lost transfer then None else Some (
 abbrev pub one_more : Transfer → Transfer
 one_more transfer = record transfer { frames = counted (transfer.frames + 1) }
 
+-- What a request begins. Where it may be the next segment of a sub-block, it is none, and the client
+-- is one that went on.
+abbrev pub begun_after : Option Transfer → Request → ℕ → List ℕ → Transfer
+begun_after current request micros bytes = record (begun request micros bytes) { went_on = is_next_segment current bytes }
+
 -- an initiate request
 abbrev pub begins : Option Transfer → Request → ℕ → List ℕ → Followed
 begins current request micros bytes = record {
   says = record { what = Initiate; of = None; ended = left current micros bytes };
-  next = record { heard = true; transfer = Some (begun request micros bytes) };
+  next = record { heard = true; transfer = Some (begun_after current request micros bytes) };
 }
 
 -- a frame without an open transfer
@@ -93,18 +98,19 @@ stray false = BegunBefore
 abbrev pub passes : Bool → Followed
 passes heard = record { says = record { what = stray heard; of = None; ended = None }; next = record { heard = heard; transfer = None } }
 
--- an abort; what looks like one of the client may be none of this transfer
-abbrev pub abort_ending : Side → Bool → AbortCode → Ending
-abort_ending Server none code = Aborted Server code
-abort_ending Client none code = if none then NotFollowed None else Aborted Client code
+-- an abort; what looks like one may be none of this transfer
+abbrev pub abort_ending : Side → Option (Option ℕ) → AbortCode → Ending
+abort_ending by None code = Aborted by code
+abort_ending by (Some next) code = NotFollowed next
 
--- after one that is none of this transfer, what comes is of one that began before the recording
+-- after a segment of another transfer what comes is of one that began before the recording; after an
+-- abort, of whichever transfer, none is open
 abbrev pub aborts : Bool → Transfer → Side → AbortCode → ℕ → List ℕ → Followed
 aborts heard transfer side code micros bytes =
-    let ending = abort_ending side (is_no_abort transfer bytes) code in
+    let ending = abort_ending side (not_followed_by side transfer bytes) code in
     record {
       says = record { what = Part; of = None; ended = Some (ended (one_more transfer) micros ending) };
-      next = record { heard = heard && is_followed ending; transfer = None };
+      next = record { heard = heard && not (may_be_segment side transfer bytes); transfer = None };
     }
 
 -- the transfer with a frame; one of another transfer doesn't count
@@ -139,8 +145,13 @@ abbrev pub key_for : Option Transfer → Reading → Option Key
 key_for None reading = None
 key_for (Some transfer) reading = if has_key reading then None else Some transfer.key
 
+-- where the client went on before the response, the transfer may be none, and so may that entry
+abbrev pub unless_lost : Option Transfer → Option Key → Option Key
+unless_lost None of = of
+unless_lost (Some transfer) of = if is_lost transfer then None else of
+
 abbrev pub with_key : Option Key → Followed → Followed
-with_key of followed = record { says = record followed.says { of = of }; next = followed.next }
+with_key of followed = record { says = record followed.says { of = unless_lost followed.next.transfer of }; next = followed.next }
 
 -- a frame with its stamp, by an end, with these bytes
 abbrev pub followed : Following → ℕ → Side → List ℕ → Followed

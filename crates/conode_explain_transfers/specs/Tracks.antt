@@ -66,7 +66,7 @@ abbrev pub shown_end : Option Ended → Option Ended
 shown_end None = None
 shown_end (Some e) = if is_followed e.ending then Some e else None
 
--- what looks like the next initiate request is a segment too, with its number
+-- what looks like the next initiate request, or like an abort, is a segment, with its number
 abbrev pub frame_after : What → Ending → What
 frame_after what (NotFollowed (Some number)) = Segment number
 frame_after what ending = what

@@ -1,6 +1,6 @@
 //! A channel that is followed through a recording.
 
-ghost use Rattle.std.specs.Prelude.{◌≡◌, ◌+◌, [], ◌∷◌, List, IsSome, IfSome};
+ghost use Rattle.std.specs.Prelude.{◌≡◌, ◌+◌, ◌&&◌, not, [], ◌∷◌, List, IsSome, IfSome};
 ghost use Rattle.conode_explain_transfers.specs.declared.ended.Ending.TheVariants.{Unfinished};
 ghost use Rattle.conode_explain_transfers.specs.Followed.{
   nothing_heard,
@@ -9,14 +9,17 @@ ghost use Rattle.conode_explain_transfers.specs.Followed.{
   broken_off,
   closed,
   ends_as,
+  left,
   left_ending,
   one_more,
   begins,
+  begun_after,
   stray,
   passes,
   aborts,
   with_frame,
   key_for,
+  unless_lost,
   turns,
   followed_by,
   followed,
@@ -30,7 +33,7 @@ ghost use Rattle.conode_explain_transfers.specs.Followed.{
 ghost use Rattle.conode_explain_transfers.specs.Readings.{IsReading};
 ghost use Rattle.conode_explain_transfers.specs.Transfers.{after};
 ghost use Rattle.conode_explain_transfers.specs.Turns.{turn_of};
-ghost use Rattle.conode_explain_transfers.specs.Unanswered.{is_no_abort};
+ghost use Rattle.conode_explain_transfers.specs.Unanswered.{is_next_segment, may_be_segment, not_followed_by};
 
 use crate::ended::{Ended, Ending};
 use crate::initiate::Initiate;
@@ -47,7 +50,8 @@ use std::marker::Model;
 pub struct Heard {
     /// What the frame is.
     pub what: What,
-    /// The open transfer's entry; `None` where the frame has a key of its own.
+    /// The open transfer's entry; `None` where the frame has a key of its own, and once the client
+    /// went on before the response to initiate, as the transfer may be none then.
     pub of: Option<Key>,
     /// The transfer that ended with the frame.
     pub ended: Option<Ended>,
@@ -91,14 +95,22 @@ impl Transfer {
         }
     }
 
-    // How it ends with an abort by an end.
+    // How it ends with a frame of an end that is read as an abort.
     fn abort_ending(&self, by: Side, code: AbortCode, frame: &Frame) -> Ending
-        ensures { result ≡ abort_ending by (is_no_abort self.now frame.now.bytes) code }
+        ensures { result ≡ abort_ending by (not_followed_by by self.now frame.now.bytes) code }
     {
-        match by {
-            Side::Client if self.is_no_abort(frame) => Ending::NotFollowed { next: None },
-            _ => Ending::Aborted { by, code },
+        match self.not_followed_by(by, frame) {
+            Some(next) => Ending::NotFollowed { next },
+            None => Ending::Aborted { by, code },
         }
+    }
+
+    // Whether an initiate request was heard, after a frame of an end that is read as an abort: what
+    // comes after a segment of another transfer is of one that began before the recording.
+    fn stays_heard(&self, heard: bool, side: Side, frame: &Frame) -> bool
+        ensures { result ≡ (heard && not (may_be_segment side self.now frame.now.bytes)) }
+    {
+        heard && !self.may_be_segment(side, frame)
     }
 
     // A frame that is neither an initiate request nor an abort.
@@ -154,17 +166,44 @@ impl Channel {
         }
     }
 
+    // Whether a frame that looks like an initiate request is the next segment of a sub-block.
+    fn is_next_segment(&self, frame: &Frame) -> bool
+        ensures { result ≡ is_next_segment self.now.transfer frame.now.bytes }
+    {
+        match &self.transfer {
+            Some(transfer) => transfer.segment_follows(frame),
+            None => false,
+        }
+    }
+
+    // What a request begins. Where it may be a segment, the client is one that went on.
+    fn begun_after(&self, initiate: &Initiate, micros: u64, frame: &Frame) -> Transfer
+        ensures { result ≡ begun_after self.now.transfer initiate.now micros frame.now.bytes }
+    {
+        let mut transfer = Transfer::begin(initiate, micros, frame);
+        transfer.went_on = self.is_next_segment(frame);
+        transfer
+    }
+
+    // The open transfer, as the client leaves it with a request.
+    fn left(&self, micros: u64, frame: &Frame) -> Option<Ended>
+        ensures { result ≡ left self.now.transfer micros frame.now.bytes }
+    {
+        match &self.transfer {
+            Some(transfer) => Some(transfer.ended(micros, transfer.left_ending(frame))),
+            None => None,
+        }
+    }
+
     // An initiate request.
     fn begin(&mut self, initiate: &Initiate, micros: u64, frame: &Frame) -> Heard
         ensures says { result ≡ (begins self.old.transfer initiate.now micros frame.now.bytes).says }
         ensures next { self.new ≡ (begins self.old.transfer initiate.now micros frame.now.bytes).next }
     {
-        let ended = match &self.transfer {
-            Some(transfer) => Some(transfer.ended(micros, transfer.left_ending(frame))),
-            None => None,
-        };
+        let ended = self.left(micros, frame);
+        let begun = self.begun_after(initiate, micros, frame);
         self.heard = true;
-        self.transfer = Some(Transfer::begin(initiate, micros, frame));
+        self.transfer = Some(begun);
         Heard {
             what: What::Initiate,
             of: None,
@@ -179,6 +218,16 @@ impl Channel {
         match &self.transfer {
             Some(transfer) if !reading.has_key() => Some(transfer.key),
             _ => None,
+        }
+    }
+
+    // That entry, but where the client went on before the response.
+    fn unless_lost(&self, of: Option<Key>) -> Option<Key>
+        ensures { result ≡ unless_lost self.now.transfer of }
+    {
+        match &self.transfer {
+            Some(transfer) if transfer.is_lost() => None,
+            _ => of,
         }
     }
 
@@ -274,7 +323,7 @@ impl Channel {
             Reading::Abort(code) => {
                 transfer.count_frame();
                 let ending = transfer.abort_ending(side, *code, frame);
-                self.heard = self.heard && ending.is_followed();
+                self.heard = transfer.stays_heard(self.heard, side, frame);
                 let ended = self.close(micros, ending);
                 Heard {
                     what: What::Part,
@@ -303,7 +352,7 @@ impl Channel {
         let heard = self.follow(&reading, micros, side, frame);
         Heard {
             what: heard.what,
-            of,
+            of: self.unless_lost(of),
             ended: heard.ended,
         }
     }

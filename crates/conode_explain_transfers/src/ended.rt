@@ -35,8 +35,8 @@ pub enum Ending {
     CrcDiffers { came: u16, computed: u16 },
     /// It can't be followed: the client went on before the response to initiate. That isn't in the
     /// recording; or what looked like the request was a segment of a sub-block whose begin isn't.
-    /// `next`: it went on with what looks like another request, and is the next segment, with this
-    /// number.
+    /// `next`: the frame that ended it looks like another request, and is the next segment, with this
+    /// number; or it looks like an abort, and is the last segment of a sub-block.
     NotFollowed { next: Option<u8> },
 }
 
@@ -67,7 +67,7 @@ pub struct Ended {
 
 impl Ending {
     /// Whether the transfer can be followed.
-    pub(crate) fn is_followed(self) -> bool
+    fn is_followed(self) -> bool
         ensures { result ≡ is_followed self }
     {
         match self {

@@ -14,7 +14,8 @@ pub struct Part {
     pub side: Side,
     /// What it is.
     pub what: What,
-    /// The open transfer's entry; `None` where the frame has a key of its own.
+    /// The open transfer's entry; `None` where the frame has a key of its own, and once the client
+    /// went on before the response to initiate, as the transfer may be none then.
     pub of: Option<Key>,
 }
 
@@ -30,7 +31,7 @@ pub struct Told {
     pub ended: Option<Ended>,
 }
 
-// what a frame is; where it looks like an initiate request, and is a segment, that
+// what a frame is; where it looks like an initiate request or an abort, and is a segment, that
 fn shown_what(what: What, ended: &Option<Ended>) -> What
     ensures { result ≡ shown_what what ended.now }
 {

@@ -52,7 +52,8 @@ pub(crate) struct Transfer {
     pub(crate) begun: u64,
     pub(crate) newest: u64,
     pub(crate) by: Side,
-    /// Whether the client went on before the response to initiate, with a frame that begins nothing.
+    /// Whether the client went on before the response to initiate, with a frame that begins nothing; or
+    /// the request may be a segment of a sub-block.
     pub(crate) went_on: bool,
 }
 

@@ -4,9 +4,12 @@ ghost use Rattle.std.specs.Prelude.{◌≡◌, slice_index};
 ghost use Rattle.conode_explain_transfers.specs.Unanswered.{
   is_client,
   is_lost,
-  is_no_abort,
   is_unanswered,
+  may_be_of_other,
+  may_be_segment,
+  may_send_segment,
   multiplexer_of,
+  not_followed_by,
   number_of,
   segment_follows,
   went_on_with,
@@ -91,14 +94,50 @@ impl Transfer {
         let number = byte_at(self.request.as_slice(), 0) as u16;
         self.is_unanswered() && number + 1 == number_of(frame) as u16
     }
-    /// Whether a frame of the client that is read as an abort isn't one of this transfer: before
-    /// the response to initiate 81h to 9Fh may be a segment, and once the client went on, an abort
-    /// of another entry is of a transfer whose begin isn't in the recording.
-    pub(crate) fn is_no_abort(&self, frame: &Frame) -> bool
-        ensures { result ≡ is_no_abort self.now frame.now.bytes }
+
+    // Whether a segment of a sub-block may come of this end, whose begin or whose response isn't in the
+    // recording.
+    fn may_send_segment(&self, side: Side) -> bool
+        ensures { result ≡ may_send_segment side self.now }
     {
-        let bytes = frame.bytes();
-        self.stage.is_initiated()
-            && (byte_at(bytes, 0) != ABORT || self.went_on && !self.has_key(multiplexer_of(bytes)))
+        match side {
+            Side::Client => true,
+            Side::Server => self.is_block() && !self.is_download(),
+        }
+    }
+
+    /// Whether a frame that is read as an abort may be the last segment of a sub-block: the response
+    /// to initiate is awaited, and it has 81h to 9Fh (an abort has 80h, CiA 301, 7.2.4.3.17).
+    pub(crate) fn may_be_segment(&self, side: Side, frame: &Frame) -> bool
+        ensures { result ≡ may_be_segment side self.now frame.now.bytes }
+    {
+        byte_at(frame.bytes(), 0) != ABORT
+            && (self.stage.is_initiated() && self.may_send_segment(side))
+    }
+
+    // Whether an abort may be of another transfer: once the client went on, the begin of that may not be
+    // in the recording.
+    fn may_be_of_other(&self, side: Side, frame: &Frame) -> bool
+        ensures { result ≡ may_be_of_other side self.now frame.now.bytes }
+    {
+        match side {
+            Side::Client => self.is_lost() && !self.has_key(multiplexer_of(frame.bytes())),
+            Side::Server => false,
+        }
+    }
+
+    /// Whether a frame that is read as an abort ends the transfer as one that can't be followed: with
+    /// the number of the segment that the frame may be. `None`: it is the abort of this transfer.
+    pub(crate) fn not_followed_by(&self, side: Side, frame: &Frame) -> Option<Option<u8>>
+        ensures { result ≡ not_followed_by side self.now frame.now.bytes }
+    {
+        if self.may_be_segment(side, frame) {
+            return Some(Some(number_of(frame)));
+        }
+        if self.may_be_of_other(side, frame) {
+            Some(None)
+        } else {
+            None
+        }
     }
 }

@@ -32,8 +32,10 @@ mod linted_text;
 mod mapping_words;
 mod marks;
 mod other_format;
+mod printed;
 mod report;
 mod rules;
+mod sheet;
 mod words;
 
 pub use conode_lint_marks::OtherFormat;

@@ -2,15 +2,18 @@
 use Rattle.std.proofs.Common.{◌≡◌, ℕ, List, Bor, true, false, [], ◌∷◌, ◌++◌, codes, refl}
 use Rattle.std.specs.Fmt.{digits}
 use Rattle.std.specs.Str.{chars, is_utf8}
+use Rattle.json.specs.Token.{Token, end_object}
 use Rattle.co_text.specs.Printed.{digits_text}
 use Rattle.conode_text.specs.Filled.{filled}
-use Rattle.conode_json.specs.Characters.{characters_of}
+use Rattle.conode_json.specs.Characters.{characters_of, utf8_of}
+use Rattle.conode_json.specs.Members.{count_member, object_begin, text_member}
 use Rattle.conode_lint_text.specs.Characters.{shown, shown_all}
 use Rattle.conode_lint_text.specs.declared.finding.Finding.{Finding}
 use Rattle.conode_lint_text.specs.declared.finding.Place.TheVariants.{Beginning, Value}
 use Rattle.conode_lint_text.specs.declared.finding.Severity.TheVariants.{Error, Warning}
 use Rattle.conode_lint_text.specs.declared.finding.About.TheVariants.{Line, Object, Entry, Bits}
 use Rattle.conode_lint_text.specs.Findings.{about_message, column_of, fix_with, help_of, message_of, place_in, value_place}
+use Rattle.conode_lint_text.specs.SarifForm.{line_members}
 use Rattle.conode_lint_text.specs.TextForm.{counted, finding_lines, more_line, position_text, summary_line}
 
 -- a tab, a control character below 20h and one above 7Fh, a blank and a letter
@@ -67,6 +70,35 @@ at_value : finding_lines false (codes "a.eds") bad_type
     ≡ codes "a.eds:7:5: error[BadType]: no type\n     T=\\t9\n  help: give one (CiA 306-1)\n"
 unfolding finding_lines position_text column_of place_in characters_of message_of about_message fix_with help_of filled shown chars is_utf8 digits lib.Utf8.encode
 at_value = refl
+
+-- ---- the line in a log of SARIF
+
+abbrev at_beginning : Finding
+at_beginning = record {
+  line = 7;
+  place = Beginning;
+  about = Line;
+  severity = Error;
+  name = words (codes "BadLine");
+  meaning = words (codes "m");
+  fix = words (codes "f");
+  subject = words [];
+  text = words (codes "T 9");
+}
+
+-- the text of a line in a region, and the region's end
+abbrev snippet : List ℕ → List Token
+snippet line = object_begin (codes "snippet") ++ text_member (codes "text") (utf8_of line) ++ end_object ∷ end_object ∷ []
+
+-- from column 1 on the region is the whole line, and has it
+whole_region : line_members at_beginning ≡ snippet (codes "T 9")
+unfolding line_members object_begin count_member text_member column_of place_in characters_of chars is_utf8 lib.Utf8.encode
+whole_region = refl
+
+-- from column 5 on another region has the line: line 7
+region_around : line_members bad_type ≡ end_object ∷ (object_begin (codes "contextRegion") ++ count_member (codes "startLine") 7 ++ snippet (codes " T=\t9"))
+unfolding line_members object_begin count_member text_member column_of place_in characters_of chars is_utf8 lib.Utf8.encode
+region_around = refl
 
 abbrev no_line : Finding
 no_line = record {

@@ -1,21 +1,28 @@
 //! Findings as a log of SARIF 2.1.0.
 
-ghost use Rattle.std.specs.Prelude.{◌≡◌, ◌++◌, [], ◌∷◌, List, OnOk};
+ghost use Rattle.std.specs.Prelude.{◌≡◌, ◌++◌, if◌then◌else◌, [], ◌∷◌, List, OnOk};
 ghost use Rattle.std.specs.List.{flat_map};
 ghost use Rattle.json.specs.Token.{Token, end_array, end_object};
 ghost use Rattle.conode_text.specs.Appended.{Appended};
 ghost use Rattle.conode_lint_text.specs.SarifForm.{
+  context_members,
+  left_out,
+  line_members,
   log_end,
   log_head,
+  region_end,
   region_members,
+  result_end,
   result_tokens,
   rule_tokens,
 };
 
+use crate::column::own_column;
 use crate::finding::{Finding, Rule};
 use crate::member::Member;
 use crate::parts::Part;
 use crate::pieces::Piece;
+use crate::words::fix_of;
 use conode_json::{Document, HasTokens, JsonWriter, put_parts};
 use std::alloc::{AllocError, Global};
 
@@ -58,7 +65,73 @@ impl HasTokens for Rule<'_> {
     }
 }
 
-// the region, if a line is to blame
+// writes the line as the snippet of the region, or of a region of its own around it
+fn put_snippet<'p>(
+    alloc: Global,
+    writer: &mut JsonWriter,
+    is_whole: bool,
+    finding: &'p Finding<'p>,
+) -> Result<(), AllocError>
+    ensures { OnOk result (writer.new ≡ writer.old
+        ++ (if is_whole then region_end finding.now else context_members finding.now)) }
+{
+    if is_whole {
+        return put_parts(
+            alloc,
+            writer,
+            &[
+                Part::Object(Member::Snippet),
+                Part::Line(Member::Text, finding.text),
+                Part::EndObject,
+                Part::EndObject,
+            ],
+        );
+    }
+    put_parts(
+        alloc,
+        writer,
+        &[
+            Part::EndObject,
+            Part::Object(Member::ContextRegion),
+            Part::Number(Member::StartLine, finding.line),
+            Part::Object(Member::Snippet),
+            Part::Line(Member::Text, finding.text),
+            Part::EndObject,
+            Part::EndObject,
+        ],
+    )
+}
+
+// what follows the column in a region
+#[tactic(auto, unfolding(crate::specs::SarifForm::line_members))]
+fn put_line<'p>(
+    alloc: Global,
+    writer: &mut JsonWriter,
+    finding: &'p Finding<'p>,
+) -> Result<(), AllocError>
+    ensures { OnOk result (writer.new ≡ writer.old ++ line_members finding.now) }
+{
+    match own_column(alloc, finding) {
+        Ok(column) => put_snippet(alloc, writer, column == 1, finding),
+        Err(fault) => Err(fault),
+    }
+}
+
+/// The line of a finding, as it follows the column.
+#[derive(Clone, Copy)]
+struct FindingLine<'p> {
+    finding: &'p Finding<'p>,
+}
+
+impl HasTokens for FindingLine<'_> {
+    ghost tokens_of = { λ line. line_members line.finding.now };
+
+    fn put(&self, alloc: Global, writer: &mut JsonWriter) -> Result<(), AllocError> {
+        put_line(alloc, writer, self.finding)
+    }
+}
+
+// the region, and the whole line, if a line is to blame
 fn put_region<'p>(document: &mut Document, finding: &'p Finding<'p>)
     ensures { Appended document.old (region_members finding.now) document.new }
 {
@@ -69,21 +142,22 @@ fn put_region<'p>(document: &mut Document, finding: &'p Finding<'p>)
         Part::Object(Member::Region),
         Part::Number(Member::StartLine, finding.line),
         Part::Column(Member::StartColumn, finding),
-        Part::Object(Member::Snippet),
-        Part::Line(Member::Text, finding.text),
-        Part::EndObject,
-        Part::EndObject,
     ]);
+    document.put(&[FindingLine { finding }]);
 }
 
-fn end_result(document: &mut Document)
+// the end of where it is, and how to fix it
+fn end_result<'p>(document: &mut Document, finding: &'p Finding<'p>)
     ensures { Appended document.old
-        (end_object ∷ end_object ∷ end_array ∷ end_object ∷ []) document.new }
+        (end_object ∷ end_object ∷ end_array ∷ result_end finding.now) document.new }
 {
     document.put(&[
         Part::EndObject,
         Part::EndObject,
         Part::EndArray,
+        Part::Object(Member::Properties),
+        Part::Text(Member::Fix, fix_of(finding)),
+        Part::EndObject,
         Part::EndObject,
     ]);
 }
@@ -106,7 +180,7 @@ fn put_result<'p>(document: &mut Document, uri: &'p str, finding: &'p Finding<'p
         Part::EndObject,
     ]);
     put_region(document, finding);
-    end_result(document);
+    end_result(document, finding);
 }
 
 /// Writes the results of a file, which has this URI.
@@ -146,14 +220,35 @@ pub fn put_log_head(document: &mut Document, version: &str, rules: &[Rule<'_>])
     ]);
 }
 
-/// Writes what comes after the results.
-pub fn put_log_end(document: &mut Document)
-    ensures { Appended document.old log_end document.new }
+// writes how many findings aren't among the results, if any
+fn put_left_out(document: &mut Document, more: usize)
+    ensures { Appended document.old (left_out more) document.new }
 {
+    if more == 0 {
+        return;
+    }
     document.put(&[
-        Part::EndArray,
+        Part::Array(Member::Invocations),
+        Part::BeginObject,
+        Part::Flag(Member::ExecutionSuccessful, true),
+        Part::Array(Member::ToolExecutionNotifications),
+        Part::BeginObject,
+        Part::Text(Member::Level, "note"),
+        Part::Object(Member::Message),
+        Part::Piece(Member::Text, Piece::LeftOut(more)),
+        Part::EndObject,
         Part::EndObject,
         Part::EndArray,
         Part::EndObject,
+        Part::EndArray,
     ]);
+}
+
+/// Writes what comes after the results: how many findings aren't among them, if any.
+pub fn put_log_end(document: &mut Document, more: usize)
+    ensures { Appended document.old (log_end more) document.new }
+{
+    document.put(&[Part::EndArray]);
+    put_left_out(document, more);
+    document.put(&[Part::EndObject, Part::EndArray, Part::EndObject]);
 }

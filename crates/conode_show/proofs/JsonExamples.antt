@@ -16,7 +16,7 @@ use Rattle.conode_json.specs.Members.{array_begin, flag_member, number_member, o
 use Rattle.conode_json.specs.Characters.{characters_of, windows_1252}
 use Rattle.conode_show_text.specs.declared.meaning.Meaning.TheVariants.{PdoCobId}
 use Rattle.conode_show_text.specs.Numbers.{hex_text}
-use Rattle.conode_show_text.specs.Texts.{plain_text}
+use Rattle.conode_show_text.specs.Texts.{plain_text, property_text, shown_character}
 use Rattle.conode_show_text.specs.CobIds.{cob_id_text, identifier_text, pdo_cob_id_text}
 use Rattle.conode_show_text.specs.Meanings.{mapped_text, millis_text, said, time_text, word_text}
 use Rattle.conode_show_text.specs.Entries.{entry_type, type_name, type_text}
@@ -65,7 +65,7 @@ empty_for_node = refl
 
 -- ---- entries
 
-whole_entry : section_tokens (Some 5) (section (SubIndex (key_at 0x2000 1)) (property (codes "ParameterName") (codes "a") ∷ property (codes "DataType") (codes "3") ∷ property (codes "AccessType") (codes "rw") ∷ property (codes "PDOMapping") (codes "1") ∷ property (codes "DefaultValue") (codes "$NODEID+1") ∷ property (codes "ParameterValue") (codes "0xFFFF") ∷ property (codes "LowLimit") (codes "0xFFFE") ∷ property (codes "HighLimit") (codes "x") ∷ []))
+whole_entry : section_tokens (Some 5) [] (section (SubIndex (key_at 0x2000 1)) (property (codes "ParameterName") (codes "a") ∷ property (codes "DataType") (codes "3") ∷ property (codes "AccessType") (codes "rw") ∷ property (codes "PDOMapping") (codes "1") ∷ property (codes "DefaultValue") (codes "$NODEID+1") ∷ property (codes "ParameterValue") (codes "0xFFFF") ∷ property (codes "LowLimit") (codes "0xFFFE") ∷ property (codes "HighLimit") (codes "x") ∷ []))
     ≡ begin_object ∷ key (codes "index") ∷ number (codes "8192") ∷ key (codes "subIndex") ∷ number (codes "1")
     ∷ key (codes "name") ∷ string (codes "a") ∷ key (codes "type") ∷ string (codes "INTEGER16")
     ∷ key (codes "access") ∷ string (codes "rw")
@@ -77,18 +77,37 @@ whole_entry : section_tokens (Some 5) (section (SubIndex (key_at 0x2000 1)) (pro
 unfolding entry_tokens entry_begin value_member limit_member property_member flag_member quantity_member object_begin text_member number_member characters_of is_utf8 chars encode type_text entry_type type_name digits
 whole_entry = refl
 
-object_of_records : section_tokens None (section (Object 0x1018) (property (codes "ObjectType") (codes "9") ∷ []))
+object_of_records : section_tokens None [] (section (Object 0x1018) (property (codes "ObjectType") (codes "9") ∷ []))
     ≡ begin_object ∷ key (codes "index") ∷ number (codes "4120") ∷ key (codes "type") ∷ string (codes "RECORD") ∷ end_object ∷ []
 unfolding object_tokens property_member text_member number_member type_text digits
 object_of_records = refl
 
-bare_entry : section_tokens None (section (Object 0x1001) [])
+-- without ObjectType it is a VAR, whatever sections there are
+object_of_variable : section_tokens None (section (SubIndex (key_at 0x2000 1)) [] ∷ []) (section (Object 0x2000) (property (codes "DataType") (codes "5") ∷ property (codes "AccessType") (codes "rw") ∷ []))
+    ≡ begin_object ∷ key (codes "index") ∷ number (codes "8192") ∷ key (codes "subIndex") ∷ number (codes "0")
+    ∷ key (codes "type") ∷ string (codes "UNSIGNED8") ∷ key (codes "access") ∷ string (codes "rw") ∷ key (codes "mappable") ∷ boolean false ∷ end_object ∷ []
+unfolding entry_tokens entry_begin value_member limit_member property_member flag_member text_member number_member characters_of is_utf8 chars encode type_text entry_type type_name digits
+object_of_variable = refl
+
+-- an object without a type: its ObjectType is there and empty
+object_without_type : section_tokens None (section (SubIndex (key_at 0x1018 0)) [] ∷ []) (section (Object 0x1018) (property (codes "ObjectType") [] ∷ []))
+    ≡ begin_object ∷ key (codes "index") ∷ number (codes "4120") ∷ end_object ∷ []
+unfolding object_tokens property_member number_member type_text entry_type property_text plain_text shown_character characters_of is_utf8 chars encode digits
+object_without_type = refl
+
+-- an ObjectType that is no number: the sections of sub-indices tell that it is an object
+unread_object : section_tokens None (section (SubIndex (key_at 0x1018 0)) [] ∷ []) (section (Object 0x1018) (property (codes "ObjectType") (codes "RECORD") ∷ []))
+    ≡ begin_object ∷ key (codes "index") ∷ number (codes "4120") ∷ key (codes "type") ∷ string (codes "RECORD") ∷ end_object ∷ []
+unfolding object_tokens property_member text_member number_member type_text entry_type property_text plain_text shown_character characters_of is_utf8 chars encode digits
+unread_object = refl
+
+bare_entry : section_tokens None [] (section (Object 0x1001) [])
     ≡ begin_object ∷ key (codes "index") ∷ number (codes "4097") ∷ key (codes "subIndex") ∷ number (codes "0")
-    ∷ key (codes "type") ∷ string [] ∷ key (codes "mappable") ∷ boolean false ∷ end_object ∷ []
+    ∷ key (codes "mappable") ∷ boolean false ∷ end_object ∷ []
 unfolding entry_tokens entry_begin value_member limit_member property_member flag_member text_member number_member type_text entry_type digits
 bare_entry = refl
 
-no_entry : section_tokens None (section DeviceInfo []) ≡ []
+no_entry : section_tokens None [] (section DeviceInfo []) ≡ []
 no_entry = refl
 
 -- a sum without a node, and a number of 64 bits
@@ -138,5 +157,5 @@ mapped = refl
 
 mapped_unread : mapped_tokens None [] (mapped_word (codes "x"))
     ≡ begin_object ∷ key (codes "words") ∷ string (codes "x") ∷ end_object ∷ []
-unfolding mapped_tokens text_member said plain_text is_utf8 chars encode
+unfolding mapped_tokens text_member said plain_text shown_character characters_of is_utf8 chars encode
 mapped_unread = refl

@@ -9,6 +9,7 @@ use Rattle.co_value.specs.declared.data_type.DataType.{DataType}
 use Rattle.co_sheet_text.specs.declared.section_kind.SectionKind.{SectionKind}
 use Rattle.co_sheet_text.specs.declared.section_kind.SectionKind.TheVariants.{Object, SubIndex}
 use Rattle.co_sheet_text.specs.Sections.{Property, TextSection, property_at, section_at}
+use Rattle.co_sheet_text.specs.Text.{is_empty}
 use Rattle.conode_json.specs.Members.{text_member, flag_member, object_begin, array_begin, number_member, number_if}
 use Rattle.conode_json.specs.Characters.{utf8_of}
 use Rattle.conode_show_text.specs.declared.chapters.Chapter.{Chapter}
@@ -48,11 +49,15 @@ unfoldable pub limit_member : List ℕ → Option DataType → Option Property �
 limit_member name t limit =
     option_map_or (λ k. quantity_member name (limit_number t k.value) k.value) limit []
 
--- name and type
+-- a text, left out if it is empty
+abbrev pub text_if : List ℕ → List ℕ → List Token
+text_if name text = if is_empty text then [] else text_member name text
+
+-- name and type, each left out if there is none
 abbrev pub named_members : TextSection → List Token
 named_members section =
     property_member (codes "name") (codes "ParameterName") section
-    ++ text_member (codes "type") (type_text section)
+    ++ text_if (codes "type") (type_text section)
 
 -- the default, the value of a device configuration file, and the limits
 abbrev pub value_members : Option ℕ → TextSection → List Token
@@ -83,15 +88,15 @@ object_tokens index section =
     begin_object
     ∷ (number_member (codes "index") (pos index) ++ named_members section ++ end_object ∷ [])
 
-abbrev pub described_tokens : Option ℕ → TextSection → SectionKind → List Token
-described_tokens given section (Object index) =
-    if has_sub_indices section then object_tokens index section
+abbrev pub described_tokens : Option ℕ → List TextSection → TextSection → SectionKind → List Token
+described_tokens given sections section (Object index) =
+    if has_sub_indices sections index section then object_tokens index section
     else entry_tokens given (record { index = index; sub = 0 }) section
-described_tokens given section (SubIndex k) = entry_tokens given k section
-described_tokens given section other = []
+described_tokens given sections section (SubIndex k) = entry_tokens given k section
+described_tokens given sections section other = []
 
-abbrev pub section_tokens : Option ℕ → TextSection → List Token
-section_tokens node section = described_tokens node section section.kind
+abbrev pub section_tokens : Option ℕ → List TextSection → TextSection → List Token
+section_tokens node sections section = described_tokens node sections section section.kind
 
 -- ---- words of the communication profile
 
@@ -203,7 +208,7 @@ chapter_name Services = codes "services"
 
 -- what a chapter has for a section
 abbrev pub chapter_tokens : Chapter → Option ℕ → List TextSection → TextSection → List Token
-chapter_tokens Entries given sections section = section_tokens given section
+chapter_tokens Entries given sections section = section_tokens given sections section
 chapter_tokens Pdos given sections section = pdo_of given sections section
 chapter_tokens Services given sections section = service_of_section given section
 

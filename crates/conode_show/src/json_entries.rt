@@ -1,5 +1,6 @@
 //! Entries and objects as objects of JSON.
 
+ghost use Rattle.std.specs.Prelude.{map};
 ghost use Rattle.co_sheet_text.specs.Views.{section_view};
 ghost use Rattle.conode_show.specs.JsonForm.{
   entry_begin,
@@ -27,7 +28,7 @@ fn begin_entry<'p>(document: &mut Document, key: Key, section: &'p TextSection<'
         Part::Number(Member::Index, Some(key.index as i128)),
         Part::Number(Member::SubIndex, Some(key.sub as i128)),
         Part::Property(Member::Name, b"ParameterName", section),
-        Part::Shown(Member::Type, None, Content::TypeOf(section)),
+        Part::ShownIf(Member::Type, Content::TypeOf(section)),
         Part::Property(Member::Access, b"AccessType", section),
     ]);
 }
@@ -62,7 +63,7 @@ fn put_object<'p>(document: &mut Document, index: u16, section: &'p TextSection<
         Part::BeginObject,
         Part::Number(Member::Index, Some(index as i128)),
         Part::Property(Member::Name, b"ParameterName", section),
-        Part::Shown(Member::Type, None, Content::TypeOf(section)),
+        Part::ShownIf(Member::Type, Content::TypeOf(section)),
         Part::EndObject,
     ]);
 }
@@ -72,13 +73,14 @@ fn put_object<'p>(document: &mut Document, index: u16, section: &'p TextSection<
 pub(crate) fn put_section<'p>(
     document: &mut Document,
     node: Option<u8>,
+    sections: &'p [TextSection<'p, 'p>],
     section: &'p TextSection<'p, 'p>,
 )
-    ensures { Appended document.old (section_tokens node (section_view section.entry.now))
-        document.new }
+    ensures { Appended document.old (section_tokens node (map section_view sections.entry.now)
+        (section_view section.entry.now)) document.new }
 {
     match section.kind {
-        SectionKind::Object(index) if has_sub_indices(section) => {
+        SectionKind::Object(index) if has_sub_indices(sections, index, section) => {
             put_object(document, index, section);
         }
         SectionKind::Object(index) => put_entry(document, node, Key { index, sub: 0 }, section),

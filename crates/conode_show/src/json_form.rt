@@ -47,7 +47,7 @@ fn put_tokens<'p>(
         (section_view section.entry.now)) document.new }
 {
     match chapter {
-        Chapter::Entries => put_section(document, node, section),
+        Chapter::Entries => put_section(document, node, sections, section),
         Chapter::Pdos => put_pdo(document, node, sections, section),
         Chapter::Services => put_service(document, node, section),
     }

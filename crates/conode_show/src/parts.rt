@@ -1,7 +1,7 @@
 //! Parts of a document of JSON. Each function with a writer appends tokens. `Err`: out of memory;
 //! some tokens may be there.
 
-ghost use Rattle.std.specs.Prelude.{◌≡◌, ◌++◌, List, map, OnOk};
+ghost use Rattle.std.specs.Prelude.{◌≡◌, ◌++◌, List, map, None, OnOk};
 ghost use Rattle.co_sheet_text.specs.Views.{section_view};
 ghost use Rattle.json.specs.Token.{Token};
 ghost use Rattle.conode_json.specs.Members.{text_member};
@@ -12,6 +12,7 @@ ghost use Rattle.conode_show.specs.JsonForm.{
   quantity_member,
   said_at_member,
   said_member,
+  text_if,
   value_member,
   word_number,
 };
@@ -53,6 +54,8 @@ pub(crate) enum Part<'p> {
     Limit(Member, &'static [u8], &'p TextSection<'p, 'p>),
     /// What a cell of the lines has.
     Shown(Member, Option<u8>, Content<'p>),
+    /// The same without a node-ID, nothing if the cell is empty.
+    ShownIf(Member, Content<'p>),
     /// The value of an entry of the communication profile: its number, and its words.
     Said(Member, Meaning, Option<u8>, &'p TextSection<'p, 'p>),
     /// The value of a sub-index in the same way, nothing if it isn't there.
@@ -167,6 +170,23 @@ fn put_shown(
     }
 }
 
+fn put_shown_if(
+    alloc: Global,
+    writer: &mut JsonWriter,
+    member: Member,
+    content: &Content<'_>,
+) -> Result<(), AllocError>
+    ensures { OnOk result
+        (writer.new ≡ writer.old ++ text_if (member_name member) (cell_text None content.now)) }
+{
+    let mut text = String::new(alloc);
+    attempt!(push_content(&mut text, None, content));
+    if text.as_bytes().is_empty() {
+        return Ok(());
+    }
+    writer.put_text(member.name(), text.as_str())
+}
+
 #[tactic(auto, unfolding(crate::specs::JsonForm::said_member))]
 fn put_said<'p>(
     alloc: Global,
@@ -241,6 +261,7 @@ impl HasTokens for Part<'_> {
             }
             Part::Limit(member, name, section) => put_limit(alloc, writer, member, name, section),
             Part::Shown(member, node, content) => put_shown(alloc, writer, member, node, &content),
+            Part::ShownIf(member, content) => put_shown_if(alloc, writer, member, &content),
             Part::Said(member, meaning, node, section) => {
                 put_said(alloc, writer, member, meaning, node, section)
             }

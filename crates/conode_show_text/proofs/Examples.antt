@@ -1,15 +1,16 @@
 -- What is shown, evaluated: each text once, and both sides of each edge.
-use Rattle.std.proofs.Common.{◌≡◌, ℕ, [], ◌∷◌, List, Some, None, true, false, refl, pos, negsuc}
+use Rattle.std.proofs.Common.{◌≡◌, ℕ, [], ◌∷◌, ◌++◌, List, Some, None, true, false, refl, pos, negsuc}
 use Rattle.std.specs.Prelude.{codes}
 use Rattle.std.specs.Fmt.{digits}
 use Rattle.std.specs.Str.{is_utf8, chars}
 use lib.Utf8.{encode}
 use Rattle.co_text.specs.Printed.{digits_text}
+use Rattle.conode_json.specs.Characters.{characters_of, windows_1252}
 use Rattle.co_value.specs.declared.data_type.DataType.TheVariants.{Integer16, Unsigned8, Unsigned16, Unsigned32, VisibleString, OctetString}
 use Rattle.conode_show_text.specs.declared.format.Format.TheVariants.{Text, Markdown}
 use Rattle.conode_show_text.specs.declared.meaning.Meaning.TheVariants.{PdoCobId, CobId, SyncCobId, SyncPeriod, SyncWindow, SyncOverflow, TimeCobId, Transmission, Reception, PdoInhibit, EventTimer, EmcyInhibit, Consumer, Producer, Mapped}
 use Rattle.conode_show_text.specs.Numbers.{hex_text, in_parentheses, number_text}
-use Rattle.conode_show_text.specs.Texts.{plain_text}
+use Rattle.conode_show_text.specs.Texts.{plain_text, shown_character}
 use Rattle.conode_show_text.specs.Layout.{Part, placed, line_of}
 use Rattle.conode_show_text.specs.declared.values.Word.{Word}
 use Rattle.conode_show_text.specs.Values.{sum_text, known_text, quoted, value_text, unnumbered_text, word_of}
@@ -63,34 +64,37 @@ unfolding value_text known_text sum_text hex_text digits
 node_alone = refl
 
 no_number : value_text None (Some Unsigned8) (codes "010") ≡ codes "010"
-unfolding value_text known_text plain_text is_utf8 chars encode
+unfolding value_text known_text plain_text shown_character characters_of is_utf8 chars encode
 no_number = refl
 
 string : value_text None (Some VisibleString) (codes "a b") ≡ codes "\"a b\""
-unfolding value_text unnumbered_text quoted plain_text is_utf8 chars encode
+unfolding value_text unnumbered_text quoted plain_text shown_character characters_of is_utf8 chars encode
 string = refl
 
 octets : value_text None (Some OctetString) (codes "00A1FF") ≡ codes "00A1FF"
-unfolding value_text unnumbered_text plain_text is_utf8 chars encode
+unfolding value_text unnumbered_text plain_text shown_character characters_of is_utf8 chars encode
 octets = refl
 
 -- ---- texts
 
 with_control : plain_text (codes "a\tb") ≡ codes "a\\x09b"
-unfolding plain_text is_utf8 chars encode digits_text
+unfolding plain_text shown_character characters_of is_utf8 chars encode digits_text
 with_control = refl
 
-windows_1252 : plain_text (77 ∷ 0xFC ∷ 126 ∷ []) ≡ codes "M\\xFC~"
-unfolding plain_text is_utf8 chars encode digits_text
-windows_1252 = refl
+-- the first and the last control character, and what is beside them: U+001F, U+0020; U+007E, U+007F,
+-- U+0080, U+009F, U+00A0
+edges : plain_text (31 ∷ 32 ∷ 126 ∷ 127 ∷ 0xC2 ∷ 0x80 ∷ 0xC2 ∷ 0x9F ∷ 0xC2 ∷ 0xA0 ∷ []) ≡ codes "\\x1F ~\\x7F\\x80\\x9F" ++ 0xC2 ∷ 0xA0 ∷ []
+unfolding plain_text shown_character characters_of is_utf8 chars encode digits_text
+edges = refl
+
+-- no UTF-8: a letter, the euro sign, and a byte that Windows-1252 leaves open
+from_windows : plain_text (77 ∷ 0xFC ∷ 0x80 ∷ 0x9D ∷ []) ≡ 77 ∷ 0xC3 ∷ 0xBC ∷ 0xE2 ∷ 0x82 ∷ 0xAC ∷ codes "\\x9D"
+unfolding plain_text shown_character characters_of windows_1252 is_utf8 chars encode digits_text
+from_windows = refl
 
 umlaut : plain_text (77 ∷ 0xC3 ∷ 0xBC ∷ []) ≡ 77 ∷ 0xC3 ∷ 0xBC ∷ []
-unfolding plain_text is_utf8 chars encode
+unfolding plain_text shown_character characters_of is_utf8 chars encode
 umlaut = refl
-
-delete : plain_text (127 ∷ []) ≡ codes "\\x7F"
-unfolding plain_text is_utf8 chars encode digits_text
-delete = refl
 
 -- ---- lines
 
@@ -113,7 +117,7 @@ first_indented : line_of Text (part 0 [] ∷ part 2 (codes "b") ∷ []) ≡ code
 unfolding placed
 first_indented = refl
 
-table_row : line_of Markdown (part 0 (codes "a|b") ∷ part 2 [] ∷ part 4 (codes "$c") ∷ []) ≡ codes "| a\\|b |  | \\$c |\n"
+table_row : line_of Markdown (part 0 (codes "a|b&c") ∷ part 2 [] ∷ part 4 (codes "$d") ∷ []) ≡ codes "| a\\|b\\&c |  | \\$d |\n"
 unfolding placed
 table_row = refl
 
@@ -463,6 +467,18 @@ consumer_bit_24 = refl
 mapped : meaning_text Mapped (word 0x64010210) ≡ codes "6401:02, 16 bits"
 unfolding mapped_text digits digits_text
 mapped = refl
+
+mapped_bit : meaning_text Mapped (word 0x62200101) ≡ codes "6220:01, 1 bit"
+unfolding mapped_text digits digits_text
+mapped_bit = refl
+
+mapped_nothing : meaning_text Mapped (word 0x62200100) ≡ codes "6220:01, 0 bits"
+unfolding mapped_text digits digits_text
+mapped_nothing = refl
+
+mapped_two_bits : meaning_text Mapped (word 0x62200102) ≡ codes "6220:01, 2 bits"
+unfolding mapped_text digits digits_text
+mapped_two_bits = refl
 
 -- ---- names of types
 

@@ -1,24 +1,25 @@
 -- What sections give, evaluated: each kind of line, and both sides of each edge.
 use Rattle.std.proofs.Common.{◌≡◌, ℕ, [], ◌∷◌, List, Some, None, refl, false, true}
-use Rattle.std.specs.Prelude.{codes, nat_lt}
+use Rattle.std.specs.Prelude.{codes, nat_lt, replicate}
 use Rattle.std.specs.Fmt.{digits}
 use Rattle.std.specs.Str.{is_utf8, chars}
 use lib.Utf8.{encode}
 use Rattle.co_text.specs.Printed.{digits_text}
+use Rattle.conode_json.specs.Characters.{characters_of}
 use Rattle.co_value.specs.declared.key.Key.{Key}
 use Rattle.co_sheet_text.specs.declared.section_kind.SectionKind.{SectionKind}
 use Rattle.co_sheet_text.specs.declared.section_kind.SectionKind.TheVariants.{Object, SubIndex}
 use Rattle.co_sheet_text.specs.Sections.{TextSection, Property}
-use Rattle.conode_show_text.specs.declared.format.Format.TheVariants.{Text}
+use Rattle.conode_show_text.specs.declared.format.Format.TheVariants.{Text, Markdown}
 use Rattle.conode_show_text.specs.declared.service.Service.TheVariants.{Sync, SyncPeriod, SyncWindow, SyncOverflow, Time, Emcy, EmcyInhibitTime, HeartbeatConsumer, HeartbeatProducer, SdoRequests, SdoResponses, ClientRequests, ClientResponses}
 use Rattle.conode_show_text.specs.Numbers.{hex_text, in_parentheses, number_text}
-use Rattle.conode_show_text.specs.Texts.{plain_text, property_text}
+use Rattle.conode_show_text.specs.Texts.{plain_text, property_text, shown_character}
 use Rattle.conode_show_text.specs.Layout.{placed}
 use Rattle.conode_show_text.specs.Values.{default_text, known_text, limit_text, limits_text, property_value, sum_text, value_text}
 use Rattle.conode_show_text.specs.CobIds.{cob_id_text, identifier_text, pdo_cob_id_text}
 use Rattle.conode_show_text.specs.Meanings.{millis_text, said, time_text, word_text}
 use Rattle.conode_show_text.specs.declared.meaning.Meaning.TheVariants.{PdoCobId}
-use Rattle.conode_show_text.specs.Entries.{entry_line, entry_type, mappable_text, object_line, section_text, object_head, type_name, type_text}
+use Rattle.conode_show_text.specs.Entries.{entry_line, entry_type, has_sub_indices, is_split, mappable_text, object_heading, object_line, one_line, section_text, two_lines, type_name, type_text}
 use Rattle.conode_show_text.specs.Services.{channel_name, service_name, service_of}
 use Rattle.conode_show_text.specs.Pdos.{inhibit_text, is_counted, is_pdo_cob_id, mapping_count, pdo_name, said_at}
 use Rattle.conode_show_text.specs.Document.{rank}
@@ -34,24 +35,65 @@ section kind properties = record { kind = kind; name = []; line = 1; properties 
 
 -- ---- entries and objects
 
-whole_entry : section_text Text None (section (SubIndex (key 0x2000 1)) (property (codes "ParameterName") (codes "Gain") ∷ property (codes "DataType") (codes "0x0003") ∷ property (codes "AccessType") (codes "rw") ∷ property (codes "PDOMapping") (codes "1") ∷ property (codes "DefaultValue") (codes "10") ∷ property (codes "LowLimit") (codes "0xFF9C") ∷ property (codes "HighLimit") (codes "100") ∷ []))
+whole_entry : section_text Text None [] (section (SubIndex (key 0x2000 1)) (property (codes "ParameterName") (codes "Gain") ∷ property (codes "DataType") (codes "0x0003") ∷ property (codes "AccessType") (codes "rw") ∷ property (codes "PDOMapping") (codes "1") ∷ property (codes "DefaultValue") (codes "10") ∷ property (codes "LowLimit") (codes "0xFF9C") ∷ property (codes "HighLimit") (codes "100") ∷ []))
     ≡ codes "2000:01 Gain                          INTEGER16      rw     PDO 10 (Ah)                -100..100\n"
-unfolding entry_line placed property_text plain_text is_utf8 chars encode type_text entry_type type_name mappable_text default_text property_value value_text known_text number_text in_parentheses hex_text limits_text limit_text digits digits_text
+unfolding entry_line one_line placed property_text plain_text shown_character characters_of is_utf8 chars encode type_text entry_type type_name mappable_text default_text property_value value_text known_text number_text in_parentheses hex_text limits_text limit_text digits digits_text
 whole_entry = refl
 
-variable : section_text Text None (section (Object 0x1001) (property (codes "DataType") (codes "5") ∷ [])) ≡ codes "1001:00                               UNSIGNED8\n"
-unfolding entry_line object_head placed property_text plain_text is_utf8 chars encode type_text entry_type type_name mappable_text default_text property_value limits_text limit_text digits digits_text
+variable : section_text Text None [] (section (Object 0x1001) (property (codes "DataType") (codes "5") ∷ [])) ≡ codes "1001:00                               UNSIGNED8\n"
+unfolding entry_line one_line object_heading placed property_text plain_text shown_character characters_of is_utf8 chars encode type_text entry_type type_name mappable_text default_text property_value limits_text limit_text digits digits_text
 variable = refl
 
 -- the longest name before a column, and the longest type: neither moves what is right of it
-long_name : section_text Text None (section (Object 0x1009) (property (codes "ParameterName") (codes "Manufacturer hardware version") ∷ property (codes "DataType") (codes "9") ∷ property (codes "AccessType") (codes "const") ∷ []))
+long_name : section_text Text None [] (section (Object 0x1009) (property (codes "ParameterName") (codes "Manufacturer hardware version") ∷ property (codes "DataType") (codes "9") ∷ property (codes "AccessType") (codes "const") ∷ []))
     ≡ codes "1009:00 Manufacturer hardware version VISIBLE_STRING const\n"
-unfolding entry_line object_head placed property_text plain_text is_utf8 chars encode type_text entry_type type_name mappable_text default_text property_value limits_text limit_text digits digits_text
+unfolding entry_line one_line object_heading placed property_text plain_text shown_character characters_of is_utf8 chars encode type_text entry_type type_name mappable_text default_text property_value limits_text limit_text digits digits_text
 long_name = refl
 
-object_of_records : section_text Text None (section (Object 0x1018) (property (codes "ObjectType") (codes "9") ∷ property (codes "ParameterName") (codes "Identity") ∷ [])) ≡ codes "1018    Identity                      RECORD\n"
-unfolding object_head object_line placed property_text plain_text is_utf8 chars encode type_text digits_text
+object_of_records : section_text Text None [] (section (Object 0x1018) (property (codes "ObjectType") (codes "9") ∷ property (codes "ParameterName") (codes "Identity") ∷ [])) ≡ codes "1018    Identity                      RECORD\n"
+unfolding object_heading object_line placed property_text plain_text shown_character characters_of is_utf8 chars encode type_text digits_text
 object_of_records = refl
+
+-- in Markdown an object with sub-indices has a heading and a row
+table_of_records : section_text Markdown None [] (section (Object 0x1018) (property (codes "ObjectType") (codes "9") ∷ property (codes "ParameterName") (codes "Identity") ∷ []))
+    ≡ codes "\n### 1018h Identity\n\n| Entry | Name | Type | Access | PDO | Default | Limits |\n| --- | --- | --- | --- | --- | --- | --- |\n| 1018 | Identity | RECORD |  |  |  |  |\n"
+unfolding object_heading object_line placed property_text plain_text shown_character characters_of is_utf8 chars encode type_text digits_text
+table_of_records = refl
+
+-- an ObjectType that is no number, as `RECORD`: with a section of a sub-index, and with that of another object
+abbrev unread : List Property
+unread = property (codes "ObjectType") (codes "RECORD") ∷ property (codes "ParameterName") (codes "Identity") ∷ []
+
+abbrev sub_index_of : ℕ → List TextSection
+sub_index_of index = section (SubIndex (key index 0)) [] ∷ []
+
+unread_object : section_text Text None (sub_index_of 0x1018) (section (Object 0x1018) unread) ≡ codes "1018    Identity                      RECORD\n"
+unfolding object_heading object_line placed property_text plain_text shown_character characters_of is_utf8 chars encode type_text entry_type digits_text
+unread_object = refl
+
+unread_entry : section_text Text None (sub_index_of 0x1019) (section (Object 0x1018) unread) ≡ codes "1018:00 Identity                      RECORD\n"
+unfolding entry_line one_line object_heading placed property_text plain_text shown_character characters_of is_utf8 chars encode type_text entry_type mappable_text default_text property_value limits_text limit_text digits_text
+unread_entry = refl
+
+-- without ObjectType it is a VAR, whatever sections there are: its type, its access and its default stay
+without_object_type : section_text Text None (sub_index_of 0x2000) (section (Object 0x2000) (property (codes "DataType") (codes "5") ∷ property (codes "AccessType") (codes "rw") ∷ property (codes "DefaultValue") (codes "7") ∷ property (codes "HighLimit") (codes "9") ∷ []))
+    ≡ codes "2000:00                               UNSIGNED8      rw         7                      ..9\n"
+unfolding entry_line one_line object_heading placed property_text plain_text shown_character characters_of is_utf8 chars encode type_text entry_type type_name mappable_text default_text property_value value_text known_text number_text in_parentheses hex_text limits_text limit_text digits digits_text
+without_object_type = refl
+
+-- an empty ObjectType is no number
+empty_object_type : has_sub_indices (sub_index_of 0x1018) 0x1018 (section (Object 0x1018) (property (codes "ObjectType") [] ∷ [])) ≡ true
+empty_object_type = refl
+
+-- one that is a number tells alone: an ARRAY, a RECORD, and the numbers beside them
+variable_with_sections : has_sub_indices (sub_index_of 0x1018) 0x1018 (section (Object 0x1018) (property (codes "ObjectType") (codes "7") ∷ [])) ≡ false
+variable_with_sections = refl
+
+array_without_sections : has_sub_indices [] 0x1018 (section (Object 0x1018) (property (codes "ObjectType") (codes "0x08") ∷ [])) ≡ true
+array_without_sections = refl
+
+past_record : has_sub_indices (sub_index_of 0x1018) 0x1018 (section (Object 0x1018) (property (codes "ObjectType") (codes "10") ∷ [])) ≡ false
+past_record = refl
 
 domain : entry_type (section (Object 0x2F00) (property (codes "ObjectType") (codes "2") ∷ [])) ≡ codes "DOMAIN"
 unfolding entry_type
@@ -73,6 +115,30 @@ beside_default : default_text (Some 5) (section (Object 0x1014) (property (codes
     ≡ codes "133 (85h), default $NODEID+80h = 85h"
 unfolding default_text property_value value_text known_text sum_text number_text in_parentheses hex_text digits
 beside_default = refl
+
+-- a value and a default in a line of 100 columns, and below each other where it would have 101
+abbrev with_limit : List ℕ → TextSection
+with_limit high = section (Object 0x2000) (property (codes "DataType") (codes "6") ∷ property (codes "ParameterValue") (codes "250") ∷ property (codes "DefaultValue") (codes "1000") ∷ property (codes "LowLimit") (codes "0") ∷ property (codes "HighLimit") high ∷ [])
+
+hundred_columns : section_text Text None [] (with_limit (codes "10"))
+    ≡ codes "2000:00                               UNSIGNED16                250 (FAh), default 1000 (3E8h) 0..10\n"
+unfolding entry_line one_line two_lines object_heading placed property_text type_text entry_type type_name mappable_text default_text property_value value_text known_text number_text in_parentheses hex_text limits_text limit_text digits digits_text
+hundred_columns = refl
+
+past_hundred_columns : section_text Text None [] (with_limit (codes "100"))
+    ≡ codes "2000:00                               UNSIGNED16                250 (FAh)              0..100\n                                                                default 1000 (3E8h)\n"
+unfolding entry_line one_line two_lines object_heading placed property_text type_text entry_type type_name mappable_text default_text property_value value_text known_text number_text in_parentheses hex_text limits_text limit_text digits digits_text
+past_hundred_columns = refl
+
+-- never in a table, nor where there is one of them alone
+row_kept : is_split Markdown (with_limit (codes "100")) (replicate 200 32) ≡ false
+row_kept = refl
+
+value_kept : is_split Text (section (Object 0x2000) (property (codes "ParameterValue") (codes "250") ∷ [])) (replicate 200 32) ≡ false
+value_kept = refl
+
+default_kept : is_split Text (section (Object 0x2000) (property (codes "DefaultValue") (codes "250") ∷ [])) (replicate 200 32) ≡ false
+default_kept = refl
 
 value_alone : default_text None (section (Object 0x1017) (property (codes "DataType") (codes "6") ∷ property (codes "ParameterValue") (codes "7") ∷ [])) ≡ codes "7"
 unfolding default_text property_value value_text known_text number_text digits
@@ -224,11 +290,11 @@ unfolding said word_text pdo_cob_id_text cob_id_text identifier_text hex_text di
 cob_id_of_node = refl
 
 past_32_bits : said PdoCobId None (section (SubIndex (key 0x1800 1)) (property (codes "DefaultValue") (codes "0x100000185") ∷ [])) ≡ codes "0x100000185"
-unfolding said plain_text is_utf8 chars encode
+unfolding said plain_text shown_character characters_of is_utf8 chars encode
 past_32_bits = refl
 
 no_cob_id : said PdoCobId None (section (SubIndex (key 0x1800 1)) (property (codes "DefaultValue") (codes "x") ∷ [])) ≡ codes "x"
-unfolding said plain_text is_utf8 chars encode
+unfolding said plain_text shown_character characters_of is_utf8 chars encode
 no_cob_id = refl
 
 abbrev count_is : List ℕ → ℕ

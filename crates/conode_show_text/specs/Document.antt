@@ -38,7 +38,7 @@ head_of Services Markdown = codes "\n## Services\n\n| Entry | Service | Says |\n
 
 -- what a chapter has for a section
 abbrev pub chapter_text : Chapter → Format → Option ℕ → List TextSection → TextSection → List ℕ
-chapter_text Entries format given sections section = section_text format given section
+chapter_text Entries format given sections section = section_text format given sections section
 chapter_text Pdos format given sections section = pdo_text format given sections section
 chapter_text Services format given sections section = service_text format given section
 

@@ -1,7 +1,7 @@
 -- The lines of entries and objects (CiA 306, object description).
-use Rattle.std.specs.Prelude.{ℕ, ◌||◌, Bool, if◌then◌else◌, List, [], ◌∷◌, ◌++◌, codes, Option}
+use Rattle.std.specs.Prelude.{ℕ, ◌==◌, nat_lt, ◌||◌, ◌&&◌, Bool, false, if◌then◌else◌, List, [], ◌∷◌, ◌++◌, codes, Option, Some, None}
 use Rattle.std.specs.Option.{option_map_or}
-use Rattle.std.specs.List.{flat_map}
+use Rattle.std.specs.List.{flat_map, list_any}
 use Rattle.co_text.specs.Printed.{digits_text}
 use Rattle.co_value.specs.declared.key.Key.{Key}
 use Rattle.co_value.specs.KeyTexts.{key_text}
@@ -16,8 +16,8 @@ use Rattle.conode_show_text.specs.declared.format.Format.TheVariants.{Text, Mark
 use Rattle.conode_show_text.specs.Names.{name_among}
 use Rattle.conode_show_text.specs.Numbers.{hex_text}
 use Rattle.conode_show_text.specs.Texts.{plain_text, property_text}
-use Rattle.conode_show_text.specs.Values.{default_text, limits_text}
-use Rattle.conode_show_text.specs.Layout.{Part, line_of, cell_byte}
+use Rattle.conode_show_text.specs.Values.{default_text, has_both, limits_text, value_at}
+use Rattle.conode_show_text.specs.Layout.{Part, line_of, cell_byte, columns}
 
 -- data types by their codes (CiA 301, 7.4.7.1)
 abbrev pub type_names : List (ℕ × List ℕ)
@@ -42,12 +42,17 @@ is_array section = is_one_of (8 ∷ []) (object_code section)
 abbrev pub is_record : TextSection → Bool
 is_record section = is_one_of (9 ∷ []) (object_code section)
 
--- the type of an entry; DOMAIN if object type 2 has none
+-- what an object type says of an entry without a data type: 2 is DOMAIN, one that is no number is
+-- printed as it is
+abbrev pub object_type_text : Option ℕ → TextSection → List ℕ
+object_type_text (Some code) section = if code == 2 then codes "DOMAIN" else []
+object_type_text None section = property_text (codes "ObjectType") section
+
+-- the type of an entry
 unfoldable pub entry_type : TextSection → List ℕ
 entry_type section =
     option_map_or (λ k. option_map_or type_name (property_number k) (plain_text k.value))
-    (property_at (codes "DataType") section)
-    (if is_one_of (2 ∷ []) (object_code section) then codes "DOMAIN" else [])
+    (property_at (codes "DataType") section) (object_type_text (object_code section) section)
 
 -- the type of an object with sub-indices, or of an entry
 unfoldable pub type_text : TextSection → List ℕ
@@ -55,9 +60,22 @@ type_text section =
     if is_array section then codes "ARRAY"
     else if is_record section then codes "RECORD" else entry_type section
 
--- whether an object's entries have sections of their own
-abbrev pub has_sub_indices : TextSection → Bool
-has_sub_indices section = is_array section || is_record section
+-- whether one of the sections is that of a sub-index of an object
+abbrev pub is_sub_index : ℕ → SectionKind → Bool
+is_sub_index index (SubIndex key) = key.index == index
+is_sub_index index other = false
+
+abbrev pub has_sub_index : ℕ → List TextSection → Bool
+has_sub_index index sections = list_any (λ s. is_sub_index index s.kind) sections
+
+-- whether an object's entries have sections of their own: it is an ARRAY or a RECORD. If ObjectType
+-- is there and is no number, these sections say so; without it the object is a VAR (CiA 306)
+abbrev pub is_compound : List TextSection → ℕ → Option ℕ → Bool
+is_compound sections index (Some code) = code == 8 || code == 9
+is_compound sections index None = has_sub_index index sections
+
+abbrev pub has_sub_indices : List TextSection → ℕ → TextSection → Bool
+has_sub_indices sections index section = is_compound sections index (object_code section)
 
 -- whether the entry may be mapped into a PDO
 abbrev pub is_mappable : TextSection → Bool
@@ -66,29 +84,51 @@ is_mappable section = is_other_than_zero (number_at (codes "PDOMapping") section
 unfoldable pub mappable_text : TextSection → List ℕ
 mappable_text section = if is_mappable section then codes "PDO" else []
 
--- an entry: key, name, type, access, whether it may be mapped, default, limits
-abbrev pub entry_parts : Option ℕ → Key → TextSection → List Part
-entry_parts node key section =
+-- an entry: key, name, type, access, whether it may be mapped, its value, limits
+abbrev pub entry_parts : List ℕ → Key → TextSection → List Part
+entry_parts value key section =
     record { column = 0; text = key_text key }
     ∷ record { column = 8; text = property_text (codes "ParameterName") section }
     ∷ record { column = 38; text = type_text section }
     ∷ record { column = 53; text = property_text (codes "AccessType") section }
     ∷ record { column = 60; text = mappable_text section }
-    ∷ record { column = 64; text = default_text node section }
+    ∷ record { column = 64; text = value }
     ∷ record { column = 87; text = limits_text section } ∷ []
 
+-- the default beside the value of a device configuration file, and below it in a line of its own
+unfoldable pub one_line : Format → Option ℕ → Key → TextSection → List ℕ
+one_line format node key section = line_of format (entry_parts (default_text node section) key section)
+
+unfoldable pub two_lines : Option ℕ → Key → TextSection → List ℕ
+two_lines node key section =
+    line_of Text (entry_parts (value_at node (codes "ParameterValue") section) key section)
+    ++ line_of Text (record { column = 64; text = codes "default " ++ value_at node (codes "DefaultValue") section } ∷ [])
+
+-- whether a line, with its end, has more than 100 columns
+abbrev pub is_long : List ℕ → Bool
+is_long line = nat_lt 101 (columns line)
+
+-- in columns two lines, where there are both and one line is long
+abbrev pub is_split : Format → TextSection → List ℕ → Bool
+is_split Text section line = has_both section && is_long line
+is_split Markdown section line = false
+
 unfoldable pub entry_line : Format → Option ℕ → Key → TextSection → List ℕ
-entry_line format node key section = line_of format (entry_parts node key section)
+entry_line format node key section =
+    if is_split format section (one_line format node key section) then two_lines node key section
+    else one_line format node key section
 
 -- an object with sub-indices: index, name, type
 abbrev pub object_parts : ℕ → TextSection → List Part
 object_parts index section =
     record { column = 0; text = digits_text 16 4 index }
     ∷ record { column = 8; text = property_text (codes "ParameterName") section }
-    ∷ record { column = 38; text = type_text section } ∷ []
+    ∷ record { column = 38; text = type_text section }
+    ∷ record { column = 53; text = [] } ∷ record { column = 60; text = [] }
+    ∷ record { column = 64; text = [] } ∷ record { column = 87; text = [] } ∷ []
 
-unfoldable pub object_line : ℕ → TextSection → List ℕ
-object_line index section = line_of Text (object_parts index section)
+unfoldable pub object_line : Format → ℕ → TextSection → List ℕ
+object_line format index section = line_of format (object_parts index section)
 
 -- the head of a table of entries
 abbrev pub entries_head : Format → List ℕ
@@ -96,26 +136,22 @@ entries_head Text = codes "Entry   Name                          Type           
 entries_head Markdown =
     codes "| Entry | Name | Type | Access | PDO | Default | Limits |\n| --- | --- | --- | --- | --- | --- | --- |\n"
 
--- the heading of an object, as `### 1018h Identity object`, and the head of its table
-unfoldable pub object_heading : ℕ → TextSection → List ℕ
-object_heading index section =
+-- what comes before an object: in Markdown a heading, as `### 1018h Identity object`, and the head of
+-- its table
+unfoldable pub object_heading : Format → ℕ → TextSection → List ℕ
+object_heading Text index section = []
+object_heading Markdown index section =
     codes "\n### " ++ digits_text 16 4 index ++ codes "h "
     ++ flat_map cell_byte (property_text (codes "ParameterName") section) ++ codes "\n\n" ++ entries_head Markdown
 
--- what comes before the entries of an object: in columns the line of an object with sub-indices, in
--- Markdown a heading
-unfoldable pub object_head : Format → ℕ → TextSection → List ℕ
-object_head Text index section = if has_sub_indices section then object_line index section else []
-object_head Markdown index section = object_heading index section
+-- the lines of a section: an object with sub-indices, or else its entry; or the entry of a sub-index
+abbrev pub described : Format → Option ℕ → List TextSection → TextSection → SectionKind → List ℕ
+described format given sections section (Object index) =
+    object_heading format index section
+    ++ (if has_sub_indices sections index section then object_line format index section
+    else entry_line format given (record { index = index; sub = 0 }) section)
+described format given sections section (SubIndex key) = entry_line format given key section
+described format given sections section other = []
 
--- the lines of a section: an object, with its entry if it has no sub-indices, or the entry of a
--- sub-index
-abbrev pub described : Format → Option ℕ → TextSection → SectionKind → List ℕ
-described format given section (Object index) =
-    object_head format index section
-    ++ (if has_sub_indices section then [] else entry_line format given (record { index = index; sub = 0 }) section)
-described format given section (SubIndex key) = entry_line format given key section
-described format given section other = []
-
-abbrev pub section_text : Format → Option ℕ → TextSection → List ℕ
-section_text format node section = described format node section section.kind
+abbrev pub section_text : Format → Option ℕ → List TextSection → TextSection → List ℕ
+section_text format node sections section = described format node sections section section.kind

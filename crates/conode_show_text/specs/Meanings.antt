@@ -85,8 +85,11 @@ consumer_text n =
 abbrev pub mapped_key : ℕ → Key
 mapped_key n = record { index = n / 0x10000 % 0x10000; sub = n / 0x100 % 0x100 }
 
+abbrev pub bits_name : ℕ → List ℕ
+bits_name bits = if bits == 1 then codes " bit" else codes " bits"
+
 unfoldable pub mapped_text : ℕ → List ℕ
-mapped_text n = key_text (mapped_key n) ++ codes ", " ++ decimal (n % 0x100) ++ codes " bits"
+mapped_text n = key_text (mapped_key n) ++ codes ", " ++ decimal (n % 0x100) ++ bits_name (n % 0x100)
 
 -- the meaning of a word
 abbrev pub meaning_text : Meaning → Word → List ℕ

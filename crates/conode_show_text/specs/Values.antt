@@ -71,14 +71,20 @@ type_of section = option_and_then data_type_with (number_at (codes "DataType") s
 unfoldable pub property_value : Option ℕ → Option DataType → Option Property → List ℕ
 property_value node t property = option_map_or (λ k. value_text node t k.value) property []
 
+-- the value at a name of a section, by the section's type
+abbrev pub value_at : Option ℕ → List ℕ → TextSection → List ℕ
+value_at node name section = property_value node (type_of section) (property_at name section)
+
+-- whether a section has the value of a device configuration file, and a default too
+abbrev pub has_both : TextSection → Bool
+has_both section =
+    is_some (property_at (codes "ParameterValue") section) && is_some (property_at (codes "DefaultValue") section)
+
 -- the value of a device configuration file and then the default, or the one of them that is there
 unfoldable pub default_text : Option ℕ → TextSection → List ℕ
 default_text node section =
-    let value = property_at (codes "ParameterValue") section in
-    let default = property_at (codes "DefaultValue") section in
-    property_value node (type_of section) value
-    ++ (if is_some value && is_some default then codes ", default " else [])
-    ++ property_value node (type_of section) default
+    value_at node (codes "ParameterValue") section ++ (if has_both section then codes ", default " else [])
+    ++ value_at node (codes "DefaultValue") section
 
 -- the number of a limit of this type, if it is one
 abbrev pub limit_number : Option DataType → List ℕ → Option ℤ

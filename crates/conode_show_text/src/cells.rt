@@ -12,7 +12,7 @@ use crate::numbers::push_words;
 use crate::pdos::push_pdo_name;
 use crate::service::{Service, push_service_name};
 use crate::texts::push_property;
-use crate::values::{push_default, push_limits};
+use crate::values::{push_default, push_limits, push_value};
 use co_sheet_text::TextSection;
 use co_text::push_u16;
 use co_value::Key;
@@ -28,6 +28,8 @@ pub enum Content<'p> {
     Property(&'static [u8], &'p TextSection<'p, 'p>),
     /// The type of an object or an entry.
     TypeOf(&'p TextSection<'p, 'p>),
+    /// Words, and the value at a name of a section, nothing after them if it has none.
+    Value(&'static str, &'static [u8], &'p TextSection<'p, 'p>),
     /// The value of a device configuration file, and the default.
     Default(&'p TextSection<'p, 'p>),
     Limits(&'p TextSection<'p, 'p>),
@@ -57,6 +59,7 @@ pub fn push_content(
         Content::Index(index) => push_u16(text, index),
         Content::Property(name, section) => push_property(text, section, name),
         Content::TypeOf(section) => push_type(text, section),
+        Content::Value(before, name, section) => push_value(text, node, before, section, name),
         Content::Default(section) => push_default(text, node, section),
         Content::Limits(section) => push_limits(text, section),
         Content::Pdo(index) => push_pdo_name(text, index),
@@ -65,7 +68,27 @@ pub fn push_content(
     }
 }
 
-/// Appends a line; `line` is for it, and `part` for each of its cells in turn.
+/// Makes a line; `part` is for each of its cells in turn.
+pub(crate) fn fill_line(
+    line: &mut Vec<u8>,
+    part: &mut String,
+    format: Format,
+    node: Option<u8>,
+    cells: &[Cell<'_>],
+) -> Result<(), AllocError>
+    ensures { OnOk result (line.new.items ≡ line_of format (map (cell_part node) cells.now)) }
+{
+    attempt!(begin(line, format));
+    for cell in cells {
+        part.clear();
+        attempt!(push_content(part, node, &cell.1));
+        attempt!(place(line, format, cell.0, part.as_bytes()));
+    }
+    attempt_in_memory!(line.push(b'\n'));
+    Ok(())
+}
+
+/// Appends a line, which it makes in `line`.
 pub(crate) fn push_line(
     text: &mut Vec<u8>,
     line: &mut Vec<u8>,
@@ -77,12 +100,6 @@ pub(crate) fn push_line(
     ensures { OnOk result (text.new.items
         ≡ text.old.items ++ line_of format (map (cell_part node) cells.now)) }
 {
-    attempt!(begin(line, format));
-    for cell in cells {
-        part.clear();
-        attempt!(push_content(part, node, &cell.1));
-        attempt!(place(line, format, cell.0, part.as_bytes()));
-    }
-    attempt_in_memory!(line.push(b'\n'));
+    attempt!(fill_line(line, part, format, node, cells));
     text.extend_from_slice(line.as_slice())
 }

@@ -60,7 +60,7 @@ fn push_text<'p>(
         (section_view section.entry.now)) }
 {
     match chapter {
-        Chapter::Entries => push_section(text, line, part, format, node, section),
+        Chapter::Entries => push_section(text, line, part, format, node, sections, section),
         Chapter::Pdos => push_pdo(text, line, part, format, node, sections, section),
         Chapter::Services => push_service(text, line, part, format, node, section),
     }
@@ -152,22 +152,6 @@ fn push_chapters<'p>(
     )
 }
 
-// appends all chapters
-fn push_document(
-    alloc: Global,
-    text: &mut Vec<u8>,
-    format: Format,
-    node: Option<u8>,
-    sections: &[TextSection],
-) -> Result<(), AllocError>
-    ensures { OnOk result (text.new.items
-        ≡ text.old.items ++ document format node (map section_view sections.now)) }
-{
-    let mut line = Vec::new(alloc);
-    let mut part = String::new(alloc);
-    push_chapters(alloc, text, &mut line, &mut part, format, node, sections)
-}
-
 /// The object dictionary of sections in order: its entries, its PDOs, and its services. `Err`: out
 /// of memory.
 pub fn document(
@@ -180,6 +164,10 @@ pub fn document(
         (λ text. text.items ≡ document format node (map section_view sections.now)) }
 {
     let mut text = Vec::new(alloc);
-    attempt!(push_document(alloc, &mut text, format, node, sections));
+    let mut line = Vec::new(alloc);
+    let mut part = String::new(alloc);
+    attempt!(push_chapters(
+        alloc, &mut text, &mut line, &mut part, format, node, sections,
+    ));
     Ok(text)
 }

@@ -1,36 +1,71 @@
 //! The lines of entries and objects (CiA 306, object description).
 
-ghost use Rattle.std.specs.Prelude.{◌≡◌, ◌++◌, OnOk, flat_map, string_bytes};
+ghost use Rattle.std.specs.Prelude.{◌≡◌, ◌++◌, OnOk, flat_map, map, string_bytes};
 ghost use Rattle.co_sheet_text.specs.Views.{section_view};
 ghost use Rattle.conode_show_text.specs.Entries.{
   entries_head,
   entry_line,
+  entry_parts,
   entry_type,
+  has_sub_index,
   has_sub_indices,
   is_mappable,
-  object_head,
+  is_split,
+  is_sub_index,
   object_heading,
+  object_line,
   section_text,
+  two_lines,
   type_text,
 };
+ghost use Rattle.conode_show_text.specs.Cells.{cell_text};
+ghost use Rattle.conode_show_text.specs.Layout.{line_of};
 
-use crate::cells::{Cell, Content, push_line};
+use crate::cells::{Cell, Content, fill_line, push_line};
 use crate::format::Format;
-use crate::layout::push_cell;
+use crate::layout::{columns, push_cell};
 use crate::numbers::{push_words, words_if};
 use crate::sections::object_code;
 use crate::texts::{push_plain, push_property};
 use crate::type_names::push_type_name;
+use crate::values::has_both;
 use co_sheet_text::{SectionKind, TextSection};
 use co_text::word_digits;
 use co_value::Key;
 use std::alloc::AllocError;
 
-/// Whether an object's entries have sections of their own.
-pub fn has_sub_indices(section: &TextSection<'_, '_>) -> bool
-    ensures { result ≡ has_sub_indices (section_view section.now) }
+fn is_sub_index(index: u16, kind: SectionKind) -> bool
+    ensures { result ≡ is_sub_index index kind }
 {
-    matches!(object_code(section), Some(8 | 9))
+    match kind {
+        SectionKind::SubIndex(key) => key.index == index,
+        _ => false,
+    }
+}
+
+// whether one of the sections is that of a sub-index of an object
+fn has_sub_index(index: u16, sections: &[TextSection]) -> bool
+    ensures { result ≡ has_sub_index index (map section_view sections.now) }
+{
+    for section in sections {
+        if is_sub_index(index, section.kind) {
+            return true;
+        }
+    }
+    false
+}
+
+/// Whether an object's entries have sections of their own: it is an ARRAY or a RECORD. If ObjectType
+/// is there and is no number, the sections say so; without it the object is a VAR (CiA 306).
+pub fn has_sub_indices(sections: &[TextSection], index: u16, section: &TextSection<'_, '_>) -> bool
+    ensures { result
+        ≡ has_sub_indices (map section_view sections.now) index (section_view section.now) }
+{
+    match object_code(section) {
+        Some(code) => code == 8 || code == 9,
+        // each section is looked at: only for a sheet's faults
+        None => has_sub_index(index, sections),
+    }
 }
 
 // the type of an entry
@@ -42,7 +77,8 @@ fn push_entry_type(text: &mut String, section: &TextSection<'_, '_>) -> Result<(
     let Some(property) = section.property(b"DataType") else {
         return match object_code(section) {
             Some(2) => push_words(text, "DOMAIN"),
-            _ => Ok(()),
+            Some(_) => Ok(()),
+            None => push_property(text, section, b"ObjectType"),
         };
     };
     match property.number() {
@@ -72,7 +108,67 @@ pub fn is_mappable(section: &TextSection<'_, '_>) -> bool
     !matches!(section.number_at(b"PDOMapping"), None | Some(0))
 }
 
-#[tactic(auto, unfolding(crate::specs::Entries::entry_line, crate::specs::Entries::mappable_text))]
+#[tactic(auto, unfolding(crate::specs::Entries::mappable_text))]
+fn fill_entry<'p>(
+    line: &mut Vec<u8>,
+    part: &mut String,
+    format: Format,
+    node: Option<u8>,
+    value: Content<'p>,
+    key: Key,
+    section: &'p TextSection<'p, 'p>,
+) -> Result<(), AllocError>
+    ensures { OnOk result (line.new.items ≡ line_of format
+        (entry_parts (cell_text node value.entry) key (section_view section.entry.now))) }
+{
+    fill_line(
+        line,
+        part,
+        format,
+        node,
+        &[
+            Cell(0, Content::Key(key)),
+            Cell(8, Content::Property(b"ParameterName", section)),
+            Cell(38, Content::TypeOf(section)),
+            Cell(53, Content::Property(b"AccessType", section)),
+            Cell(60, Content::Words(words_if(is_mappable(section), "PDO"))),
+            Cell(64, value),
+            Cell(87, Content::Limits(section)),
+        ],
+    )
+}
+
+// whether the value and the default of an entry are on two lines
+fn is_split(format: Format, section: &TextSection<'_, '_>, line: &[u8]) -> bool
+    ensures { result ≡ is_split format (section_view section.now) line.now }
+{
+    match format {
+        Format::Text => has_both(section) && 101 < columns(line),
+        Format::Markdown => false,
+    }
+}
+
+// an entry whose default is below its value
+#[tactic(auto, unfolding(crate::specs::Entries::two_lines))]
+fn push_two_lines<'p>(
+    text: &mut Vec<u8>,
+    line: &mut Vec<u8>,
+    part: &mut String,
+    node: Option<u8>,
+    key: Key,
+    section: &'p TextSection<'p, 'p>,
+) -> Result<(), AllocError>
+    ensures { OnOk result (text.new.items
+        ≡ text.old.items ++ two_lines node key (section_view section.entry.now)) }
+{
+    let value = Content::Value("", b"ParameterValue", section);
+    let default = Content::Value("default ", b"DefaultValue", section);
+    attempt!(fill_entry(line, part, Format::Text, node, value, key, section));
+    attempt!(text.extend_from_slice(line.as_slice()));
+    push_line(text, line, part, Format::Text, node, &[Cell(64, default)])
+}
+
+#[tactic(auto, unfolding(crate::specs::Entries::entry_line, crate::specs::Entries::one_line))]
 fn push_entry_line<'p>(
     text: &mut Vec<u8>,
     line: &mut Vec<u8>,
@@ -85,22 +181,20 @@ fn push_entry_line<'p>(
     ensures { OnOk result (text.new.items
         ≡ text.old.items ++ entry_line format node key (section_view section.entry.now)) }
 {
-    push_line(
-        text,
+    attempt!(fill_entry(
         line,
         part,
         format,
         node,
-        &[
-            Cell(0, Content::Key(key)),
-            Cell(8, Content::Property(b"ParameterName", section)),
-            Cell(38, Content::TypeOf(section)),
-            Cell(53, Content::Property(b"AccessType", section)),
-            Cell(60, Content::Words(words_if(is_mappable(section), "PDO"))),
-            Cell(64, Content::Default(section)),
-            Cell(87, Content::Limits(section)),
-        ],
-    )
+        Content::Default(section),
+        key,
+        section
+    ));
+    if is_split(format, section, line.as_slice()) {
+        push_two_lines(text, line, part, node, key, section)
+    } else {
+        text.extend_from_slice(line.as_slice())
+    }
 }
 
 /// The head of a table of entries.
@@ -125,17 +219,21 @@ fn push_all(text: &mut Vec<u8>, parts: &[&str]) -> Result<(), AllocError>
     Ok(())
 }
 
-// the heading of an object, and the head of its table
+// in Markdown the heading of an object, and the head of its table
 #[tactic(auto, unfolding(crate::specs::Entries::object_heading))]
 fn push_heading(
     text: &mut Vec<u8>,
     part: &mut String,
+    format: Format,
     index: u16,
     section: &TextSection<'_, '_>,
 ) -> Result<(), AllocError>
-    ensures { OnOk result
-        (text.new.items ≡ text.old.items ++ object_heading index (section_view section.now)) }
+    ensures { OnOk result (text.new.items
+        ≡ text.old.items ++ object_heading format index (section_view section.now)) }
 {
+    let Format::Markdown = format else {
+        return Ok(());
+    };
     part.clear();
     attempt!(push_property(part, section, b"ParameterName"));
     attempt!(push_all(text, &["\n### ", word_digits(index).as_str(), "h "]));
@@ -143,9 +241,9 @@ fn push_heading(
     push_all(text, &["\n\n", entries_head(Format::Markdown)])
 }
 
-// what comes before the entries of an object
-#[tactic(auto, unfolding(crate::specs::Entries::object_head, crate::specs::Entries::object_line))]
-fn push_object_head<'p>(
+// an object with sub-indices
+#[tactic(auto, unfolding(crate::specs::Entries::object_line))]
+fn push_object_line<'p>(
     text: &mut Vec<u8>,
     line: &mut Vec<u8>,
     part: &mut String,
@@ -154,44 +252,45 @@ fn push_object_head<'p>(
     section: &'p TextSection<'p, 'p>,
 ) -> Result<(), AllocError>
     ensures { OnOk result (text.new.items
-        ≡ text.old.items ++ object_head format index (section_view section.entry.now)) }
+        ≡ text.old.items ++ object_line format index (section_view section.entry.now)) }
 {
-    match format {
-        Format::Text if has_sub_indices(section) => push_line(
-            text,
-            line,
-            part,
-            Format::Text,
-            None,
-            &[
-                Cell(0, Content::Index(index)),
-                Cell(8, Content::Property(b"ParameterName", section)),
-                Cell(38, Content::TypeOf(section)),
-            ],
-        ),
-        Format::Text => Ok(()),
-        Format::Markdown => push_heading(text, part, index, section),
-    }
+    push_line(
+        text,
+        line,
+        part,
+        format,
+        None,
+        &[
+            Cell(0, Content::Index(index)),
+            Cell(8, Content::Property(b"ParameterName", section)),
+            Cell(38, Content::TypeOf(section)),
+            Cell(53, Content::Words("")),
+            Cell(60, Content::Words("")),
+            Cell(64, Content::Words("")),
+            Cell(87, Content::Words("")),
+        ],
+    )
 }
 
-/// Appends the lines of a section: an object, with its entry if it has no sub-indices, or the entry
-/// of a sub-index.
+/// Appends the lines of a section: an object with sub-indices, or else its entry; or the entry of a
+/// sub-index.
 pub(crate) fn push_section<'p>(
     text: &mut Vec<u8>,
     line: &mut Vec<u8>,
     part: &mut String,
     format: Format,
     node: Option<u8>,
+    sections: &'p [TextSection<'p, 'p>],
     section: &'p TextSection<'p, 'p>,
 ) -> Result<(), AllocError>
-    ensures { OnOk result (text.new.items
-        ≡ text.old.items ++ section_text format node (section_view section.entry.now)) }
+    ensures { OnOk result (text.new.items ≡ text.old.items ++ section_text format node
+        (map section_view sections.entry.now) (section_view section.entry.now)) }
 {
     let key = match section.kind {
         SectionKind::Object(index) => {
-            attempt!(push_object_head(text, line, part, format, index, section));
-            if has_sub_indices(section) {
-                return Ok(());
+            attempt!(push_heading(text, part, format, index, section));
+            if has_sub_indices(sections, index, section) {
+                return push_object_line(text, line, part, format, index, section);
             }
             Key { index, sub: 0 }
         }

@@ -22,8 +22,8 @@ fn begins_character(byte: u8) -> bool
     byte < 128 || 192 <= byte
 }
 
-// how many columns a text has
-fn columns(text: &[u8]) -> usize
+/// How many columns a text has.
+pub(crate) fn columns(text: &[u8]) -> usize
     ensures { result ≡ columns text.now }
 {
     let mut count = 0;
@@ -60,7 +60,10 @@ fn push_blanks(line: &mut Vec<u8>, count: usize) -> Result<(), AllocError>
 fn is_markup(byte: u8) -> bool
     ensures { result ≡ is_markup byte }
 {
-    matches!(byte, b'\\' | b'|' | b'<' | b'*' | b'_' | b'`' | b'[' | b'$')
+    matches!(
+        byte,
+        b'\\' | b'|' | b'<' | b'&' | b'*' | b'_' | b'`' | b'[' | b'$'
+    )
 }
 
 fn push_cell_byte(line: &mut Vec<u8>, byte: u8) -> Result<(), AllocError>

@@ -5,6 +5,7 @@ ghost use Rattle.std.specs.Prelude.{◌≡◌, ◌++◌, OnOk, string_bytes};
 ghost use Rattle.std.specs.Option.{option_copied};
 ghost use Rattle.co_sheet_text.specs.Views.{section_view};
 ghost use Rattle.conode_show_text.specs.Meanings.{
+  bits_name,
   consumer_reserved,
   consumer_text,
   is_consumer_used,
@@ -206,6 +207,12 @@ pub fn mapped_key(number: u64) -> Key
     }
 }
 
+fn bits_name(bits: u64) -> &'static str
+    ensures { result.now ≡ bits_name bits }
+{
+    if bits == 1 { " bit" } else { " bits" }
+}
+
 #[tactic(auto, unfolding(crate::specs::Meanings::mapped_text))]
 fn push_mapped(text: &mut String, number: u64) -> Result<(), AllocError>
     ensures { OnOk result (string_bytes text.new ≡ string_bytes text.old ++ mapped_text number) }
@@ -213,7 +220,8 @@ fn push_mapped(text: &mut String, number: u64) -> Result<(), AllocError>
     let key = mapped_key(number).text();
     let key = key.as_str();
     let bits = number % 0x100;
-    write!(text, "{key}, {bits} bits")
+    let unit = bits_name(bits);
+    write!(text, "{key}, {bits}{unit}")
 }
 
 #[tactic(auto, unfolding(crate::specs::CobIds::cob_id_text, crate::specs::CobIds::sync_text, crate::specs::CobIds::time_cob_id_text))]

@@ -1,74 +1,51 @@
 //! Texts of a sheet. Each function appends a text. `Err`: out of memory; a part of the text may be
 //! there.
 
-ghost use Rattle.std.specs.Prelude.{◌≡◌, ◌++◌, OnOk, not, string_bytes};
-ghost use Rattle.std.specs.List.{flat_map, list_all};
-ghost use Rattle.std.specs.Option.{option_copied};
+ghost use Rattle.std.specs.Prelude.{◌≡◌, ◌++◌, OnOk, string_bytes};
 ghost use Rattle.co_sheet_text.specs.Views.{section_view};
 ghost use Rattle.conode_show_text.specs.Texts.{
-  escaped_byte,
-  if_plain,
-  is_control,
   plain_text,
   property_text,
+  shown_character,
+  shown_characters,
 };
 
-use crate::numbers::push_words;
 use co_sheet_text::TextSection;
 use co_text::push_byte;
+use conode_json::characters_of;
 use std::alloc::AllocError;
-use std::str;
 
-// whether a text has no control character
-fn has_no_control(text: &[u8]) -> bool
-    ensures { result ≡ list_all (λ byte. not (is_control byte)) text.now }
-{
-    text.iter().all(|byte| !(*byte < 32 || *byte == 127))
-}
-
-// the text, if it is printed as it is
-fn if_plain(text: &[u8]) -> Option<&str>
-    ensures { option_copied result ≡ if_plain text.now }
-{
-    if !has_no_control(text) {
-        return None;
-    }
-    match str::from_utf8(text) {
-        Ok(text) => Some(text),
-        Err(_) => None,
-    }
-}
-
-fn push_escaped_byte(text: &mut String, byte: u8) -> Result<(), AllocError>
-    ensures { OnOk result (string_bytes text.new ≡ string_bytes text.old ++ escaped_byte byte) }
-{
-    if 32 <= byte && byte <= 126 {
-        return text.push(byte as char);
-    }
-    attempt!(push_words(text, "\\x"));
-    push_byte(text, byte)
-}
-
-fn push_escaped(text: &mut String, bytes: &[u8]) -> Result<(), AllocError>
+#[tactic(auto, unfolding(crate::specs::Texts::shown_character))]
+fn push_character(text: &mut String, character: char) -> Result<(), AllocError>
     ensures { OnOk result
-        (string_bytes text.new ≡ string_bytes text.old ++ flat_map escaped_byte bytes.now) }
+        (string_bytes text.new ≡ string_bytes text.old ++ shown_character character) }
 {
-    for byte in bytes {
-        attempt!(push_escaped_byte(text, *byte));
+    if character.is_control() {
+        attempt!(text.push_str("\\x"));
+        push_byte(text, character as u8)
+    } else {
+        text.push(character)
+    }
+}
+
+fn push_characters(text: &mut String, characters: &[char]) -> Result<(), AllocError>
+    ensures { OnOk result
+        (string_bytes text.new ≡ string_bytes text.old ++ shown_characters characters.now) }
+{
+    for character in characters {
+        attempt!(push_character(text, *character));
     }
     Ok(())
 }
 
-/// Appends a text of the sheet: as it is, if it is UTF-8 without control characters; else bytes
-/// other than printable ASCII are escaped.
+/// Appends a text of the sheet: read as UTF-8 if it is valid, else as Windows-1252, with control
+/// characters escaped.
 #[tactic(auto, unfolding(crate::specs::Texts::plain_text))]
 pub(crate) fn push_plain(text: &mut String, bytes: &[u8]) -> Result<(), AllocError>
     ensures { OnOk result (string_bytes text.new ≡ string_bytes text.old ++ plain_text bytes.now) }
 {
-    match if_plain(bytes) {
-        Some(plain) => push_words(text, plain),
-        None => push_escaped(text, bytes),
-    }
+    let characters = attempt!(characters_of(*text.allocator(), bytes));
+    push_characters(text, characters.as_slice())
 }
 
 /// Appends the text of a property, nothing if the section has none.

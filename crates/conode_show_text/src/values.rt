@@ -17,6 +17,7 @@ ghost use Rattle.conode_show_text.specs.Numbers.{if_small};
 ghost use Rattle.conode_show_text.specs.Values.{
   addend_text,
   default_text,
+  has_both,
   known_text,
   limit_number,
   limit_text,
@@ -28,6 +29,7 @@ ghost use Rattle.conode_show_text.specs.Values.{
   sum_text,
   type_of,
   unnumbered_text,
+  value_at,
   value_number,
   value_of,
   word_from,
@@ -185,6 +187,28 @@ fn push_value_of(
     }
 }
 
+/// Appends words, and the value at a name of a section, nothing after them if it has none.
+pub(crate) fn push_value(
+    text: &mut String,
+    node: Option<u8>,
+    before: &str,
+    section: &TextSection<'_, '_>,
+    name: &[u8],
+) -> Result<(), AllocError>
+    ensures { OnOk result (string_bytes text.new ≡ string_bytes text.old ++ before.now
+        ++ value_at node name.now (section_view section.now)) }
+{
+    attempt!(push_words(text, before));
+    push_value_of(text, node, type_of(section), section.property(name))
+}
+
+/// Whether a section has the value of a device configuration file, and a default too.
+pub(crate) fn has_both(section: &TextSection<'_, '_>) -> bool
+    ensures { result ≡ has_both (section_view section.now) }
+{
+    section.property(b"ParameterValue").is_some() && section.property(b"DefaultValue").is_some()
+}
+
 /// Appends the value of a device configuration file and then the default, or the one of them that
 /// is there.
 #[tactic(auto, unfolding(crate::specs::Values::default_text))]
@@ -196,13 +220,9 @@ pub(crate) fn push_default(
     ensures { OnOk result (string_bytes text.new
         ≡ string_bytes text.old ++ default_text node (section_view section.now)) }
 {
-    let data_type = type_of(section);
-    let value = section.property(b"ParameterValue");
-    let default = section.property(b"DefaultValue");
-    let between = words_if(value.is_some() & default.is_some(), ", default ");
-    attempt!(push_value_of(text, node, data_type, value));
-    attempt!(push_words(text, between));
-    push_value_of(text, node, data_type, default)
+    let between = words_if(has_both(section), ", default ");
+    attempt!(push_value(text, node, "", section, b"ParameterValue"));
+    push_value(text, node, between, section, b"DefaultValue")
 }
 
 /// The number of a limit of this type, if it is one.

@@ -8,4 +8,4 @@ use Rattle.conode_compare_laws.proofs.early_emergencies.no_early_emergencies_sho
 pub returns : goal.returns
 returns c = λ k subject rows inhibit inputs is same words knows time bytes refused control emergency answers apart aside other without.
     none_early k subject rows inhibit inputs is knows same time control emergency (c.sends_aside.ensures k inputs aside) without
-    (recording_shows emergency_inhibit_key inhibit k subject inputs answers bytes (all_refuse emergency_inhibit_key k inputs [] (λ all. (c.stays_apart.ensures k all apart).sync) refused) words (c.sends_other.ensures k inputs other) (λ all. (c.stays_apart.ensures k all apart).sync) other.channels aside.channels)
+    (recording_shows emergency_inhibit_key inhibit k subject inputs answers bytes (all_refuse emergency_inhibit_key inhibit k inputs [] (λ all. (c.stays_apart.ensures k all apart).sync) refused) words (c.sends_other.ensures k inputs other) (λ all. (c.stays_apart.ensures k all apart).sync) other.channels aside.channels)

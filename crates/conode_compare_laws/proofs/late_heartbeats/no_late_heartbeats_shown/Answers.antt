@@ -8,4 +8,4 @@ use Rattle.conode_compare_laws.proofs.late_heartbeats.no_late_heartbeats_shown.G
 pub returns : goal.returns
 returns c = λ k subject rows period inputs is start some keep words knows time bytes control answers apart aside other.
     none_late k subject rows period inputs is knows some start keep time control (c.sends_aside.ensures k inputs aside)
-    (recording_shows producer_key period k subject inputs answers bytes (all_refuse producer_key k inputs [] (λ all. (c.stays_apart.ensures k all apart).sync) (period_refuses k period inputs [] keep)) words (c.sends_other.ensures k inputs other) (λ all. (c.stays_apart.ensures k all apart).sync) other.channels aside.channels)
+    (recording_shows producer_key period k subject inputs answers bytes (all_refuse producer_key period k inputs [] (λ all. (c.stays_apart.ensures k all apart).sync) (period_refuses k period inputs [] keep)) words (c.sends_other.ensures k inputs other) (λ all. (c.stays_apart.ensures k all apart).sync) other.channels aside.channels)
