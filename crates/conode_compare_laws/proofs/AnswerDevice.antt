@@ -158,7 +158,7 @@ timed_out P k history (Applied event) h = none_some _ P (event_timed_out k.descr
 
 -- ---- nothing is open
 
-dropped_since : (x : Option Since) → open_since (and_event Dropped x) ≡ None
+pub dropped_since : (x : Option Since) → open_since (and_event Dropped x) ≡ None
 dropped_since None = refl
 dropped_since (Some x) = refl
 
@@ -190,7 +190,7 @@ idle_timed_out (Some e) logs t h = by (0 == e.channel.number)
     by true = closed e.event t
     by false = h
 
-all_time_outs : (k : Constants) (history : History) (c : Option ChannelSettings) → IfSome c (λ one. IsTimeOut (time_out_on one (Elapsed ∷ channel_logs history one.number)).event)
+pub all_time_outs : (k : Constants) (history : History) (c : Option ChannelSettings) → IfSome c (λ one. IsTimeOut (time_out_on one (Elapsed ∷ channel_logs history one.number)).event)
 all_time_outs k history None = tt
 all_time_outs k history (Some c) = tt
 

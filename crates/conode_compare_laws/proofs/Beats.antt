@@ -11,7 +11,6 @@ use Rattle.co_frame.specs.Nmt.{nmt_command_in}
 use Rattle.co_frame.specs.declared.emergency.Emergency.{Emergency}
 use Rattle.co_frame.specs.declared.heartbeat.Heartbeat.{Heartbeat}
 use Rattle.co_frame.specs.declared.heartbeat.Heartbeat.TheVariants.{BootUp}
-use Rattle.co_frame.specs.declared.heartbeat.Heartbeat.TheVariants as heartbeat
 use Rattle.co_frame.specs.declared.nmt.NmtCommand.{NmtCommand}
 use Rattle.co_frame.specs.declared.nmt.NmtService.{NmtService}
 use Rattle.co_frame.specs.declared.nmt.NmtService.TheVariants.{Start, Stop, EnterPreOperational, ResetNode, ResetCommunication}
@@ -91,26 +90,55 @@ use Rattle.conode_compare_laws.proofs.Frames.{life_kind}
 use Rattle.conode_compare_laws.proofs.Runs.{AllRun}
 use Rattle.conode_compare_laws.proofs.ShowsWord.{AllShow, Shown, ShowsAt}
 
--- what compare has of the heartbeats at a time: the bus was free then or before; the period, if it is known; and the last heartbeat,
--- if it is known, so long ago at most
+-- the last heartbeat, if it is known, came so long ago at most; or the period is 0, and none is sent
+abbrev pub IsRecent : ℕ → ℕ → Option ℕ → ℕ → Type 0
+IsRecent micros ago since period = (period ≡ 0) ⊎ IfSome since (λ last. micros ≤ last + ago)
+
+-- what compare has of the heartbeats at a time: the bus was free then or before; the period, if it is known; and then the last heartbeat
 pub record Beats (period micros ago : ℕ) (p : Progress) : Type 0 where
   pub fresh : IfSome p.newest (λ newest. p.free ≤ newest)
   pub known : IfSome p.entries.period (λ n. n ≡ period)
-  pub since : IfSome p.heartbeats.since (λ last. micros ≤ last + ago)
+  pub since : IfSome p.entries.period (IsRecent micros ago p.heartbeats.since)
+
+-- what holds of each number holds where one is known
+pub always : {P : ℕ → Type 0} (o : Option ℕ) → ((n : ℕ) → P n) → IfSome o P
+always None h = tt
+always (Some n) h = h n
+
+under : {P Q : ℕ → Type 0} (o : Option ℕ) → ((n : ℕ) → P n → Q n) → IfSome o P → IfSome o Q
+under None f h = tt
+under (Some n) f h = f n h
+
+-- of the last heartbeat alone
+recent : (micros last ago after : ℕ) (since next : Option ℕ) → (IfSome since (λ s. last ≤ s + ago) → IfSome next (λ s. micros ≤ s + after)) → (n : ℕ) → IsRecent last ago since n → IsRecent micros after next n
+recent micros last ago after since next f n (inl zero) = inl zero
+recent micros last ago after since next f n (inr h) = inr (f h)
+
+-- where the period isn't known, it and the last heartbeat may be any
+pub unknown_beats : (period next micros ago after : ℕ) (p : Progress) → IfSome p.entries.period (λ n. ⊥) → Beats period micros ago p → Beats next micros after p
+unknown_beats period next micros ago after p none h = record { fresh = h.fresh; known = by (λ n. n ≡ next) p.entries.period none; since = by (IsRecent micros after p.heartbeats.since) p.entries.period none }
+  where
+    by : (P : ℕ → Type 0) (o : Option ℕ) → IfSome o (λ n. ⊥) → IfSome o P
+    by P None none = tt
+    by P (Some n) none = absurd none
 
 later_since : (since : Option ℕ) (last now ago more : ℕ) → now ≤ last + more → IfSome since (λ s. last ≤ s + ago) → IfSome since (λ s. now ≤ s + (ago + more))
 later_since None last now ago more less h = tt
 later_since (Some s) last now ago more less h = omega arith
 
 pub later : (period last now ago more : ℕ) (p : Progress) → now ≤ last + more → Beats period last ago p → Beats period now (ago + more) p
-later period last now ago more p less h = record { fresh = h.fresh; known = h.known; since = later_since p.heartbeats.since last now ago more less h.since }
+later period last now ago more p less h = record { fresh = h.fresh; known = h.known; since = under p.entries.period (recent now last ago (ago + more) p.heartbeats.since p.heartbeats.since (later_since p.heartbeats.since last now ago more less)) h.since }
 
 more_since : (since : Option ℕ) (micros ago more : ℕ) → ago ≤ more → IfSome since (λ s. micros ≤ s + ago) → IfSome since (λ s. micros ≤ s + more)
 more_since None micros ago more less h = tt
 more_since (Some s) micros ago more less h = omega arith
 
 pub more_ago : (period micros ago more : ℕ) (p : Progress) → ago ≤ more → Beats period micros ago p → Beats period micros more p
-more_ago period micros ago more p less h = record { fresh = h.fresh; known = h.known; since = more_since p.heartbeats.since micros ago more less h.since }
+more_ago period micros ago more p less h = record { fresh = h.fresh; known = h.known; since = under p.entries.period (recent micros micros ago more p.heartbeats.since p.heartbeats.since (more_since p.heartbeats.since micros ago more less)) h.since }
+
+-- of a period of 0 any time may be said
+pub zero_beats : (period micros ago after : ℕ) (p : Progress) → period ≡ 0 → Beats period micros ago p → Beats period micros after p
+zero_beats period micros ago after p zero h = record { fresh = h.fresh; known = h.known; since = under p.entries.period (λ n is. inl (is ∙ zero)) h.known }
 
 -- ---- a recording that begins anew at a frame
 
@@ -119,7 +147,7 @@ record Begun (period micros ago : ℕ) (p : Progress) : Type 0 where
   free : p.free ≤ micros
   newest : p.newest ≡ Some micros
   known : IfSome p.entries.period (λ n. n ≡ period)
-  since : IfSome p.heartbeats.since (λ last. micros ≤ last + ago)
+  since : IfSome p.entries.period (IsRecent micros ago p.heartbeats.since)
 
 closely : (b : Bool) (free newest micros : ℕ) → free ≤ newest → newest ≤ micros → (if b then free else micros) ≤ micros
 closely true free newest micros f n = omega arith
@@ -129,10 +157,14 @@ free_fits : (newest : Option ℕ) (free micros : ℕ) (limits : Limits) (period 
 free_fits None free micros limits period h off = absurd (cc)
 free_fits (Some n) free micros limits period h off = closely (follows_closely n micros) free n micros h (ltb-false micros n (or_parts (nat_lt micros n) (is_gap limits period n micros) off).0)
 
-begun_beats : (subject : Subject) (period micros ago : ℕ) (p : Progress) → KnowsPeriod period subject → Beats period micros ago p → Begun period micros ago (begun subject p micros)
+-- by the data sheet nothing is known of 1017:00 before a boot-up, or this
+abbrev pub KnowsBefore : ℕ → Subject → Type 0
+KnowsBefore period subject = IfSome subject.facts.before.period (λ n. n ≡ period)
+
+begun_beats : (subject : Subject) (period micros ago : ℕ) (p : Progress) → KnowsBefore period subject → Beats period micros ago p → Begun period micros ago (begun subject p micros)
 unfolding begun
 begun_beats subject period micros ago p knows h = by (begins_anew subject.limits p micros) refl _ _
-    (record { free = omega arith; newest = refl; known = knows.before; since = tt })
+    (record { free = omega arith; newest = refl; known = knows; since = always subject.facts.before.period (λ n. inr tt) })
     (λ off. record { free = free_fits p.newest p.free micros subject.limits p.entries.period h.fresh off; newest = refl; known = h.known; since = h.since })
   where
     by : (b : Bool) → begins_anew subject.limits p micros ≡ b → (x y : Progress) → Begun period micros ago x → (begins_anew subject.limits p micros ≡ false → Begun period micros ago y) → Begun period micros ago (if b then x else y)
@@ -165,18 +197,29 @@ in_time limits guarded n since free micros period ago same few bus last =
     by late false true h = refl
     by late false false h = absurd (cc)
 
-none_since : (limits : Limits) (guarded : Bool) (n : ℕ) (since : Option ℕ) (free micros period ago : ℕ) → n ≡ period → (period ≡ 0) ⊎ (ago ≤ period * 1000) → free ≤ micros → IfSome since (λ last. micros ≤ last + ago)
+-- with a period of 0 none is sent
+never : (limits : Limits) (guarded : Bool) (n since free micros : ℕ) → n ≡ 0 → overdue_for limits guarded n since free micros ≡ None
+never limits guarded n since free micros zero = by (micros - since, n) guarded (n == 0) (nat_le (free - since) (allowance limits n)) (eq-eqb n 0 zero)
+  where
+    by : (late : ℕ × ℕ) (a b c : Bool) → b ≡ true → (if a || (b || c) then None else Some late) ≡ None
+    by late true b c h = refl
+    by late false true c h = refl
+    by late false false c h = absurd (cc)
+
+none_since : (limits : Limits) (guarded : Bool) (n : ℕ) (since : Option ℕ) (free micros period ago : ℕ) → n ≡ period → (period ≡ 0) ⊎ (ago ≤ period * 1000) → free ≤ micros → IsRecent micros ago since n
     → overdue_since limits guarded n since free micros ≡ None
 none_since limits guarded n None free micros period ago same few bus last = refl
-none_since limits guarded n (Some since) free micros period ago same few bus last = in_time limits guarded n since free micros period ago same few bus last
+none_since limits guarded n (Some since) free micros period ago same few bus (inl zero) = never limits guarded n since free micros zero
+none_since limits guarded n (Some since) free micros period ago same few bus (inr last) = in_time limits guarded n since free micros period ago same few bus last
 
-none_with : (limits : Limits) (known : Option ℕ) (p : Progress) (micros period ago : ℕ) → IfSome known (λ n. n ≡ period) → (period ≡ 0) ⊎ (ago ≤ period * 1000) → Begun period micros ago p → overdue_with limits known p.heartbeats p.free micros ≡ None
-none_with limits None p micros period ago same few h = refl
-none_with limits (Some n) p micros period ago same few h = none_since limits p.heartbeats.guarded n p.heartbeats.since p.free micros period ago same few h.free h.since
+none_with : (limits : Limits) (known : Option ℕ) (p : Progress) (micros period ago : ℕ) → IfSome known (λ n. n ≡ period) → IfSome known (IsRecent micros ago p.heartbeats.since) → (period ≡ 0) ⊎ (ago ≤ period * 1000) → p.free ≤ micros
+    → overdue_with limits known p.heartbeats p.free micros ≡ None
+none_with limits None p micros period ago same since few free = refl
+none_with limits (Some n) p micros period ago same since few free = none_since limits p.heartbeats.guarded n p.heartbeats.since p.free micros period ago same few free since
 
 none_late : (subject : Subject) (p : Progress) (micros period ago : ℕ) → (period ≡ 0) ⊎ (ago ≤ period * 1000) → Begun period micros ago p → late_at subject p micros ≡ None
 unfolding late_finding overdue_by
-none_late subject p micros period ago few h = ap (λ o. option_map (λ (late : ℕ × ℕ). HeartbeatLate late.0 late.1) o) (none_with subject.limits p.entries.period p micros period ago h.known few h)
+none_late subject p micros period ago few h = ap (λ o. option_map (λ (late : ℕ × ℕ). HeartbeatLate late.0 late.1) o) (none_with subject.limits p.entries.period p micros period ago h.known h.since few h.free)
 
 -- ---- one frame
 
@@ -195,52 +238,52 @@ shown_right period e h = by (same_key e.key producer_key) h
     by true f = f refl
     by false f = tt
 
--- it is known then, or as before
-ended_known : (period : ℕ) (entries : Entries) (o : Option Ended) → IfSome o (Shown producer_key period) → IfSome entries.period (λ n. n ≡ period) → IfSome (entries_ended entries o).period (λ n. n ≡ period)
-ended_known period entries None shows h = h
-ended_known period entries (Some e) shows h = inhibit (shown_inhibit e) (with_shown (shown_period e) (shown_right period e shows))
+-- what holds of the period, if it is known, holds after a transfer that ended, by which it is known then, or as before
+pub ended_such : (P : ℕ → Type 0) (entries : Entries) (o : Option Ended) → IfSome o (λ e. IfSome (shown_period e) P) → IfSome entries.period P → IfSome (entries_ended entries o).period P
+ended_such P entries None shows h = h
+ended_such P entries (Some e) shows h = inhibit (shown_inhibit e) (with_shown (shown_period e) shows)
   where
-    with_shown : (shown : Option ℕ) → IfSome shown (λ n. n ≡ period) → IfSome (with_period entries shown).period (λ n. n ≡ period)
+    with_shown : (shown : Option ℕ) → IfSome shown P → IfSome (with_period entries shown).period P
     with_shown None g = h
     with_shown (Some n) g = g
 
-    inhibit : (shown : Option ℕ) → IfSome (with_period entries (shown_period e)).period (λ n. n ≡ period) → IfSome (with_inhibit (with_period entries (shown_period e)) shown e.end).period (λ n. n ≡ period)
+    inhibit : (shown : Option ℕ) → IfSome (with_period entries (shown_period e)).period P → IfSome (with_inhibit (with_period entries (shown_period e)) shown e.end).period P
     inhibit None g = g
     inhibit (Some time) g = g
 
 -- or it isn't any more, after a request to write it
-asked_known : (period : ℕ) (entries : Entries) (o : Option Asked) → IfSome entries.period (λ n. n ≡ period) → IfSome (entries_asked entries o).period (λ n. n ≡ period)
+pub asked_such : (P : ℕ → Type 0) (entries : Entries) (o : Option Asked) → IfSome entries.period P → IfSome (entries_asked entries o).period P
 unfolding asked_to_write
-asked_known period entries None h = h
-asked_known period entries (Some asked) h = by asked.writes (asked_to_write entries asked.key) (forgets (same_key asked.key producer_key || is_channel asked.key))
+asked_such P entries None h = h
+asked_such P entries (Some asked) h = by asked.writes (asked_to_write entries asked.key) (forgets (same_key asked.key producer_key || is_channel asked.key))
   where
-    forgets : (b : Bool) → IfSome (if b then None else entries.period) (λ n. n ≡ period)
+    forgets : (b : Bool) → IfSome (if b then None else entries.period) P
     forgets true = tt
     forgets false = h
 
-    by : (b : Bool) (x : Entries) → IfSome x.period (λ n. n ≡ period) → IfSome (if b then x else entries).period (λ n. n ≡ period)
+    by : (b : Bool) (x : Entries) → IfSome x.period P → IfSome (if b then x else entries).period P
     by true x g = g
     by false x g = h
 
 -- whatever such a request is to explain
-by_known : (period : ℕ) (entries : Entries) (side : Side) (frame : FrameContent) → IfSome entries.period (λ n. n ≡ period) → IfSome (asked_by side frame entries).period (λ n. n ≡ period)
+pub by_such : (P : ℕ → Type 0) (entries : Entries) (side : Side) (frame : FrameContent) → IfSome entries.period P → IfSome (asked_by side frame entries).period P
 unfolding asked_to_write
-by_known period entries Server frame h = h
-by_known period entries Client frame h = by (asks_to_write frame) (forgets (same_key (key_in frame) producer_key || is_channel (key_in frame)))
+by_such P entries Server frame h = h
+by_such P entries Client frame h = by (asks_to_write frame) (forgets (same_key (key_in frame) producer_key || is_channel (key_in frame)))
   where
-    forgets : (b : Bool) → IfSome (if b then None else entries.period) (λ n. n ≡ period)
+    forgets : (b : Bool) → IfSome (if b then None else entries.period) P
     forgets true = tt
     forgets false = h
 
-    by : (b : Bool) → IfSome (asked_to_write entries (key_in frame)).period (λ n. n ≡ period) → IfSome (if b then asked_to_write entries (key_in frame) else entries).period (λ n. n ≡ period)
+    by : (b : Bool) → IfSome (asked_to_write entries (key_in frame)).period P → IfSome (if b then asked_to_write entries (key_in frame) else entries).period P
     by true g = g
     by false g = h
 
 -- or after a frame of the client of another SDO channel
-client_known : (period : ℕ) (entries : Entries) (b : Bool) → IfSome entries.period (λ n. n ≡ period) → IfSome (if b then overwritten entries else entries).period (λ n. n ≡ period)
+pub client_such : (P : ℕ → Type 0) (entries : Entries) (b : Bool) → IfSome entries.period P → IfSome (if b then overwritten entries else entries).period P
 unfolding overwritten
-client_known period entries true h = tt
-client_known period entries false h = h
+client_such P entries true h = tt
+client_such P entries false h = h
 
 booted_known : (period : ℕ) (subject : Subject) (b : Bool) → KnowsPeriod period subject → IfSome (if b then subject.facts.before else subject.facts.booted).period (λ n. n ≡ period)
 booted_known period subject true knows = knows.before
@@ -255,31 +298,55 @@ ended_since beats (Some e) micros ago h = by (is_some (shown_period e))
     by true = omega arith
     by false = h
 
+-- from now, where the transfer shows the period
+shown_since : (other : Bool) (beats : Heartbeats) (o : Option Ended) (micros ago : ℕ) → IfSome (shown_beside other o) (λ e. IfSome (shown_period e) (IsRecent micros ago (after_transfer beats o micros).since))
+shown_since true beats o micros ago = tt
+shown_since false beats None micros ago = tt
+shown_since false beats (Some e) micros ago = by (shown_period e)
+  where
+    by : (shown : Option ℕ) → IfSome shown (IsRecent micros ago (if is_some shown then record { guarded = beats.guarded; since = Some micros; sent = sent_after e.direction e beats.sent; shown = beats.shown } else beats).since)
+    by None = tt
+    by (Some n) = inr (omega arith)
+
+pub right_shown : (period : ℕ) (o : Option Ended) → IfSome o (Shown producer_key period) → IfSome o (λ e. IfSome (shown_period e) (λ n. n ≡ period))
+right_shown period None h = tt
+right_shown period (Some e) h = shown_right period e h
+
+-- after a frame of the channel
+pub sdo_such : (P : ℕ → Type 0) (subject : Subject) (p : Progress) (micros : ℕ) (side : Side) (frame : FrameContent) → IfSome (shown_beside p.other_client (exchange_at subject p micros side frame).heard.ended) (λ e. IfSome (shown_period e) P)
+    → IfSome p.entries.period P → IfSome (after_sdo subject p micros side frame).entries.period P
+unfolding channel_heard exchange_noted
+sdo_such P subject p micros side frame shows h =
+    let o : Option Ended = shown_beside p.other_client (exchange_at subject p micros side frame).heard.ended in
+    let asked : Option Asked = (dialogue_heard subject.limits.answer p.started p.dialogue micros side frame).asked in
+    by_such P (entries_heard p.entries o asked) side frame (asked_such P (entries_ended p.entries o) asked (ended_such P p.entries o shows h))
+
 sdo_begun : (subject : Subject) (p : Progress) (micros : ℕ) (side : Side) (frame : FrameContent) (period ago : ℕ) → ShowsAt producer_key period p micros (Sdo side frame) → Begun period micros ago p
     → Begun period micros ago (after_sdo subject p micros side frame)
 unfolding channel_heard exchange_at exchange_in exchange_noted
 sdo_begun subject p micros side frame period ago shows h =
     let ended : Option Ended = (exchange_at subject p micros side frame).heard.ended in
-    let o : Option Ended = shown_beside p.other_client ended in
     record {
       free = h.free;
       newest = h.newest;
-      known = by_known period (entries_heard p.entries o (dialogue_heard subject.limits.answer p.started p.dialogue micros side frame).asked) side frame
-          (asked_known period (entries_ended p.entries o) (dialogue_heard subject.limits.answer p.started p.dialogue micros side frame).asked (ended_known period p.entries o (beside_such (Shown producer_key period) p.other_client ended shows) h.known));
-      since = ended_since p.heartbeats ended micros ago h.since;
+      known = sdo_such (λ n. n ≡ period) subject p micros side frame
+          (right_shown period (shown_beside p.other_client ended) (beside_such (Shown producer_key period) p.other_client ended shows)) h.known;
+      since = sdo_such (IsRecent micros ago (after_transfer p.heartbeats ended micros).since) subject p micros side frame
+          (shown_since p.other_client p.heartbeats ended micros ago)
+          (under p.entries.period (recent micros micros ago ago p.heartbeats.since (after_transfer p.heartbeats ended micros).since (ended_since p.heartbeats ended micros ago)) h.since);
     }
 
-noted_shows : (subject : Subject) (p : Progress) (micros : ℕ) (frame : FrameContent) (period : ℕ) → ShowsAt producer_key period p micros (Sdo Server frame) → ShowsAt producer_key period (answer_noted subject p micros) micros (Sdo Server frame)
+pub noted_shows : (subject : Subject) (p : Progress) (micros : ℕ) (frame : FrameContent) (period : ℕ) → ShowsAt producer_key period p micros (Sdo Server frame) → ShowsAt producer_key period (answer_noted subject p micros) micros (Sdo Server frame)
 unfolding late_noted
 noted_shows subject p micros frame period h = h
 
 noted_begun : (subject : Subject) (p : Progress) (micros period ago : ℕ) → Begun period micros ago p → Begun period micros ago (answer_noted subject p micros)
 unfolding late_noted
-noted_begun subject p micros period ago h = record { free = h.free; newest = h.newest; known = h.known; since = by (is_some (late_at subject p micros)) }
+noted_begun subject p micros period ago h = record { free = h.free; newest = h.newest; known = h.known; since = under p.entries.period (recent micros micros ago ago p.heartbeats.since (if is_some (late_at subject p micros) then None else p.heartbeats.since) (by (is_some (late_at subject p micros)))) h.since }
   where
-    by : (b : Bool) → IfSome (if b then None else p.heartbeats.since) (λ last. micros ≤ last + ago)
-    by true = tt
-    by false = h.since
+    by : (b : Bool) → IfSome p.heartbeats.since (λ last. micros ≤ last + ago) → IfSome (if b then None else p.heartbeats.since) (λ last. micros ≤ last + ago)
+    by true g = tt
+    by false g = g
 
 answer_passes : (subject : Subject) (rows : List Row) (p : Progress) (micros : ℕ) (frame : FrameContent) (period ago : ℕ) → (period ≡ 0) ⊎ (ago ≤ period * 1000) → ShowsAt producer_key period p micros (Sdo Server frame) → Begun period micros ago p
     → Passes subject rows p micros (Sdo Server frame) period ago
@@ -305,7 +372,7 @@ request_passes subject rows p micros frame period ago shows h = record {
 
 -- ---- frames that aren't of error control
 
-abbrev is_other : FrameKind → Bool
+abbrev pub is_other : FrameKind → Bool
 is_other (Command service) = true
 is_other (CommandToAll service) = true
 is_other (LongCommand service) = true
@@ -321,8 +388,8 @@ unfolding after_command with_gap
 command_beats p micros period ago Start own h = (let e : Beats period micros ago p = ended period micros ago p h in record { fresh = e.fresh; known = e.known; since = e.since })
 command_beats p micros period ago Stop own h = (let e : Beats period micros ago p = ended period micros ago p h in record { fresh = e.fresh; known = e.known; since = e.since })
 command_beats p micros period ago EnterPreOperational own h = (let e : Beats period micros ago p = ended period micros ago p h in record { fresh = e.fresh; known = e.known; since = e.since })
-command_beats p micros period ago ResetNode own h = (let e : Beats period micros ago p = ended period micros ago p h in record { fresh = e.fresh; known = e.known; since = tt })
-command_beats p micros period ago ResetCommunication own h = (let e : Beats period micros ago p = ended period micros ago p h in record { fresh = e.fresh; known = e.known; since = tt })
+command_beats p micros period ago ResetNode own h = (let e : Beats period micros ago p = ended period micros ago p h in record { fresh = e.fresh; known = e.known; since = always p.entries.period (λ n. inr tt) })
+command_beats p micros period ago ResetCommunication own h = (let e : Beats period micros ago p = ended period micros ago p h in record { fresh = e.fresh; known = e.known; since = always p.entries.period (λ n. inr tt) })
 
 -- by an EMCY or a TPDO none is late either, and the last heartbeat is as before, or forgotten
 none_by : (subject : Subject) (p : Progress) (own : Bool) (micros period ago : ℕ) → (period ≡ 0) ⊎ (ago ≤ period * 1000) → Begun period micros ago p → late_by subject p own micros ≡ None
@@ -335,6 +402,9 @@ none_by subject p own micros period ago few h = by (own && is_missing_at subject
 said_since : (since : Option ℕ) (late : Bool) (micros ago : ℕ) → IfSome since (λ last. micros ≤ last + ago) → IfSome (if late then None else since) (λ last. micros ≤ last + ago)
 said_since since true micros ago h = tt
 said_since since false micros ago h = h
+
+said : (subject : Subject) (p : Progress) (late : Bool) (micros ago n : ℕ) → IsRecent micros ago p.heartbeats.since n → IsRecent micros ago (if late then None else p.heartbeats.since) n
+said subject p late micros ago n h = recent micros micros ago ago p.heartbeats.since (if late then None else p.heartbeats.since) (said_since p.heartbeats.since late micros ago) n h
 
 sighted_none : (late : Option Finding) (id length : ℕ) (o : Option Sighting) → late ≡ None → late_differences (Process id length) (sighting_findings late o) ≡ []
 unfolding found
@@ -350,7 +420,7 @@ other_passes subject rows p micros (Emcy code register) period ago few is shows 
     (let e : Beats period micros ago p = ended period micros ago p h in
     record {
       none = ap (λ o. option_to_list o) (none_by subject p p.entries.emergencies micros period ago few h);
-      beats = record { fresh = e.fresh; known = e.known; since = said_since p.heartbeats.since (is_some (late_by subject p p.entries.emergencies micros)) micros ago e.since };
+      beats = record { fresh = e.fresh; known = e.known; since = under p.entries.period (said subject p (is_some (late_by subject p p.entries.emergencies micros)) micros ago) e.since };
     })
 other_passes subject rows p micros (OddEmergency length) period ago few is shows h =
     (let e : Beats period micros ago p = ended period micros ago p h in record { none = refl; beats = record { fresh = e.fresh; known = e.known; since = e.since } })
@@ -359,7 +429,12 @@ other_passes subject rows p micros (Process id length) period ago few is shows h
     record {
       none = sighted_none (late_by_tpdo subject p micros id length) id length (sighted subject p micros id length)
           (none_by subject p (is_some (sighted subject p micros id length)) micros period ago few h);
-      beats = record { fresh = e.fresh; known = client_known period p.entries (is_of_client subject id) e.known; since = said_since p.heartbeats.since (is_some (late_by_tpdo subject p micros id length)) micros ago e.since };
+      beats = record {
+        fresh = e.fresh;
+        known = client_such (λ n. n ≡ period) p.entries (is_of_client subject id) e.known;
+        since = client_such (IsRecent micros ago (if is_some (late_by_tpdo subject p micros id length) then None else p.heartbeats.since)) p.entries (is_of_client subject id)
+            (under p.entries.period (said subject p (is_some (late_by_tpdo subject p micros id length)) micros ago) e.since);
+      };
     })
 other_passes subject rows p micros Other period ago few is shows h =
     (let e : Beats period micros ago p = ended period micros ago p h in record { none = refl; beats = record { fresh = e.fresh; known = e.known; since = e.since } })
@@ -367,11 +442,11 @@ other_passes subject rows p micros (Sdo Server frame) period ago few is shows h 
 other_passes subject rows p micros (Sdo Client frame) period ago few is shows h = request_passes subject rows p micros frame period ago shows h
 other_passes subject rows p micros _ period ago few is shows h = absurd (cc)
 
--- the boot-up, and heartbeats: the next one is awaited from then on
-boot_passes : (subject : Subject) (rows : List Row) (p : Progress) (micros period ago after : ℕ) → KnowsPeriod period subject → Begun period micros ago p → Passes subject rows p micros (Control 0) period after
+-- the boot-up, after which the data sheet says the period; and heartbeats: the next one is awaited from then on
+boot_passes : (subject : Subject) (rows : List Row) (p : Progress) (micros period next ago after : ℕ) → KnowsPeriod next subject → Begun period micros ago p → Passes subject rows p micros (Control 0) next after
 unfolding found booted
-boot_passes subject rows p micros period ago after knows h =
-    (let e : Beats period micros ago p = ended period micros ago p h in record { none = refl; beats = record { fresh = e.fresh; known = booted_known period subject p.other_client knows; since = omega arith } })
+boot_passes subject rows p micros period next ago after knows h =
+    (let e : Beats period micros ago p = ended period micros ago p h in record { none = refl; beats = record { fresh = e.fresh; known = booted_known next subject p.other_client knows; since = always (if p.other_client then subject.facts.before else subject.facts.booted).period (λ n. inr (omega arith)) } })
 
 heartbeat_passes : (subject : Subject) (rows : List Row) (p : Progress) (micros byte period ago after : ℕ) → (byte == 0) ≡ false → (period ≡ 0) ⊎ (ago ≤ period * 1000) → Begun period micros ago p
     → Passes subject rows p micros (Control byte) period after
@@ -380,7 +455,7 @@ heartbeat_passes subject rows p micros byte period ago after other few h =
     (let e : Beats period micros ago p = ended period micros ago p h in
     record {
       none = rw other (ap (λ o. option_to_list o) (none_late subject p micros period ago few h));
-      beats = rw other (record { fresh = e.fresh; known = e.known; since = omega arith });
+      beats = rw other (record { fresh = e.fresh; known = e.known; since = always p.entries.period (λ n. inr (omega arith)) });
     })
 
 -- ---- frames one after another, at one time
@@ -405,7 +480,7 @@ other_emergency : (length : ℕ) (o : Option Emergency) → is_other (emergency_
 other_emergency length None = refl
 other_emergency length (Some emergency) = refl
 
-other_kind : (node : ℕ) (frame : FrameContent) → frame.id ≢ 0x700 + node → is_other (data_kind node frame) ≡ true
+pub other_kind : (node : ℕ) (frame : FrameContent) → frame.id ≢ 0x700 + node → is_other (data_kind node frame) ≡ true
 other_kind node frame h =
     by (frame.id == 0) (frame.id == 0x80 + node) (frame.id == 0x580 + node) (frame.id == 0x600 + node) (frame.id == 0x700 + node) (ne_eqb frame.id (0x700 + node) h)
   where
@@ -423,7 +498,7 @@ other_kind node frame h =
     by false false false false false r = refl
 
 -- frames that show nothing else of 1017:00, none of error control
-pub all_others : (subject : Subject) (rows : List Row) (micros : ℕ) (frames : List FrameContent) (p : Progress) (period ago : ℕ) (after : Progress → Type 0) → KnowsPeriod period subject → (period ≡ 0) ⊎ (ago ≤ period * 1000)
+pub all_others : (subject : Subject) (rows : List Row) (micros : ℕ) (frames : List FrameContent) (p : Progress) (period ago : ℕ) (after : Progress → Type 0) → KnowsBefore period subject → (period ≡ 0) ⊎ (ago ≤ period * 1000)
     → AreWithout (0x700 + subject.node) frames → Beats period micros ago p → AllShow producer_key period subject micros p frames after
     → AllRun late_differences subject rows micros p frames (λ q. Beats period micros ago q × after q)
 all_others subject rows micros [] p period ago after knows few without h shows = (h, shows)
@@ -435,22 +510,19 @@ all_others subject rows micros (frame ∷ later) p period ago after knows few wi
     (other_passes subject rows q micros kind period ago few (other_kind subject.node frame without.0) shows.0 (begun_beats subject period micros ago p knows h)) in
     (first.0, all_others subject rows micros later (progress_with subject p micros kind) period ago after knows few without.1 first.1 shows.1)
 
-byte_of : (life : Heartbeat) (b : Bool) → (state_byte life == 0) ≡ b → ((state_byte life == 0) ≡ false) ⊎ (state_byte life ≡ 0)
-byte_of heartbeat.BootUp b is = inr refl
-byte_of heartbeat.Stopped b is = inl refl
-byte_of heartbeat.Operational b is = inl refl
-byte_of heartbeat.PreOperational b is = inl refl
-
--- the boot-up or a heartbeat of the device: from then on so much may pass
-pub life_runs : (subject : Subject) (rows : List Row) (micros : ℕ) (p : Progress) (life : Heartbeat) (period ago after : ℕ) → KnowsPeriod period subject → (period ≡ 0) ⊎ (ago ≤ period * 1000) → Beats period micros ago p
-    → AllRun late_differences subject rows micros p (record { id = 0x700 + subject.node; bytes = heartbeat_bytes life } ∷ []) (Beats period micros after)
-life_runs subject rows micros p life period ago after knows few h =
+-- a heartbeat of the device: from then on so much may pass
+pub beat_runs : (subject : Subject) (rows : List Row) (micros : ℕ) (p : Progress) (life : Heartbeat) (period ago after : ℕ) → KnowsBefore period subject → (state_byte life == 0) ≡ false → (period ≡ 0) ⊎ (ago ≤ period * 1000)
+    → Beats period micros ago p → AllRun late_differences subject rows micros p (record { id = 0x700 + subject.node; bytes = heartbeat_bytes life } ∷ []) (Beats period micros after)
+beat_runs subject rows micros p life period ago after knows other few h =
     one subject rows micros p (record { id = 0x700 + subject.node; bytes = heartbeat_bytes life }) (Control (state_byte life)) period after (life_kind subject.node life)
-    (elim (byte_of life (state_byte life == 0) refl) [
-      | inl other ↦ heartbeat_passes subject rows (begun subject p micros) micros (state_byte life) period ago after other few (begun_beats subject period micros ago p knows h)
-      | inr boots ↦ subst (λ byte. Passes subject rows (begun subject p micros) micros (Control byte) period after) (sym boots)
-          (boot_passes subject rows (begun subject p micros) micros period ago after knows (begun_beats subject period micros ago p knows h))
-    ])
+    (heartbeat_passes subject rows (begun subject p micros) micros (state_byte life) period ago after other few (begun_beats subject period micros ago p knows h))
+
+-- its boot-up: from then on it has the period that it begins with
+pub boot_runs : (subject : Subject) (rows : List Row) (micros : ℕ) (p : Progress) (period next ago after : ℕ) → KnowsBefore period subject → KnowsPeriod next subject → Beats period micros ago p
+    → AllRun late_differences subject rows micros p (record { id = 0x700 + subject.node; bytes = heartbeat_bytes BootUp } ∷ []) (Beats next micros after)
+boot_runs subject rows micros p period next ago after knows boots h =
+    one subject rows micros p (record { id = 0x700 + subject.node; bytes = heartbeat_bytes BootUp }) (Control (state_byte BootUp)) next after (life_kind subject.node BootUp)
+    (boot_passes subject rows (begun subject p micros) micros period next ago after boots (begun_beats subject period micros ago p knows h))
 
 -- ---- counting ticks
 

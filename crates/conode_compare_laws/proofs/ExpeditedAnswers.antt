@@ -5,7 +5,7 @@ use Rattle.std.specs.List.{AllByRecursion}
 use Rattle.std.proofs.lemmas.Bool.{false≢true}
 use Rattle.std.proofs.lemmas.Bool.Decides.{nat_tests}
 use Rattle.co_value.specs.declared.key.Key.{Key}
-use Rattle.co_value.specs.Keys.{same_key-is}
+use Rattle.co_value.specs.Keys.{same_key, same_key-is}
 use Rattle.co_value.specs.Numbers.{AreBytes, unsigned_of}
 use Rattle.co_frame.specs.AbortCodes.{unknown_command}
 use Rattle.co_frame.specs.SdoRequests.{request_in}
@@ -23,6 +23,8 @@ use Rattle.co_sdo.specs.declared.stage.Stage.{Stage}
 use Rattle.co_sdo.specs.declared.stage.Stage.TheVariants.{SubBlock as InSubBlock}
 use Rattle.co_sdo.specs.Log.{Answer, Response as Replied, answer_bytes}
 use Rattle.co_sdo.specs.Opened.{OpenTransfer}
+use Rattle.co_sdo.specs.Refused.{completion_refusal, initiate_refusal}
+use Rattle.co_sdo.specs.Downloads.{expedited_part}
 use Rattle.co_sdo.specs.OpenTransfers.{is_initiate as initiates}
 use Rattle.co_sdo.specs.Replies.{aborted, answers_to, frame_answers, initiate_answers, is_in_sub_block, later_answers, on_open, open_key, request_answers, sub_block_refusal, taken_with, unless_refused}
 use Rattle.co_sdo.specs.SubBlocks.{ends_sub_block}
@@ -32,8 +34,14 @@ use Rattle.co_sdo_laws.proofs.Frames.{expedited_sent_read}
 use Rattle.conode_explain_laws.proofs.Begins.{HasKey, has_key, small_index}
 use Rattle.conode_explain_transfers.specs.Initiates.{data_of}
 use Rattle.conode_compare_pdos.specs.SheetNumbers.{first_word}
-use Rattle.conode_compare_laws.specs.ShownWords.{HasWord}
+use Rattle.conode_compare_laws.specs.ShownWords.{HasWord, is_expedited_download}
 use Rattle.conode_compare_laws.proofs.ExpeditedFrames.{Fits}
+
+-- a request that begins a download of an entry in segments or in blocks
+abbrev pub is_long_download : Key → Option SdoRequest → Bool
+is_long_download key (Some (DownloadInitiate named size)) = same_key named key
+is_long_download key (Some (BlockDownloadInitiate named size)) = same_key named key
+is_long_download key _ = false
 
 -- ---- answers without data
 
@@ -89,6 +97,32 @@ module _ (key : Key) (word : ℕ) where
   unless_fits None named answers h = h
   unless_fits (Some code) named answers h = aborted_fits named code
 
+  -- where the channel takes the frame as a segment
+  frame_fits : (rows : Rows) (o : OpenTransfer) (stage : Stage) (frame : List ℕ) → AllFit (frame_answers rows o stage frame)
+  frame_fits rows o (InSubBlock indicated taken) frame = by (ends_sub_block frame)
+    where
+      by : (b : Bool) → AllFit (if b then unless_refused (sub_block_refusal rows o taken frame) o.key (Replied (BlockDownloadAcknowledge (taken_with taken frame) segments_per_sub_block) ∷ []) else [])
+      by true = unless_fits (sub_block_refusal rows o taken frame) o.key (Replied (BlockDownloadAcknowledge (taken_with taken frame) segments_per_sub_block) ∷ []) (acknowledge_fits (taken_with taken frame) segments_per_sub_block, tt)
+      by false = tt
+  frame_fits rows o _ frame = aborted_fits o.key unknown_command
+
+  pub inside_fits : (rows : Rows) (current : Option OpenTransfer) (frame : List ℕ) → AllFit (on_open current (λ o stage. frame_answers rows o stage frame))
+  inside_fits rows None frame = aborted_fits (open_key None) unknown_command
+  inside_fits rows (Some o) frame = frame_fits rows o o.stage frame
+
+  -- to an expedited download
+  pub expedited_fits : (d : Description) (contents : Contents) (current : Option OpenTransfer) (named : Key) (r : Option SdoRequest) → is_expedited_download named r ≡ true → AllFit (request_answers d contents current r)
+  expedited_fits d contents current own (Some (DownloadExpedited named value)) i =
+      unless_fits (completion_refusal d contents named None (expedited_part d.rows named value)) named (Replied (DownloadDone named) ∷ []) (done_fits named, tt)
+  expedited_fits d contents current own _ i = absurd (false≢true i)
+
+  -- to a request that begins a download in segments or in blocks
+  pub long_fits : (d : Description) (contents : Contents) (current : Option OpenTransfer) (named : Key) (r : Option SdoRequest) → is_long_download named r ≡ true → AllFit (request_answers d contents current r)
+  long_fits d contents current own (Some (DownloadInitiate named size)) i = unless_fits (initiate_refusal d named size) named (Replied (DownloadDone named) ∷ []) (done_fits named, tt)
+  long_fits d contents current own (Some (BlockDownloadInitiate named size)) i =
+      unless_fits (initiate_refusal d named size) named (Replied (BlockDownloadInitiated named segments_per_sub_block) ∷ []) (block_download_fits named segments_per_sub_block, tt)
+  long_fits d contents current own _ i = absurd (false≢true i)
+
   -- ---- the data of an entry
 
   module _ (contents : Contents) (has : HasWord key word contents) where
@@ -120,19 +154,6 @@ module _ (key : Key) (word : ℕ) where
     initiate_fits d frame (BlockUploadInitiate named size threshold) bytes k = unless_fits _ named (Replied (BlockUploadInitiated named (Some (length (value_at contents named)))) ∷ []) (block_upload_fits named (length (value_at contents named)), tt)
     initiate_fits d frame (BlockDownloadInitiate named size) bytes k = unless_fits _ named (Replied (BlockDownloadInitiated named segments_per_sub_block) ∷ []) (block_download_fits named segments_per_sub_block, tt)
     initiate_fits d frame _ bytes k = tt
-
-    -- where the channel takes the frame as a segment
-    frame_fits : (rows : Rows) (o : OpenTransfer) (stage : Stage) (frame : List ℕ) → AllFit (frame_answers rows o stage frame)
-    frame_fits rows o (InSubBlock indicated taken) frame = by (ends_sub_block frame)
-      where
-        by : (b : Bool) → AllFit (if b then unless_refused (sub_block_refusal rows o taken frame) o.key (Replied (BlockDownloadAcknowledge (taken_with taken frame) segments_per_sub_block) ∷ []) else [])
-        by true = unless_fits (sub_block_refusal rows o taken frame) o.key (Replied (BlockDownloadAcknowledge (taken_with taken frame) segments_per_sub_block) ∷ []) (acknowledge_fits (taken_with taken frame) segments_per_sub_block, tt)
-        by false = tt
-    frame_fits rows o _ frame = aborted_fits o.key unknown_command
-
-    inside_fits : (rows : Rows) (current : Option OpenTransfer) (frame : List ℕ) → AllFit (on_open current (λ o stage. frame_answers rows o stage frame))
-    inside_fits rows None frame = aborted_fits (open_key None) unknown_command
-    inside_fits rows (Some o) frame = frame_fits rows o o.stage frame
 
     request_fits : (d : Description) (current : Option OpenTransfer) (frame : List ℕ) (r : Option SdoRequest) → AreBytes frame → IfSome r (HasKey frame) → initiates r ≡ true → AllFit (request_answers d contents current r)
     request_fits d current frame None bytes k i = aborted_fits (open_key current) unknown_command

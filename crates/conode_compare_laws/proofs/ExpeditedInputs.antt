@@ -67,7 +67,7 @@ use Rattle.conode_compare_laws.proofs.ShowsWord.{AllShow, Shown, ShowsAt, ShowsF
 module _ (key : Key) (word : ℕ) where
   -- ---- what compare has
 
-  abbrev Has : Bool → Progress → Type 0
+  abbrev pub Has : Bool → Progress → Type 0
   Has spoilt p = Holds key spoilt p.dialogue.channel.transfer
 
   not_sdo : (p : Progress) (micros : ℕ) (kind : FrameKind) → is_sdo kind ≡ false → ShowsAt key word p micros kind
@@ -88,7 +88,7 @@ module _ (key : Key) (word : ℕ) where
   others_show subject micros (frame ∷ later) p other h =
       kind_shows false subject micros p frame later (Has false) (other_kind subject.node frame other.0) h (λ q g. others_show subject micros later q other.1 g)
 
-  life_shows : (subject : Subject) (micros : ℕ) (life : Option Heartbeat) (p : Progress) → Has false p → AllShow key word subject micros p (life_frames subject.node life) (Has false)
+  pub life_shows : (subject : Subject) (micros : ℕ) (life : Option Heartbeat) (p : Progress) → Has false p → AllShow key word subject micros p (life_frames subject.node life) (Has false)
   life_shows subject micros None p h = h
   life_shows subject micros (Some life) p h =
       kind_shows false subject micros p (record { id = 0x700 + subject.node; bytes = heartbeat_bytes life }) [] (Has false) (ap is_sdo (life_kind subject.node life)) h (λ q g. g)
@@ -166,7 +166,7 @@ module _ (key : Key) (word : ℕ) where
     any_next r o (writes i own k sure) = k
     any_next r o (goes_on k) = less_held key o k
 
-    ignored_shows : AllShow key word subject micros p (frame ∷ []) (Has false)
+    pub ignored_shows : AllShow key word subject micros p (frame ∷ []) (Has false)
     ignored_shows =
         sdo_shows subject micros p frame [] Client (Next key word (request_in frame.bytes)) (Has false) (request_kind subject.node frame id) heard.ended heard.next
         (λ q g. any_next (request_in frame.bytes) q.dialogue.channel.transfer g)
@@ -193,14 +193,28 @@ module _ (key : Key) (word : ℕ) where
 
   -- ---- an input
 
-  record Given (k : Constants) (before : Inputs) (input : InputView) : Type 0 where
-    answers : IsElsewhere (0x580 + k.description.node) input
-    bytes : HasBytes input
-    refuses : RefusesAt key word k before input
-    has : HasWord key word (contents_of k before)
-    other : SendsOther k (moment k (moments k before) input)
-    sync : is_sync_id (contents_of k before) (0x600 + k.description.node) ≡ false
-    channels : AllByRecursion (IsNumbered k.description.node) (channels k)
+  -- the answers to a request with data have this number, and no expedited download that asks for another one is confirmed
+  abbrev pub AnswersAt : Constants → Inputs → InputView → Type 0
+  AnswersAt k before (Framed frame) =
+      frame.id ≡ 0x600 + k.description.node → length frame.bytes ≡ 8 → is_state node.Stopped (state_of k before) ≡ false
+      → (initiates (request_in frame.bytes) ≡ true → AllFit key word (reply_to k.description (contents_of k before) (channel_logs (moments k before) 0) frame.bytes))
+      × (is_expedited_download key (request_in frame.bytes) ≡ true → (number_asked (request_in frame.bytes) ≡ word) ⊎ AllRefused key (reply_to k.description (contents_of k before) (channel_logs (moments k before) 0) frame.bytes))
+  AnswersAt k before Ticked = Unit {0}
+  AnswersAt k before (Applied event) = Unit {0}
+
+  -- so where the entry has it
+  pub answers_at : (k : Constants) (before : Inputs) (input : InputView) → HasBytes input → RefusesAt key word k before input → HasWord key word (contents_of k before) → AnswersAt k before input
+  answers_at k before (Framed frame) bytes refuses has = λ id eight running.
+      (λ i. answers_fit key word (contents_of k before) has k.description (opened_after (channel_logs (moments k before) 0)) frame.bytes bytes i, refuses id eight running)
+  answers_at k before Ticked bytes refuses has = tt
+  answers_at k before (Applied event) bytes refuses has = tt
+
+  pub record Given (k : Constants) (before : Inputs) (input : InputView) : Type 0 where
+    pub elsewhere : IsElsewhere (0x580 + k.description.node) input
+    pub answers : AnswersAt k before input
+    pub other : SendsOther k (moment k (moments k before) input)
+    pub sync : is_sync_id (contents_of k before) (0x600 + k.description.node) ≡ false
+    pub channels : AllByRecursion (IsNumbered k.description.node) (channels k)
 
   module _ (k : Constants) (subject : Subject) (micros : ℕ) (before : Inputs) where
     -- the frame that an input is, and the answers to it
@@ -222,8 +236,7 @@ module _ (key : Key) (word : ℕ) where
         by false true on e =
             subst (λ x. AllShow key word (of_device k subject) micros p (frame ∷ []) (λ q. AllShow key word (of_device k subject) micros q (frames_at x) (Has false))) (sym (served_is k (moments k before) frame true e id g.sync on))
             (exchange_shows (of_device k subject) micros frame p id h (reply_to k.description (contents_of k before) (channel_logs (moments k before) 0) frame.bytes)
-            (λ i. answers_fit key word (contents_of k before) g.has k.description (opened_after (channel_logs (moments k before) 0)) frame.bytes g.bytes i)
-            (g.refuses id (eqb-true (length frame.bytes) 8 e) on))
+            (g.answers id (eqb-true (length frame.bytes) 8 e) on).0 (g.answers id (eqb-true (length frame.bytes) 8 e) on).1)
 
     first : (input : InputView) (p : Progress) → Given k before input → Has false p → First input p
     first Ticked p g h = h
@@ -235,7 +248,7 @@ module _ (key : Key) (word : ℕ) where
             unanswered (Framed frame) p (nmt_exchange k (moments k before) frame is) (others_show (of_device k subject) micros (frame ∷ []) p (nmt_other k subject [] micros before frame is, tt) h)
         by false true is r = by_request frame p g (eqb-true frame.id (0x600 + k.description.node) r) h
         by false false is r =
-            let other : IsOther k.description.node frame.id = (g.answers, not_equal frame.id (0x600 + k.description.node) r) in
+            let other : IsOther k.description.node frame.id = (g.elsewhere, not_equal frame.id (0x600 + k.description.node) r) in
             mapped_shows key word (of_device k subject) micros (frame ∷ []) p (Has false) _
             (λ q x. others_show (of_device k subject) micros (frames_at (moment k (moments k before) (Framed frame)).exchange) q
             (only_other k.description.node _ (calm_exchange k (moments k before) frame g.channels other.1)) x)
@@ -279,7 +292,7 @@ module _ (key : Key) (word : ℕ) where
     time_shows (Framed frame) all q h = no_event (moment k (moments k before) (Framed frame)).timed_out (none_at_frame k (moments k before) frame) q h
     time_shows (Applied event) all q h = no_event (moment k (moments k before) (Applied event)).timed_out (none_at_event k (moments k before) event) q h
 
-    input_shows : (input : InputView) (p : Progress) → Given k before input → Has false p → AllShow key word (of_device k subject) micros p (frame_of input ++ prescribed k before input) (Has false)
+    pub input_shows : (input : InputView) (p : Progress) → Given k before input → Has false p → AllShow key word (of_device k subject) micros p (frame_of input ++ prescribed k before input) (Has false)
     input_shows input p g h =
         let s : Subject = of_device k subject in
         let m : Moment = moment k (moments k before) input in
@@ -305,7 +318,7 @@ module _ (key : Key) (word : ℕ) where
   all_show k subject [] before p answers bytes confirm words other sync all h = tt
   all_show k subject (s ∷ later) before p answers bytes confirm words other sync all h =
       then_shows key word (of_device k subject) s.micros (frame_of s.input ++ prescribed k before s.input) (heard_from k (s.input ∷ before) later) p (Has false)
-      (input_shows k subject s.micros before s.input p (record { answers = answers.0; bytes = bytes.0; refuses = confirm.0; has = words.0; other = other.0; sync = sync before; channels = all }) h)
+      (input_shows k subject s.micros before s.input p (record { elsewhere = answers.0; answers = answers_at k before s.input bytes.0 confirm.0 words.0; other = other.0; sync = sync before; channels = all }) h)
       (λ q g. all_show k subject later (s.input ∷ before) q answers.1 bytes.1 confirm.1 words.1 other.1 sync all g)
 
   pub recording_shows : (k : Constants) (subject : Subject) (inputs : List Stamped) → AreElsewhere (0x580 + k.description.node) inputs → HaveBytes inputs → AllRefuse key word k [] inputs

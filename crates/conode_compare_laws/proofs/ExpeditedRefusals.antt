@@ -83,7 +83,7 @@ module _ (key : Key) where
       by false refusal = tt
   frame_refused rows o _ frame = aborted_refused o.key unknown_command
 
-  inside_refused : (rows : Rows) (current : Option OpenTransfer) (frame : List ℕ) → AllRefused (on_open current (λ o stage. frame_answers rows o stage frame))
+  pub inside_refused : (rows : Rows) (current : Option OpenTransfer) (frame : List ℕ) → AllRefused (on_open current (λ o stage. frame_answers rows o stage frame))
   inside_refused rows None frame = aborted_refused (open_key None) unknown_command
   inside_refused rows (Some o) frame = frame_refused rows o o.stage frame
 
@@ -134,7 +134,7 @@ module _ (key : Key) where
 
 -- ---- where the entry isn't written at an input, none is done
 
-written_key : (key : Option Key) → marked_key (written_mark key) ≡ key
+pub written_key : (key : Option Key) → marked_key (written_mark key) ≡ key
 written_key None = refl
 written_key (Some key) = refl
 
@@ -144,7 +144,7 @@ exchange_is k history frame id eight =
     ap (λ o. exchange_at o k.description (contents_at k history) (channel_logs history) frame) (ap (receiver (channels k)) id ∙ receives k)
     ∙ ap (λ n. if n == 8 then Some (exchange_on (default_channel k) k.description (contents_at k history) (channel_logs history 0) frame.bytes) else None) eight
 
-set_is : (k : Constants) (history : History) (frame : FrameContent) → frame.id ≡ 0x600 + k.description.node → length frame.bytes ≡ 8
+pub set_is : (k : Constants) (history : History) (frame : FrameContent) → frame.id ≡ 0x600 + k.description.node → length frame.bytes ≡ 8
     → set_of (channels k) k.description (contents_at k history) (channel_logs history) frame ≡ set_by k.description (contents_at k history) (channel_logs history 0) frame.bytes
 set_is k history frame id eight = ap (λ o. set_at o k.description (contents_at k history) (channel_logs history) frame) (exchange_is k history frame id eight)
 
@@ -155,7 +155,7 @@ mark_is k history frame id eight sync running =
     let received : marked_key (moment k history (Framed frame)).mark ≡ marked_key (written_mark (key_set (set_of (channels k) k.description (contents_at k history) (channel_logs history) frame))) = rw (address, running) refl in
     received ∙ written_key (key_set (set_of (channels k) k.description (contents_at k history) (channel_logs history) frame)) ∙ ap key_set (set_is k history frame id eight)
 
-refuses : (key : Key) (word : ℕ) (k : Constants) (before : Inputs) (input : InputView) → is_sync_id (contents_of k before) (0x600 + k.description.node) ≡ false → KeepsWord key word k before input → RefusesAt key word k before input
+pub refuses : (key : Key) (word : ℕ) (k : Constants) (before : Inputs) (input : InputView) → is_sync_id (contents_of k before) (0x600 + k.description.node) ≡ false → KeepsWord key word k before input → RefusesAt key word k before input
 refuses key word k before (Framed frame) sync h = λ id eight running own.
     elim (h id own) [
       | inl asked ↦ inl asked

@@ -66,6 +66,10 @@ pub mod ExpeditedSame
 pub mod ExpeditedRefusals
 pub mod ExpeditedInputs
 mod ExpeditedExamples
+pub mod OpenDownloads
+pub mod UnknownPeriods
+pub mod WrittenPeriods
+mod WrittenExamples
 mod AbortExamples
 mod UploadExamples
 mod AnswerExamples

@@ -60,6 +60,16 @@ module _ (key : Key) (word : ℕ) (subject : Subject) (micros : ℕ) where
   mapped_shows [] p x y f h = f p h
   mapped_shows (frame ∷ later) p x y f h = (h.0, mapped_shows later (progress_with subject p micros (data_kind subject.node frame)) x y f h.1)
 
+  -- beside another number
+  pub both_shows : (other : ℕ) (xs : List FrameContent) (p : Progress) (x y : Progress → Type 0) → AllShow key word subject micros p xs x → AllShow key other subject micros p xs y → AllShow key word subject micros p xs (λ q. x q × y q)
+  both_shows other [] p x y h g = (h, g)
+  both_shows other (frame ∷ later) p x y h g = (h.0, both_shows other later (progress_with subject p micros (data_kind subject.node frame)) x y h.1 g.1)
+
+  -- what holds after the last one, for another number
+  pub ends_as : (other : ℕ) (xs : List FrameContent) (p : Progress) (x y : Progress → Type 0) → AllShow key word subject micros p xs x → AllShow key other subject micros p xs y → AllShow key word subject micros p xs y
+  ends_as other [] p x y h g = g
+  ends_as other (frame ∷ later) p x y h g = (h.0, ends_as other later (progress_with subject p micros (data_kind subject.node frame)) x y h.1 g.1)
+
   -- frames at one time, before those that follow them
   pub at_once : (frames : List FrameContent) (rest : List Recorded) (p : Progress) → ShowsFrom key word subject p (stamped micros frames ++ rest) → AllShow key word subject micros p frames (λ q. ShowsFrom key word subject q rest)
   at_once [] rest p h = h

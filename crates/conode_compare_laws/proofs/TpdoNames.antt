@@ -124,7 +124,7 @@ asked_kept I pdos (Some asked) micros unknown h g = by asked.writes (is_channel 
 
 -- ---- the request that is awaited after a frame: its entry is that which the frame names
 
-key_is : (frame : FrameContent) → length frame.bytes ≡ 8 → key_in frame.bytes ≡ breaches.key_in frame
+pub key_is : (frame : FrameContent) → length frame.bytes ≡ 8 → key_in frame.bytes ≡ breaches.key_in frame
 key_is frame eight = by frame.bytes eight
   where
     two : (b c : ℕ) → b + 256 * (c + 256 * 0) ≡ b + c * 256

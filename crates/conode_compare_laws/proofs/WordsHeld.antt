@@ -17,7 +17,7 @@ use Rattle.co_sdo.specs.Uploads.{value_at}
 use Rattle.co_sheet.specs.SheetLaws.{IsSheetRow}
 use Rattle.conode_compare_laws.specs.Periods.{AllHaveInhibit, AllKeepPeriod}
 use Rattle.conode_compare_laws.specs.Recordings.{Stamped}
-use Rattle.conode_compare_laws.specs.ShownWords.{AllHaveWord}
+use Rattle.conode_compare_laws.specs.ShownWords.{AllHavePeriodBytes, AllHaveWord}
 use Rattle.conode_compare_laws.proofs.AlwaysFitted.{built_fitted, built_types}
 use Rattle.conode_compare_laws.proofs.Fitting.{AreFitted, HaveTypes, bytes_wide, fixed_width, present}
 use Rattle.conode_compare_laws.proofs.KeptEntries.{SetsPermitted}
@@ -45,6 +45,10 @@ module _ (permitted : SetsPermitted) (plan : Plan) (k : Constants) (is : IsBuilt
   pub periods_held : (period : ℕ) (inputs : List Stamped) (before : Inputs) → number_at (contents_of k before) producer_key ≡ period → AllKeepPeriod period k before inputs → AllHaveWord producer_key period k before inputs
   periods_held period [] before number keep = tt
   periods_held period (s ∷ later) before number keep = (record { bytes = each producer_key refl before; number = number }, periods_held period later (s.input ∷ before) keep.0.number keep.1)
+
+  pub bytes_held : (inputs : List Stamped) (before : Inputs) → AllHavePeriodBytes k before inputs
+  bytes_held [] before = tt
+  bytes_held (s ∷ later) before = (each producer_key refl before, bytes_held later (s.input ∷ before))
 
   pub inhibits_held : (inhibit : ℕ) (inputs : List Stamped) (before : Inputs) → number_at (contents_of k before) emergency_inhibit_key ≡ inhibit → AllHaveInhibit inhibit k before inputs
       → AllHaveWord emergency_inhibit_key inhibit k before inputs

@@ -1,13 +1,14 @@
 -- Heartbeats of one period, EMCY of one inhibit time, and the SDO timeout: what the laws about them ask of a device, of its data sheet,
 -- and of the limits.
-use Rattle.std.specs.Prelude.{◌≡◌, ℕ, ◌<◌, ◌≤◌, false, List, [], ◌∷◌, IfSome}
+use Rattle.std.specs.Prelude.{◌≡◌, ℕ, ◌+◌, ◌<◌, ◌≤◌, true, false, List, [], ◌∷◌, IfSome}
 use Rattle.co_profile.specs.Keys.{emergency_inhibit_key, producer_key}
 use Rattle.co_dict.specs.Rows.{number_at}
-use Rattle.co_node_model.specs.Inputs.{Inputs}
+use Rattle.co_node_model.specs.Inputs.{Applied, Framed, Inputs, InputView, Ticked}
 use Rattle.co_node_model.specs.Keys.{is_set}
 use Rattle.co_node_model.specs.Marks.{marked_key}
 use Rattle.co_node_model.specs.Moments.{Constants, Moment}
-use Rattle.co_node_model.specs.Device.{moment, moments}
+use Rattle.co_node_model.specs.Device.{contents_of, moment, moments}
+use Rattle.co_node_model.specs.Nmt.{is_reset}
 use Rattle.conode_compare_rules.specs.declared.limits.Subject.{Subject}
 use Rattle.conode_compare_laws.specs.Recordings.{Stamped}
 
@@ -20,6 +21,31 @@ pub record KeepsPeriod (period : ℕ) (m : Moment) : Type 0 where
 abbrev pub AllKeepPeriod : ℕ → Constants → Inputs → List Stamped → Type 0
 AllKeepPeriod period k before [] = Unit {0}
 AllKeepPeriod period k before (s ∷ later) = KeepsPeriod period (moment k (moments k before) s.input) × AllKeepPeriod period k (s.input ∷ before) later
+
+-- ---- 1017:00 is written
+
+-- an input is a frame of the client of the default SDO channel
+abbrev pub IsOfClient : ℕ → InputView → Type 0
+IsOfClient node (Framed frame) = frame.id ≡ 0x600 + node
+IsOfClient node Ticked = ⊥
+IsOfClient node (Applied event) = ⊥
+
+-- the number of 1017:00 after inputs
+abbrev pub period_after : Constants → Inputs → ℕ
+period_after k before = number_at (contents_of k before) producer_key
+
+-- 1017:00 changes at an input where that client writes it, and at a reset, which restores its first number
+pub record FollowsPeriod (k : Constants) (before : Inputs) (input : InputView) (m : Moment) : Type 0 where
+  pub by : is_set (marked_key m.mark) producer_key ≡ true → IsOfClient k.description.node input
+  pub kept : is_set (marked_key m.mark) producer_key ≡ false → is_reset m.mark ≡ false → number_at m.contents producer_key ≡ period_after k before
+  pub restored : is_reset m.mark ≡ true → number_at m.contents producer_key ≡ number_at k.start producer_key
+
+-- at each of these inputs, which come after those before
+abbrev pub AllFollowPeriod : Constants → Inputs → List Stamped → Type 0
+AllFollowPeriod k before [] = Unit {0}
+AllFollowPeriod k before (s ∷ later) = FollowsPeriod k before s.input (moment k (moments k before) s.input) × AllFollowPeriod k (s.input ∷ before) later
+
+-- ---- what is known of it
 
 -- what is known of 1017:00 by the data sheet, before a boot-up and after one, is nothing or this
 pub record KnowsPeriod (period : ℕ) (subject : Subject) : Type 0 where

@@ -6,6 +6,7 @@ use Rattle.co_value.specs.Numbers.{unsigned_of}
 use Rattle.co_frame.specs.SdoRequests.{request_in}
 use Rattle.co_frame.specs.declared.sdo_request.SdoRequest.{SdoRequest}
 use Rattle.co_frame.specs.declared.sdo_request.SdoRequest.TheVariants.{DownloadExpedited}
+use Rattle.co_profile.specs.Keys.{producer_key}
 use Rattle.co_dict.specs.Rows.{Contents, number_at}
 use Rattle.co_node_model.specs.Device.{contents_of, moment, moments}
 use Rattle.co_node_model.specs.Inputs.{InputView, Inputs, Framed, Ticked, Applied}
@@ -14,6 +15,7 @@ use Rattle.co_node_model.specs.Marks.{marked_key}
 use Rattle.co_node_model.specs.Moments.{Constants}
 use Rattle.co_sdo.specs.Uploads.{value_at}
 use Rattle.conode_explain_transfers.specs.Initiates.{data_of}
+use Rattle.conode_compare_laws.specs.Periods.{period_after}
 use Rattle.conode_compare_laws.specs.Recordings.{Stamped}
 
 -- an entry has two bytes, or it isn't there; and it has this number
@@ -49,3 +51,17 @@ KeepsWord key word k before (Applied event) = Unit {0}
 abbrev pub AllKeepWord : Key → ℕ → Constants → Inputs → List Stamped → Type 0
 AllKeepWord key word k before [] = Unit {0}
 AllKeepWord key word k before (s ∷ later) = KeepsWord key word k before s.input × AllKeepWord key word k (s.input ∷ before) later
+
+-- ---- 1017:00, whose number changes
+
+-- it has two bytes before each of these inputs, or it isn't there
+abbrev pub AllHavePeriodBytes : Constants → Inputs → List Stamped → Type 0
+AllHavePeriodBytes k before [] = Unit {0}
+AllHavePeriodBytes k before (s ∷ later) =
+    ((length (value_at (contents_of k before) producer_key) ≡ 0) ⊎ (length (value_at (contents_of k before) producer_key) ≡ 2))
+    × AllHavePeriodBytes k (s.input ∷ before) later
+
+-- an expedited download of it asks for the number that it has after it, or isn't done
+abbrev pub AllAskPeriod : Constants → Inputs → List Stamped → Type 0
+AllAskPeriod k before [] = Unit {0}
+AllAskPeriod k before (s ∷ later) = KeepsWord producer_key (period_after k (s.input ∷ before)) k before s.input × AllAskPeriod k (s.input ∷ before) later

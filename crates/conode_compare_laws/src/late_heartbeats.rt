@@ -1,6 +1,6 @@
 //! When heartbeats come.
 
-ghost use Rattle.std.specs.Prelude.{◌≡◌, ◌+◌, ◌<◌, ℕ, List, []};
+ghost use Rattle.std.specs.Prelude.{◌≡◌, ◌+◌, ℕ, List, [], None};
 ghost use Rattle.std.specs.List.{All};
 ghost use Rattle.co_profile.specs.Keys.{producer_key};
 ghost use Rattle.co_dict.specs.Rows.{number_at};
@@ -14,9 +14,9 @@ ghost use Rattle.conode_compare_rules.specs.declared.limits.Subject.{Subject};
 ghost use Rattle.conode_compare_laws.specs.AnswerSenders.{BeginsOther, HaveBytes};
 ghost use Rattle.conode_compare_laws.specs.Differences.{differences_in, late_differences};
 ghost use Rattle.conode_compare_laws.specs.Identifiers.{AreElsewhere, BeginsAside, IsUnnamed};
-ghost use Rattle.conode_compare_laws.specs.Periods.{AllKeepPeriod, KnowsPeriod};
+ghost use Rattle.conode_compare_laws.specs.Periods.{AllFollowPeriod, AllKeepPeriod, KnowsPeriod};
 ghost use Rattle.conode_compare_laws.specs.Recordings.{AreTimed, Stamped, recording};
-ghost use Rattle.conode_compare_laws.specs.ShownWords.{AllHaveWord};
+ghost use Rattle.conode_compare_laws.specs.ShownWords.{AllAskPeriod, AllHavePeriodBytes, AllHaveWord};
 
 use crate::answer_laws::{begins_other, sends_other};
 use crate::aside::sends_aside;
@@ -35,7 +35,7 @@ use co_sdo::Bank;
 pub fn no_late_heartbeats()
     ensures { (k : Constants) (subject : Subject) (rows : List Row) (period : ℕ)
         (inputs : List Stamped) → subject.node ≡ k.description.node →
-        number_at k.start producer_key ≡ period → 0 < period → AllKeepPeriod period k [] inputs →
+        number_at k.start producer_key ≡ period → AllKeepPeriod period k [] inputs →
         KnowsPeriod period subject → AreTimed inputs →
         AreElsewhere (0x700 + k.description.node) inputs → BeginsAside k →
         IsUnnamed producer_key k.description.node (recording k inputs) →
@@ -45,15 +45,16 @@ pub fn no_late_heartbeats()
 }
 
 /// So it has none where clients read 1017:00 on its default SDO channel, and ask to write it: what
-/// an expedited upload shows is the period, and no write is confirmed. Conditions: those of `no_late_heartbeats`, but that no client names 1017:00; the
-/// entry has two bytes (`AllHaveWord`); frames have bytes (`HaveBytes`); no other node sends on the
-/// identifier of the answers (`AreElsewhere`); and the COB-IDs with which the device is built are
-/// apart from its default channel, from NMT and from its error control (`BeginsApart`,
-/// `BeginsAside`, `BeginsOther`). This is a law: a call of it changes nothing.
+/// an expedited upload shows is the period, and no write is confirmed. Conditions: those of
+/// `no_late_heartbeats`, but that no client names 1017:00; the entry has two bytes (`AllHaveWord`);
+/// frames have bytes (`HaveBytes`); no other node sends on the identifier of the answers
+/// (`AreElsewhere`); and the COB-IDs with which the device is built are apart from its default
+/// channel, from NMT and from its error control (`BeginsApart`, `BeginsAside`, `BeginsOther`).
+/// This is a law: a call of it changes nothing.
 pub fn no_late_heartbeats_shown()
     ensures { (k : Constants) (subject : Subject) (rows : List Row) (period : ℕ)
         (inputs : List Stamped) → subject.node ≡ k.description.node →
-        number_at k.start producer_key ≡ period → 0 < period → AllKeepPeriod period k [] inputs →
+        number_at k.start producer_key ≡ period → AllKeepPeriod period k [] inputs →
         AllHaveWord producer_key period k [] inputs → KnowsPeriod period subject →
         AreTimed inputs → HaveBytes inputs →
         AreElsewhere (0x700 + k.description.node) inputs →
@@ -75,7 +76,7 @@ pub fn built_no_late_heartbeats()
     ensures { (plan : Plan) (k : Constants) (subject : Subject) (rows : List Row) (period : ℕ)
         (inputs : List Stamped) → IsBuilt plan k → All IsSheetRow plan.rows →
         subject.node ≡ k.description.node → number_at k.start producer_key ≡ period →
-        0 < period → AllKeepPeriod period k [] inputs → KnowsPeriod period subject →
+        AllKeepPeriod period k [] inputs → KnowsPeriod period subject →
         AreTimed inputs → HaveBytes inputs →
         AreElsewhere (0x700 + k.description.node) inputs →
         AreElsewhere (0x580 + k.description.node) inputs →
@@ -86,4 +87,53 @@ pub fn built_no_late_heartbeats()
     begins_aside();
     begins_other();
     no_late_heartbeats_shown();
+}
+
+/// So it has none where the client of its default SDO channel also writes 1017:00: expedited, in
+/// segments or in blocks, whatever numbers. Each such write begins the period anew, and `compare`
+/// knows nothing of 1017:00 from the request on, until a transfer shows it. Conditions: those of
+/// `no_late_heartbeats_shown`, but for those on 1017:00. It changes by such a write, and at a
+/// reset, which restores its first number, but not by the application or on another SDO channel,
+/// which `compare` doesn't see (`AllFollowPeriod`); each expedited download of it that is done asks
+/// for the number that it then has (`AllAskPeriod`); it has two bytes, or it isn't there
+/// (`AllHavePeriodBytes`); and by the data sheet its first number is known, or nothing
+/// (`KnowsPeriod`), but nothing before a boot-up, as of an entry that isn't `const`. This is a law:
+/// a call of it changes nothing.
+pub fn no_late_heartbeats_written()
+    ensures { (k : Constants) (subject : Subject) (rows : List Row) (inputs : List Stamped) →
+        subject.node ≡ k.description.node → AllFollowPeriod k [] inputs →
+        AllAskPeriod k [] inputs → AllHavePeriodBytes k [] inputs →
+        KnowsPeriod (number_at k.start producer_key) subject →
+        subject.facts.before.period ≡ None → AreTimed inputs → HaveBytes inputs →
+        AreElsewhere (0x700 + k.description.node) inputs →
+        AreElsewhere (0x580 + k.description.node) inputs → BeginsApart k → BeginsAside k →
+        BeginsOther k →
+        differences_in late_differences subject rows (recording k inputs) ≡ [] }
+{
+    sends_aside();
+    sends_other();
+    stays_apart();
+}
+
+/// So has the recording of each device that is built from a data sheet:
+/// `no_late_heartbeats_written` of it, without a condition on the bytes of 1017:00. Conditions: the
+/// rows are those of a sheet that was read (`IsSheetRow`); `compare` has the device's node-ID; and
+/// those of `no_late_heartbeats_written` on the numbers of 1017:00, the data sheet, the stamps and
+/// the frames. This is a law: a call of it changes nothing.
+pub fn built_no_late_heartbeats_written()
+    ensures { (plan : Plan) (k : Constants) (subject : Subject) (rows : List Row)
+        (inputs : List Stamped) → IsBuilt plan k → All IsSheetRow plan.rows →
+        subject.node ≡ k.description.node → AllFollowPeriod k [] inputs →
+        AllAskPeriod k [] inputs →
+        KnowsPeriod (number_at k.start producer_key) subject →
+        subject.facts.before.period ≡ None → AreTimed inputs → HaveBytes inputs →
+        AreElsewhere (0x700 + k.description.node) inputs →
+        AreElsewhere (0x580 + k.description.node) inputs →
+        differences_in late_differences subject rows (recording k inputs) ≡ [] }
+{
+    Bank::set_is_permitted();
+    begins_apart();
+    begins_aside();
+    begins_other();
+    no_late_heartbeats_written();
 }

@@ -31,7 +31,10 @@ pub use early_emergencies::{
 pub use emergencies::no_emergency_differences;
 pub use entries::stays_dictionary;
 pub use held_entries::held_changes_no_other;
-pub use late_heartbeats::{built_no_late_heartbeats, no_late_heartbeats, no_late_heartbeats_shown};
+pub use late_heartbeats::{
+    built_no_late_heartbeats, built_no_late_heartbeats_written, no_late_heartbeats,
+    no_late_heartbeats_shown, no_late_heartbeats_written,
+};
 pub use rooms::rooms_of_device;
 pub use states::no_state_differences;
 pub use tpdo_built::{built_no_pdo_length, keeps_tpdos, tpdos_of_sheet};
