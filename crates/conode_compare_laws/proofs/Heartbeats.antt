@@ -367,8 +367,7 @@ module _ (k : Constants) (subject : Subject) (period : ℕ) where
   same_follow : (inputs : List Stamped) (before : Inputs) → KnowsPeriod period subject → period_after k before ≡ period → AllKeepPeriod period k before inputs → AllFollow k subject before inputs
   same_follow [] before knows is keep = tt
   same_follow (s ∷ later) before knows is keep =
-      let e : period ≡ period_after k (s.input ∷ before) = sym keep.0.number in
-      (
+      let e : period ≡ period_after k (s.input ∷ before) = sym keep.0.number in (
         record { kept = λ w r. keep.0.number ∙ sym is; next = subst (λ n. KnowsBefore n subject) e knows.before; boots = λ r. subst (λ n. KnowsPeriod n subject) e knows },
         same_follow later (s.input ∷ before) knows keep.0.number keep.1,
       )
@@ -385,9 +384,14 @@ module _ (k : Constants) (subject : Subject) (period : ℕ) where
       × ((is_reset (moment k (moments k before) s.input).mark ≡ true → AllShow producer_key n subject s.micros q sent (λ r. Unit {0}))
       × AllShow producer_key (period_after k (s.input ∷ before)) subject s.micros q sent (λ r. ShowsBy k subject r (s.input ∷ before) later)))) (sym is)
       (mapped_shows producer_key period subject s.micros (frame_of s.input) p (λ q. AllShow producer_key period subject s.micros q sent next) _
-      (λ q g. (λ on. absurd (false≢true (sym keep.0.unwritten ∙ on)), (λ reset. mapped_shows producer_key period subject s.micros sent q next (λ r. Unit {0}) (λ r x. tt) g,
-      subst (λ n. AllShow producer_key n subject s.micros q sent (λ r. ShowsBy k subject r (s.input ∷ before) later)) (sym keep.0.number)
-      (mapped_shows producer_key period subject s.micros sent q next (λ r. ShowsBy k subject r (s.input ∷ before) later) (λ r x. shows_by later (s.input ∷ before) r keep.0.number keep.1 x) g))))
+      (λ q g. (
+        λ on. absurd (false≢true (sym keep.0.unwritten ∙ on)),
+        (
+          λ reset. mapped_shows producer_key period subject s.micros sent q next (λ r. Unit {0}) (λ r x. tt) g,
+          subst (λ n. AllShow producer_key n subject s.micros q sent (λ r. ShowsBy k subject r (s.input ∷ before) later)) (sym keep.0.number)
+              (mapped_shows producer_key period subject s.micros sent q next (λ r. ShowsBy k subject r (s.input ∷ before) later) (λ r x. shows_by later (s.input ∷ before) r keep.0.number keep.1 x) g),
+        ),
+      ))
       (parts producer_key period subject s.micros (frame_of s.input) sent p next
       (at_once producer_key period subject s.micros (frame_of s.input ++ sent) rest p shows)))
 

@@ -298,8 +298,7 @@ module _ (key : Key) where
     pub exchanged : (input : InputView) → StaysOpen input → (drops (moment k (moments k before) input) (moments k before) ≡ false) × After input
     exchanged input h =
         let m : Moment = moment k (moments k before) input in
-        let kept = undropped (drops m (moments k before)) (logs_after m.timed_out (with_channel_ticks (marked_tick m.mark) (logs_after m.exchange (channel_logs (moments k before))))) h in
-        (
+        let kept = undropped (drops m (moments k before)) (logs_after m.timed_out (with_channel_ticks (marked_tick m.mark) (logs_after m.exchange (channel_logs (moments k before))))) h in (
           kept.0,
           unticked (marked_tick m.mark) (logs_after m.exchange (channel_logs (moments k before)))
               (untimed m.timed_out (with_channel_ticks (marked_tick m.mark) (logs_after m.exchange (channel_logs (moments k before))))
