@@ -4,4 +4,5 @@ mod ReasonWordLemmas
 mod MarkLemmas
 mod BuildLaws
 mod FoundLaws
+mod SheetLemmas
 mod Examples

@@ -34,6 +34,7 @@ mod marks;
 mod other_format;
 mod report;
 mod rules;
+mod sheet;
 mod words;
 
 pub use conode_lint_marks::OtherFormat;

@@ -1,10 +1,12 @@
 //! Linting a text.
 
-ghost use Rattle.std.specs.Prelude.{◌≡◌, ◌≤◌, [], length, map, take, IfOk, OnOk};
-ghost use Rattle.co_sheet_text.specs.LinesAtFault.{sections_read};
+ghost use Rattle.std.specs.Prelude.{◌≡◌, ◌≤◌, [], length, map, take, IfOk, IfSome, OnOk};
+ghost use Rattle.co_sheet_text.specs.LinesAtFault.{own_faults, sections_read};
+ghost use Rattle.co_sheet_text.specs.SectionLaws.{IsParsed};
 ghost use Rattle.co_sheet_text.specs.Text.{lines_of};
 ghost use Rattle.co_sheet_text.specs.Views.{section_view};
 ghost use Rattle.co_sheet_warnings.specs.Lines.{text_lines};
+ghost use Rattle.conode_lint_marks.specs.Beside.{sheet_of};
 ghost use Rattle.conode_lint.specs.Allowed.{error_count, is_error};
 ghost use Rattle.conode_lint.specs.Found.{finding_of, seen};
 ghost use Rattle.conode_lint.specs.Linted.{IsLinted, IsMadeOf, left};
@@ -12,10 +14,10 @@ ghost use Rattle.conode_lint.specs.Marks.{text_sections};
 
 use crate::allowed::{add_kept, add_names};
 use crate::marks::{Checks, add_marks_of};
+use crate::sheet::sheet_with;
 use crate::words::{about_of, fix_of, meaning_of, name_of, place_of, severity_of, subject_of};
-use co_sheet::GREATEST_SIZE;
-use co_sheet_faults::read_sections;
-use co_sheet_text::{ParsedText, TextSection};
+use co_sheet::{GREATEST_SIZE, Sheet};
+use co_sheet_text::{ParsedText, TextFault, TextSection, all_sections_in};
 use co_sheet_warnings::text_lines;
 use conode_lint_marks::{Mark, line_at};
 use conode_lint_text::{Finding, Severity};
@@ -167,40 +169,70 @@ fn linted_of<'a>(
     }
 }
 
-// what is found in a text with these lines and sections
+// what is found in a text with these lines and sections and this sheet
 fn linted_in<'s, 'a>(
     alloc: Global,
     text: &'a [u8],
     lines: &'s [&'a [u8]],
     sections: &'s [TextSection<'s, 'a>],
+    sheet: &Option<Sheet<'_>>,
     checks: &Checks<'_>,
 ) -> Result<Linted<'a>, AllocError>
     requires lines { map (λ line. line.now) lines.now ≡ text_lines text.now }
     requires sections { map section_view sections.now ≡ text_sections text.now }
+    requires sheet { sheet.now ≡ sheet_of text.now }
+    requires small { IfSome sheet.now (λ _. length text.now ≤ 1048576) }
     ensures { IfOk result (IsLinted text.now checks.now) }
 {
     let mut found = Vec::new(alloc);
-    match add_marks_of(alloc, &mut found, text, lines, sections, checks) {
+    match add_marks_of(alloc, &mut found, text, lines, sections, sheet, checks) {
         Ok(()) => linted_of(alloc, lines, sections, checks, found.as_slice()),
         Err(fault) => Err(fault),
     }
 }
 
-// what is found in a text with these lines, parsed
+// what is found in a text with these lines and sections, of whose lines these are at fault
+fn linted_sections<'s, 'a>(
+    alloc: Global,
+    text: &'a [u8],
+    lines: &'s [&'a [u8]],
+    sections: &'s [TextSection<'s, 'a>],
+    at_fault: &[TextFault],
+    checks: &Checks<'_>,
+) -> Result<Linted<'a>, AllocError>
+    requires size { length text.now ≤ 1048576 }
+    requires lines { map (λ line. line.now) lines.now ≡ text_lines text.now }
+    requires parsed { IsParsed (map section_view sections.now) }
+    requires sections { map section_view sections.now ≡ sections_read (lines_of text.now) }
+    requires at_fault { at_fault.now ≡ own_faults [] (lines_of text.now) }
+    ensures { IfOk result (IsLinted text.now checks.now) }
+{
+    match sheet_with(alloc, text, sections, at_fault) {
+        Ok(sheet) => linted_in(alloc, text, lines, sections, &sheet, checks),
+        Err(fault) => Err(fault),
+    }
+}
+
+// what is found in a text with these lines, parsed, of whose lines these are at fault
 fn linted_parsed<'s, 'a>(
     alloc: Global,
     text: &'a [u8],
     lines: &'s [&'a [u8]],
     parsed: &'s ParsedText<'a>,
+    at_fault: &[TextFault],
     checks: &Checks<'_>,
 ) -> Result<Linted<'a>, AllocError>
     requires size { length text.now ≤ 1048576 }
     requires lines { map (λ line. line.now) lines.now ≡ text_lines text.now }
-    requires parsed { parsed.now ≡ sections_read (lines_of text.now) }
+    requires parsed { IsParsed parsed.now }
+    requires sections { parsed.now ≡ sections_read (lines_of text.now) }
+    requires at_fault { at_fault.now ≡ own_faults [] (lines_of text.now) }
     ensures { IfOk result (IsLinted text.now checks.now) }
 {
     match parsed.sections(alloc) {
-        Ok(sections) => linted_in(alloc, text, lines, sections.as_slice(), checks),
+        Ok(sections) => {
+            linted_sections(alloc, text, lines, sections.as_slice(), at_fault, checks)
+        }
         Err(fault) => Err(fault),
     }
 }
@@ -216,10 +248,12 @@ fn linted_lines<'a>(
     ensures { IfOk result (IsLinted text.now checks.now) }
 {
     if text.len() > GREATEST_SIZE {
-        return linted_in(alloc, text, lines, &[], checks);
+        return linted_in(alloc, text, lines, &[], &None, checks);
     }
-    match read_sections(alloc, text) {
-        Ok(parsed) => linted_parsed(alloc, text, lines, &parsed, checks),
+    match all_sections_in(alloc, text) {
+        Ok((parsed, at_fault)) => {
+            linted_parsed(alloc, text, lines, &parsed, at_fault.as_slice(), checks)
+        }
         Err(fault) => Err(fault),
     }
 }

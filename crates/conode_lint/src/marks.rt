@@ -32,7 +32,7 @@ use co_sheet_text::TextSection;
 use co_sheet_warnings::find_warnings;
 use conode_lint_marks::{
     AtFault, Mark, OtherFormat, Subject, add_beside, add_build_marks, add_known_warnings,
-    sections_at_fault, sheet_of,
+    sections_at_fault,
 };
 use std::alloc::{AllocError, Global};
 
@@ -252,8 +252,10 @@ fn add_found<'s, 'a>(
     put_by_line(marks)
 }
 
-// adds what is found in a text with these lines and sections and this sheet to none
-fn add_of_sheet<'s, 'a>(
+/// Adds everything that is found in a text with these lines and sections and this sheet, by line,
+/// to no marks. For a text with faults that is of another format, only that is found. `Err`: out of
+/// memory.
+pub(crate) fn add_marks_of<'s, 'a>(
     alloc: Global,
     marks: &mut Vec<Mark>,
     text: &'a [u8],
@@ -280,27 +282,6 @@ fn add_of_sheet<'s, 'a>(
             faults.as_slice(),
             checks,
         ),
-        Err(fault) => Err(fault),
-    }
-}
-
-/// Adds everything that is found in a text with these lines and sections, by line, to no marks. For
-/// a text with faults that is of another format, only that is found. `Err`: out of memory.
-pub(crate) fn add_marks_of<'s, 'a>(
-    alloc: Global,
-    marks: &mut Vec<Mark>,
-    text: &'a [u8],
-    lines: &'s [&'a [u8]],
-    sections: &'s [TextSection<'s, 'a>],
-    checks: &Checks<'_>,
-) -> Result<(), AllocError>
-    requires none { marks.old.items ≡ [] }
-    requires lines { map (λ line. line.now) lines.now ≡ text_lines text.now }
-    requires sections { map section_view sections.now ≡ text_sections text.now }
-    ensures { OnOk result (IsFound text.now checks.now marks.new.items) }
-{
-    match sheet_of(alloc, text) {
-        Ok(sheet) => add_of_sheet(alloc, marks, text, lines, sections, &sheet, checks),
         Err(fault) => Err(fault),
     }
 }
