@@ -1,33 +1,30 @@
 //! Linting a text.
 
-ghost use Rattle.std.specs.Prelude.{◌≡◌, ◌≤◌, [], length, map, take, IfOk, OnOk};
+ghost use Rattle.std.specs.Prelude.{◌≡◌, ◌≤◌, [], length, map, IfOk, OnOk};
 ghost use Rattle.co_sheet_text.specs.LinesAtFault.{sections_read};
 ghost use Rattle.co_sheet_text.specs.Text.{lines_of};
 ghost use Rattle.co_sheet_text.specs.Views.{section_view};
 ghost use Rattle.co_sheet_warnings.specs.Lines.{text_lines};
-ghost use Rattle.conode_lint.specs.Allowed.{error_count, is_error};
 ghost use Rattle.conode_lint.specs.Found.{finding_of, seen};
 ghost use Rattle.conode_lint.specs.Linted.{IsLinted, IsMadeOf, left};
 ghost use Rattle.conode_lint.specs.Marks.{text_sections};
 
 use crate::allowed::{add_kept, add_names};
 use crate::marks::{Checks, add_marks_of};
+use crate::printed::{MOST, add_printed, error_count};
 use crate::words::{about_of, fix_of, meaning_of, name_of, place_of, severity_of, subject_of};
 use co_sheet::GREATEST_SIZE;
 use co_sheet_faults::read_sections;
 use co_sheet_text::{ParsedText, TextSection};
 use co_sheet_warnings::text_lines;
 use conode_lint_marks::{Mark, line_at};
-use conode_lint_text::{Finding, Severity};
+use conode_lint_text::Finding;
 use std::alloc::{AllocError, Global};
-
-/// The most findings of a file that are printed.
-const MOST: usize = 1000;
 
 /// What is found in a text.
 #[derive(Drop)]
 pub struct Linted<'a> {
-    /// The first 1,000, in the order of the lines.
+    /// At most 1,000, errors before warnings if there are more, in the order of the lines.
     pub findings: Vec<Finding<'a>>,
     /// The number of errors, with those that aren't among the findings.
     pub errors: usize,
@@ -74,37 +71,6 @@ fn add_findings<'a>(
     Ok(())
 }
 
-fn is_error(severity: Severity) -> bool
-    ensures { result ≡ is_error severity }
-{
-    match severity {
-        Severity::Error => true,
-        Severity::Warning => false,
-    }
-}
-
-fn error_count(marks: &[Mark]) -> usize
-    ensures { result ≡ error_count marks.now }
-{
-    let mut count = 0;
-    for mark in marks {
-        if is_error(severity_of(mark.subject)) {
-            count += 1;
-        }
-    }
-    count
-}
-
-// the marks whose findings are printed
-fn first_marks(marks: &[Mark]) -> &[Mark]
-    ensures { result.now ≡ take 1000 marks.now }
-{
-    match marks.split_at_checked(MOST) {
-        Some((first, _)) => first,
-        None => marks,
-    }
-}
-
 // adds the marks that neither the command line nor the sheet allows to none
 #[tactic(auto, unfolding(crate::specs::Linted::left))]
 fn add_left(
@@ -136,8 +102,10 @@ fn made_of<'a>(
         (map section_view sections.now) marks.now) }
 {
     let errors = error_count(marks);
+    let mut printed = Vec::new(alloc);
+    attempt!(add_printed(&mut printed, marks));
     let mut findings = Vec::new(alloc);
-    match add_findings(&mut findings, lines, sections, first_marks(marks)) {
+    match add_findings(&mut findings, lines, sections, printed.as_slice()) {
         Ok(()) => Ok(Linted {
             findings,
             errors,
