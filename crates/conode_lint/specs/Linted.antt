@@ -1,5 +1,5 @@
 -- The findings of a text, and what they say about it.
-use Rattle.std.specs.Prelude.{◌≡◌, ℕ, ◌-◌, Bool, ◌&&◌, if◌then◌else◌, List, [], ◌∷◌, ◌++◌, length, map, take, Option, Some, None, is_none}
+use Rattle.std.specs.Prelude.{◌≡◌, ℕ, ◌-◌, Bool, not, ◌&&◌, if◌then◌else◌, List, [], ◌∷◌, ◌++◌, length, map, take, Option, Some, None, is_none}
 use Rattle.std.specs.List.{flat_map, list_any}
 use Rattle.co_sheet.specs.Accepted.{first_fault}
 use Rattle.co_sheet.specs.Content.{SheetContent}
@@ -25,7 +25,7 @@ left lines checks found =
 
 -- a mark that is no error
 abbrev pub warning_of : Mark → List Mark
-warning_of mark = if is_error (severity_of mark.subject) then [] else mark ∷ []
+warning_of mark = if not (is_error (severity_of mark.subject)) then mark ∷ [] else []
 
 -- at most so many marks: errors before warnings
 abbrev pub most_severe : ℕ → List Mark → List Mark

@@ -6,8 +6,8 @@ ghost use Rattle.co_sheet_text.specs.Text.{lines_of};
 ghost use Rattle.co_sheet_text.specs.Views.{section_view};
 ghost use Rattle.co_sheet_warnings.specs.Lines.{text_lines};
 ghost use Rattle.conode_lint.specs.Found.{finding_of, seen};
-ghost use Rattle.conode_lint.specs.Linted.{IsLinted, IsMadeOf, left};
-ghost use Rattle.conode_lint.specs.Marks.{text_sections};
+ghost use Rattle.conode_lint.specs.Linted.{IsLinted, IsMadeOf, left, most_severe};
+ghost use Rattle.conode_lint.specs.Marks.{IsByLine, text_sections};
 
 use crate::allowed::{add_kept, add_names};
 use crate::marks::{Checks, add_marks_of};
@@ -91,6 +91,31 @@ fn add_left(
     }
 }
 
+// the findings of these marks, none of which is allowed; those of `printed` are listed
+fn made_with<'a>(
+    alloc: Global,
+    lines: &[&'a [u8]],
+    sections: &[TextSection<'_, '_>],
+    marks: &[Mark],
+    printed: &[Mark],
+) -> Result<Linted<'a>, AllocError>
+    requires { IsByLine (most_severe 1000 marks.now) printed.now }
+    ensures { IfOk result (IsMadeOf (map (λ line. line.now) lines.now)
+        (map section_view sections.now) marks.now) }
+{
+    let errors = error_count(marks);
+    let mut findings = Vec::new(alloc);
+    match add_findings(&mut findings, lines, sections, printed) {
+        Ok(()) => Ok(Linted {
+            findings,
+            errors,
+            warnings: marks.len().saturating_sub(errors),
+            more: marks.len().saturating_sub(MOST),
+        }),
+        Err(fault) => Err(fault),
+    }
+}
+
 // the findings of these marks, none of which is allowed
 fn made_of<'a>(
     alloc: Global,
@@ -101,17 +126,9 @@ fn made_of<'a>(
     ensures { IfOk result (IsMadeOf (map (λ line. line.now) lines.now)
         (map section_view sections.now) marks.now) }
 {
-    let errors = error_count(marks);
     let mut printed = Vec::new(alloc);
-    attempt!(add_printed(&mut printed, marks));
-    let mut findings = Vec::new(alloc);
-    match add_findings(&mut findings, lines, sections, printed.as_slice()) {
-        Ok(()) => Ok(Linted {
-            findings,
-            errors,
-            warnings: marks.len().saturating_sub(errors),
-            more: marks.len().saturating_sub(MOST),
-        }),
+    match add_printed(&mut printed, marks) {
+        Ok(()) => made_with(alloc, lines, sections, marks, printed.as_slice()),
         Err(fault) => Err(fault),
     }
 }

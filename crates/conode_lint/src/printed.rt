@@ -1,6 +1,6 @@
 //! Which findings are printed, if there are too many.
 
-ghost use Rattle.std.specs.Prelude.{◌≡◌, ◌++◌, [], ◌∷◌, if◌then◌else◌, OnOk};
+ghost use Rattle.std.specs.Prelude.{◌≡◌, ◌++◌, [], OnOk};
 ghost use Rattle.std.specs.List.{flat_map};
 ghost use Rattle.conode_lint.specs.Allowed.{error_count, error_of, is_error};
 ghost use Rattle.conode_lint.specs.Linted.{most_severe, warning_of};
@@ -37,12 +37,22 @@ pub(crate) fn error_count(marks: &[Mark]) -> usize
     count
 }
 
-fn add_if(marks: &mut Vec<Mark>, condition: bool, mark: Mark) -> Result<(), AllocError>
-    ensures { OnOk result
-        (marks.new.items ≡ marks.old.items ++ (if condition then mark ∷ [] else [])) }
+// adds a mark if it is an error
+fn add_error(errors: &mut Vec<Mark>, mark: Mark) -> Result<(), AllocError>
+    ensures { OnOk result (errors.new.items ≡ errors.old.items ++ error_of mark) }
 {
-    if condition {
-        attempt_in_memory!(marks.push(mark));
+    if is_error(severity_of(mark.subject)) {
+        attempt_in_memory!(errors.push(mark));
+    }
+    Ok(())
+}
+
+// adds a mark if it is none
+fn add_warning(warnings: &mut Vec<Mark>, mark: Mark) -> Result<(), AllocError>
+    ensures { OnOk result (warnings.new.items ≡ warnings.old.items ++ warning_of mark) }
+{
+    if !is_error(severity_of(mark.subject)) {
+        attempt_in_memory!(warnings.push(mark));
     }
     Ok(())
 }
@@ -51,7 +61,7 @@ fn add_errors(errors: &mut Vec<Mark>, marks: &[Mark]) -> Result<(), AllocError>
     ensures { OnOk result (errors.new.items ≡ errors.old.items ++ flat_map error_of marks.now) }
 {
     for mark in marks {
-        attempt!(add_if(errors, is_error(severity_of(mark.subject)), *mark));
+        attempt!(add_error(errors, *mark));
     }
     Ok(())
 }
@@ -61,7 +71,7 @@ fn add_warnings(warnings: &mut Vec<Mark>, marks: &[Mark]) -> Result<(), AllocErr
         (warnings.new.items ≡ warnings.old.items ++ flat_map warning_of marks.now) }
 {
     for mark in marks {
-        attempt!(add_if(warnings, !is_error(severity_of(mark.subject)), *mark));
+        attempt!(add_warning(warnings, *mark));
     }
     Ok(())
 }
