@@ -128,20 +128,27 @@ fn adapt_words(leading_zeros: Option<LeadingZeros>, force: bool) -> AdaptWords {
     }
 }
 
-/// Whether lines are written in colours. `auto`: on a terminal, unless the environment has a
-/// NO_COLOR that isn't empty.
+/// Whether lines are written in colours. `auto`: on a terminal that isn't dumb, unless the
+/// environment has a NO_COLOR that isn't empty.
 fn has_colours(rt: &HostRuntime, colours: Colours) -> bool {
     match colours {
         Colours::Always => true,
         Colours::Never => false,
-        Colours::Auto => {
-            let is_off = match env::var(rt, "NO_COLOR") {
-                Ok(value) => !value.is_empty(),
-                Err(_) => false,
-            };
-            rt.stdout().is_terminal() && !is_off
-        }
+        Colours::Auto => rt.stdout().is_terminal() && !is_off(rt),
     }
+}
+
+// whether the environment asks for no colours
+fn is_off(rt: &HostRuntime) -> bool {
+    let no_color = match env::var(rt, "NO_COLOR") {
+        Ok(value) => !value.is_empty(),
+        Err(_) => false,
+    };
+    let is_dumb = match env::var(rt, "TERM") {
+        Ok(value) => value == "dumb",
+        Err(_) => false,
+    };
+    no_color || is_dumb
 }
 
 /// The form in which findings are written.

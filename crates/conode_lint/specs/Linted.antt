@@ -1,6 +1,6 @@
 -- The findings of a text, and what they say about it.
-use Rattle.std.specs.Prelude.{◌≡◌, ℕ, ◌-◌, Bool, ◌&&◌, List, length, map, take, Option, Some, None, is_none}
-use Rattle.std.specs.List.{list_any}
+use Rattle.std.specs.Prelude.{◌≡◌, ℕ, ◌-◌, Bool, not, ◌&&◌, if◌then◌else◌, List, [], ◌∷◌, ◌++◌, length, map, take, Option, Some, None, is_none}
+use Rattle.std.specs.List.{flat_map, list_any}
 use Rattle.co_sheet.specs.Accepted.{first_fault}
 use Rattle.co_sheet.specs.Content.{SheetContent}
 use Rattle.co_sheet_text.specs.Sections.{TextSection}
@@ -11,10 +11,10 @@ use Rattle.co_dict_build.specs.declared.build_fault.BuildFault.{BuildFault}
 use Rattle.conode_lint.specs.declared.linted_text.Linted.{Linted}
 use Rattle.conode_lint_marks.specs.declared.mark.Mark.{Mark}
 use Rattle.conode_lint.specs.declared.marks.Checks.{Checks}
-use Rattle.conode_lint.specs.Allowed.{error_count, is_error, kept, names_in, passes_by}
+use Rattle.conode_lint.specs.Allowed.{error_count, error_of, is_error, kept, names_in, passes_by}
 use Rattle.co_sheet_warnings.specs.Lines.{text_lines}
 use Rattle.conode_lint.specs.Found.{finding_of, seen}
-use Rattle.conode_lint.specs.Marks.{IsFound, node_for, text_sections}
+use Rattle.conode_lint.specs.Marks.{IsByLine, IsFound, node_for, text_sections}
 use Rattle.conode_lint_marks.specs.Beside.{sheet_of}
 use Rattle.conode_lint.specs.Words.{severity_of}
 
@@ -23,11 +23,20 @@ unfoldable pub left : List (List ℕ) → Checks → List Mark → List Mark
 left lines checks found =
     kept (passes_by (map (λ name. name.now) checks.allowed.now) (names_in lines)) found
 
--- the findings of the first 1,000 marks, and the counts of all of them
+-- a mark that is no error
+abbrev pub warning_of : Mark → List Mark
+warning_of mark = if not (is_error (severity_of mark.subject)) then mark ∷ [] else []
+
+-- at most so many marks: errors before warnings
+abbrev pub most_severe : ℕ → List Mark → List Mark
+most_severe most marks = take most (flat_map error_of marks ++ flat_map warning_of marks)
+
+-- the findings of the 1,000 most severe marks by line, and the counts of all of them
 pub record IsMadeOf (lines : List (List ℕ)) (sections : List TextSection) (marks : List Mark)
     (linted : Linted) : Type 0 where
-  pub findings :
-      map seen linted.findings.items ≡ map (finding_of lines sections) (take 1000 marks)
+  pub printed : List Mark
+  pub by_line : IsByLine (most_severe 1000 marks) printed
+  pub findings : map seen linted.findings.items ≡ map (finding_of lines sections) printed
   pub errors : linted.errors ≡ error_count marks
   pub warnings : linted.warnings ≡ length marks - linted.errors
   pub more : linted.more ≡ length marks - 1000

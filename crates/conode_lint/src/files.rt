@@ -101,6 +101,7 @@ impl Session {
         }
     }
 
+    // lints the sheets of a folder; one without any is named
     fn take_sheets<R: Files + AllocGlobal + Input, O: Write, E: Write>(
         &mut self,
         rt: &R,
@@ -113,10 +114,13 @@ impl Session {
         for path in &sheets.paths {
             attempt!(self.take_file(rt, path.as_str(), options, out, err));
         }
-        if sheets.are_all {
-            return Ok(());
+        if !sheets.are_all {
+            return self.take_fault(folder, CmdFault::Read, err);
         }
-        self.take_fault(folder, CmdFault::Read, err)
+        if sheets.paths.is_empty() {
+            let _ = writeln!(err, "no data sheets in {folder}");
+        }
+        Ok(())
     }
 
     // a path's file, the sheets of its folder, or `-` for standard input
@@ -219,7 +223,7 @@ fn status_of(counts: &Counts, strict: bool) -> u8
 
 /// Lints files, the `*.eds` and `*.dcf` of folders, and standard input for `-`, and writes what is
 /// found to `out`. A file or a folder that can't be read is named on `err`, and the others are
-/// linted all the same. The status is 2 if one couldn't be read, or if a name to be allowed is that
+/// linted all the same. So is a folder without data sheets, which is no error. The status is 2 if one couldn't be read, or if a name to be allowed is that
 /// of no finding. Else it is 1 with an error, if `strict` also with a warning, and if the command
 /// stopped early. Else it is 0.
 pub fn lint_files<R: Files + AllocGlobal + Input + Clone + Drop, O: Write, E: Write>(

@@ -32,6 +32,7 @@ mod linted_text;
 mod mapping_words;
 mod marks;
 mod other_format;
+mod printed;
 mod report;
 mod rules;
 mod sheet;

@@ -1,35 +1,32 @@
 //! Linting a text.
 
-ghost use Rattle.std.specs.Prelude.{◌≡◌, ◌≤◌, [], length, map, take, IfOk, IfSome, OnOk};
+ghost use Rattle.std.specs.Prelude.{◌≡◌, ◌≤◌, [], length, map, IfOk, IfSome, OnOk};
 ghost use Rattle.co_sheet_text.specs.LinesAtFault.{own_faults, sections_read};
 ghost use Rattle.co_sheet_text.specs.SectionLaws.{IsParsed};
 ghost use Rattle.co_sheet_text.specs.Text.{lines_of};
 ghost use Rattle.co_sheet_text.specs.Views.{section_view};
 ghost use Rattle.co_sheet_warnings.specs.Lines.{text_lines};
 ghost use Rattle.conode_lint_marks.specs.Beside.{sheet_of};
-ghost use Rattle.conode_lint.specs.Allowed.{error_count, is_error};
 ghost use Rattle.conode_lint.specs.Found.{finding_of, seen};
-ghost use Rattle.conode_lint.specs.Linted.{IsLinted, IsMadeOf, left};
-ghost use Rattle.conode_lint.specs.Marks.{text_sections};
+ghost use Rattle.conode_lint.specs.Linted.{IsLinted, IsMadeOf, left, most_severe};
+ghost use Rattle.conode_lint.specs.Marks.{IsByLine, text_sections};
 
 use crate::allowed::{add_kept, add_names};
 use crate::marks::{Checks, add_marks_of};
+use crate::printed::{MOST, add_printed, error_count};
 use crate::sheet::sheet_with;
 use crate::words::{about_of, fix_of, meaning_of, name_of, place_of, severity_of, subject_of};
 use co_sheet::{GREATEST_SIZE, Sheet};
 use co_sheet_text::{ParsedText, TextFault, TextSection, all_sections_in};
 use co_sheet_warnings::text_lines;
 use conode_lint_marks::{Mark, line_at};
-use conode_lint_text::{Finding, Severity};
+use conode_lint_text::Finding;
 use std::alloc::{AllocError, Global};
-
-/// The most findings of a file that are printed.
-const MOST: usize = 1000;
 
 /// What is found in a text.
 #[derive(Drop)]
 pub struct Linted<'a> {
-    /// The first 1,000, in the order of the lines.
+    /// At most 1,000, errors before warnings if there are more, in the order of the lines.
     pub findings: Vec<Finding<'a>>,
     /// The number of errors, with those that aren't among the findings.
     pub errors: usize,
@@ -76,37 +73,6 @@ fn add_findings<'a>(
     Ok(())
 }
 
-fn is_error(severity: Severity) -> bool
-    ensures { result ≡ is_error severity }
-{
-    match severity {
-        Severity::Error => true,
-        Severity::Warning => false,
-    }
-}
-
-fn error_count(marks: &[Mark]) -> usize
-    ensures { result ≡ error_count marks.now }
-{
-    let mut count = 0;
-    for mark in marks {
-        if is_error(severity_of(mark.subject)) {
-            count += 1;
-        }
-    }
-    count
-}
-
-// the marks whose findings are printed
-fn first_marks(marks: &[Mark]) -> &[Mark]
-    ensures { result.now ≡ take 1000 marks.now }
-{
-    match marks.split_at_checked(MOST) {
-        Some((first, _)) => first,
-        None => marks,
-    }
-}
-
 // adds the marks that neither the command line nor the sheet allows to none
 #[tactic(auto, unfolding(crate::specs::Linted::left))]
 fn add_left(
@@ -127,6 +93,31 @@ fn add_left(
     }
 }
 
+// the findings of these marks, none of which is allowed; those of `printed` are listed
+fn made_with<'a>(
+    alloc: Global,
+    lines: &[&'a [u8]],
+    sections: &[TextSection<'_, '_>],
+    marks: &[Mark],
+    printed: &[Mark],
+) -> Result<Linted<'a>, AllocError>
+    requires { IsByLine (most_severe 1000 marks.now) printed.now }
+    ensures { IfOk result (IsMadeOf (map (λ line. line.now) lines.now)
+        (map section_view sections.now) marks.now) }
+{
+    let errors = error_count(marks);
+    let mut findings = Vec::new(alloc);
+    match add_findings(&mut findings, lines, sections, printed) {
+        Ok(()) => Ok(Linted {
+            findings,
+            errors,
+            warnings: marks.len().saturating_sub(errors),
+            more: marks.len().saturating_sub(MOST),
+        }),
+        Err(fault) => Err(fault),
+    }
+}
+
 // the findings of these marks, none of which is allowed
 fn made_of<'a>(
     alloc: Global,
@@ -137,15 +128,9 @@ fn made_of<'a>(
     ensures { IfOk result (IsMadeOf (map (λ line. line.now) lines.now)
         (map section_view sections.now) marks.now) }
 {
-    let errors = error_count(marks);
-    let mut findings = Vec::new(alloc);
-    match add_findings(&mut findings, lines, sections, first_marks(marks)) {
-        Ok(()) => Ok(Linted {
-            findings,
-            errors,
-            warnings: marks.len().saturating_sub(errors),
-            more: marks.len().saturating_sub(MOST),
-        }),
+    let mut printed = Vec::new(alloc);
+    match add_printed(&mut printed, marks) {
+        Ok(()) => made_with(alloc, lines, sections, marks, printed.as_slice()),
         Err(fault) => Err(fault),
     }
 }

@@ -192,8 +192,9 @@ fn add_large(
     add_faults(marks, faults)
 }
 
-// puts marks in the order of their lines; those of a line stay in their order
-fn put_by_line(marks: &mut Vec<Mark>) -> Result<(), AllocError>
+/// Puts marks in the order of their lines; those of a line stay in their order. `Err`: out of
+/// memory.
+pub(crate) fn put_by_line(marks: &mut Vec<Mark>) -> Result<(), AllocError>
     ensures { OnOk result (IsByLine marks.old.items marks.new.items) }
 {
     attempt!(marks.sort_by_key(|mark| mark.line));

@@ -28,6 +28,8 @@ pub struct Counts {
     pub errors: usize,
     /// The number of warnings in all files.
     pub warnings: usize,
+    /// How many of them aren't listed.
+    pub more: usize,
     /// How many files were read.
     pub files: usize,
     /// How many files and folders couldn't be read.
@@ -39,6 +41,7 @@ impl Counts {
     pub const NONE: Counts = Counts {
         errors: 0,
         warnings: 0,
+        more: 0,
         files: 0,
         unread: 0,
     };
@@ -46,6 +49,7 @@ impl Counts {
     pub(crate) fn add(&mut self, linted: &Linted<'_>) {
         self.errors = self.errors.saturating_add(linted.errors);
         self.warnings = self.warnings.saturating_add(linted.warnings);
+        self.more = self.more.saturating_add(linted.more);
         self.files = self.files.saturating_add(1);
     }
 }
@@ -186,6 +190,7 @@ impl Report {
         let Counts {
             errors,
             warnings,
+            more,
             files,
             ..
         } = *counts;
@@ -197,7 +202,7 @@ impl Report {
                 Ok(())
             }
             Form::Sarif => {
-                put_log_end(&mut report.document);
+                put_log_end(&mut report.document, more);
                 Ok(())
             }
         };

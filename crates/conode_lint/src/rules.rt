@@ -70,17 +70,27 @@ fn subjects() -> &'static [Subject] {
     &SUBJECTS
 }
 
-// the rule of a kind; what is wrong with a misspelt key doesn't ask for the one that is meant
+// what is wrong and how to fix it, of a kind: of a text of another format without saying which; what
+// is wrong with a misspelt key doesn't ask for the one that is meant
+fn words_of(subject: Subject) -> (&'static str, &'static str) {
+    match subject {
+        Subject::Format(_) => (
+            "this is no EDS of CANopen: it is XML, an EDS of EtherNet/IP, or in UTF-16",
+            "export or ask for an EDS of CANopen, in ASCII",
+        ),
+        Subject::Warning(kind) => (co_sheet_warnings::meaning_of(kind), fix_of(subject)),
+        _ => (meaning_of(Mark { line: 1, subject }), fix_of(subject)),
+    }
+}
+
+// the rule of a kind
 fn rule_of(subject: Subject) -> Rule<'static> {
-    let meaning = match subject {
-        Subject::Warning(kind) => co_sheet_warnings::meaning_of(kind),
-        _ => meaning_of(Mark { line: 1, subject }),
-    };
+    let (meaning, fix) = words_of(subject);
     Rule {
         name: name_of(subject),
         severity: severity_of(subject),
         meaning,
-        fix: fix_of(subject),
+        fix,
         subject: subject_of(subject),
     }
 }

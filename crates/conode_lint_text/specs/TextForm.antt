@@ -8,7 +8,7 @@ use Rattle.conode_lint_text.specs.declared.finding.Finding.{Finding}
 use Rattle.conode_lint_text.specs.declared.finding.Severity.{Severity as HowSevere}
 use Rattle.conode_lint_text.specs.declared.finding.Severity.TheVariants.{Error, Warning}
 use Rattle.conode_lint_text.specs.declared.pieces.Piece.{Piece}
-use Rattle.conode_lint_text.specs.declared.pieces.Piece.TheVariants.{Words, Colour, Shown, Number, Position, Quoted, Counted, Severity, Message, Help}
+use Rattle.conode_lint_text.specs.declared.pieces.Piece.TheVariants.{Words, Colour, Shown, Number, Position, Quoted, Counted, Severity, Message, Help, LeftOut}
 
 -- what begins a colour on a terminal (ECMA-48, SGR), by its numbers, and what ends it; without
 -- colours nothing
@@ -57,6 +57,10 @@ counted count thing =
     if count == 1 then filled (codes "% %") (decimal count ∷ thing ∷ [])
     else filled (codes "% %s") (decimal count ∷ thing ∷ [])
 
+-- how many findings aren't listed
+unfoldable pub left_out_text : ℕ → List ℕ
+left_out_text more = filled (codes "findings that aren't among the results: %") (decimal more ∷ [])
+
 -- the text of a piece
 abbrev pub piece_text : Piece → List ℕ
 piece_text (Words words) = words.now
@@ -69,6 +73,7 @@ piece_text (Counted number thing) = counted number thing.now
 piece_text (Severity severity) = severity_name severity
 piece_text (Message finding) = message_of finding.now
 piece_text (Help fix subject) = help_of fix.now subject.now
+piece_text (LeftOut more) = left_out_text more
 
 -- the last line: `2 errors, 1 warning in 3 files`
 unfoldable pub summary_line : ℕ → ℕ → ℕ → List ℕ

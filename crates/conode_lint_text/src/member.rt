@@ -44,10 +44,15 @@ pub(crate) enum Member {
     Rules,
     ColumnKind,
     Results,
+    ContextRegion,
+    Properties,
+    Invocations,
+    ExecutionSuccessful,
+    ToolExecutionNotifications,
 }
 
 /// Their names, in this order.
-const NAMES: [&str; 38] = [
+const NAMES: [&str; 43] = [
     "line",
     "column",
     "severity",
@@ -86,6 +91,11 @@ const NAMES: [&str; 38] = [
     "rules",
     "columnKind",
     "results",
+    "contextRegion",
+    "properties",
+    "invocations",
+    "executionSuccessful",
+    "toolExecutionNotifications",
 ];
 
 impl Member {

@@ -4,6 +4,7 @@
 ghost use Rattle.std.specs.Prelude.{◌≡◌, ◌++◌, ℕ, List, OnOk, string_bytes};
 ghost use Rattle.conode_lint_text.specs.TextForm.{
   counted,
+  left_out_text,
   piece_text,
   position_text,
   quoted_text,
@@ -37,6 +38,8 @@ pub(crate) enum Piece<'a> {
     Message(&'a Finding<'a>),
     /// How to fix it, and the subject of the standard.
     Help(&'a str, &'a str),
+    /// How many findings aren't listed, in words.
+    LeftOut(usize),
 }
 
 #[tactic(auto, unfolding(crate::specs::TextForm::position_text))]
@@ -79,6 +82,18 @@ fn push_counted(text: &mut String, count: usize, thing: &str) -> Result<(), Allo
     }
 }
 
+#[tactic(auto, unfolding(crate::specs::TextForm::left_out_text))]
+fn push_left_out(text: &mut String, more: usize) -> Result<(), AllocError>
+    ensures { OnOk result
+        (string_bytes text.new ≡ string_bytes text.old ++ left_out_text more) }
+{
+    push_filled(
+        text,
+        "findings that aren't among the results: %",
+        &[Value::Number(more as u64)],
+    )
+}
+
 impl HasText for Piece<'_> {
     ghost text_of = { piece_text };
 
@@ -94,6 +109,7 @@ impl HasText for Piece<'_> {
             Piece::Severity(severity) => text.push_str(severity_name(severity)),
             Piece::Message(finding) => push_message(text, finding),
             Piece::Help(fix, subject) => push_help(text, fix, subject),
+            Piece::LeftOut(more) => push_left_out(text, more),
         }
     }
 }

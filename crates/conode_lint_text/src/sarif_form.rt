@@ -5,6 +5,8 @@ ghost use Rattle.std.specs.List.{flat_map};
 ghost use Rattle.json.specs.Token.{Token, end_array, end_object};
 ghost use Rattle.conode_text.specs.Appended.{Appended};
 ghost use Rattle.conode_lint_text.specs.SarifForm.{
+  fix_member,
+  left_out,
   log_end,
   log_head,
   region_members,
@@ -16,6 +18,7 @@ use crate::finding::{Finding, Rule};
 use crate::member::Member;
 use crate::parts::Part;
 use crate::pieces::Piece;
+use crate::words::fix_of;
 use conode_json::{Document, HasTokens, JsonWriter, put_parts};
 use std::alloc::{AllocError, Global};
 
@@ -58,7 +61,7 @@ impl HasTokens for Rule<'_> {
     }
 }
 
-// the region, if a line is to blame
+// the region, and the whole line, if a line is to blame
 fn put_region<'p>(document: &mut Document, finding: &'p Finding<'p>)
     ensures { Appended document.old (region_members finding.now) document.new }
 {
@@ -69,6 +72,9 @@ fn put_region<'p>(document: &mut Document, finding: &'p Finding<'p>)
         Part::Object(Member::Region),
         Part::Number(Member::StartLine, finding.line),
         Part::Column(Member::StartColumn, finding),
+        Part::EndObject,
+        Part::Object(Member::ContextRegion),
+        Part::Number(Member::StartLine, finding.line),
         Part::Object(Member::Snippet),
         Part::Line(Member::Text, finding.text),
         Part::EndObject,
@@ -76,14 +82,19 @@ fn put_region<'p>(document: &mut Document, finding: &'p Finding<'p>)
     ]);
 }
 
-fn end_result(document: &mut Document)
+// the end of where it is, and how to fix it
+fn end_result<'p>(document: &mut Document, finding: &'p Finding<'p>)
     ensures { Appended document.old
-        (end_object ∷ end_object ∷ end_array ∷ end_object ∷ []) document.new }
+        (end_object ∷ end_object ∷ end_array ∷ (fix_member finding.now ++ end_object ∷ []))
+        document.new }
 {
     document.put(&[
         Part::EndObject,
         Part::EndObject,
         Part::EndArray,
+        Part::Object(Member::Properties),
+        Part::Text(Member::Fix, fix_of(finding)),
+        Part::EndObject,
         Part::EndObject,
     ]);
 }
@@ -106,7 +117,7 @@ fn put_result<'p>(document: &mut Document, uri: &'p str, finding: &'p Finding<'p
         Part::EndObject,
     ]);
     put_region(document, finding);
-    end_result(document);
+    end_result(document, finding);
 }
 
 /// Writes the results of a file, which has this URI.
@@ -146,14 +157,35 @@ pub fn put_log_head(document: &mut Document, version: &str, rules: &[Rule<'_>])
     ]);
 }
 
-/// Writes what comes after the results.
-pub fn put_log_end(document: &mut Document)
-    ensures { Appended document.old log_end document.new }
+// writes how many findings aren't among the results, if any
+fn put_left_out(document: &mut Document, more: usize)
+    ensures { Appended document.old (left_out more) document.new }
 {
+    if more == 0 {
+        return;
+    }
     document.put(&[
-        Part::EndArray,
+        Part::Array(Member::Invocations),
+        Part::BeginObject,
+        Part::Flag(Member::ExecutionSuccessful, true),
+        Part::Array(Member::ToolExecutionNotifications),
+        Part::BeginObject,
+        Part::Text(Member::Level, "note"),
+        Part::Object(Member::Message),
+        Part::Piece(Member::Text, Piece::LeftOut(more)),
+        Part::EndObject,
         Part::EndObject,
         Part::EndArray,
         Part::EndObject,
+        Part::EndArray,
     ]);
+}
+
+/// Writes what comes after the results: how many findings aren't among them, if any.
+pub fn put_log_end(document: &mut Document, more: usize)
+    ensures { Appended document.old (log_end more) document.new }
+{
+    document.put(&[Part::EndArray]);
+    put_left_out(document, more);
+    document.put(&[Part::EndObject, Part::EndArray, Part::EndObject]);
 }
