@@ -80,23 +80,27 @@ no_count_of_pdos = refl
 
 -- ---- IdentityNumber
 
+-- of each number of the identity object
+abbrev other_numbers_of : List (List ℕ) → List (List ℕ)
+other_numbers_of lines = places (IdentityNumber 1) lines ∷ places (IdentityNumber 2) lines ∷ places (IdentityNumber 3) lines ∷ []
+
 abbrev identity : List ℕ → List ℕ → List ℕ → List (List ℕ)
 identity vendor product revision =
     codes "[DeviceInfo]" ∷ vendor ∷ product ∷ revision ∷ codes "[1018sub1]" ∷ codes "DefaultValue=0x1" ∷ codes "[1018sub2]" ∷ codes "DefaultValue=2" ∷ codes "[1018sub3]" ∷ codes "DefaultValue=3" ∷ codes "[1018sub4]" ∷ codes "DefaultValue=4" ∷ []
 
-same_numbers : places IdentityNumber (identity (codes "VendorNumber=1") (codes "ProductNumber=0x2") (codes "RevisionNumber=3")) ≡ []
+same_numbers : other_numbers_of (identity (codes "VendorNumber=1") (codes "ProductNumber=0x2") (codes "RevisionNumber=3")) ≡ [] ∷ [] ∷ [] ∷ []
 unfolding places_of place_in_text places_in
 same_numbers = refl
 
-other_numbers : places IdentityNumber (identity (codes "VendorNumber=2") (codes "ProductNumber=3") (codes "RevisionNumber=4")) ≡ 2 ∷ 3 ∷ 4 ∷ []
+other_numbers : other_numbers_of (identity (codes "VendorNumber=2") (codes "ProductNumber=3") (codes "RevisionNumber=4")) ≡ (2 ∷ []) ∷ (3 ∷ []) ∷ (4 ∷ []) ∷ []
 unfolding places_of place_in_text places_in
 other_numbers = refl
 
-no_numbers : places IdentityNumber (identity (codes "VendorNumber=one") (codes "ProductNumber=") (codes "VendorName=3")) ≡ []
+no_numbers : other_numbers_of (identity (codes "VendorNumber=one") (codes "ProductNumber=") (codes "VendorName=3")) ≡ [] ∷ [] ∷ [] ∷ []
 unfolding places_of place_in_text places_in
 no_numbers = refl
 
-no_identity : places IdentityNumber (codes "[DeviceInfo]" ∷ codes "VendorNumber=2" ∷ codes "[1018sub1]" ∷ codes "DefaultValue=one" ∷ codes "[1018]" ∷ codes "DefaultValue=1" ∷ []) ≡ []
+no_identity : places (IdentityNumber 1) (codes "[DeviceInfo]" ∷ codes "VendorNumber=2" ∷ codes "[1018sub1]" ∷ codes "DefaultValue=one" ∷ codes "[1018]" ∷ codes "DefaultValue=1" ∷ []) ≡ []
 unfolding places_of place_in_text places_in
 no_identity = refl
 

@@ -1,9 +1,9 @@
 -- What comes twice, on both sides of each edge.
 use Rattle.std.proofs.Common.{◌≡◌, ℕ, List, Option, [], ◌∷◌, Some, None, true, false, refl, codes, map}
-use Rattle.std.specs.Prelude.{option_and_then}
+use Rattle.std.specs.Prelude.{filter_map, option_and_then}
 use Rattle.co_sheet_text.specs.declared.section_kind.SectionKind.TheVariants.{MandatoryObjects, Object}
 use Rattle.co_sheet_warnings.specs.declared.warning.WarningKind.TheVariants.{SharedCobId, HeartbeatTwice, EqualNames, MissingName}
-use Rattle.co_sheet_warnings.specs.Repeats.{has_cob_id, enabled_cob_id, first_equal, identifier_with}
+use Rattle.co_sheet_warnings.specs.Repeats.{compared, has_cob_id, enabled_cob_id, first_equal, identifier_with}
 use Rattle.co_sheet_warnings.specs.declared.warning.WarningKind.{WarningKind}
 use Rattle.co_sheet_text.specs.LinesAtFault.{sections_read}
 use Rattle.co_sheet_text.specs.Text.{lines_of}
@@ -80,3 +80,19 @@ named =
 first_name : first_in named EqualNames 10 ∷ first_in named EqualNames 8 ∷ first_in named EqualNames 6 ∷ first_in named EqualNames 12 ∷ first_in named MissingName 10 ∷ []
     ≡ Some 2 ∷ Some 4 ∷ None ∷ None ∷ None ∷ []
 first_name = refl
+
+-- ---- what is compared
+
+abbrev compared_in : WarningKind → List (List ℕ) → List (ℕ × ℕ)
+compared_in kind lines = map (λ c. (c.number, c.line)) (filter_map (compared kind) (sections_read (lines_of (joined lines))))
+
+-- identifiers for a node-ID; a value that isn't enabled, another entry, and another kind have none
+identifiers_compared : compared_in (SharedCobId 5) cob_ids ∷ compared_in (SharedCobId 6) cob_ids
+    ∷ compared_in (SharedCobId 5) (three_cob_ids (codes "DefaultValue=0x80000185") (codes "DefaultValue=7") (codes "AccessType=ro")) ∷ compared_in EqualNames named ∷ []
+    ≡ ((0x185, 2) ∷ (0x185, 4) ∷ (0x185, 6) ∷ []) ∷ ((0x185, 2) ∷ (0x186, 4) ∷ (0x185, 6) ∷ []) ∷ ((7, 4) ∷ []) ∷ [] ∷ []
+identifiers_compared = refl
+
+-- node-IDs of words that are used
+nodes_compared : compared_in (HeartbeatTwice (Some 9)) consumers ∷ compared_in (HeartbeatTwice None) consumers ∷ []
+    ≡ ((5, 6) ∷ (6, 10) ∷ (5, 12) ∷ (5, 14) ∷ []) ∷ ((6, 10) ∷ (5, 12) ∷ (5, 14) ∷ []) ∷ []
+nodes_compared = refl

@@ -1,6 +1,5 @@
 -- The tables of words have each kind's words in its row.
 use Rattle.std.proofs.Common.{◌≡◌, ◌<◌, ℕ, List, [], get_or, map, refl, arith}
-use Rattle.co_sheet_warnings.specs.declared.known_key.KnownKey.{KnownKey}
 use Rattle.co_sheet_warnings.specs.declared.warning.WarningKind.{WarningKind}
 use Rattle.co_sheet_warnings.specs.declared.warning.WarningKind.TheVariants.{SubNumber, SubIndex0, FileInfoKeys, DeviceInfoKeys, PdoCount, WrongList, Unlisted, IdentityNumber, FixedCobId, NodeIdPlace, MisspeltKey, SharedCobId, InhibitTime, OwnHeartbeat, HeartbeatTwice, NoErrorControl, LongLine, Utf8, NotAscii, ListOrder, EqualNames, MissingName, UnknownKey, DateFormat, LineEnds}
 use Rattle.co_sheet_warnings.specs.declared.words.TheConstants.{NAMES, MEANINGS, FIXES, SUBJECTS}
@@ -27,7 +26,7 @@ named (DeviceInfoKeys missing) = refl
 named PdoCount = refl
 named WrongList = refl
 named Unlisted = refl
-named IdentityNumber = refl
+named (IdentityNumber sub) = refl
 named FixedCobId = refl
 named NodeIdPlace = refl
 named (MisspeltKey key) = refl
@@ -54,7 +53,7 @@ meant (DeviceInfoKeys missing) = refl
 meant PdoCount = refl
 meant WrongList = refl
 meant Unlisted = refl
-meant IdentityNumber = refl
+meant (IdentityNumber sub) = refl
 meant FixedCobId = refl
 meant NodeIdPlace = refl
 meant (MisspeltKey key) = refl
@@ -81,7 +80,7 @@ ruled (DeviceInfoKeys missing) = refl
 ruled PdoCount = refl
 ruled WrongList = refl
 ruled Unlisted = refl
-ruled IdentityNumber = refl
+ruled (IdentityNumber sub) = refl
 ruled FixedCobId = refl
 ruled NodeIdPlace = refl
 ruled (MisspeltKey key) = refl
@@ -100,32 +99,32 @@ ruled UnknownKey = refl
 ruled DateFormat = refl
 ruled LineEnds = refl
 
-pub fixed : (kind : WarningKind) → ((key : KnownKey) → kind ≡ MisspeltKey key → ⊥) → get_or fixes (kind_row kind) [] ≡ fix_of kind
-fixed SubNumber other = refl
-fixed SubIndex0 other = refl
-fixed (FileInfoKeys missing) other = refl
-fixed (DeviceInfoKeys missing) other = refl
-fixed PdoCount other = refl
-fixed WrongList other = refl
-fixed Unlisted other = refl
-fixed IdentityNumber other = refl
-fixed FixedCobId other = refl
-fixed NodeIdPlace other = refl
-fixed (MisspeltKey key) other = absurd (other key refl)
-fixed (SharedCobId node) other = refl
-fixed InhibitTime other = refl
-fixed OwnHeartbeat other = refl
-fixed (HeartbeatTwice given) other = refl
-fixed NoErrorControl other = refl
-fixed LongLine other = refl
-fixed Utf8 other = refl
-fixed NotAscii other = refl
-fixed ListOrder other = refl
-fixed EqualNames other = refl
-fixed MissingName other = refl
-fixed UnknownKey other = refl
-fixed DateFormat other = refl
-fixed LineEnds other = refl
+pub fixed : (kind : WarningKind) → get_or fixes (kind_row kind) [] ≡ fix_of kind
+fixed SubNumber = refl
+fixed SubIndex0 = refl
+fixed (FileInfoKeys missing) = refl
+fixed (DeviceInfoKeys missing) = refl
+fixed PdoCount = refl
+fixed WrongList = refl
+fixed Unlisted = refl
+fixed (IdentityNumber sub) = refl
+fixed FixedCobId = refl
+fixed NodeIdPlace = refl
+fixed (MisspeltKey key) = refl
+fixed (SharedCobId node) = refl
+fixed InhibitTime = refl
+fixed OwnHeartbeat = refl
+fixed (HeartbeatTwice given) = refl
+fixed NoErrorControl = refl
+fixed LongLine = refl
+fixed Utf8 = refl
+fixed NotAscii = refl
+fixed ListOrder = refl
+fixed EqualNames = refl
+fixed MissingName = refl
+fixed UnknownKey = refl
+fixed DateFormat = refl
+fixed LineEnds = refl
 
 -- no row past the last
 pub few_rows : (kind : WarningKind) → kind_row kind < 25
@@ -136,7 +135,7 @@ few_rows (DeviceInfoKeys missing) = omega arith
 few_rows PdoCount = omega arith
 few_rows WrongList = omega arith
 few_rows Unlisted = omega arith
-few_rows IdentityNumber = omega arith
+few_rows (IdentityNumber sub) = omega arith
 few_rows FixedCobId = omega arith
 few_rows NodeIdPlace = omega arith
 few_rows (MisspeltKey key) = omega arith

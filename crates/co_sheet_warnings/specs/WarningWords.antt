@@ -29,7 +29,6 @@ use Rattle.co_sheet_warnings.specs.declared.warning.WarningKind.TheVariants.{
   DateFormat,
   LineEnds,
 }
-use Rattle.co_sheet_warnings.specs.KnownKeys.{key_text}
 
 -- its name
 abbrev pub name_of : WarningKind → List ℕ
@@ -40,7 +39,7 @@ name_of (DeviceInfoKeys missing) = codes "DeviceInfoKeys"
 name_of PdoCount = codes "PdoCount"
 name_of WrongList = codes "WrongList"
 name_of Unlisted = codes "Unlisted"
-name_of IdentityNumber = codes "IdentityNumber"
+name_of (IdentityNumber sub) = codes "IdentityNumber"
 name_of FixedCobId = codes "FixedCobId"
 name_of NodeIdPlace = codes "NodeIdPlace"
 name_of (MisspeltKey meant) = codes "MisspeltKey"
@@ -68,7 +67,7 @@ meaning_of (DeviceInfoKeys missing) = codes "DeviceInfo is missing, or a key tha
 meaning_of PdoCount = codes "this isn't the number of PDOs that the sheet has"
 meaning_of WrongList = codes "the object belongs in another list"
 meaning_of Unlisted = codes "no list names the object, so it isn't read"
-meaning_of IdentityNumber = codes "the identity object has another number"
+meaning_of (IdentityNumber sub) = codes "the identity object has another number"
 meaning_of FixedCobId =
     codes "the COB-ID doesn't depend on the node-ID, so two such devices disturb each other"
 meaning_of NodeIdPlace = codes "$NODEID comes after the number, which other tools don't read"
@@ -94,20 +93,18 @@ meaning_of LineEnds = codes "the line ends otherwise than line 1: CR and LF, or 
 abbrev pub fix_of : WarningKind → List ℕ
 fix_of SubNumber = codes "count the sections, or leave the key out"
 fix_of SubIndex0 = codes "give it the highest sub-index that the object has"
-fix_of (FileInfoKeys missing) =
-    codes "give it FileName, FileVersion, FileRevision, Description, CreationTime, CreationDate, CreatedBy, ModificationTime, ModificationDate and ModifiedBy"
-fix_of (DeviceInfoKeys missing) =
-    codes "give it VendorName, VendorNumber, ProductName, ProductNumber, RevisionNumber, OrderCode, the eight BaudRate_.., SimpleBootUpMaster, SimpleBootUpSlave, Granularity, DynamicChannelsSupported, GroupMessaging, NrOfRXPDO, NrOfTXPDO and LSS_Supported"
+fix_of (FileInfoKeys missing) = codes "add the missing section or keys"
+fix_of (DeviceInfoKeys missing) = codes "add the missing section or keys"
 fix_of PdoCount =
     codes "count the objects 1400h to 15FFh for NrOfRXPDO, 1800h to 19FFh for NrOfTXPDO"
 fix_of WrongList =
     codes "list 1000h, 1001h and 1018h as mandatory, 2000h to 5FFFh as the manufacturer's, all others as optional"
 fix_of Unlisted = codes "list it, or take its section out"
-fix_of IdentityNumber =
+fix_of (IdentityNumber sub) =
     codes "give VendorNumber as in 1018:01, ProductNumber as in 1018:02, RevisionNumber as in 1018:03"
 fix_of FixedCobId = codes "write $NODEID+ and the number of the predefined connection set"
 fix_of NodeIdPlace = codes "write $NODEID first, as $NODEID+0x180"
-fix_of (MisspeltKey meant) = codes "did you mean " ++ key_text meant
+fix_of (MisspeltKey meant) = codes "write the key as the standard has it"
 fix_of (SharedCobId node) =
     codes "give each PDO, SDO channel and EMCY an identifier of its own, or set bit 31"
 fix_of InhibitTime = codes "set it to 0, or take a transmission type from 254 on"
@@ -133,7 +130,7 @@ subject_of (DeviceInfoKeys missing) = codes "CiA 306-1, device information"
 subject_of PdoCount = codes "CiA 306-1, device information"
 subject_of WrongList = codes "CiA 306-1, object lists"
 subject_of Unlisted = codes "CiA 306-1, object lists"
-subject_of IdentityNumber = codes "CiA 306-1, device information"
+subject_of (IdentityNumber sub) = codes "CiA 306-1, device information"
 subject_of FixedCobId = codes "CiA 301, predefined connection set"
 subject_of NodeIdPlace = codes "CiA 306-1, object description"
 subject_of (MisspeltKey meant) = codes "CiA 306-1, structure of an EDS"

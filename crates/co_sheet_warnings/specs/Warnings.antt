@@ -70,7 +70,7 @@ use Rattle.co_sheet_warnings.specs.Infos.{
   file_keys,
   device_keys,
   pdo_counts,
-  identity_numbers,
+  identity_number,
   date_formats,
 }
 use Rattle.co_sheet_warnings.specs.Repeats.{shared_cob_ids, equal_names}
@@ -113,7 +113,7 @@ other_places t kind = place_in_text t kind ++ flat_map (places_in t kind) t.sect
 -- the lines of a text where a kind applies
 unfoldable pub places_of : ReadText → WarningKind → List ℕ
 places_of t PdoCount = pdo_counts t.keys t.sections
-places_of t IdentityNumber = identity_numbers t.keys (sub_indices t.sections 0x1018)
+places_of t (IdentityNumber sub) = identity_number t.keys (sub_indices t.sections 0x1018) sub
 places_of t DateFormat = date_formats t.keys
 places_of t WrongList = wrong_lists t.sections
 places_of t ListOrder = list_orders t.sections
@@ -127,7 +127,8 @@ places_of t kind = other_places t kind
 abbrev pub first_kinds : List WarningKind
 first_kinds =
     SubNumber ∷ SubIndex0 ∷ FileInfoKeys (replicate 10 false) ∷ DeviceInfoKeys (replicate 22 false)
-    ∷ PdoCount ∷ WrongList ∷ Unlisted ∷ IdentityNumber ∷ FixedCobId ∷ NodeIdPlace ∷ []
+    ∷ PdoCount ∷ WrongList ∷ Unlisted ∷ IdentityNumber 1 ∷ IdentityNumber 2 ∷ IdentityNumber 3
+    ∷ FixedCobId ∷ NodeIdPlace ∷ []
 
 abbrev pub last_kinds : List WarningKind
 last_kinds =

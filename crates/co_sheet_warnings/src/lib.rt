@@ -41,9 +41,10 @@ mod whole;
 mod words;
 
 pub use find::find_warnings;
+pub use infos::{device_keys, file_keys};
 pub use known_key::KnownKey;
 pub use lines::text_lines;
 pub use node_id::own_node;
-pub use repeats::first_equal;
+pub use repeats::{ComparedNumber, compared, first_equal};
 pub use warning::{Warning, WarningKind};
 pub use words::{fix_of, meaning_of, name_of, subject_of};

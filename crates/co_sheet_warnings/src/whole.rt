@@ -14,7 +14,7 @@ ghost use Rattle.co_sheet_warnings.specs.Warnings.{
 
 use crate::in_sections::place_in;
 use crate::infos::{
-    DEVICE_KEYS, FILE_KEYS, date_formats, identity_numbers, missing_keys, note_missing, pdo_counts,
+    DEVICE_KEYS, FILE_KEYS, date_formats, identity_number, missing_keys, note_missing, pdo_counts,
 };
 use crate::keys::Topic;
 use crate::known_key::unknown_key;
@@ -124,10 +124,10 @@ pub(crate) fn add_warnings_with(
     let sections = text.sections();
     match kind {
         WarningKind::PdoCount => add_each(warnings, kind, &pdo_counts(text.keys, sections)),
-        WarningKind::IdentityNumber => add_each(
+        WarningKind::IdentityNumber(sub) => add_one(
             warnings,
             kind,
-            &identity_numbers(text.keys, text.parts(0x1018)),
+            identity_number(text.keys, text.parts(0x1018), sub),
         ),
         WarningKind::DateFormat => add_each(warnings, kind, &date_formats(text.keys)),
         WarningKind::WrongList => {

@@ -23,7 +23,7 @@ fn row(kind: WarningKind) -> usize
         WarningKind::PdoCount => 4,
         WarningKind::WrongList => 5,
         WarningKind::Unlisted => 6,
-        WarningKind::IdentityNumber => 7,
+        WarningKind::IdentityNumber(_) => 7,
         WarningKind::FixedCobId => 8,
         WarningKind::NodeIdPlace => 9,
         WarningKind::MisspeltKey(_) => 10,
@@ -124,15 +124,12 @@ pub fn meaning_of(kind: WarningKind) -> &'static str
     text_at(&MEANINGS, row(kind))
 }
 
-/// How a warning of each kind is fixed, by row; that of a misspelt key is a question.
+/// How a warning of each kind is fixed, by row.
 const FIXES: [&str; 25] = [
     "count the sections, or leave the key out",
     "give it the highest sub-index that the object has",
-    "give it FileName, FileVersion, FileRevision, Description, CreationTime, CreationDate, \
-    CreatedBy, ModificationTime, ModificationDate and ModifiedBy",
-    "give it VendorName, VendorNumber, ProductName, ProductNumber, RevisionNumber, OrderCode, the \
-    eight BaudRate_.., SimpleBootUpMaster, SimpleBootUpSlave, Granularity, \
-    DynamicChannelsSupported, GroupMessaging, NrOfRXPDO, NrOfTXPDO and LSS_Supported",
+    "add the missing section or keys",
+    "add the missing section or keys",
     "count the objects 1400h to 15FFh for NrOfRXPDO, 1800h to 19FFh for NrOfTXPDO",
     "list 1000h, 1001h and 1018h as mandatory, 2000h to 5FFFh as the manufacturer's, all others \
     as optional",
@@ -140,7 +137,7 @@ const FIXES: [&str; 25] = [
     "give VendorNumber as in 1018:01, ProductNumber as in 1018:02, RevisionNumber as in 1018:03",
     "write $NODEID+ and the number of the predefined connection set",
     "write $NODEID first, as $NODEID+0x180",
-    "",
+    "write the key as the standard has it",
     "give each PDO, SDO channel and EMCY an identifier of its own, or set bit 31",
     "set it to 0, or take a transmission type from 254 on",
     "give the node-ID of another node, or set the word to 0",
@@ -161,10 +158,7 @@ const FIXES: [&str; 25] = [
 pub fn fix_of(kind: WarningKind) -> &'static str
     ensures { result.now ≡ fix_of kind }
 {
-    match kind {
-        WarningKind::MisspeltKey(meant) => meant.question(),
-        _ => text_at(&FIXES, row(kind)),
-    }
+    text_at(&FIXES, row(kind))
 }
 
 /// The subject that has the rule of each kind, by row.

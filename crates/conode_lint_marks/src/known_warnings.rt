@@ -1,15 +1,25 @@
 //! The warnings of a text that rest on nothing at fault.
 
 ghost use Rattle.std.specs.Prelude.{◌≡◌, ◌++◌, map, OnOk};
+ghost use Rattle.std.specs.List.{list_any};
+ghost use Rattle.std.specs.Option.{option_map_or};
 ghost use Rattle.co_sheet_text.specs.Views.{section_view};
+ghost use Rattle.co_sheet_warnings.specs.Repeats.{compared};
 ghost use Rattle.conode_lint_marks.specs.KnownWarnings.{
   begins_at,
+  comes_before,
   faults_from,
+  is_either_in_doubt,
+  is_first,
+  is_number,
+  is_second,
+  is_sound,
   is_time_in_doubt,
   is_time_with,
   known_by,
   known_in,
   rests_on_fault,
+  sub_of,
   unknown_of,
   unless_at_fault,
   warning_mark,
@@ -21,7 +31,7 @@ use crate::concerns::{Concern, is_any};
 use crate::mark::{Mark, Subject};
 use co_sheet::SheetFault;
 use co_sheet_text::{SectionKind, TextSection};
-use co_sheet_warnings::{Warning, WarningKind};
+use co_sheet_warnings::{Warning, WarningKind, compared};
 use std::alloc::AllocError;
 
 /// What may be wrong in a text, since sections are at fault.
@@ -33,29 +43,16 @@ pub(crate) struct Unknown {
     info: bool,
     /// What is listed.
     lists: bool,
-    /// A COB-ID of EMCY, a PDO or an SDO channel.
-    cob_ids: bool,
-    /// A consumer of heartbeats, 1016h.
-    consumers: bool,
-    /// A number of the identity, 1018h.
-    identity: bool,
 }
 
 #[tactic(auto, unfolding(crate::specs::KnownWarnings::unknown_of))]
-fn unknown_of(
-    sections: &[TextSection<'_, '_>],
-    kinds: &[SectionKind],
-    doubts: &[SectionKind],
-) -> Unknown
-    ensures { result ≡ unknown_of (map section_view sections.now) kinds.now doubts.now }
+fn unknown_of(sections: &[TextSection<'_, '_>], kinds: &[SectionKind]) -> Unknown
+    ensures { result ≡ unknown_of (map section_view sections.now) kinds.now }
 {
     Unknown {
         sections: is_any(Concern::SectionLine, kinds),
         info: is_any(Concern::CompactPdo, kinds),
         lists: !is_complete(sections, kinds),
-        cob_ids: is_any(Concern::CobId, doubts),
-        consumers: is_any(Concern::SubsOf(0x1016, 1, 255), doubts),
-        identity: is_any(Concern::SubsOf(0x1018, 1, 3), doubts),
     }
 }
 
@@ -85,6 +82,129 @@ fn is_time_in_doubt(sections: &[TextSection<'_, '_>], doubts: &[SectionKind], li
     false
 }
 
+fn sub_of(kind: SectionKind) -> u8
+    ensures { result ≡ sub_of kind }
+{
+    match kind {
+        SectionKind::SubIndex(key) => key.sub,
+        _ => 0,
+    }
+}
+
+// whether one of two sections with the same number is the first
+fn comes_before(
+    kind: WarningKind,
+    first: &TextSection<'_, '_>,
+    section: &TextSection<'_, '_>,
+) -> bool
+    ensures { result ≡ comes_before kind (section_view first.now) (section_view section.now) }
+{
+    match kind {
+        WarningKind::HeartbeatTwice(_) => sub_of(first.kind) < sub_of(section.kind),
+        _ => first.line < section.line,
+    }
+}
+
+fn is_sound(doubts: &[SectionKind], section: &TextSection<'_, '_>) -> bool
+    ensures { result ≡ is_sound doubts.now (section_view section.now) }
+{
+    !is_any(Concern::Same(section.kind), doubts)
+}
+
+fn has_number(kind: WarningKind, number: u64, section: &TextSection<'_, '_>) -> bool
+    ensures { result ≡ option_map_or (is_number number) (compared kind (section_view section.now)) false }
+{
+    match compared(kind, section) {
+        Some(other) => other.number == number,
+        None => false,
+    }
+}
+
+// whether a section has a value that isn't in doubt, with this number, before that of another
+fn is_first(
+    kind: WarningKind,
+    doubts: &[SectionKind],
+    section: &TextSection<'_, '_>,
+    number: u64,
+    first: &TextSection<'_, '_>,
+) -> bool
+    ensures { result ≡ is_first
+        kind doubts.now (section_view section.now) number (section_view first.now) }
+{
+    comes_before(kind, first, section) && is_sound(doubts, first) && has_number(kind, number, first)
+}
+
+fn has_any_first(
+    kind: WarningKind,
+    doubts: &[SectionKind],
+    sections: &[TextSection<'_, '_>],
+    section: &TextSection<'_, '_>,
+    number: u64,
+) -> bool
+    ensures { result ≡ list_any (is_first kind doubts.now (section_view section.now) number)
+        (map section_view sections.now) }
+{
+    for first in sections {
+        if is_first(kind, doubts, section, number, first) {
+            return true;
+        }
+    }
+    false
+}
+
+// whether a section has the value at a line, which isn't in doubt, and such a one is before it
+fn is_second(
+    kind: WarningKind,
+    doubts: &[SectionKind],
+    sections: &[TextSection<'_, '_>],
+    line: usize,
+    section: &TextSection<'_, '_>,
+) -> bool
+    ensures { result ≡ is_second
+        kind doubts.now (map section_view sections.now) line (section_view section.now) }
+{
+    match compared(kind, section) {
+        Some(own) => {
+            own.line == line
+                && is_sound(doubts, section)
+                && has_any_first(kind, doubts, sections, section, own.number)
+        }
+        None => false,
+    }
+}
+
+fn is_any_second(
+    kind: WarningKind,
+    doubts: &[SectionKind],
+    sections: &[TextSection<'_, '_>],
+    line: usize,
+) -> bool
+    ensures { result ≡ list_any (is_second kind doubts.now (map section_view sections.now) line)
+        (map section_view sections.now) }
+{
+    for section in sections {
+        if is_second(kind, doubts, sections, line, section) {
+            return true;
+        }
+    }
+    false
+}
+
+// whether one of the two values may be wrong that a warning at a line compares
+fn is_either_in_doubt(
+    kind: WarningKind,
+    sections: &[TextSection<'_, '_>],
+    doubts: &[SectionKind],
+    line: usize,
+) -> bool
+    ensures { result ≡ is_either_in_doubt kind (map section_view sections.now) doubts.now line }
+{
+    match doubts {
+        [] => false,
+        [_, ..] => !is_any_second(kind, doubts, sections, line),
+    }
+}
+
 fn begins_at(line: usize, faults: &[SheetFault]) -> bool
     ensures { result ≡ begins_at line faults.now }
 {
@@ -111,9 +231,12 @@ fn rests_on_fault(
         WarningKind::SubIndex0 => unknown.sections || begins_at(line, faults),
         WarningKind::PdoCount => unknown.sections || unknown.info,
         WarningKind::Unlisted | WarningKind::NoErrorControl => unknown.lists,
-        WarningKind::SharedCobId(_) => unknown.cob_ids,
-        WarningKind::HeartbeatTwice(_) => unknown.consumers,
-        WarningKind::IdentityNumber => unknown.identity,
+        WarningKind::SharedCobId(_) | WarningKind::HeartbeatTwice(_) => {
+            is_either_in_doubt(kind, sections, doubts, line)
+        }
+        WarningKind::IdentityNumber(sub) => {
+            is_any(Concern::SubsOf(0x1018, sub as u16, sub as u16), doubts)
+        }
         WarningKind::InhibitTime => is_time_in_doubt(sections, doubts, line),
         WarningKind::FixedCobId | WarningKind::NodeIdPlace | WarningKind::OwnHeartbeat => {
             begins_at(line, faults)
@@ -196,6 +319,6 @@ pub fn add_known_warnings(
         faults.now warnings.now)) }
 {
     let doubts = at_fault.doubts.as_slice();
-    let unknown = unknown_of(sections, at_fault.kinds.as_slice(), doubts);
+    let unknown = unknown_of(sections, at_fault.kinds.as_slice());
     add_known_in(marks, unknown, sections, doubts, faults, warnings)
 }

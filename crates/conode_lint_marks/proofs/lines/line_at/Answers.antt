@@ -1,6 +1,0 @@
-use Rattle.std.proofs.Common.{arith, ◌∙◌}
-use Rattle.conode_lint_marks.proofs.CutLemmas.{line_found}
-use Rattle.conode_lint_marks.proofs.lines.line_at.Goals as goal
-
-pub returns : goal.returns
-returns c = c.first_bytes.ensures ∙ line_found c.args.lines.now c.args.number _ (omega arith) (omega arith)
