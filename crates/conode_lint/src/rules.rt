@@ -45,7 +45,7 @@ static SUBJECTS: [Subject; 50] = [
     Subject::Warning(WarningKind::PdoCount),
     Subject::Warning(WarningKind::WrongList),
     Subject::Warning(WarningKind::Unlisted),
-    Subject::Warning(WarningKind::IdentityNumber),
+    Subject::Warning(WarningKind::IdentityNumber(1)),
     Subject::Warning(WarningKind::FixedCobId),
     Subject::Warning(WarningKind::NodeIdPlace),
     Subject::Warning(WarningKind::MisspeltKey(KnownKey::AccessType)),
@@ -70,16 +70,12 @@ fn subjects() -> &'static [Subject] {
     &SUBJECTS
 }
 
-// the rule of a kind; what is wrong with a misspelt key doesn't ask for the one that is meant
+// the rule of a kind
 fn rule_of(subject: Subject) -> Rule<'static> {
-    let meaning = match subject {
-        Subject::Warning(kind) => co_sheet_warnings::meaning_of(kind),
-        _ => meaning_of(Mark { line: 1, subject }),
-    };
     Rule {
         name: name_of(subject),
         severity: severity_of(subject),
-        meaning,
+        meaning: meaning_of(Mark { line: 1, subject }),
         fix: fix_of(subject),
         subject: subject_of(subject),
     }

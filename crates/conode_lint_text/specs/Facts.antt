@@ -123,16 +123,20 @@ listed_twice sections text = option_map_or (first_listed sections) (key_number t
 
 -- ---- keys and sections
 
--- of an entry that has DataType or AccessType, or not
-abbrev pub key_fact : Bool → Bool → About
-key_fact false false = Fact fact.NoTypeOrAccess
-key_fact false true = Fact fact.NoType
-key_fact true false = Fact fact.NoAccess
-key_fact true true = Line
+-- of an object or a sub-index that has DataType or AccessType, or not
+abbrev pub key_fact : Bool → Bool → Bool → About
+key_fact is_sub false false = Fact (fact.NoTypeOrAccess is_sub)
+key_fact is_sub false true = Fact (fact.NoType is_sub)
+key_fact is_sub true false = Fact (fact.NoAccess is_sub)
+key_fact is_sub true true = Line
+
+abbrev pub is_sub_index : SectionKind → Bool
+is_sub_index (SubIndex key) = true
+is_sub_index other = false
 
 abbrev pub entry_fact : TextSection → About
 entry_fact s =
-    key_fact (is_some (property_at (codes "DataType") s))
+    key_fact (is_sub_index s.kind) (is_some (property_at (codes "DataType") s))
     (is_some (property_at (codes "AccessType") s))
 
 -- of the MissingKey of the section at a line
@@ -222,11 +226,11 @@ sub_index_0 line sections text =
 -- which keys are missing
 abbrev pub file_info : ℕ → List Bool → About
 file_info line missing =
-    if line == 0 then Fact fact.NoFileInfo else Fact (fact.FileInfoLacks missing)
+    if line == 0 then Fact (fact.NoFileInfo missing) else Fact (fact.FileInfoLacks missing)
 
 abbrev pub device_info : ℕ → List Bool → About
 device_info line missing =
-    if line == 0 then Fact fact.NoDeviceInfo else Fact (fact.DeviceInfoLacks missing)
+    if line == 0 then Fact (fact.NoDeviceInfo missing) else Fact (fact.DeviceInfoLacks missing)
 
 -- the number of objects in a range of indices
 abbrev pub is_object_in : ℕ → ℕ → SectionKind → Bool
@@ -246,13 +250,6 @@ pdo_fact sections name number =
 abbrev pub pdo_count : List TextSection → List ℕ → About
 pdo_count sections text = option_map_or (pdo_fact sections (key_name text)) (key_number text) Line
 
--- the sub-index of the identity object that has the number of this name
-abbrev pub identity_sub : List ℕ → ℕ
-identity_sub name =
-    if same_name name (codes "VendorNumber") then 1
-    else if same_name name (codes "ProductNumber") then 2
-    else 3
-
 -- the initial number of a section: by its ParameterValue, or else by its DefaultValue
 abbrev pub initial_number : TextSection → Option ℕ
 initial_number s =
@@ -264,11 +261,11 @@ identity_at sections sub =
     option_and_then initial_number
     (section_at (SubIndex (record { index = 0x1018; sub = sub })) sections)
 
--- of the IdentityNumber of a line
+-- of the IdentityNumber of a line, by the sub-index of the identity object
 abbrev pub identity_fact : Option ℕ → Option ℕ → About
 identity_fact (Some number) (Some other) = Fact (fact.Identity number other)
 identity_fact number other = Line
 
-abbrev pub identity_number : List TextSection → List ℕ → About
-identity_number sections text =
-    identity_fact (key_number text) (identity_at sections (identity_sub (key_name text)))
+abbrev pub identity_number : List TextSection → ℕ → List ℕ → About
+identity_number sections sub text =
+    identity_fact (key_number text) (identity_at sections sub)

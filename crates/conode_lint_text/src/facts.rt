@@ -20,11 +20,11 @@ ghost use Rattle.conode_lint_text.specs.Facts.{
   highest_of,
   identity_at,
   identity_number,
-  identity_sub,
   initial_number,
   is_key_at,
   is_key_to,
   is_object_in,
+  is_sub_index,
   is_sub_index_of,
   key_count,
   key_fact,
@@ -279,15 +279,21 @@ pub fn listed_twice(sections: &[TextSection<'_, '_>], text: &[u8]) -> About
     }
 }
 
-fn key_fact(has_type: bool, has_access: bool) -> About
-    ensures { result ≡ key_fact has_type has_access }
+fn key_fact(is_sub: bool, has_type: bool, has_access: bool) -> About
+    ensures { result ≡ key_fact is_sub has_type has_access }
 {
     match (has_type, has_access) {
-        (false, false) => About::Fact(Fact::NoTypeOrAccess),
-        (false, true) => About::Fact(Fact::NoType),
-        (true, false) => About::Fact(Fact::NoAccess),
+        (false, false) => About::Fact(Fact::NoTypeOrAccess(is_sub)),
+        (false, true) => About::Fact(Fact::NoType(is_sub)),
+        (true, false) => About::Fact(Fact::NoAccess(is_sub)),
         (true, true) => About::Line,
     }
+}
+
+fn is_sub_index(kind: SectionKind) -> bool
+    ensures { result ≡ is_sub_index kind }
+{
+    matches!(kind, SectionKind::SubIndex(_))
 }
 
 fn entry_fact(section: &TextSection<'_, '_>) -> About
@@ -295,7 +301,7 @@ fn entry_fact(section: &TextSection<'_, '_>) -> About
 {
     let has_type = section.property(b"DataType").is_some();
     let has_access = section.property(b"AccessType").is_some();
-    key_fact(has_type, has_access)
+    key_fact(is_sub_index(section.kind), has_type, has_access)
 }
 
 /// Of the MissingKey of the section at a line: which keys it lacks.
@@ -466,7 +472,7 @@ pub fn file_info(line: usize, missing: [bool; 10]) -> About
     ensures { result ≡ file_info line missing }
 {
     if line == 0 {
-        About::Fact(Fact::NoFileInfo)
+        About::Fact(Fact::NoFileInfo(missing))
     } else {
         About::Fact(Fact::FileInfoLacks(missing))
     }
@@ -477,7 +483,7 @@ pub fn device_info(line: usize, missing: [bool; 22]) -> About
     ensures { result ≡ device_info line missing }
 {
     if line == 0 {
-        About::Fact(Fact::NoDeviceInfo)
+        About::Fact(Fact::NoDeviceInfo(missing))
     } else {
         About::Fact(Fact::DeviceInfoLacks(missing))
     }
@@ -525,18 +531,6 @@ pub fn pdo_count(sections: &[TextSection<'_, '_>], text: &[u8]) -> About
     }
 }
 
-fn identity_sub(name: &[u8]) -> u8
-    ensures { result ≡ identity_sub name.now }
-{
-    if same_name(name, b"VendorNumber") {
-        1
-    } else if same_name(name, b"ProductNumber") {
-        2
-    } else {
-        3
-    }
-}
-
 fn initial_number(section: &TextSection<'_, '_>) -> Option<u64>
     ensures { result ≡ initial_number (section_view section.now) }
 {
@@ -559,14 +553,11 @@ fn identity_at(sections: &[TextSection<'_, '_>], sub: u8) -> Option<u64>
     }
 }
 
-/// Of the IdentityNumber of a line: its number, and that of the identity object.
-pub fn identity_number(sections: &[TextSection<'_, '_>], text: &[u8]) -> About
-    ensures { result ≡ identity_number (map section_view sections.now) text.now }
+/// Of the IdentityNumber of a line: its number, and that of the identity object, at this sub-index.
+pub fn identity_number(sections: &[TextSection<'_, '_>], sub: u8, text: &[u8]) -> About
+    ensures { result ≡ identity_number (map section_view sections.now) sub text.now }
 {
-    match (
-        key_number(text),
-        identity_at(sections, identity_sub(key_name(text))),
-    ) {
+    match (key_number(text), identity_at(sections, sub)) {
         (Some(number), Some(other)) => About::Fact(Fact::Identity(number, other)),
         _ => About::Line,
     }
