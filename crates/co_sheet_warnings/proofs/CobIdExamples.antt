@@ -3,7 +3,7 @@ use Rattle.std.proofs.Common.{◌≡◌, ℕ, List, [], ◌∷◌, ◌++◌, tru
 use Rattle.co_sheet_text.specs.declared.section_kind.SectionKind.TheVariants.{MandatoryObjects, Object}
 use Rattle.co_sheet_warnings.specs.declared.warning.WarningKind.TheVariants.{FixedCobId, NodeIdPlace}
 use Rattle.co_sheet_warnings.specs.CobIds.{has_default_cob_id, is_enabled, is_node_id_last}
-use Rattle.co_sheet_warnings.specs.Warnings.{place_in_text, places_in, places_of}
+use Rattle.co_sheet_warnings.specs.Warnings.{few_places, place_in_text, places_in, places_of}
 use Rattle.co_sheet_warnings.proofs.ExampleTexts.{places, sub_index}
 
 emcy : map has_default_cob_id (Object 0x1013 ∷ Object 0x1014 ∷ Object 0x1015 ∷ sub_index 0x1014 1 ∷ Object 0x1400 ∷ MandatoryObjects ∷ [])
@@ -21,20 +21,20 @@ abbrev cob_id : List ℕ → List (List ℕ)
 cob_id line = codes "[1800sub1]" ∷ line ∷ []
 
 fixed : places FixedCobId (cob_id (codes "DefaultValue=0x185")) ≡ 2 ∷ []
-unfolding places_of place_in_text places_in
+unfolding places_of few_places place_in_text places_in
 fixed = refl
 
 by_node_id : places FixedCobId (cob_id (codes "DefaultValue=$NODEID+0x180")) ≡ []
-unfolding places_of place_in_text places_in
+unfolding places_of few_places place_in_text places_in
 by_node_id = refl
 
 disabled : places FixedCobId (cob_id (codes "DefaultValue=0x80000185")) ≡ []
-unfolding places_of place_in_text places_in
+unfolding places_of few_places place_in_text places_in
 disabled = refl
 
 -- a configured device has a node-ID
 of_one_device : places FixedCobId (cob_id (codes "ParameterValue=0x185")) ≡ []
-unfolding places_of place_in_text places_in
+unfolding places_of few_places place_in_text places_in
 of_one_device = refl
 
 last : map is_node_id_last (codes "0x180+$NODEID" ∷ codes "384 + $nodeid" ∷ codes "$NODEID+0x180" ∷ codes "$NODEID" ∷ codes "x+$NODEID" ∷ codes "$NODEID+$NODEID" ∷ codes "+$NODEID" ∷ codes "1+2" ∷ [])
@@ -42,5 +42,5 @@ last : map is_node_id_last (codes "0x180+$NODEID" ∷ codes "384 + $nodeid" ∷ 
 last = refl
 
 node_id_last_in : places NodeIdPlace (cob_id (codes "DefaultValue=0x180+$NODEID") ++ codes "[1200]" ∷ codes "DefaultValue=$NODEID+0x600" ∷ []) ≡ 2 ∷ []
-unfolding places_of place_in_text places_in
+unfolding places_of few_places place_in_text places_in
 node_id_last_in = refl

@@ -7,7 +7,7 @@ use Rattle.co_sheet_warnings.specs.Repeats.{compared, has_cob_id, enabled_cob_id
 use Rattle.co_sheet_warnings.specs.declared.warning.WarningKind.{WarningKind}
 use Rattle.co_sheet_text.specs.LinesAtFault.{sections_read}
 use Rattle.co_sheet_text.specs.Text.{lines_of}
-use Rattle.co_sheet_warnings.specs.Warnings.{place_in_text, places_in, places_of}
+use Rattle.co_sheet_warnings.specs.Warnings.{few_places, place_in_text, places_in, places_of}
 use Rattle.co_sheet_warnings.proofs.ExampleTexts.{joined, places, places_at, sub_index}
 
 -- ---- SharedCobId
@@ -30,22 +30,22 @@ three_cob_ids first second third =
     codes "[1800sub1]" ∷ first ∷ codes "[1014]" ∷ second ∷ codes "[1201sub2]" ∷ third ∷ codes "[1801sub2]" ∷ codes "DefaultValue=0x185" ∷ []
 
 all_the_same : places_at 5 (SharedCobId 0) (three_cob_ids (codes "DefaultValue=0x185") (codes "DefaultValue=$NODEID+0x180") (codes "ParameterValue=0x185")) ≡ 4 ∷ 6 ∷ []
-unfolding places_of place_in_text places_in
+unfolding places_of few_places place_in_text places_in
 all_the_same = refl
 
 for_another_node : places_at 6 (SharedCobId 0) (three_cob_ids (codes "DefaultValue=0x185") (codes "DefaultValue=$NODEID+0x180") (codes "DefaultValue=0x186")) ≡ 6 ∷ []
-unfolding places_of place_in_text places_in
+unfolding places_of few_places place_in_text places_in
 for_another_node = refl
 
 for_no_node : places (SharedCobId 0) (three_cob_ids (codes "DefaultValue=0x185") (codes "DefaultValue=0x185") (codes "DefaultValue=0x185")) ≡ []
-unfolding places_of place_in_text places_in
+unfolding places_of few_places place_in_text places_in
 for_no_node = refl
 
 -- ---- EqualNames
 
 -- of objects, and of the sub-indices of each object
 names_again : places EqualNames (codes "[2000]" ∷ codes "ParameterName=a" ∷ codes "[2001]" ∷ codes "ParameterName=a" ∷ codes "[2000sub1]" ∷ codes "ParameterName=a" ∷ codes "[2000sub2]" ∷ codes "ParameterName=a" ∷ codes "[2001sub1]" ∷ codes "ParameterName=a" ∷ codes "[2002]" ∷ codes "ParameterName=A" ∷ codes "[2003]" ∷ codes "ParameterName=a" ∷ codes "[Comments]" ∷ codes "ParameterName=a" ∷ []) ≡ 4 ∷ 8 ∷ 14 ∷ []
-unfolding places_of place_in_text places_in
+unfolding places_of few_places place_in_text places_in
 names_again = refl
 
 -- ---- the first of what comes twice

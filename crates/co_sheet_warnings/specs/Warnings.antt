@@ -110,17 +110,21 @@ place_in_text t kind = []
 abbrev pub other_places : ReadText → WarningKind → List ℕ
 other_places t kind = place_in_text t kind ++ flat_map (places_in t kind) t.sections
 
+-- the same, and of the kinds that are about the keys of DeviceInfo and FileInfo
+unfoldable pub few_places : ReadText → WarningKind → List ℕ
+few_places t PdoCount = pdo_counts t.keys t.sections
+few_places t (IdentityNumber sub) = identity_number t.keys (sub_indices t.sections 0x1018) sub
+few_places t DateFormat = date_formats t.keys
+few_places t kind = other_places t kind
+
 -- the lines of a text where a kind applies
 unfoldable pub places_of : ReadText → WarningKind → List ℕ
-places_of t PdoCount = pdo_counts t.keys t.sections
-places_of t (IdentityNumber sub) = identity_number t.keys (sub_indices t.sections 0x1018) sub
-places_of t DateFormat = date_formats t.keys
 places_of t WrongList = wrong_lists t.sections
 places_of t ListOrder = list_orders t.sections
 places_of t (SharedCobId node) = shared_cob_ids t.node t.sections
 places_of t EqualNames = equal_names t.sections
 places_of t LongLine = long_lines t.lines
-places_of t kind = other_places t kind
+places_of t kind = few_places t kind
 
 -- the kinds, in the order in which the sheets of vendors show them: those before misspelt keys,
 -- those after them, and those of taste; what a kind says of a text is still open

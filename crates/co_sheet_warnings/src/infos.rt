@@ -64,7 +64,7 @@ fn key_at<'k, 'a>(
 }
 
 /// The keys that FileInfo must have.
-pub(crate) const FILE_KEYS: [KnownKey; 10] = [
+const FILE_KEYS: [KnownKey; 10] = [
     KnownKey::FileName,
     KnownKey::FileVersion,
     KnownKey::FileRevision,
@@ -78,7 +78,7 @@ pub(crate) const FILE_KEYS: [KnownKey; 10] = [
 ];
 
 /// The keys that DeviceInfo must have.
-pub(crate) const DEVICE_KEYS: [KnownKey; 22] = [
+const DEVICE_KEYS: [KnownKey; 22] = [
     KnownKey::VendorName,
     KnownKey::VendorNumber,
     KnownKey::ProductName,
@@ -206,8 +206,8 @@ fn is_object_within(low: u16, high: u16, kind: SectionKind) -> bool
     }
 }
 
-// the number of objects in a range of indices
-fn object_count(low: u16, high: u16, sections: &[TextSection]) -> usize
+/// The number of objects in a range of indices with both its ends.
+pub fn object_count(low: u16, high: u16, sections: &[TextSection]) -> usize
     ensures { result ≡ object_count low high (map section_view sections.now) }
 {
     let mut count = 0;

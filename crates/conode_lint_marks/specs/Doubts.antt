@@ -1,6 +1,6 @@
 -- Sections whose value may be wrong (CiA 306-1, object description, device configuration file): a line
 -- is at fault that may state it, or the section comes twice.
-use Rattle.std.specs.Prelude.{ℕ, Bool, true, false, not, ◌&&◌, ◌||◌, ◌==◌, if◌then◌else◌, List, [], ◌∷◌, ◌++◌, take, drop, codes, is_some}
+use Rattle.std.specs.Prelude.{ℕ, Bool, true, false, not, ◌&&◌, ◌||◌, ◌==◌, if◌then◌else◌, List, [], ◌∷◌, ◌++◌, take, drop, codes, is_some, Option, Some, None, option_map, option_to_list}
 use Rattle.std.specs.List.{flat_map, list_any}
 use Rattle.co_sheet_rows.specs.declared.fault.FaultKind.{FaultKind}
 use Rattle.co_sheet_rows.specs.declared.fault.FaultKind.TheVariants.{DuplicateSection}
@@ -52,18 +52,24 @@ abbrev pub is_again : FaultKind → Bool
 is_again DuplicateSection = true
 is_again kind = false
 
--- what the section is about that a line of this form begins
-abbrev pub kind_begun : LineForm → List SectionKind
-kind_begun (section_line name) = kind_of name ∷ []
-kind_begun form = []
+-- the name of the section that a line of this form begins, and what the section is about
+abbrev pub begun_name : LineForm → Option (List ℕ)
+begun_name (section_line name) = Some name
+begun_name form = None
 
-abbrev pub kind_again : List (List ℕ) → SheetFault → List SectionKind
+abbrev pub kind_begun : LineForm → Option SectionKind
+kind_begun form = option_map kind_of (begun_name form)
+
+abbrev pub kind_again : List (List ℕ) → SheetFault → Option SectionKind
 kind_again lines f =
-    if is_again f.kind then kind_begun (form_of (trim (whole_line lines f.line))) else []
+    if is_again f.kind then kind_begun (form_of (trim (whole_line lines f.line))) else None
+
+abbrev pub kinds_again : List (List ℕ) → SheetFault → List SectionKind
+kinds_again lines f = option_to_list (kind_again lines f)
 
 -- ---- all, of a text with these lines and faults
 
 unfoldable pub doubts_of : List (List ℕ) → List SheetFault → List TextSection → List SectionKind
 doubts_of lines faults sections =
     doubts_at lines (drop (count_before sections faults) faults) sections
-    ++ flat_map (kind_again lines) faults
+    ++ flat_map (kinds_again lines) faults

@@ -56,14 +56,13 @@ comes_before kind first s = nat_lt first.line s.line
 abbrev pub is_sound : List SectionKind → TextSection → Bool
 is_sound doubts s = not (is_any (Same s.kind) doubts)
 
--- a value that isn't in doubt, with this number, before that of another section
-abbrev pub is_number : ℕ → ComparedNumber → Bool
-is_number number c = c.number == number
+abbrev pub has_number : WarningKind → ℕ → TextSection → Bool
+has_number kind number s = option_map_or (λ c. c.number == number) (compared kind s) false
 
+-- a value that isn't in doubt, with this number, before that of another section
 abbrev pub is_first : WarningKind → List SectionKind → TextSection → ℕ → TextSection → Bool
 is_first kind doubts s number first =
-    comes_before kind first s && is_sound doubts first
-    && option_map_or (is_number number) (compared kind first) false
+    comes_before kind first s && is_sound doubts first && has_number kind number first
 
 -- a value at a line that isn't in doubt, and has such a one before it
 abbrev pub has_first : WarningKind → List SectionKind → List TextSection → ℕ → TextSection

@@ -1,18 +1,20 @@
 //! Which sections have a value that may be wrong: a line is at fault that may state it, or the section
 //! comes twice.
 
-ghost use Rattle.std.specs.Prelude.{◌≡◌, ◌++◌, map, option_to_list, OnOk};
+ghost use Rattle.std.specs.Prelude.{◌≡◌, ◌++◌, map, option_map, option_to_list, OnOk};
 ghost use Rattle.std.specs.List.{flat_map};
 ghost use Rattle.co_sheet_text.specs.Sections.{form_of};
 ghost use Rattle.co_sheet_text.specs.Text.{trim};
 ghost use Rattle.co_sheet_text.specs.Views.{section_view};
 ghost use Rattle.conode_lint_marks.specs.Doubts.{
+  begun_name,
   has_parameter,
   is_again,
   is_in_doubt,
   is_value_key,
   kind_again,
   kind_begun,
+  kinds_again,
   may_state,
   puts_in_doubt,
 };
@@ -79,21 +81,30 @@ pub(crate) fn is_in_doubt(
     false
 }
 
-// what the section is about that a line begins, of a text without blanks at its ends
-fn kind_begun(text: &[u8]) -> Option<SectionKind>
-    ensures { option_to_list result ≡ kind_begun (form_of text.now) }
+// the name of the section that a line begins, of a text without blanks at its ends
+fn begun_name(text: &[u8]) -> Option<&[u8]>
+    ensures { option_map (λ name. name.now) result ≡ begun_name (form_of text.now) }
 {
     match text {
         [b'[', rest @ ..] => match split_at_first(rest, b']') {
-            Some((name, _)) => Some(SectionKind::of_name(trim(name))),
+            Some((name, _)) => Some(trim(name)),
             None => None,
         },
         _ => None,
     }
 }
 
+fn kind_begun(text: &[u8]) -> Option<SectionKind>
+    ensures { result ≡ kind_begun (form_of text.now) }
+{
+    match begun_name(text) {
+        Some(name) => Some(SectionKind::of_name(name)),
+        None => None,
+    }
+}
+
 fn kind_again(lines: &[&[u8]], fault: &SheetFault) -> Option<SectionKind>
-    ensures { option_to_list result ≡ kind_again (map (λ line. line.now) lines.now) fault.now }
+    ensures { result ≡ kind_again (map (λ line. line.now) lines.now) fault.now }
 {
     match fault.kind {
         FaultKind::DuplicateSection => kind_begun(trim(whole_line(lines, fault.line))),
@@ -118,7 +129,7 @@ pub(crate) fn add_kinds_again(
     faults: &[SheetFault],
 ) -> Result<(), AllocError>
     ensures { OnOk result (kinds.new.items ≡ kinds.old.items
-        ++ flat_map (kind_again (map (λ line. line.now) lines.now)) faults.now) }
+        ++ flat_map (kinds_again (map (λ line. line.now) lines.now)) faults.now) }
 {
     for fault in faults {
         attempt!(add_kind(kinds, kind_again(lines, fault)));

@@ -2,16 +2,14 @@
 
 ghost use Rattle.std.specs.Prelude.{◌≡◌, ◌++◌, map, OnOk};
 ghost use Rattle.std.specs.List.{list_any};
-ghost use Rattle.std.specs.Option.{option_map_or};
 ghost use Rattle.co_sheet_text.specs.Views.{section_view};
-ghost use Rattle.co_sheet_warnings.specs.Repeats.{compared};
 ghost use Rattle.conode_lint_marks.specs.KnownWarnings.{
   begins_at,
   comes_before,
   faults_from,
+  has_number,
   is_either_in_doubt,
   is_first,
-  is_number,
   is_second,
   is_sound,
   is_time_in_doubt,
@@ -112,7 +110,7 @@ fn is_sound(doubts: &[SectionKind], section: &TextSection<'_, '_>) -> bool
 }
 
 fn has_number(kind: WarningKind, number: u64, section: &TextSection<'_, '_>) -> bool
-    ensures { result ≡ option_map_or (is_number number) (compared kind (section_view section.now)) false }
+    ensures { result ≡ has_number kind number (section_view section.now) }
 {
     match compared(kind, section) {
         Some(other) => other.number == number,

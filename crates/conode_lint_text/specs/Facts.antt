@@ -12,6 +12,8 @@ use Rattle.co_sheet_text.specs.Numerals.{is_number_in, unsigned_number}
 use Rattle.co_sheet_text.specs.Properties.{number_at, property_number}
 use Rattle.co_sheet_text.specs.Sections.{Property, TextSection, is_bracket, is_equals, property_at, section_at}
 use Rattle.co_sheet_text.specs.Text.{same_name, trim}
+use Rattle.co_sheet_warnings.specs.Infos.{object_count}
+use Rattle.co_sheet_warnings.specs.Repeats.{value_in}
 use Rattle.conode_lint_text.specs.declared.fact.Fact.{Fact as SheetFact}
 use Rattle.conode_lint_text.specs.declared.fact.Fact.TheVariants as fact
 use Rattle.conode_lint_text.specs.declared.finding.About.{About}
@@ -232,14 +234,6 @@ abbrev pub device_info : ℕ → List Bool → About
 device_info line missing =
     if line == 0 then Fact (fact.NoDeviceInfo missing) else Fact (fact.DeviceInfoLacks missing)
 
--- the number of objects in a range of indices
-abbrev pub is_object_in : ℕ → ℕ → SectionKind → Bool
-is_object_in low high (Object index) = nat_le low index && nat_le index high
-is_object_in low high other = false
-
-abbrev pub object_count : ℕ → ℕ → List TextSection → ℕ
-object_count low high sections = count_by (λ s. is_object_in low high s.kind) sections
-
 -- of the PdoCount of a line
 abbrev pub pdo_fact : List TextSection → List ℕ → ℕ → About
 pdo_fact sections name number =
@@ -250,11 +244,9 @@ pdo_fact sections name number =
 abbrev pub pdo_count : List TextSection → List ℕ → About
 pdo_count sections text = option_map_or (pdo_fact sections (key_name text)) (key_number text) Line
 
--- the initial number of a section: by its ParameterValue, or else by its DefaultValue
+-- the initial number of a section
 abbrev pub initial_number : TextSection → Option ℕ
-initial_number s =
-    option_and_then property_number
-    (option_or (property_at (codes "ParameterValue") s) (property_at (codes "DefaultValue") s))
+initial_number s = option_and_then property_number (value_in s)
 
 abbrev pub identity_at : List TextSection → ℕ → Option ℕ
 identity_at sections sub =

@@ -23,7 +23,6 @@ ghost use Rattle.conode_lint_text.specs.Facts.{
   initial_number,
   is_key_at,
   is_key_to,
-  is_object_in,
   is_sub_index,
   is_sub_index_of,
   key_count,
@@ -38,7 +37,6 @@ ghost use Rattle.conode_lint_text.specs.Facts.{
   missing_key,
   names_index,
   next_key,
-  object_count,
   pdo_count,
   pdo_fact,
   section_before,
@@ -59,6 +57,7 @@ use co_sheet::section_at;
 use co_sheet_text::{
     Property, SectionKind, TextSection, number_in, same_name, trim, unsigned_number,
 };
+use co_sheet_warnings::{object_count, value_in};
 use co_text::split_at_first;
 use co_value::Key;
 
@@ -489,28 +488,6 @@ pub fn device_info(line: usize, missing: [bool; 22]) -> About
     }
 }
 
-fn is_object_in(low: u16, high: u16, kind: SectionKind) -> bool
-    ensures { result ≡ is_object_in low high kind }
-{
-    match kind {
-        SectionKind::Object(index) => low <= index && index <= high,
-        _ => false,
-    }
-}
-
-// the number of objects in a range of indices
-fn object_count(low: u16, high: u16, sections: &[TextSection<'_, '_>]) -> usize
-    ensures { result ≡ object_count low high (map section_view sections.now) }
-{
-    let mut count = 0;
-    for section in sections {
-        if is_object_in(low, high, section.kind) {
-            count += 1;
-        }
-    }
-    count
-}
-
 fn pdo_fact(sections: &[TextSection<'_, '_>], name: &[u8], number: u64) -> About
     ensures { result ≡ pdo_fact (map section_view sections.now) name.now number }
 {
@@ -534,10 +511,7 @@ pub fn pdo_count(sections: &[TextSection<'_, '_>], text: &[u8]) -> About
 fn initial_number(section: &TextSection<'_, '_>) -> Option<u64>
     ensures { result ≡ initial_number (section_view section.now) }
 {
-    if let Some(property) = section.property(b"ParameterValue") {
-        return property.number();
-    }
-    match section.property(b"DefaultValue") {
+    match value_in(section) {
         Some(property) => property.number(),
         None => None,
     }

@@ -26,6 +26,7 @@ mod text_form;
 mod words;
 
 pub use bounds::{bad_default, bad_limits};
+pub use characters::push_all_shown;
 pub use fact::Fact;
 pub use facts::{
     bad_list, device_info, duplicate_key, duplicate_section, file_info, first_at, identity_number,
