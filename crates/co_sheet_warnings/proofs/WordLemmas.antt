@@ -1,7 +1,7 @@
 -- The tables of words have each kind's words in its row.
 use Rattle.std.proofs.Common.{◌≡◌, ◌<◌, ℕ, List, [], get_or, map, refl, arith}
 use Rattle.co_sheet_warnings.specs.declared.warning.WarningKind.{WarningKind}
-use Rattle.co_sheet_warnings.specs.declared.warning.WarningKind.TheVariants.{SubNumber, SubIndex0, FileInfoKeys, DeviceInfoKeys, PdoCount, WrongList, Unlisted, IdentityNumber, FixedCobId, NodeIdPlace, MisspeltKey, SharedCobId, InhibitTime, OwnHeartbeat, HeartbeatTwice, NoErrorControl, LongLine, Utf8, NotAscii, ListOrder, EqualNames, MissingName, UnknownKey, DateFormat, LineEnds}
+use Rattle.co_sheet_warnings.specs.declared.warning.WarningKind.TheVariants.{SubNumber, SubIndex0, FileInfoKeys, DeviceInfoKeys, PdoCount, WrongList, Unlisted, IdentityNumber, FixedCobId, NodeIdPlace, MisspeltKey, SharedCobId, InhibitTime, OwnHeartbeat, HeartbeatTwice, NoErrorControl, LongLine, Utf8, NotAscii, NodeId, ListOrder, EqualNames, MissingName, UnknownKey, DateFormat, LineEnds}
 use Rattle.co_sheet_warnings.specs.declared.words.TheConstants.{NAMES, MEANINGS, FIXES, SUBJECTS}
 use Rattle.co_sheet_warnings.specs.WarningWords.{name_of, meaning_of, fix_of, subject_of}
 use Rattle.co_sheet_warnings.specs.private.Views.{kind_row}
@@ -38,6 +38,7 @@ named NoErrorControl = refl
 named LongLine = refl
 named Utf8 = refl
 named NotAscii = refl
+named NodeId = refl
 named ListOrder = refl
 named EqualNames = refl
 named MissingName = refl
@@ -65,6 +66,7 @@ meant NoErrorControl = refl
 meant LongLine = refl
 meant Utf8 = refl
 meant NotAscii = refl
+meant NodeId = refl
 meant ListOrder = refl
 meant EqualNames = refl
 meant MissingName = refl
@@ -92,6 +94,7 @@ ruled NoErrorControl = refl
 ruled LongLine = refl
 ruled Utf8 = refl
 ruled NotAscii = refl
+ruled NodeId = refl
 ruled ListOrder = refl
 ruled EqualNames = refl
 ruled MissingName = refl
@@ -119,6 +122,7 @@ fixed NoErrorControl = refl
 fixed LongLine = refl
 fixed Utf8 = refl
 fixed NotAscii = refl
+fixed NodeId = refl
 fixed ListOrder = refl
 fixed EqualNames = refl
 fixed MissingName = refl
@@ -127,7 +131,7 @@ fixed DateFormat = refl
 fixed LineEnds = refl
 
 -- no row past the last
-pub few_rows : (kind : WarningKind) → kind_row kind < 25
+pub few_rows : (kind : WarningKind) → kind_row kind < 26
 few_rows SubNumber = omega arith
 few_rows SubIndex0 = omega arith
 few_rows (FileInfoKeys missing) = omega arith
@@ -147,6 +151,7 @@ few_rows NoErrorControl = omega arith
 few_rows LongLine = omega arith
 few_rows Utf8 = omega arith
 few_rows NotAscii = omega arith
+few_rows NodeId = omega arith
 few_rows ListOrder = omega arith
 few_rows EqualNames = omega arith
 few_rows MissingName = omega arith

@@ -22,6 +22,7 @@ use Rattle.co_sheet_warnings.specs.declared.warning.WarningKind.TheVariants.{
   LongLine,
   Utf8,
   NotAscii,
+  NodeId,
   ListOrder,
   EqualNames,
   MissingName,
@@ -51,6 +52,7 @@ name_of NoErrorControl = codes "NoErrorControl"
 name_of LongLine = codes "LongLine"
 name_of Utf8 = codes "Utf8"
 name_of NotAscii = codes "NotAscii"
+name_of NodeId = codes "NodeId"
 name_of ListOrder = codes "ListOrder"
 name_of EqualNames = codes "EqualNames"
 name_of MissingName = codes "MissingName"
@@ -82,6 +84,7 @@ meaning_of Utf8 =
     codes "the text has bytes above 7Fh, in UTF-8, which older tools read as Windows-1252"
 meaning_of NotAscii =
     codes "the text has bytes above 7Fh and isn't UTF-8, so it is read as Windows-1252"
+meaning_of NodeId = codes "NodeID isn't 1 to 127, so the sheet has no node-ID"
 meaning_of ListOrder = codes "an index of the list is smaller than the one before it"
 meaning_of EqualNames = codes "an object or sub-index before it has the same name"
 meaning_of MissingName = codes "the object or sub-index has no ParameterName"
@@ -114,6 +117,7 @@ fix_of NoErrorControl = codes "add 1017h, or 100Ch and 100Dh"
 fix_of LongLine = codes "shorten the line"
 fix_of Utf8 = codes "write ASCII alone"
 fix_of NotAscii = codes "write ASCII alone"
+fix_of NodeId = codes "give the node-ID of the device"
 fix_of ListOrder = codes "sort the list by index"
 fix_of EqualNames = codes "give each object, and each sub-index of an object, a name of its own"
 fix_of MissingName = codes "add ParameterName"
@@ -142,6 +146,7 @@ subject_of NoErrorControl = codes "CiA 301, error control"
 subject_of LongLine = codes "CiA 306-1, structure of an EDS"
 subject_of Utf8 = codes "CiA 306-1, structure of an EDS"
 subject_of NotAscii = codes "CiA 306-1, structure of an EDS"
+subject_of NodeId = codes "CiA 306-1, device commissioning"
 subject_of ListOrder = codes "CiA 306-1, object lists"
 subject_of EqualNames = codes "CiA 306-1, object description"
 subject_of MissingName = codes "CiA 306-1, object description"

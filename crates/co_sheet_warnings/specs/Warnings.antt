@@ -45,6 +45,7 @@ use Rattle.co_sheet_warnings.specs.declared.warning.WarningKind.TheVariants.{
   LongLine,
   Utf8,
   NotAscii,
+  NodeId,
   ListOrder,
   EqualNames,
   MissingName,
@@ -60,6 +61,7 @@ use Rattle.co_sheet_warnings.specs.SubIndices.{sub_number, sub_index_0, missing_
 use Rattle.co_sheet_warnings.specs.Lists.{wrong_lists, list_orders, unlisted, no_error_control}
 use Rattle.co_sheet_warnings.specs.CobIds.{fixed_cob_id, node_id_place}
 use Rattle.co_sheet_warnings.specs.Communication.{inhibit_time, own_heartbeat, heartbeat_twice}
+use Rattle.co_sheet_warnings.specs.NodeIds.{no_node_id}
 use Rattle.co_sheet_warnings.specs.Lines.{long_lines, utf8, not_ascii, mixed_line_ends}
 use Rattle.co_sheet_warnings.specs.declared.keys.Topic.TheVariants.{FileInfo, DeviceInfo}
 use Rattle.co_sheet_warnings.specs.Keys.{WrittenKey}
@@ -92,6 +94,7 @@ places_in t NodeIdPlace s = node_id_place s
 places_in t InhibitTime s = inhibit_time t.sections s s.kind
 places_in t OwnHeartbeat s = own_heartbeat t.node s s.kind
 places_in t (HeartbeatTwice given) s = heartbeat_twice t.node t.sections s s.kind
+places_in t NodeId s = no_node_id s s.kind
 places_in t MissingName s = missing_name s
 places_in t kind s = []
 
@@ -137,7 +140,7 @@ first_kinds =
 abbrev pub last_kinds : List WarningKind
 last_kinds =
     SharedCobId 0 ∷ InhibitTime ∷ OwnHeartbeat ∷ HeartbeatTwice None ∷ NoErrorControl ∷ LongLine
-    ∷ Utf8 ∷ NotAscii ∷ []
+    ∷ Utf8 ∷ NotAscii ∷ NodeId ∷ []
 
 abbrev pub quiet_kinds : List WarningKind
 quiet_kinds =

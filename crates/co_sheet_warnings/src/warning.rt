@@ -46,6 +46,8 @@ pub enum WarningKind {
     Utf8,
     /// Bytes above 7Fh that aren't UTF-8.
     NotAscii,
+    /// NodeID of a device configuration file isn't 1 to 127.
+    NodeId,
     /// The indices of a list don't increase.
     ListOrder,
     /// An object, or a sub-index of an object, has the name of one before it.

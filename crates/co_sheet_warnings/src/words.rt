@@ -35,12 +35,13 @@ fn row(kind: WarningKind) -> usize
         WarningKind::LongLine => 16,
         WarningKind::Utf8 => 17,
         WarningKind::NotAscii => 18,
-        WarningKind::ListOrder => 19,
-        WarningKind::EqualNames => 20,
-        WarningKind::MissingName => 21,
-        WarningKind::UnknownKey => 22,
-        WarningKind::DateFormat => 23,
-        WarningKind::LineEnds => 24,
+        WarningKind::NodeId => 19,
+        WarningKind::ListOrder => 20,
+        WarningKind::EqualNames => 21,
+        WarningKind::MissingName => 22,
+        WarningKind::UnknownKey => 23,
+        WarningKind::DateFormat => 24,
+        WarningKind::LineEnds => 25,
     }
 }
 
@@ -53,7 +54,7 @@ fn text_at(texts: &[&'static str], row: usize) -> &'static str
 }
 
 /// The names of all kinds, by row.
-const NAMES: [&str; 25] = [
+const NAMES: [&str; 26] = [
     "SubNumber",
     "SubIndex0",
     "FileInfoKeys",
@@ -73,6 +74,7 @@ const NAMES: [&str; 25] = [
     "LongLine",
     "Utf8",
     "NotAscii",
+    "NodeId",
     "ListOrder",
     "EqualNames",
     "MissingName",
@@ -89,7 +91,7 @@ pub fn name_of(kind: WarningKind) -> &'static str
 }
 
 /// What a warning of each kind means, by row.
-const MEANINGS: [&str; 25] = [
+const MEANINGS: [&str; 26] = [
     "SubNumber isn't the number of the object's sub-index sections",
     "sub-index 0 isn't the highest sub-index of the object",
     "FileInfo is missing, or a key that it has to have",
@@ -109,6 +111,7 @@ const MEANINGS: [&str; 25] = [
     "the line has more than 255 characters, which other tools may cut",
     "the text has bytes above 7Fh, in UTF-8, which older tools read as Windows-1252",
     "the text has bytes above 7Fh and isn't UTF-8, so it is read as Windows-1252",
+    "NodeID isn't 1 to 127, so the sheet has no node-ID",
     "an index of the list is smaller than the one before it",
     "an object or sub-index before it has the same name",
     "the object or sub-index has no ParameterName",
@@ -125,7 +128,7 @@ pub fn meaning_of(kind: WarningKind) -> &'static str
 }
 
 /// How a warning of each kind is fixed, by row.
-const FIXES: [&str; 25] = [
+const FIXES: [&str; 26] = [
     "count the sections, or leave the key out",
     "give it the highest sub-index that the object has",
     "add the missing section or keys",
@@ -146,6 +149,7 @@ const FIXES: [&str; 25] = [
     "shorten the line",
     "write ASCII alone",
     "write ASCII alone",
+    "give the node-ID of the device",
     "sort the list by index",
     "give each object, and each sub-index of an object, a name of its own",
     "add ParameterName",
@@ -162,7 +166,7 @@ pub fn fix_of(kind: WarningKind) -> &'static str
 }
 
 /// The subject that has the rule of each kind, by row.
-const SUBJECTS: [&str; 25] = [
+const SUBJECTS: [&str; 26] = [
     "CiA 306-1, object description",
     "CiA 301, sub-index 0 of arrays and records",
     "CiA 306-1, file information",
@@ -182,6 +186,7 @@ const SUBJECTS: [&str; 25] = [
     "CiA 306-1, structure of an EDS",
     "CiA 306-1, structure of an EDS",
     "CiA 306-1, structure of an EDS",
+    "CiA 306-1, device commissioning",
     "CiA 306-1, object lists",
     "CiA 306-1, object description",
     "CiA 306-1, object description",

@@ -59,6 +59,10 @@ place_of other = Beginning
 
 -- what it is about, at a line with this text among these sections: what the line alone doesn't show
 abbrev pub fault_about : List TextSection → ℕ → List ℕ → FaultKind → About
+fault_about sections line text fault.TooLarge = facts.too_large line
+fault_about sections line text fault.MissingSection = facts.missing_section line
+fault_about sections line text fault.MissingMandatory = facts.missing_mandatory sections
+fault_about sections line text fault.BadNumber = facts.bad_number text
 fault_about sections line text fault.BadList = facts.bad_list line sections
 fault_about sections line text fault.ListedTwice = facts.listed_twice sections text
 fault_about sections line text fault.MissingKey = facts.missing_key line sections

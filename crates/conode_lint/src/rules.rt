@@ -12,7 +12,7 @@ use std::alloc::AllocError;
 const KEY: Key = Key { index: 0, sub: 0 };
 
 /// All kinds: another format, the faults of a text, those of a build, and the warnings.
-static SUBJECTS: [Subject; 50] = [
+static SUBJECTS: [Subject; 51] = [
     Subject::Format(OtherFormat::Xml),
     Subject::Fault(FaultKind::TooLarge),
     Subject::Fault(FaultKind::BadLine),
@@ -57,6 +57,7 @@ static SUBJECTS: [Subject; 50] = [
     Subject::Warning(WarningKind::LongLine),
     Subject::Warning(WarningKind::Utf8),
     Subject::Warning(WarningKind::NotAscii),
+    Subject::Warning(WarningKind::NodeId),
     Subject::Warning(WarningKind::ListOrder),
     Subject::Warning(WarningKind::EqualNames),
     Subject::Warning(WarningKind::MissingName),

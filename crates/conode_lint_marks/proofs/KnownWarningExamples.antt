@@ -1,5 +1,5 @@
 -- Warnings that rest on a value at fault, on both sides of each edge.
-use Rattle.std.proofs.Common.{◌≡◌, ℕ, ◌+◌, true, false, List, None, [], ◌∷◌, codes, map, refl}
+use Rattle.std.proofs.Common.{◌≡◌, ℕ, ◌+◌, true, false, List, None, [], ◌∷◌, codes, drop, map, refl}
 use Rattle.co_sheet_rows.specs.declared.fault.FaultKind.{FaultKind}
 use Rattle.co_sheet_rows.specs.declared.fault.FaultKind.TheVariants.{BadAccess, BadDefault, BadLine, BadNumber, DuplicateKey, DuplicateSection, MissingSection, TooLarge}
 use Rattle.co_sheet_rows.specs.declared.fault.SheetFault.{SheetFault}
@@ -8,7 +8,7 @@ use Rattle.co_sheet_text.specs.declared.section_kind.SectionKind.TheVariants.{De
 use Rattle.co_sheet_text.specs.Sections.{TextSection, form_of}
 use Rattle.co_sheet_warnings.specs.declared.warning.Warning.{Warning}
 use Rattle.co_sheet_warnings.specs.declared.warning.WarningKind.{WarningKind}
-use Rattle.co_sheet_warnings.specs.declared.warning.WarningKind.TheVariants.{SubNumber, SubIndex0, PdoCount, Unlisted, IdentityNumber, FixedCobId, NodeIdPlace, SharedCobId, InhibitTime, OwnHeartbeat, HeartbeatTwice, NoErrorControl, LongLine}
+use Rattle.co_sheet_warnings.specs.declared.warning.WarningKind.TheVariants.{SubNumber, SubIndex0, FileInfoKeys, DeviceInfoKeys, PdoCount, Unlisted, IdentityNumber, FixedCobId, NodeIdPlace, SharedCobId, InhibitTime, OwnHeartbeat, HeartbeatTwice, NoErrorControl, LongLine}
 use Rattle.conode_lint_marks.specs.AtFault.{is_complete, kinds_at_fault}
 use Rattle.conode_lint_marks.specs.BuildLines.{value_line}
 use Rattle.conode_lint_marks.specs.Doubts.{doubts_of, may_state}
@@ -63,6 +63,34 @@ device_info : known_warnings [] (section DeviceInfo 1 ∷ section (Object 0x2000
 unfolding known_warnings unknown_of is_complete kinds_at_fault doubts_of whole_line value_line
 device_info = refl
 
+-- FileInfo and DeviceInfo: a section line may be that of one that is missing, and not of one that is there; a line of
+-- DeviceInfo without a key may be any of its keys
+abbrev infos : ℕ → List Warning
+infos line = warning (FileInfoKeys []) line ∷ warning (DeviceInfoKeys []) line ∷ []
+
+missing_infos : left_by (fault BadLine 30 ∷ []) (infos 0) ∷ left_by (fault BadLine 30 ∷ []) (infos 1) ∷ left_by (fault BadNumber 2 ∷ []) (infos 0) ∷ [] ≡ [] ∷ infos 1 ∷ infos 0 ∷ []
+unfolding known_warnings unknown_of is_complete kinds_at_fault doubts_of whole_line value_line
+missing_infos = refl
+
+device_keys : map (λ line. known_warnings (codes "[DeviceInfo]" ∷ codes "VendorName V" ∷ codes "CompactPDO=x" ∷ []) (section DeviceInfo 1 ∷ []) (fault BadLine line ∷ []) (infos 1)) (2 ∷ 3 ∷ []) ≡ (warning (FileInfoKeys []) 1 ∷ []) ∷ infos 1 ∷ []
+unfolding known_warnings unknown_of is_complete kinds_at_fault doubts_of whole_line value_line
+device_keys = refl
+
+-- the sub-indices of an object in compact form aren't counted, or may be where CompactSubObj can't be read; those of another are
+abbrev compact : List ℕ → List TextSection
+compact number =
+    record { kind = Object 0x2000; name = []; line = 1; properties = record { name = codes "SubNumber"; value = codes "10"; line = 2 } ∷ record { name = codes "CompactSubObj"; value = number; line = 3 } ∷ [] }
+    ∷ record { kind = SubIndex (record { index = 0x2000; sub = 0 }); name = []; line = 4; properties = record { name = codes "DefaultValue"; value = codes "9"; line = 5 } ∷ [] }
+    ∷ record { kind = Object 0x2001; name = []; line = 6; properties = record { name = codes "SubNumber"; value = codes "10"; line = 7 } ∷ [] }
+    ∷ record { kind = SubIndex (record { index = 0x2001; sub = 0 }); name = []; line = 8; properties = record { name = codes "DefaultValue"; value = codes "9"; line = 9 } ∷ [] } ∷ []
+
+abbrev counted : List Warning
+counted = warning SubNumber 2 ∷ warning SubIndex0 5 ∷ warning SubNumber 7 ∷ warning SubIndex0 9 ∷ []
+
+compact_forms : map (λ number. known_warnings [] (compact number) [] counted) (codes "9" ∷ codes "x" ∷ codes "0" ∷ []) ≡ drop 2 counted ∷ drop 2 counted ∷ counted ∷ []
+unfolding known_warnings unknown_of is_complete kinds_at_fault doubts_of whole_line value_line
+compact_forms = refl
+
 -- a COB-ID: nothing is said of its own value
 cob_id : left_by (fault BadDefault 12 ∷ []) (warning FixedCobId 11 ∷ warning FixedCobId 12 ∷ warning NodeIdPlace 12 ∷ warning LongLine 12 ∷ warning FixedCobId 13 ∷ [])
     ≡ warning FixedCobId 11 ∷ warning LongLine 12 ∷ warning FixedCobId 13 ∷ []
@@ -95,9 +123,14 @@ described =
     ∷ valued (sub 0x1016 2) 16 17 ∷ section (sub 0x1018 1) 18 ∷ section (sub 0x1018 4) 20 ∷ []
 
 -- in a section without ParameterValue, and in one that has it
-stating : map (λ line. (may_state false (form_of line), may_state true (form_of line))) (codes "DefaultValue=1" ∷ codes "parametervalue = 1" ∷ codes "DefaultValue 1" ∷ codes "= 1" ∷ codes "DefaultValue=" ∷ [])
-    ≡ (true, false) ∷ (true, true) ∷ (true, false) ∷ (true, false) ∷ (true, false) ∷ []
+abbrev states : List (List ℕ)
+states = codes "DefaultValue=1" ∷ codes "parametervalue = 1" ∷ codes "DefaultValue 1" ∷ codes "= 1" ∷ codes "DefaultValue=" ∷ []
+
+stating : map (λ line. may_state false (form_of line)) states ≡ true ∷ true ∷ true ∷ true ∷ true ∷ []
 stating = refl
+
+stating_beside : map (λ line. may_state true (form_of line)) states ≡ false ∷ true ∷ false ∷ false ∷ false ∷ []
+stating_beside = refl
 
 stating_nothing : map (λ line. may_state false (form_of line)) ([] ∷ codes ";DefaultValue=1" ∷ codes "LowLimit=1" ∷ codes "DefaultValues=1" ∷ codes "[2000" ∷ []) ≡ false ∷ false ∷ false ∷ false ∷ false ∷ []
 stating_nothing = refl
@@ -165,7 +198,7 @@ cob_id_sections =
 abbrev shared_left : List SheetFault → List Warning
 shared_left faults = left_with cob_id_lines cob_id_sections (warning (SharedCobId 5) 4 ∷ warning (SharedCobId 5) 7 ∷ []) faults
 
--- without one; of the first, the second and the third: two of the other are left; of a DefaultValue beside a ParameterValue, of another
+-- of a section line; of the first, of the second and of the third; of a DefaultValue beside a ParameterValue; of another
 shared : map (λ line. shared_left (fault BadDefault line ∷ [])) (1 ∷ 2 ∷ 4 ∷ 7 ∷ 6 ∷ 9 ∷ [])
     ≡ (warning (SharedCobId 5) 4 ∷ warning (SharedCobId 5) 7 ∷ []) ∷ (warning (SharedCobId 5) 7 ∷ []) ∷ (warning (SharedCobId 5) 7 ∷ []) ∷ (warning (SharedCobId 5) 4 ∷ [])
     ∷ (warning (SharedCobId 5) 4 ∷ warning (SharedCobId 5) 7 ∷ []) ∷ (warning (SharedCobId 5) 4 ∷ warning (SharedCobId 5) 7 ∷ []) ∷ []

@@ -1,16 +1,17 @@
 -- The warnings of a text that rest on nothing at fault.
-use Rattle.std.specs.Prelude.{ℕ, Bool, false, not, ◌&&◌, ◌||◌, ◌==◌, nat_lt, if◌then◌else◌, List, [], ◌∷◌, ◌++◌, drop}
+use Rattle.std.specs.Prelude.{ℕ, Bool, false, not, ◌&&◌, ◌||◌, ◌==◌, nat_lt, if◌then◌else◌, List, [], ◌∷◌, ◌++◌, drop, codes}
 use Rattle.std.specs.List.{list_any, prefix_len}
 use Rattle.std.specs.Option.{option_map_or}
 use Rattle.co_sheet_rows.specs.declared.fault.SheetFault.{SheetFault}
 use Rattle.co_sheet_text.specs.declared.section_kind.SectionKind.{SectionKind}
-use Rattle.co_sheet_text.specs.declared.section_kind.SectionKind.TheVariants.{SubIndex}
-use Rattle.co_sheet_text.specs.Sections.{TextSection}
+use Rattle.co_sheet_text.specs.declared.section_kind.SectionKind.TheVariants.{Object, SubIndex}
+use Rattle.co_sheet_text.specs.Properties.{property_number}
+use Rattle.co_sheet_text.specs.Sections.{TextSection, property_at, section_at}
 use Rattle.co_sheet_warnings.specs.Repeats.{compared}
 use Rattle.co_sheet_warnings.specs.declared.repeats.ComparedNumber.{ComparedNumber}
 use Rattle.co_sheet_warnings.specs.declared.warning.Warning.{Warning}
 use Rattle.co_sheet_warnings.specs.declared.warning.WarningKind.{WarningKind}
-use Rattle.co_sheet_warnings.specs.declared.warning.WarningKind.TheVariants.{SubNumber, SubIndex0, PdoCount, Unlisted, IdentityNumber, FixedCobId, NodeIdPlace, SharedCobId, InhibitTime, OwnHeartbeat, HeartbeatTwice, NoErrorControl}
+use Rattle.co_sheet_warnings.specs.declared.warning.WarningKind.TheVariants.{SubNumber, SubIndex0, FileInfoKeys, DeviceInfoKeys, PdoCount, Unlisted, IdentityNumber, FixedCobId, NodeIdPlace, SharedCobId, InhibitTime, OwnHeartbeat, HeartbeatTwice, NoErrorControl}
 use Rattle.conode_lint_marks.specs.declared.concerns.Concern.TheVariants.{CompactPdo, Same, SectionLine, SubsOf}
 use Rattle.conode_lint_marks.specs.declared.known_warnings.Unknown.{Unknown}
 use Rattle.conode_lint_marks.specs.declared.mark.Mark.{Mark}
@@ -22,13 +23,42 @@ use Rattle.conode_lint_marks.specs.Doubts.{doubts_of}
 
 -- ---- what isn't known, by the sections at fault
 
--- what may be wrong: which sections there are, CompactPDO, what is listed
+-- CompactSubObj isn't 0, so sub-indices have no sections (CiA 306-1, compact storage)
+abbrev pub is_compact : TextSection → Bool
+is_compact s =
+    option_map_or (λ k. not (option_map_or (λ n. n == 0) (property_number k) false))
+    (property_at (codes "CompactSubObj") s) false
+
+-- what may be wrong: which sections there are, CompactPDO, what is listed; and whether an object is in
+-- compact form
 unfoldable pub unknown_of : List TextSection → List SectionKind → Unknown
 unknown_of sections kinds = record {
   sections = is_any SectionLine kinds;
   info = is_any CompactPdo kinds;
   lists = not (is_complete sections kinds);
+  compact = list_any is_compact sections;
 }
+
+-- a line is that of SubNumber or of the value in a section of an object in compact form
+abbrev pub is_object_compact : List TextSection → ℕ → Bool
+is_object_compact sections index =
+    option_map_or is_compact (section_at (Object index) sections) false
+
+abbrev pub is_of_compact : List TextSection → SectionKind → Bool
+is_of_compact sections (Object index) = is_object_compact sections index
+is_of_compact sections (SubIndex key) = is_object_compact sections key.index
+is_of_compact sections kind = false
+
+abbrev pub counts_at : ℕ → TextSection → Bool
+counts_at line s =
+    (value_line s == line)
+    || option_map_or (λ k. k.line == line) (property_at (codes "SubNumber") s) false
+
+abbrev pub counts_compact : List TextSection → ℕ → TextSection → Bool
+counts_compact sections line s = counts_at line s && is_of_compact sections s.kind
+
+abbrev pub is_in_compact : Unknown → List TextSection → ℕ → Bool
+is_in_compact u sections line = u.compact && list_any (counts_compact sections line) sections
 
 -- ---- values that may be wrong
 
@@ -94,8 +124,13 @@ begins_at line (f ∷ faults) = f.line == line
 -- one of these faults
 abbrev pub rests_on_fault : Unknown → List TextSection → List SectionKind → List SheetFault
     → ℕ → WarningKind → Bool
-rests_on_fault u sections doubts faults line SubNumber = u.sections
-rests_on_fault u sections doubts faults line SubIndex0 = u.sections || begins_at line faults
+rests_on_fault u sections doubts faults line SubNumber =
+    u.sections || is_in_compact u sections line
+rests_on_fault u sections doubts faults line SubIndex0 =
+    u.sections || begins_at line faults || is_in_compact u sections line
+rests_on_fault u sections doubts faults line (FileInfoKeys missing) = (line == 0) && u.sections
+rests_on_fault u sections doubts faults line (DeviceInfoKeys missing) =
+    ((line == 0) && u.sections) || is_any CompactPdo doubts
 rests_on_fault u sections doubts faults line PdoCount = u.sections || u.info
 rests_on_fault u sections doubts faults line Unlisted = u.lists
 rests_on_fault u sections doubts faults line NoErrorControl = u.lists

@@ -6,10 +6,16 @@ ghost use Rattle.co_sheet_text.specs.Views.{section_view};
 ghost use Rattle.conode_lint_marks.specs.KnownWarnings.{
   begins_at,
   comes_before,
+  counts_at,
+  counts_compact,
   faults_from,
   has_number,
+  is_compact,
   is_either_in_doubt,
   is_first,
+  is_in_compact,
+  is_object_compact,
+  is_of_compact,
   is_second,
   is_sound,
   is_time_in_doubt,
@@ -27,7 +33,7 @@ use crate::at_fault::{AtFault, faults_before, is_complete};
 use crate::build_lines::value_line;
 use crate::concerns::{Concern, is_any};
 use crate::mark::{Mark, Subject};
-use co_sheet::SheetFault;
+use co_sheet::{SheetFault, section_at};
 use co_sheet_text::{SectionKind, TextSection};
 use co_sheet_warnings::{Warning, WarningKind, compared};
 use std::alloc::AllocError;
@@ -41,6 +47,29 @@ pub(crate) struct Unknown {
     info: bool,
     /// What is listed.
     lists: bool,
+    /// How many sub-indices an object has, since one is in compact form.
+    compact: bool,
+}
+
+// whether CompactSubObj isn't 0, so that sub-indices have no sections
+fn is_compact(section: &TextSection<'_, '_>) -> bool
+    ensures { result ≡ is_compact (section_view section.now) }
+{
+    match section.property(b"CompactSubObj") {
+        Some(property) => !matches!(property.number(), Some(0)),
+        None => false,
+    }
+}
+
+fn is_any_compact(sections: &[TextSection<'_, '_>]) -> bool
+    ensures { result ≡ list_any is_compact (map section_view sections.now) }
+{
+    for section in sections {
+        if is_compact(section) {
+            return true;
+        }
+    }
+    false
 }
 
 #[tactic(auto, unfolding(crate::specs::KnownWarnings::unknown_of))]
@@ -51,7 +80,70 @@ fn unknown_of(sections: &[TextSection<'_, '_>], kinds: &[SectionKind]) -> Unknow
         sections: is_any(Concern::SectionLine, kinds),
         info: is_any(Concern::CompactPdo, kinds),
         lists: !is_complete(sections, kinds),
+        compact: is_any_compact(sections),
     }
+}
+
+// whether a section is that of an object in compact form, or of a sub-index of one
+fn is_object_compact(sections: &[TextSection<'_, '_>], index: u16) -> bool
+    ensures { result ≡ is_object_compact (map section_view sections.now) index }
+{
+    match section_at(sections, SectionKind::Object(index)) {
+        Some(section) => is_compact(section),
+        None => false,
+    }
+}
+
+fn is_of_compact(sections: &[TextSection<'_, '_>], kind: SectionKind) -> bool
+    ensures { result ≡ is_of_compact (map section_view sections.now) kind }
+{
+    match kind {
+        SectionKind::Object(index) => is_object_compact(sections, index),
+        SectionKind::SubIndex(key) => is_object_compact(sections, key.index),
+        _ => false,
+    }
+}
+
+// whether a section has its SubNumber or its value at a line
+fn counts_at(line: usize, section: &TextSection<'_, '_>) -> bool
+    ensures { result ≡ counts_at line (section_view section.now) }
+{
+    if value_line(section) == line {
+        return true;
+    }
+    match section.property(b"SubNumber") {
+        Some(property) => property.line == line,
+        None => false,
+    }
+}
+
+fn counts_compact(
+    sections: &[TextSection<'_, '_>],
+    line: usize,
+    section: &TextSection<'_, '_>,
+) -> bool
+    ensures { result ≡ counts_compact
+        (map section_view sections.now) line (section_view section.now) }
+{
+    counts_at(line, section) && is_of_compact(sections, section.kind)
+}
+
+fn is_any_counting(sections: &[TextSection<'_, '_>], line: usize) -> bool
+    ensures { result ≡ list_any (counts_compact (map section_view sections.now) line)
+        (map section_view sections.now) }
+{
+    for section in sections {
+        if counts_compact(sections, line, section) {
+            return true;
+        }
+    }
+    false
+}
+
+fn is_in_compact(unknown: Unknown, sections: &[TextSection<'_, '_>], line: usize) -> bool
+    ensures { result ≡ is_in_compact unknown (map section_view sections.now) line }
+{
+    unknown.compact && is_any_counting(sections, line)
 }
 
 // whether a section has the inhibit time at a line, and one of the two numbers of its TPDO may be
@@ -225,8 +317,14 @@ fn rests_on_fault(
         (map section_view sections.now) doubts.now faults.now line kind }
 {
     match kind {
-        WarningKind::SubNumber => unknown.sections,
-        WarningKind::SubIndex0 => unknown.sections || begins_at(line, faults),
+        WarningKind::SubNumber => unknown.sections || is_in_compact(unknown, sections, line),
+        WarningKind::SubIndex0 => {
+            unknown.sections || begins_at(line, faults) || is_in_compact(unknown, sections, line)
+        }
+        WarningKind::FileInfoKeys(_) => line == 0 && unknown.sections,
+        WarningKind::DeviceInfoKeys(_) => {
+            (line == 0 && unknown.sections) || is_any(Concern::CompactPdo, doubts)
+        }
         WarningKind::PdoCount => unknown.sections || unknown.info,
         WarningKind::Unlisted | WarningKind::NoErrorControl => unknown.lists,
         WarningKind::SharedCobId(_) | WarningKind::HeartbeatTwice(_) => {

@@ -1,5 +1,5 @@
 -- What a sheet has where a finding is, evaluated.
-use Rattle.std.proofs.Common.{◌≡◌, ℕ, true, false, List, Some, None, [], ◌∷◌, ◌++◌, codes, refl}
+use Rattle.std.proofs.Common.{◌≡◌, ℕ, true, false, List, Some, None, [], ◌∷◌, ◌++◌, codes, map, refl}
 use Rattle.std.specs.Prelude.{replicate}
 use Rattle.std.specs.Fmt.{digits}
 use Rattle.co_sheet_warnings.specs.declared.known_key.KnownKey.TheVariants.{NrOfRxPdo}
@@ -11,15 +11,15 @@ use Rattle.conode_lint_text.specs.declared.finding.About.{About}
 use Rattle.conode_lint_text.specs.declared.finding.About.TheVariants.{Line, FirstAt, Misspelt, Fact}
 use Rattle.conode_lint_text.specs.declared.fact.Fact.TheVariants as fact
 use Rattle.conode_lint_text.specs.FactTexts.{count_text, fact_text, hexadecimal, identity_text, missing_text}
-use Rattle.conode_lint_text.specs.Facts.{bad_list, count_fact, device_info, duplicate_key, duplicate_section, file_info, first_at, identity_number, list_fact, listed_twice, missing_key, pdo_count, sub_index_0, sub_number}
+use Rattle.conode_lint_text.specs.Facts.{bad_list, bad_number, count_fact, device_info, duplicate_key, duplicate_section, file_info, first_at, identity_number, list_fact, listed_twice, missing_key, missing_mandatory, missing_section, pdo_count, sub_index_0, sub_number, too_large}
 use Rattle.conode_lint_text.specs.Bounds.{bad_default, bad_limits}
 use Rattle.conode_lint_text.specs.Findings.{about_message, fix_with}
 
 -- ---- the sentences
 
-lists : fact_text fact.NoCount ∷ fact_text (fact.ListGap 7 6 3) ∷ fact_text (fact.ListCount 3 2) ∷ fact_text fact.HighIndex ∷ []
+lists : fact_text fact.NoCount ∷ fact_text (fact.ListGap 7 6 3) ∷ fact_text (fact.ListCount 3 2) ∷ fact_text (fact.HighIndex 12) ∷ []
     ≡ codes "the list has no SupportedObjects" ∷ codes "the list counts 7 objects and has 6: key 3 is missing"
-    ∷ codes "the list counts 3 objects and has 2 of the keys 1 to 3" ∷ codes "an index of the list is above 0xFFFF" ∷ []
+    ∷ codes "the list counts 3 objects and has 2 of the keys 1 to 3" ∷ codes "the index of line 12 is above 0xFFFF" ∷ []
 unfolding fact_text count_text filled digits
 lists = refl
 
@@ -53,6 +53,23 @@ sub_index_fixes : fix_with (Fact (fact.NoType true)) (codes "f") ∷ fix_with (F
     ≡ codes "add DataType" ∷ codes "add AccessType" ∷ codes "add DataType and AccessType" ∷ []
 unfolding fix_with
 sub_index_fixes = refl
+
+-- the three of the mandatory objects
+mandatory_objects : map (λ missing. fact_text missing) (fact.NotListed true true true ∷ fact.NotListed true true false ∷ fact.NotListed true false true ∷ fact.NotListed false true true ∷ fact.NotListed true false false ∷ fact.NotListed false true false ∷ fact.NotListed false false true ∷ [])
+    ≡ codes "no object list names 1000h, 1001h and 1018h" ∷ codes "no object list names 1000h and 1001h" ∷ codes "no object list names 1000h and 1018h" ∷ codes "no object list names 1001h and 1018h"
+    ∷ codes "no object list names 1000h" ∷ codes "no object list names 1001h" ∷ codes "no object list names 1018h" ∷ []
+unfolding fact_text
+mandatory_objects = refl
+
+whole_texts : fact_text fact.NoMandatoryList ∷ fact_text fact.LargeText ∷ fact_text fact.NoValue ∷ [] ≡ codes "there is no section [MandatoryObjects]" ∷ codes "the text has more than 1,048,576 bytes" ∷ codes "the value is no number" ∷ []
+unfolding fact_text
+whole_texts = refl
+
+other_fixes : fix_with (Fact (fact.HighIndex 12)) (codes "f") ∷ fix_with (Fact fact.NoMandatoryList) (codes "f") ∷ fix_with (Fact (fact.NotListed true false false)) (codes "f") ∷ fix_with (Fact fact.LargeText) (codes "f") ∷ fix_with (Fact fact.NoValue) (codes "f") ∷ []
+    ≡ codes "give an index of at most four hexadecimal digits" ∷ codes "add it, with 1000h, 1001h and 1018h" ∷ codes "list what is missing, with its section" ∷ codes "take out comments and sections that are passed over"
+    ∷ codes "write decimal digits, 0x and hexadecimal digits, or a sum as $NODEID+0x180" ∷ []
+unfolding fix_with
+other_fixes = refl
 
 counts : fact_text (fact.SubNumber 3 4) ∷ fact_text (fact.NoSubNumber 4) ∷ fact_text (fact.SubIndex0 2 4) ∷ []
     ≡ codes "SubNumber is 3, and the number of the object's sub-index sections is 4"
@@ -113,8 +130,25 @@ sections =
 
 -- of a line where no section begins, nothing
 bad_lists : bad_list 1 sections ∷ bad_list 10 sections ∷ bad_list 20 sections ∷ bad_list 2 sections ∷ []
-    ≡ Fact (fact.ListGap 3 2 2) ∷ Fact fact.HighIndex ∷ Fact fact.NoCount ∷ Line ∷ []
+    ≡ Fact (fact.ListGap 3 2 2) ∷ Fact (fact.HighIndex 12) ∷ Fact fact.NoCount ∷ Line ∷ []
 bad_lists = refl
+
+-- of two high indices the first, and one past the count is none
+high_indices : list_fact (section 1 MandatoryObjects
+    (property 2 (codes "SupportedObjects") (codes "3") ∷ property 3 (codes "1") (codes "0xFFFF") ∷ property 4 (codes "9") (codes "0x20000") ∷ property 5 (codes "2") (codes "0x10000") ∷ property 6 (codes "3") (codes "0x10001") ∷ []))
+    ≡ Fact (fact.HighIndex 5)
+high_indices = refl
+
+-- the whole text, and a line
+no_line : too_large 0 ∷ too_large 1 ∷ missing_section 0 ∷ missing_section 1 ∷ [] ≡ Fact fact.LargeText ∷ Line ∷ Fact fact.NoMandatoryList ∷ Line ∷ []
+no_line = refl
+
+-- of the lists above: 1018h is past the count of the first
+listed_nowhere : missing_mandatory sections ∷ missing_mandatory [] ∷ [] ≡ Fact (fact.NotListed false false true) ∷ Fact (fact.NotListed true true true) ∷ []
+listed_nowhere = refl
+
+bad_numbers : bad_number (codes " defaultvalue = x") ∷ bad_number (codes "ParameterValue=x") ∷ bad_number (codes "LowLimit=x") ∷ [] ≡ Fact fact.NoValue ∷ Fact fact.NoValue ∷ Line ∷ []
+bad_numbers = refl
 
 -- 2, 1 and then 4: the key after them isn't known from their order
 other_order : list_fact (section 1 MandatoryObjects

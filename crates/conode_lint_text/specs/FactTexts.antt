@@ -6,7 +6,7 @@ use Rattle.co_sheet_warnings.specs.Infos.{device_keys, file_keys}
 use Rattle.co_sheet_warnings.specs.KnownKeys.{key_text}
 use Rattle.conode_text.specs.Filled.{filled}
 use Rattle.conode_lint_text.specs.declared.fact.Fact.{Fact}
-use Rattle.conode_lint_text.specs.declared.fact.Fact.TheVariants.{NoCount, ListCount, ListGap, HighIndex, NoType, NoAccess, NoTypeOrAccess, NoFileInfo, FileInfoLacks, NoDeviceInfo, DeviceInfoLacks, NoSubNumber, SubNumber, SubIndex0, RpdoCount, TpdoCount, Identity, BelowLow, AboveHigh, LimitsCrossed}
+use Rattle.conode_lint_text.specs.declared.fact.Fact.TheVariants.{NoCount, ListCount, ListGap, HighIndex, NoMandatoryList, NotListed, LargeText, NoValue, NoType, NoAccess, NoTypeOrAccess, NoFileInfo, FileInfoLacks, NoDeviceInfo, DeviceInfoLacks, NoSubNumber, SubNumber, SubIndex0, RpdoCount, TpdoCount, Identity, BelowLow, AboveHigh, LimitsCrossed}
 
 -- words with numbers in their places; those past the last place aren't written
 abbrev pub with_numbers : List ℕ → ℕ → ℕ → ℕ → List ℕ
@@ -30,7 +30,17 @@ missing_text words (key ∷ keys) (true ∷ missing) =
 missing_text words (key ∷ keys) (false ∷ missing) = missing_text words keys missing
 missing_text words keys missing = []
 
--- of a fact with two numbers or three
+-- which of 1000h, 1001h and 1018h no object list names
+abbrev pub not_listed : Bool → Bool → Bool → List ℕ
+not_listed true true true = codes "no object list names 1000h, 1001h and 1018h"
+not_listed true true false = codes "no object list names 1000h and 1001h"
+not_listed true false true = codes "no object list names 1000h and 1018h"
+not_listed false true true = codes "no object list names 1001h and 1018h"
+not_listed true false false = codes "no object list names 1000h"
+not_listed false true false = codes "no object list names 1001h"
+not_listed false false identity = codes "no object list names 1018h"
+
+-- of a fact with numbers
 unfoldable pub count_text : Fact → List ℕ
 count_text (ListCount counted has) =
     with_numbers (codes "the list counts % objects and has % of the keys 1 to %")
@@ -53,6 +63,8 @@ count_text (BelowLow line) =
     with_numbers (codes "the value is below the LowLimit of line %") line 0 0
 count_text (AboveHigh line) =
     with_numbers (codes "the value is above the HighLimit of line %") line 0 0
+count_text (HighIndex line) =
+    with_numbers (codes "the index of line % is above 0xFFFF") line 0 0
 count_text (LimitsCrossed line) =
     with_numbers (codes "HighLimit is below the LowLimit of line %") line 0 0
 count_text other = []
@@ -60,7 +72,10 @@ count_text other = []
 -- of any fact
 unfoldable pub fact_text : Fact → List ℕ
 fact_text NoCount = codes "the list has no SupportedObjects"
-fact_text HighIndex = codes "an index of the list is above 0xFFFF"
+fact_text NoMandatoryList = codes "there is no section [MandatoryObjects]"
+fact_text (NotListed device error identity) = not_listed device error identity
+fact_text LargeText = codes "the text has more than 1,048,576 bytes"
+fact_text NoValue = codes "the value is no number"
 fact_text (NoType is_sub) = codes "the entry has no DataType"
 fact_text (NoAccess is_sub) = codes "the entry has no AccessType"
 fact_text (NoTypeOrAccess is_sub) = codes "the entry has neither DataType nor AccessType"

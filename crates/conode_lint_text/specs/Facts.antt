@@ -1,7 +1,7 @@
 -- What a sheet has where a finding is (CiA 306-1, structure of an EDS, object lists, object
 -- description, device information): its sections as they are read in spite of lines at fault, and
 -- the text of the finding's line.
-use Rattle.std.specs.Prelude.{ℕ, ◌+◌, ◌==◌, nat_lt, nat_le, max, fold, Bool, true, false, ◌&&◌, if◌then◌else◌, List, [], ◌∷◌, drop, find, count_by, codes, Option, Some, None, is_some, option_and_then, option_map}
+use Rattle.std.specs.Prelude.{ℕ, ◌+◌, ◌==◌, nat_lt, nat_le, max, fold, Bool, true, false, ◌&&◌, ◌||◌, if◌then◌else◌, List, [], ◌∷◌, drop, find, count_by, codes, Option, Some, None, is_some, is_none, option_and_then, option_map}
 use Rattle.std.specs.List.{list_any, before_first, after_first}
 use Rattle.std.specs.Option.{option_map_or, option_or}
 use Rattle.std.specs.Result.{result_ok}
@@ -74,12 +74,23 @@ gap_fact counted has properties next =
     if has_key next properties then Fact (fact.ListCount counted has)
     else Fact (fact.ListGap counted has next)
 
--- or where an index is too high
+-- or where an index is too high: the line of the first
+abbrev pub is_high : ℕ → Property → Bool
+is_high counted k =
+    is_key_to counted k.name && option_map_or (λ n. nat_lt 65535 n) (property_number k) false
+
+abbrev pub high_line : ℕ → List Property → Option ℕ
+high_line counted properties = option_map (λ k. k.line) (find (is_high counted) properties)
+
+abbrev pub high_fact : ℕ → List Property → About
+high_fact counted properties =
+    option_map_or (λ line. Fact (fact.HighIndex line)) (high_line counted properties) Line
+
 abbrev pub count_fact : ℕ → List Property → ℕ → About
 count_fact counted properties has =
     if nat_lt has counted then gap_fact counted has properties (next_key properties)
     else if nat_lt 65535 counted then Line
-    else Fact fact.HighIndex
+    else high_fact counted properties
 
 abbrev pub counted_fact : TextSection → ℕ → About
 counted_fact list counted =
@@ -123,7 +134,32 @@ first_listed sections index = option_map_or (λ line. FirstAt line) (listed_line
 abbrev pub listed_twice : List TextSection → List ℕ → About
 listed_twice sections text = option_map_or (first_listed sections) (key_number text) Line
 
+-- ---- the whole text, where no line is to blame
+
+-- of the TooLarge and of the MissingSection of a line
+abbrev pub too_large : ℕ → About
+too_large line = if line == 0 then Fact fact.LargeText else Line
+
+abbrev pub missing_section : ℕ → About
+missing_section line = if line == 0 then Fact fact.NoMandatoryList else Line
+
+-- of MissingMandatory: which are listed nowhere
+abbrev pub is_listed_nowhere : List TextSection → ℕ → Bool
+is_listed_nowhere sections index = is_none (listed_line index sections)
+
+abbrev pub missing_mandatory : List TextSection → About
+missing_mandatory sections =
+    Fact (fact.NotListed (is_listed_nowhere sections 0x1000) (is_listed_nowhere sections 0x1001)
+    (is_listed_nowhere sections 0x1018))
+
 -- ---- keys and sections
+
+-- of the BadNumber of a line: a value may be a sum with `$NODEID`
+abbrev pub bad_number : List ℕ → About
+bad_number text =
+    if same_name (key_name text) (codes "DefaultValue")
+    || same_name (key_name text) (codes "ParameterValue")
+    then Fact fact.NoValue else Line
 
 -- of an object or a sub-index that has DataType or AccessType, or not
 abbrev pub key_fact : Bool → Bool → Bool → About

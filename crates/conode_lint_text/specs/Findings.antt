@@ -7,7 +7,7 @@ use Rattle.conode_text.specs.Filled.{filled}
 use Rattle.conode_json.specs.Characters.{characters_of}
 use Rattle.conode_lint_text.specs.Characters.{blanks}
 use Rattle.conode_lint_text.specs.FactTexts.{fact_text}
-use Rattle.conode_lint_text.specs.declared.fact.Fact.TheVariants.{NoType, NoAccess, NoTypeOrAccess}
+use Rattle.conode_lint_text.specs.declared.fact.Fact.TheVariants.{HighIndex, NoMandatoryList, NotListed, LargeText, NoValue, NoType, NoAccess, NoTypeOrAccess}
 use Rattle.conode_lint_text.specs.declared.finding.About.{About}
 use Rattle.conode_lint_text.specs.declared.finding.About.TheVariants.{Line, Object, Entry, Bits, FirstAt, Misspelt, Fact}
 use Rattle.conode_lint_text.specs.declared.finding.Finding.{Finding}
@@ -58,9 +58,16 @@ about_message (Fact fact) meaning = fact_text fact
 unfoldable pub message_of : Finding → List ℕ
 message_of finding = about_message finding.about finding.meaning.now
 
--- how to fix it: where keys are missing, which to add. An object may be an ARRAY or a RECORD that
--- lacks its type; a sub-index is none.
+-- how to fix it, where what the sheet has there says more than the kind. An object may be an ARRAY or
+-- a RECORD that lacks its type; a sub-index is none.
 unfoldable pub fix_with : About → List ℕ → List ℕ
+fix_with (Fact (HighIndex line)) fix = codes "give an index of at most four hexadecimal digits"
+fix_with (Fact NoMandatoryList) fix = codes "add it, with 1000h, 1001h and 1018h"
+fix_with (Fact (NotListed device error identity)) fix =
+    codes "list what is missing, with its section"
+fix_with (Fact LargeText) fix = codes "take out comments and sections that are passed over"
+fix_with (Fact NoValue) fix =
+    codes "write decimal digits, 0x and hexadecimal digits, or a sum as $NODEID+0x180"
 fix_with (Fact (NoType true)) fix = codes "add DataType"
 fix_with (Fact (NoAccess true)) fix = codes "add AccessType"
 fix_with (Fact (NoTypeOrAccess true)) fix = codes "add DataType and AccessType"

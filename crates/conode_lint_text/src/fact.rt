@@ -8,6 +8,7 @@ ghost use Rattle.conode_lint_text.specs.FactTexts.{
   hexadecimal,
   identity_text,
   missing_text,
+  not_listed,
 };
 
 use co_sheet_warnings::{KnownKey, device_keys, file_keys};
@@ -23,8 +24,16 @@ pub enum Fact {
     ListCount(u64, usize),
     /// The same, and the first key that is missing.
     ListGap(u64, usize, usize),
-    /// An object list that names an index above 0xFFFF.
-    HighIndex,
+    /// An object list that names an index above 0xFFFF, by the line of that key.
+    HighIndex(usize),
+    /// A sheet without the list of the mandatory objects.
+    NoMandatoryList,
+    /// Whether no object list names 1000h, 1001h and 1018h.
+    NotListed(bool, bool, bool),
+    /// A text that is too large.
+    LargeText,
+    /// A value that is no number.
+    NoValue,
     /// An entry without DataType, and whether it is a sub-index.
     NoType(bool),
     /// The same without AccessType.
@@ -166,6 +175,15 @@ fn push_count(text: &mut String, fact: Fact) -> Result<(), AllocError>
                 0,
             )
         }
+        Fact::HighIndex(line) => {
+            push_numbers(
+                text,
+                "the index of line % is above 0xFFFF",
+                line as u64,
+                0,
+                0,
+            )
+        }
         Fact::LimitsCrossed(line) => {
             push_numbers(
                 text,
@@ -211,6 +229,21 @@ fn push_missing(
     push_missing(text, ", ", keys, missing)
 }
 
+// which of 1000h, 1001h and 1018h no object list names
+fn not_listed(device: bool, error: bool, identity: bool) -> &'static str
+    ensures { result.now ≡ not_listed device error identity }
+{
+    match (device, error, identity) {
+        (true, true, true) => "no object list names 1000h, 1001h and 1018h",
+        (true, true, false) => "no object list names 1000h and 1001h",
+        (true, false, true) => "no object list names 1000h and 1018h",
+        (false, true, true) => "no object list names 1001h and 1018h",
+        (true, false, false) => "no object list names 1000h",
+        (false, true, false) => "no object list names 1001h",
+        (false, false, _) => "no object list names 1018h",
+    }
+}
+
 /// Appends the sentence of a fact. `Err`: out of memory; a part of the text may be there.
 #[tactic(auto, unfolding(crate::specs::FactTexts::fact_text))]
 pub(crate) fn push_fact(text: &mut String, fact: Fact) -> Result<(), AllocError>
@@ -218,7 +251,12 @@ pub(crate) fn push_fact(text: &mut String, fact: Fact) -> Result<(), AllocError>
 {
     match fact {
         Fact::NoCount => text.push_str("the list has no SupportedObjects"),
-        Fact::HighIndex => text.push_str("an index of the list is above 0xFFFF"),
+        Fact::NoMandatoryList => text.push_str("there is no section [MandatoryObjects]"),
+        Fact::NotListed(device, error, identity) => {
+            text.push_str(not_listed(device, error, identity))
+        }
+        Fact::LargeText => text.push_str("the text has more than 1,048,576 bytes"),
+        Fact::NoValue => text.push_str("the value is no number"),
         Fact::NoType(_) => text.push_str("the entry has no DataType"),
         Fact::NoAccess(_) => text.push_str("the entry has no AccessType"),
         Fact::NoTypeOrAccess(_) => text.push_str("the entry has neither DataType nor AccessType"),

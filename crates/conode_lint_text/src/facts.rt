@@ -5,6 +5,7 @@ ghost use Rattle.std.specs.Option.{option_copied};
 ghost use Rattle.co_sheet_text.specs.Views.{property_view, section_view};
 ghost use Rattle.conode_lint_text.specs.Facts.{
   bad_list,
+  bad_number,
   count_fact,
   device_info,
   duplicate_key,
@@ -17,12 +18,16 @@ ghost use Rattle.conode_lint_text.specs.Facts.{
   first_section,
   gap_fact,
   has_key,
+  high_fact,
+  high_line,
   highest_of,
   identity_at,
   identity_number,
   initial_number,
   is_key_at,
+  is_high,
   is_key_to,
+  is_listed_nowhere,
   is_sub_index,
   is_sub_index_of,
   key_count,
@@ -35,6 +40,8 @@ ghost use Rattle.conode_lint_text.specs.Facts.{
   listed_line,
   listed_twice,
   missing_key,
+  missing_mandatory,
+  missing_section,
   names_index,
   next_key,
   pdo_count,
@@ -49,6 +56,7 @@ ghost use Rattle.conode_lint_text.specs.Facts.{
   sub_index_in,
   sub_number,
   sub_number_of,
+  too_large,
 };
 
 use crate::fact::Fact;
@@ -179,6 +187,39 @@ fn gap_fact(counted: u64, has: usize, properties: &[Property<'_>], next: usize) 
     }
 }
 
+fn is_high(counted: u64, property: &Property<'_>) -> bool
+    ensures { result ≡ is_high counted (property_view property.now) }
+{
+    if !is_key_to(counted, property.name) {
+        return false;
+    }
+    match property.number() {
+        Some(number) => number > 65535,
+        None => false,
+    }
+}
+
+// the line of the first key with an index above 0xFFFF
+fn high_line(counted: u64, properties: &[Property<'_>]) -> Option<usize>
+    ensures { result ≡ high_line counted (map property_view properties.now) }
+{
+    for property in properties {
+        if is_high(counted, property) {
+            return Some(property.line);
+        }
+    }
+    None
+}
+
+fn high_fact(counted: u64, properties: &[Property<'_>]) -> About
+    ensures { result ≡ high_fact counted (map property_view properties.now) }
+{
+    match high_line(counted, properties) {
+        Some(line) => About::Fact(Fact::HighIndex(line)),
+        None => About::Line,
+    }
+}
+
 fn count_fact(counted: u64, properties: &[Property<'_>], has: usize) -> About
     ensures { result ≡ count_fact counted (map property_view properties.now) has }
 {
@@ -187,7 +228,7 @@ fn count_fact(counted: u64, properties: &[Property<'_>], has: usize) -> About
     } else if counted > 65535 {
         About::Line
     } else {
-        About::Fact(Fact::HighIndex)
+        high_fact(counted, properties)
     }
 }
 
@@ -275,6 +316,57 @@ pub fn listed_twice(sections: &[TextSection<'_, '_>], text: &[u8]) -> About
     match key_number(text) {
         Some(index) => first_listed(sections, index),
         None => About::Line,
+    }
+}
+
+/// Of the TooLarge of a line, 0 where the text has too many bytes.
+pub fn too_large(line: usize) -> About
+    ensures { result ≡ too_large line }
+{
+    if line == 0 {
+        About::Fact(Fact::LargeText)
+    } else {
+        About::Line
+    }
+}
+
+/// Of the MissingSection of a line, 0 where there is no list of the mandatory objects.
+pub fn missing_section(line: usize) -> About
+    ensures { result ≡ missing_section line }
+{
+    if line == 0 {
+        About::Fact(Fact::NoMandatoryList)
+    } else {
+        About::Line
+    }
+}
+
+fn is_listed_nowhere(sections: &[TextSection<'_, '_>], index: u64) -> bool
+    ensures { result ≡ is_listed_nowhere (map section_view sections.now) index }
+{
+    listed_line(index, sections).is_none()
+}
+
+/// Of MissingMandatory: which of 1000h, 1001h and 1018h no object list names.
+pub fn missing_mandatory(sections: &[TextSection<'_, '_>]) -> About
+    ensures { result ≡ missing_mandatory (map section_view sections.now) }
+{
+    About::Fact(Fact::NotListed(
+        is_listed_nowhere(sections, 0x1000),
+        is_listed_nowhere(sections, 0x1001),
+        is_listed_nowhere(sections, 0x1018),
+    ))
+}
+
+/// Of the BadNumber of a line: a value may be a sum with `$NODEID`.
+pub fn bad_number(text: &[u8]) -> About
+    ensures { result ≡ bad_number text.now }
+{
+    let name = key_name(text);
+    if same_name(name, b"DefaultValue") || same_name(name, b"ParameterValue") {
+        About::Fact(Fact::NoValue)
+    } else {
+        About::Line
     }
 }
 

@@ -71,13 +71,20 @@ pub(crate) fn push_message(text: &mut String, finding: &Finding<'_>) -> Result<(
     push_about(text, finding.about, finding.meaning)
 }
 
-/// How to fix it: where keys are missing, which to add; without its type an ARRAY or a RECORD is taken
-/// for an entry.
+/// How to fix it, where what the sheet has there says more than the kind. Without its type an ARRAY or
+/// a RECORD is taken for an entry.
 #[tactic(auto, unfolding(crate::specs::Findings::fix_with))]
 pub(crate) fn fix_of<'a>(finding: &Finding<'a>) -> &'a str
     ensures { result.now ≡ fix_of finding.now }
 {
     match finding.about {
+        About::Fact(Fact::HighIndex(_)) => "give an index of at most four hexadecimal digits",
+        About::Fact(Fact::NoMandatoryList) => "add it, with 1000h, 1001h and 1018h",
+        About::Fact(Fact::NotListed(_, _, _)) => "list what is missing, with its section",
+        About::Fact(Fact::LargeText) => "take out comments and sections that are passed over",
+        About::Fact(Fact::NoValue) => {
+            "write decimal digits, 0x and hexadecimal digits, or a sum as $NODEID+0x180"
+        }
         About::Fact(Fact::NoType(true)) => "add DataType",
         About::Fact(Fact::NoAccess(true)) => "add AccessType",
         About::Fact(Fact::NoTypeOrAccess(true)) => "add DataType and AccessType",

@@ -10,6 +10,6 @@ pub returns-in-PdoCount : goal.returns-in-PdoCount
 unfolding few_places
 returns-in-PdoCount c =
     let added = λ (l : List ℕ). OnOk c.add_each.result (c.add_each.new.warnings.items ≡ c.args.warnings.now.items ++ warnings_at c.args.kind l) in
-    let counted = c.pdo_counts.ensures ∙ ap (pdo_counts (map key_view c.text.inside.keys.now)) c.sections-sections.ensures
+    let counted = c.pdo_counts.ensures ∙ ap (pdo_counts (map key_view c.text.inside.keys.now)) c.sections.ensures
     ∙ ap (λ (t : ReadText). pdo_counts t.keys c.args.text.now.sections) c.text.view_is in
     subst (λ (kind : WarningKind). added (few_places c.args.text.now kind)) (sym c.in-PdoCount.is) (subst added counted c.add_each.ensures)
