@@ -63,6 +63,7 @@ fault_about sections line text fault.TooLarge = facts.too_large line
 fault_about sections line text fault.MissingSection = facts.missing_section line
 fault_about sections line text fault.MissingMandatory = facts.missing_mandatory sections
 fault_about sections line text fault.BadNumber = facts.bad_number text
+fault_about sections line text fault.BadType = facts.bad_type line sections text
 fault_about sections line text fault.BadList = facts.bad_list line sections
 fault_about sections line text fault.ListedTwice = facts.listed_twice sections text
 fault_about sections line text fault.MissingKey = facts.missing_key line sections

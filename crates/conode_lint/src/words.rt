@@ -24,7 +24,7 @@ use co_sheet_text::TextSection;
 use co_sheet_warnings::{WarningKind, first_equal};
 use conode_lint_marks::{Mark, Subject};
 use conode_lint_text::{
-    About, Place, Severity, bad_default, bad_limits, bad_list, bad_number, device_info,
+    About, Place, Severity, bad_default, bad_limits, bad_list, bad_number, bad_type, device_info,
     duplicate_key, duplicate_section, file_info, first_at, identity_number, listed_twice,
     missing_key, missing_mandatory, missing_section, pdo_count, sub_index_0, sub_number, too_large,
 };
@@ -92,6 +92,7 @@ fn fault_about(sections: &[TextSection<'_, '_>], line: usize, text: &[u8], kind:
         FaultKind::MissingSection => missing_section(line),
         FaultKind::MissingMandatory => missing_mandatory(sections),
         FaultKind::BadNumber => bad_number(text),
+        FaultKind::BadType => bad_type(sections, line, text),
         FaultKind::BadList => bad_list(sections, line),
         FaultKind::ListedTwice => listed_twice(sections, text),
         FaultKind::MissingKey => missing_key(sections, line),

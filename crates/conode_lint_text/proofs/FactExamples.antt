@@ -3,6 +3,7 @@ use Rattle.std.proofs.Common.{◌≡◌, ℕ, true, false, List, Some, None, [],
 use Rattle.std.specs.Prelude.{replicate}
 use Rattle.std.specs.Fmt.{digits}
 use Rattle.co_sheet_warnings.specs.declared.known_key.KnownKey.TheVariants.{NrOfRxPdo}
+use Rattle.co_text.specs.Printed.{digits_text}
 use Rattle.conode_text.specs.Filled.{filled}
 use Rattle.co_sheet_text.specs.declared.section_kind.SectionKind.{SectionKind}
 use Rattle.co_sheet_text.specs.declared.section_kind.SectionKind.TheVariants.{MandatoryObjects, OptionalObjects, ManufacturerObjects, Object, SubIndex}
@@ -11,7 +12,7 @@ use Rattle.conode_lint_text.specs.declared.finding.About.{About}
 use Rattle.conode_lint_text.specs.declared.finding.About.TheVariants.{Line, FirstAt, Misspelt, Fact}
 use Rattle.conode_lint_text.specs.declared.fact.Fact.TheVariants as fact
 use Rattle.conode_lint_text.specs.FactTexts.{count_text, fact_text, hexadecimal, identity_text, missing_text}
-use Rattle.conode_lint_text.specs.Facts.{bad_list, bad_number, count_fact, device_info, duplicate_key, duplicate_section, file_info, first_at, identity_number, list_fact, listed_twice, missing_key, missing_mandatory, missing_section, pdo_count, sub_index_0, sub_number, too_large}
+use Rattle.conode_lint_text.specs.Facts.{bad_list, bad_number, bad_type, count_fact, device_info, duplicate_key, duplicate_section, file_info, first_at, identity_number, list_fact, listed_twice, missing_key, missing_mandatory, missing_section, pdo_count, sub_index_0, sub_number, too_large}
 use Rattle.conode_lint_text.specs.Bounds.{bad_default, bad_limits}
 use Rattle.conode_lint_text.specs.Findings.{about_message, fix_with}
 
@@ -146,6 +147,15 @@ no_line = refl
 -- of the lists above: 1018h is past the count of the first
 listed_nowhere : missing_mandatory sections ∷ missing_mandatory [] ∷ [] ≡ Fact (fact.NotListed false false true) ∷ Fact (fact.NotListed true true true) ∷ []
 listed_nowhere = refl
+
+-- 1000h is an UNSIGNED32, 1001h an UNSIGNED8; 1018:01 and 1400h have no type of their own, nor has a line of another key
+bad_types : bad_type 35 sections (codes "DataType=5") ∷ bad_type 45 sections (codes " datatype = 7") ∷ bad_type 75 sections (codes "DataType=5") ∷ bad_type 105 sections (codes "DataType=5") ∷ bad_type 35 sections (codes "ObjectType=5") ∷ bad_type 1 sections (codes "DataType=5") ∷ []
+    ≡ Fact (fact.FixedType 7) ∷ Fact (fact.FixedType 5) ∷ Line ∷ Line ∷ Line ∷ Line ∷ []
+bad_types = refl
+
+type_text : fact_text (fact.FixedType 7) ∷ fix_with (Fact (fact.FixedType 7)) (codes "f") ∷ [] ≡ codes "CiA 301 has DataType=0x0007 here" ∷ codes "give that type, or take the object out of its list" ∷ []
+unfolding fact_text count_text fix_with filled digits digits_text
+type_text = refl
 
 bad_numbers : bad_number (codes " defaultvalue = x") ∷ bad_number (codes "ParameterValue=x") ∷ bad_number (codes "LowLimit=x") ∷ [] ≡ Fact fact.NoValue ∷ Fact fact.NoValue ∷ Line ∷ []
 bad_numbers = refl

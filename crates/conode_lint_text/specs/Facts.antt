@@ -5,6 +5,9 @@ use Rattle.std.specs.Prelude.{ℕ, ◌+◌, ◌==◌, nat_lt, nat_le, max, fold,
 use Rattle.std.specs.List.{list_any, before_first, after_first}
 use Rattle.std.specs.Option.{option_map_or, option_or}
 use Rattle.std.specs.Result.{result_ok}
+use Rattle.co_value.specs.declared.key.Key.{Key}
+use Rattle.co_value.specs.Types.{code_of}
+use Rattle.co_profile.specs.FixedTypes.{fixed_type_of}
 use Rattle.co_sheet_text.specs.declared.section_kind.SectionKind.{SectionKind}
 use Rattle.co_sheet_text.specs.declared.section_kind.SectionKind.TheVariants.{Object, SubIndex}
 use Rattle.co_sheet_text.specs.Names.{is_list, kind_of, number_in}
@@ -180,6 +183,23 @@ entry_fact s =
 -- of the MissingKey of the section at a line
 abbrev pub missing_key : ℕ → List TextSection → About
 missing_key line sections = option_map_or entry_fact (section_on line sections) Line
+
+-- of the BadType of a line: the type that CiA 301 has for the entry, if it has one
+abbrev pub entry_key : SectionKind → Option Key
+entry_key (Object index) = Some (record { index = index; sub = 0 })
+entry_key (SubIndex key) = Some key
+entry_key other = None
+
+abbrev pub fixed_code : SectionKind → Option ℕ
+fixed_code kind = option_map code_of (option_and_then fixed_type_of (entry_key kind))
+
+abbrev pub type_fact : TextSection → About
+type_fact s = option_map_or (λ code. Fact (fact.FixedType code)) (fixed_code s.kind) Line
+
+abbrev pub bad_type : ℕ → List TextSection → List ℕ → About
+bad_type line sections text =
+    if same_name (key_name text) (codes "DataType")
+    then option_map_or type_fact (section_before line sections) Line else Line
 
 -- of the DuplicateKey of a line
 abbrev pub first_key : List ℕ → TextSection → About

@@ -7,7 +7,7 @@ use Rattle.conode_text.specs.Filled.{filled}
 use Rattle.conode_json.specs.Characters.{characters_of}
 use Rattle.conode_lint_text.specs.Characters.{blanks}
 use Rattle.conode_lint_text.specs.FactTexts.{fact_text}
-use Rattle.conode_lint_text.specs.declared.fact.Fact.TheVariants.{HighIndex, NoMandatoryList, NotListed, LargeText, NoValue, NoType, NoAccess, NoTypeOrAccess}
+use Rattle.conode_lint_text.specs.declared.fact.Fact.TheVariants.{HighIndex, NoMandatoryList, NotListed, LargeText, NoValue, FixedType, NoType, NoAccess, NoTypeOrAccess}
 use Rattle.conode_lint_text.specs.declared.finding.About.{About}
 use Rattle.conode_lint_text.specs.declared.finding.About.TheVariants.{Line, Object, Entry, Bits, FirstAt, Misspelt, Fact}
 use Rattle.conode_lint_text.specs.declared.finding.Finding.{Finding}
@@ -68,6 +68,7 @@ fix_with (Fact (NotListed device error identity)) fix =
 fix_with (Fact LargeText) fix = codes "take out comments and sections that are passed over"
 fix_with (Fact NoValue) fix =
     codes "write decimal digits, 0x and hexadecimal digits, or a sum as $NODEID+0x180"
+fix_with (Fact (FixedType code)) fix = codes "give that type, or take the object out of its list"
 fix_with (Fact (NoType true)) fix = codes "add DataType"
 fix_with (Fact (NoAccess true)) fix = codes "add AccessType"
 fix_with (Fact (NoTypeOrAccess true)) fix = codes "add DataType and AccessType"

@@ -34,6 +34,8 @@ pub enum Fact {
     LargeText,
     /// A value that is no number.
     NoValue,
+    /// A type that isn't the one of CiA 301 for this entry, by its code.
+    FixedType(u16),
     /// An entry without DataType, and whether it is a sub-index.
     NoType(bool),
     /// The same without AccessType.
@@ -174,6 +176,9 @@ fn push_count(text: &mut String, fact: Fact) -> Result<(), AllocError>
                 0,
                 0,
             )
+        }
+        Fact::FixedType(code) => {
+            push_filled(text, "CiA 301 has DataType=0x% here", &[Value::Short(code)])
         }
         Fact::HighIndex(line) => {
             push_numbers(

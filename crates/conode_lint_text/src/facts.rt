@@ -6,16 +6,19 @@ ghost use Rattle.co_sheet_text.specs.Views.{property_view, section_view};
 ghost use Rattle.conode_lint_text.specs.Facts.{
   bad_list,
   bad_number,
+  bad_type,
   count_fact,
   device_info,
   duplicate_key,
   duplicate_section,
   entry_fact,
+  entry_key,
   file_info,
   first_at,
   first_key,
   first_listed,
   first_section,
+  fixed_code,
   gap_fact,
   has_key,
   high_fact,
@@ -57,10 +60,12 @@ ghost use Rattle.conode_lint_text.specs.Facts.{
   sub_number,
   sub_number_of,
   too_large,
+  type_fact,
 };
 
 use crate::fact::Fact;
 use crate::finding::About;
+use co_profile::fixed_type;
 use co_sheet::section_at;
 use co_sheet_text::{
     Property, SectionKind, TextSection, number_in, same_name, trim, unsigned_number,
@@ -420,6 +425,51 @@ pub fn duplicate_key(sections: &[TextSection<'_, '_>], line: usize, text: &[u8])
 {
     match section_before(sections, line) {
         Some(section) => first_key(key_name(text), section),
+        None => About::Line,
+    }
+}
+
+fn entry_key(kind: SectionKind) -> Option<Key>
+    ensures { result ≡ entry_key kind }
+{
+    match kind {
+        SectionKind::Object(index) => Some(Key { index, sub: 0 }),
+        SectionKind::SubIndex(key) => Some(key),
+        _ => None,
+    }
+}
+
+// the code of the type that CiA 301 has for an entry
+fn fixed_code(kind: SectionKind) -> Option<u16>
+    ensures { result ≡ fixed_code kind }
+{
+    let Some(key) = entry_key(kind) else {
+        return None;
+    };
+    match fixed_type(key) {
+        Some(data_type) => Some(data_type.code()),
+        None => None,
+    }
+}
+
+fn type_fact(section: &TextSection<'_, '_>) -> About
+    ensures { result ≡ type_fact (section_view section.now) }
+{
+    match fixed_code(section.kind) {
+        Some(code) => About::Fact(Fact::FixedType(code)),
+        None => About::Line,
+    }
+}
+
+/// Of the BadType of a line: the type that CiA 301 has for the entry, if it has one.
+pub fn bad_type(sections: &[TextSection<'_, '_>], line: usize, text: &[u8]) -> About
+    ensures { result ≡ bad_type line (map section_view sections.now) text.now }
+{
+    if !same_name(key_name(text), b"DataType") {
+        return About::Line;
+    }
+    match section_before(sections, line) {
+        Some(section) => type_fact(section),
         None => About::Line,
     }
 }

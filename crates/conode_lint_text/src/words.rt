@@ -85,6 +85,7 @@ pub(crate) fn fix_of<'a>(finding: &Finding<'a>) -> &'a str
         About::Fact(Fact::NoValue) => {
             "write decimal digits, 0x and hexadecimal digits, or a sum as $NODEID+0x180"
         }
+        About::Fact(Fact::FixedType(_)) => { "give that type, or take the object out of its list" }
         About::Fact(Fact::NoType(true)) => "add DataType",
         About::Fact(Fact::NoAccess(true)) => "add AccessType",
         About::Fact(Fact::NoTypeOrAccess(true)) => "add DataType and AccessType",
