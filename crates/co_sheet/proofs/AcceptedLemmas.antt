@@ -20,7 +20,7 @@ use Rattle.co_sheet.specs.Checks.{fault_if, listed_twice, missing_section, bad_o
 use Rattle.co_sheet.specs.Accepted.{least_fault, first_bad_line, first_found, sections_in, IsAccepted}
 use Rattle.co_sheet.specs.AcceptedTexts.{FindNothing, IsFaultless}
 use Rattle.co_value.specs.Keys.{is_key_before}
-use Rattle.co_sheet.specs.Content.{row_of, row_with, object_row_of, Row, ObjectRow, in_order, rows_of, keys_of, objects_of, indices_of}
+use Rattle.co_sheet.specs.Content.{row_of, row_with, object_row_of, Row, ObjectRow, in_order, rows_in, keys_in, objects_in, indices_in}
 use Rattle.co_sheet.specs.SheetLaws.{KeepsEntries}
 use Rattle.co_sheet.proofs.OrderLemmas.{in_order-map}
 
@@ -224,13 +224,13 @@ objects-all sections nothing =
 pub listed-all : (sections : List TextSection) → FindsNothing sections → map (λ o. o.index) (listed_objects sections) ≡ map (λ l. l.index) (listings sections)
 listed-all sections nothing = objects-listed sections nothing.missing_section
 
--- in increasing order, as the sheet of an accepted text has them
-pub object_indices : (text : List ℕ) → IsAccepted text → map (λ o. o.index) (objects_of text) ≡ indices_of text
-object_indices text accepted =
-    in_order-map (λ (o : ObjectRow). o.index) (λ o p. ltb o.index p.index) ltb (λ o p. refl) (filter_map object_row_of (listed_objects (sections_in text)))
-    ∙ ap (in_order ltb) (objects-all (sections_in text) (finds-nothing (sections_in text) (checks-nothing text accepted)))
+-- in increasing order, as the sheet of sections in which nothing is found has them
+pub object_indices : (sections : List TextSection) → first_found checks sections ≡ None → map (λ o. o.index) (objects_in sections) ≡ indices_in sections
+object_indices sections accepted =
+    in_order-map (λ (o : ObjectRow). o.index) (λ o p. ltb o.index p.index) ltb (λ o p. refl) (filter_map object_row_of (listed_objects sections))
+    ∙ ap (in_order ltb) (objects-all sections (finds-nothing sections accepted))
 
-pub row_keys : (text : List ℕ) → KeepsEntries (sections_in text) → map (λ r. r.key) (rows_of text) ≡ keys_of text
-row_keys text kept =
-    in_order-map (λ (r : Row). r.key) (λ r s. is_key_before r.key s.key) is_key_before (λ r s. refl) (filter_map row_of (entries_of (sections_in text)))
+pub row_keys : (sections : List TextSection) → KeepsEntries sections → map (λ r. r.key) (rows_in sections) ≡ keys_in sections
+row_keys sections kept =
+    in_order-map (λ (r : Row). r.key) (λ r s. is_key_before r.key s.key) is_key_before (λ r s. refl) (filter_map row_of (entries_of sections))
     ∙ ap (in_order is_key_before) kept

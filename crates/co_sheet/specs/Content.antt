@@ -1,6 +1,6 @@
 -- What a sheet holds, by the sections of its text: its objects, entries, section lines, notes,
 -- dummies and node-ID (CiA 306).
-use Rattle.std.specs.Prelude.{◌≡◌, ℕ, ◌-◌, Bool, false, ◌&&◌, nat_lt, nat_le, if◌then◌else◌, List, [], ◌∷◌, map, filter_map, codes, ℤ, Option, option_map, option_and_then, slice_get, unwrap_or}
+use Rattle.std.specs.Prelude.{◌≡◌, ℕ, ◌-◌, Bool, false, ◌&&◌, nat_lt, nat_le, if◌then◌else◌, List, [], ◌∷◌, map, filter_map, codes, ℤ, Option, None, option_map, option_and_then, slice_get, unwrap_or}
 use Rattle.co_value.specs.declared.key.Key.{Key}
 use Rattle.co_value.specs.declared.data_type.DataType.{DataType}
 use Rattle.co_value.specs.Keys.{is_key_before}
@@ -15,7 +15,8 @@ use Rattle.co_sheet.specs.Entries.{ListedObject, listed_objects, object_type_wit
 use Rattle.co_sheet.specs.Limits.{Default, low_limit, high_limit, default_of}
 use Rattle.co_sheet.specs.Commissioning.{node_id_in}
 use Rattle.co_sheet.specs.Notes.{notes_of}
-use Rattle.co_sheet.specs.Accepted.{sections_in, IsAccepted}
+use Rattle.co_sheet.specs.Checks.{checks}
+use Rattle.co_sheet.specs.Accepted.{first_found, sections_in, IsAccepted}
 
 -- an entry, without where its texts lie in memory
 pub record Row : Type 0 where
@@ -134,6 +135,11 @@ content_of sections = record {
   node_id = node_id_in sections;
 }
 
+-- no check finds anything in sections, and this is what their sheet holds
+pub record IsSheetOf (sections : List TextSection) (sheet : SheetContent) : Type 0 where
+  pub accepted : first_found checks sections ≡ None
+  pub content : sheet ≡ content_of sections
+
 -- the text is a data sheet, and this is what it holds
 pub record IsSheet (text : List ℕ) (sheet : SheetContent) : Type 0 where
   pub accepted : IsAccepted text
@@ -146,16 +152,20 @@ rows_of text = rows_in (sections_in text)
 abbrev pub objects_of : List ℕ → List ObjectRow
 objects_of text = objects_in (sections_in text)
 
--- the keys of the entries of a text, in increasing order
-abbrev pub keys_of : List ℕ → List Key
-keys_of text = in_order is_key_before (map (λ e. e.key) (entries_of (sections_in text)))
+-- the keys of the entries, in increasing order
+abbrev pub keys_in : List TextSection → List Key
+keys_in sections = in_order is_key_before (map (λ e. e.key) (entries_of sections))
 
--- the indices that the lists of a text name from 1000h on, in increasing order
-abbrev pub indices_of : List ℕ → List ℕ
-indices_of text = in_order nat_lt (map (λ l. l.index) (listings (sections_in text)))
+-- the indices that the lists name from 1000h on, in increasing order
+abbrev pub indices_in : List TextSection → List ℕ
+indices_in sections = in_order nat_lt (map (λ l. l.index) (listings sections))
 
--- nothing is left out: each entry of a text has its row, and each index that its lists name an
+-- nothing of sections is left out: each entry has its row, and each index that the lists name an
 -- object
-pub record IsWhole (text : List ℕ) (sheet : SheetContent) : Type 0 where
-  pub keys : map (λ r. r.key) sheet.rows ≡ keys_of text
-  pub indices : map (λ o. o.index) sheet.objects ≡ indices_of text
+pub record IsWholeOf (sections : List TextSection) (sheet : SheetContent) : Type 0 where
+  pub keys : map (λ r. r.key) sheet.rows ≡ keys_in sections
+  pub indices : map (λ o. o.index) sheet.objects ≡ indices_in sections
+
+-- the same of a text
+abbrev pub IsWhole : List ℕ → SheetContent → Type 0
+IsWhole text sheet = IsWholeOf (sections_in text) sheet

@@ -10,7 +10,7 @@ ghost use Rattle.co_sheet.specs.Faults.{fault_at};
 ghost use Rattle.co_sheet_rows.specs.OutOfMemory.{out_of_memory};
 ghost use Rattle.co_sheet.specs.PlaceLaws.{AllCountPlaces};
 
-use crate::sheet::{Sheet, sheet_of};
+use crate::sheet::Sheet;
 use crate::text_fault::sheet_fault;
 use co_sheet_rows::{FaultKind, SheetFault};
 use co_sheet_text::ParsedText;
@@ -38,7 +38,7 @@ pub fn read(alloc: Global, text: &[u8]) -> Result<Sheet<'_>, SheetFault>
     }
     let parsed = sections_in(alloc, text)?;
     let sections = parsed.sections(alloc)?;
-    sheet_of(alloc, sections.as_slice())
+    Sheet::of_sections(alloc, sections.as_slice())
 }
 
 /// A text is accepted exactly where it is not too large, no line has a fault, and no check finds

@@ -19,7 +19,7 @@ ghost use Rattle.co_sheet.specs.Accepted.{first_found, IsAnswered};
 ghost use Rattle.co_sheet_text.specs.Views.{section_view};
 ghost use Rattle.co_sheet_text.specs.SectionLaws.{IsParsed};
 ghost use Rattle.co_value.specs.Keys.{is_key_before};
-ghost use Rattle.co_sheet.specs.Content.{is_dummy};
+ghost use Rattle.co_sheet.specs.Content.{IsSheetOf, IsWholeOf, is_dummy};
 ghost use Rattle.co_sheet.specs.SheetViews.{row_view, object_row_view, section_name_view};
 ghost use Rattle.co_sheet.specs.SheetLaws.{IsSheetRow, IsSheetContent};
 ghost use Rattle.co_sheet.specs.private.SheetReadings.{AreEmpty, AreListsOf, IsReadOf};
@@ -84,6 +84,24 @@ impl<'a> Model for Sheet<'a> {
 }
 
 impl<'a> Sheet<'a> {
+    /// The sheet of sections that are read already: what `read` makes of a text where no line has a
+    /// fault. The fault is that of the first check that finds any, on the smallest line; or
+    /// `Memory` with line 0: out of memory. Names and strings are borrowed from the text, not from
+    /// the sections.
+    pub fn of_sections(
+        alloc: Global,
+        sections: &[TextSection<'_, 'a>],
+    ) -> Result<Sheet<'a>, SheetFault>
+        requires { IsParsed (map section_view sections.now) }
+        ensures sheet { IfOk result (IsSheetOf (map section_view sections.now)) }
+        ensures whole { IfOk result (IsWholeOf (map section_view sections.now)) }
+        ensures err { IfErr result
+            (IsAnswered (first_found checks (map section_view sections.now))) }
+    {
+        let tables = Tables::new(alloc, sections)?;
+        sheet_in(alloc, &tables)
+    }
+
     /// The objects that the lists name from 1000h on, in increasing index.
     pub fn objects(&self) -> &[Object<'a>]
         ensures view { map object_row_view result.now ≡ self.now.objects }
@@ -211,18 +229,4 @@ fn sheet_in<'a>(alloc: Global, tables: &Tables<'_, 'a>) -> Result<Sheet<'a>, She
         dummies: dummies(sections),
         node_id: node_id(sections),
     })
-}
-
-// The sheet of a text's sections, or the first fault that the checks find; out of memory has no
-// line.
-pub(crate) fn sheet_of<'a>(
-    alloc: Global,
-    sections: &[TextSection<'_, 'a>],
-) -> Result<Sheet<'a>, SheetFault>
-    requires { IsParsed (map section_view sections.now) }
-    ensures read { IfOk result (IsReadOf (map section_view sections.now)) }
-    ensures err { IfErr result (IsAnswered (first_found checks (map section_view sections.now))) }
-{
-    let tables = Tables::new(alloc, sections)?;
-    sheet_in(alloc, &tables)
 }
