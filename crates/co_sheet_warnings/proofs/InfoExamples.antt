@@ -6,7 +6,7 @@ use Rattle.co_sheet_warnings.specs.declared.keys.Topic.TheVariants.{FileInfo, De
 use Rattle.co_sheet_warnings.specs.declared.known_key.KnownKey.TheVariants.{FileName}
 use Rattle.co_sheet_warnings.specs.KnownKeys.{key_text}
 use Rattle.co_sheet_warnings.specs.Infos.{device_keys, file_keys, is_date, is_time}
-use Rattle.co_sheet_warnings.specs.Warnings.{place_in_text, places_in, places_of}
+use Rattle.co_sheet_warnings.specs.Warnings.{few_places, place_in_text, places_in, places_of}
 use Rattle.co_sheet_warnings.proofs.ExampleTexts.{places}
 
 -- ---- FileInfo, DeviceInfo
@@ -20,7 +20,7 @@ device_info =
     codes "VendorName=a" ∷ codes "VendorNumber=1" ∷ codes "ProductName=a" ∷ codes "ProductNumber=1" ∷ codes "RevisionNumber=1" ∷ codes "OrderCode=a" ∷ codes "BaudRate_10=1" ∷ codes "BaudRate_20=1" ∷ codes "BaudRate_50=1" ∷ codes "BaudRate_125=1" ∷ codes "BaudRate_250=1" ∷ codes "BaudRate_500=1" ∷ codes "BaudRate_800=1" ∷ codes "BaudRate_1000=1" ∷ codes "SimpleBootUpMaster=0" ∷ codes "SimpleBootUpSlave=1" ∷ codes "Granularity=8" ∷ codes "DynamicChannelsSupported=0" ∷ codes "GroupMessaging=0" ∷ codes "NrOfRXPDO=0" ∷ codes "NrOfTXPDO=0" ∷ codes "LSS_Supported=0" ∷ []
 
 whole_file_info : places (FileInfoKeys []) (codes "[fileinfo]" ∷ file_info) ≡ []
-unfolding places_of place_in_text places_in
+unfolding places_of few_places place_in_text places_in
 whole_file_info = refl
 
 required_of_file_info : map key_text file_keys
@@ -28,15 +28,15 @@ required_of_file_info : map key_text file_keys
 required_of_file_info = refl
 
 first_missing : places (FileInfoKeys []) (codes "[Comments]" ∷ codes "[FileInfo]" ∷ drop 1 file_info) ≡ 2 ∷ []
-unfolding places_of place_in_text places_in
+unfolding places_of few_places place_in_text places_in
 first_missing = refl
 
 last_missing : places (FileInfoKeys []) (codes "[FileInfo]" ∷ take 9 file_info) ≡ 1 ∷ []
-unfolding places_of place_in_text places_in
+unfolding places_of few_places place_in_text places_in
 last_missing = refl
 
 whole_device_info : places (DeviceInfoKeys []) (codes "[DeviceInfo]" ∷ device_info) ≡ []
-unfolding places_of place_in_text places_in
+unfolding places_of few_places place_in_text places_in
 whole_device_info = refl
 
 required_of_device_info : map key_text device_keys
@@ -44,12 +44,12 @@ required_of_device_info : map key_text device_keys
 required_of_device_info = refl
 
 device_key_missing : places (DeviceInfoKeys []) (codes "[DeviceInfo]" ∷ take 21 device_info) ≡ 1 ∷ []
-unfolding places_of place_in_text places_in
+unfolding places_of few_places place_in_text places_in
 device_key_missing = refl
 
 -- in another section they are none of its keys, and without a section no line is to blame
 elsewhere : places (FileInfoKeys []) (codes "[DeviceInfo]" ∷ file_info) ≡ 0 ∷ []
-unfolding places_of place_in_text places_in
+unfolding places_of few_places place_in_text places_in
 elsewhere = refl
 
 -- ---- PdoCount
@@ -59,45 +59,49 @@ pdo_numbers compact objects =
     codes "[DeviceInfo]" ∷ codes "NrOfRXPDO=1" ∷ codes "NrOfTXPDO=2" ∷ compact ∷ objects
 
 counted_pdos : places PdoCount (pdo_numbers [] (codes "[13FF]" ∷ codes "[1400]" ∷ codes "[1400sub1]" ∷ codes "[1600]" ∷ codes "[17FF]" ∷ codes "[1800]" ∷ codes "[19FF]" ∷ codes "[1A00]" ∷ [])) ≡ []
-unfolding places_of place_in_text places_in
+unfolding places_of few_places place_in_text places_in
 counted_pdos = refl
 
 other_counts : places PdoCount (pdo_numbers [] (codes "[1400]" ∷ codes "[15FF]" ∷ codes "[1800]" ∷ [])) ≡ 2 ∷ 3 ∷ []
-unfolding places_of place_in_text places_in
+unfolding places_of few_places place_in_text places_in
 other_counts = refl
 
 no_pdos : places PdoCount (pdo_numbers (codes "CompactPDO=0") (codes "[1800]" ∷ codes "[1801]" ∷ [])) ≡ 2 ∷ []
-unfolding places_of place_in_text places_in
+unfolding places_of few_places place_in_text places_in
 no_pdos = refl
 
 compact_pdos : places PdoCount (pdo_numbers (codes "CompactPDO=1") (codes "[1800]" ∷ [])) ≡ []
-unfolding places_of place_in_text places_in
+unfolding places_of few_places place_in_text places_in
 compact_pdos = refl
 
 no_count_of_pdos : places PdoCount (codes "[DeviceInfo]" ∷ codes "NrOfRXPDO=one" ∷ codes "[1400]" ∷ []) ≡ []
-unfolding places_of place_in_text places_in
+unfolding places_of few_places place_in_text places_in
 no_count_of_pdos = refl
 
 -- ---- IdentityNumber
+
+-- of each number of the identity object
+abbrev other_numbers_of : List (List ℕ) → List (List ℕ)
+other_numbers_of lines = places (IdentityNumber 1) lines ∷ places (IdentityNumber 2) lines ∷ places (IdentityNumber 3) lines ∷ []
 
 abbrev identity : List ℕ → List ℕ → List ℕ → List (List ℕ)
 identity vendor product revision =
     codes "[DeviceInfo]" ∷ vendor ∷ product ∷ revision ∷ codes "[1018sub1]" ∷ codes "DefaultValue=0x1" ∷ codes "[1018sub2]" ∷ codes "DefaultValue=2" ∷ codes "[1018sub3]" ∷ codes "DefaultValue=3" ∷ codes "[1018sub4]" ∷ codes "DefaultValue=4" ∷ []
 
-same_numbers : places IdentityNumber (identity (codes "VendorNumber=1") (codes "ProductNumber=0x2") (codes "RevisionNumber=3")) ≡ []
-unfolding places_of place_in_text places_in
+same_numbers : other_numbers_of (identity (codes "VendorNumber=1") (codes "ProductNumber=0x2") (codes "RevisionNumber=3")) ≡ [] ∷ [] ∷ [] ∷ []
+unfolding places_of few_places place_in_text places_in
 same_numbers = refl
 
-other_numbers : places IdentityNumber (identity (codes "VendorNumber=2") (codes "ProductNumber=3") (codes "RevisionNumber=4")) ≡ 2 ∷ 3 ∷ 4 ∷ []
-unfolding places_of place_in_text places_in
+other_numbers : other_numbers_of (identity (codes "VendorNumber=2") (codes "ProductNumber=3") (codes "RevisionNumber=4")) ≡ (2 ∷ []) ∷ (3 ∷ []) ∷ (4 ∷ []) ∷ []
+unfolding places_of few_places place_in_text places_in
 other_numbers = refl
 
-no_numbers : places IdentityNumber (identity (codes "VendorNumber=one") (codes "ProductNumber=") (codes "VendorName=3")) ≡ []
-unfolding places_of place_in_text places_in
+no_numbers : other_numbers_of (identity (codes "VendorNumber=one") (codes "ProductNumber=") (codes "VendorName=3")) ≡ [] ∷ [] ∷ [] ∷ []
+unfolding places_of few_places place_in_text places_in
 no_numbers = refl
 
-no_identity : places IdentityNumber (codes "[DeviceInfo]" ∷ codes "VendorNumber=2" ∷ codes "[1018sub1]" ∷ codes "DefaultValue=one" ∷ codes "[1018]" ∷ codes "DefaultValue=1" ∷ []) ≡ []
-unfolding places_of place_in_text places_in
+no_identity : places (IdentityNumber 1) (codes "[DeviceInfo]" ∷ codes "VendorNumber=2" ∷ codes "[1018sub1]" ∷ codes "DefaultValue=one" ∷ codes "[1018]" ∷ codes "DefaultValue=1" ∷ []) ≡ []
+unfolding places_of few_places place_in_text places_in
 no_identity = refl
 
 -- ---- DateFormat
@@ -111,9 +115,9 @@ times : map is_time (codes "10:22AM" ∷ codes "12:59pm" ∷ codes "01:00AM" ∷
 times = refl
 
 dates_of_files : places DateFormat (codes "[FileInfo]" ∷ codes "CreationDate=2019/3/7" ∷ codes "CreationTime=10:22" ∷ codes "ModificationTime=10:22" ∷ codes "ModificationDate=2019/3/7" ∷ codes "[Comments]" ∷ codes "CreationDate=x" ∷ []) ≡ 3 ∷ 2 ∷ 4 ∷ 5 ∷ []
-unfolding places_of place_in_text places_in
+unfolding places_of few_places place_in_text places_in
 dates_of_files = refl
 
 good_dates : places DateFormat (codes "[FileInfo]" ∷ file_info) ≡ []
-unfolding places_of place_in_text places_in
+unfolding places_of few_places place_in_text places_in
 good_dates = refl

@@ -9,7 +9,6 @@ mod InfoExamples
 mod RepeatExamples
 mod LineExamples
 mod PieceLemmas
-pub mod QuestionLemmas
 mod ByLineLemmas
 pub mod NameLemmas
 pub mod KnownLemmas

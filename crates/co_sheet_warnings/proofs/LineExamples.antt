@@ -6,7 +6,7 @@ use Rattle.std.specs.Str.{chars, is_utf8}
 use Rattle.co_sheet_text.specs.Text.{Line}
 use Rattle.co_sheet_warnings.specs.declared.warning.WarningKind.TheVariants.{LongLine, Utf8, NotAscii, LineEnds}
 use Rattle.co_sheet_warnings.specs.Lines.{is_long, mixed_line_ends}
-use Rattle.co_sheet_warnings.specs.Warnings.{place_in_text, places_in, places_of}
+use Rattle.co_sheet_warnings.specs.Warnings.{few_places, place_in_text, places_in, places_of}
 use Rattle.co_sheet_warnings.proofs.ExampleTexts.{places}
 
 -- ---- LineEnds
@@ -16,7 +16,7 @@ line_ends : map mixed_line_ends ((97 ∷ 13 ∷ 10 ∷ 98 ∷ 10 ∷ []) ∷ (10
 line_ends = refl
 
 ends_of_text : places LineEnds (codes "a" ∷ (98 ∷ 13 ∷ []) ∷ codes "c" ∷ []) ≡ 2 ∷ []
-unfolding places_of place_in_text places_in
+unfolding places_of few_places place_in_text places_in
 ends_of_text = refl
 
 -- ---- LongLine, Utf8, NotAscii
@@ -25,7 +25,7 @@ abbrev line : List ℕ → Line
 line bytes = record { number = 1; bytes = bytes }
 
 long : places LongLine (replicate 255 97 ∷ replicate 256 98 ∷ replicate 512 99 ∷ replicate 513 100 ∷ []) ≡ 2 ∷ 3 ∷ []
-unfolding places_of place_in_text places_in chars is_utf8 lib.Utf8.encode
+unfolding places_of few_places place_in_text places_in chars is_utf8 lib.Utf8.encode
 long = refl
 
 -- 255 characters, 256, and 255 of two bytes each, in UTF-8; 256 bytes in Windows-1252, and 255
@@ -36,11 +36,11 @@ unfolding chars is_utf8 lib.Utf8.encode
 characters = refl
 
 ascii : places Utf8 (codes "a" ∷ (0x7F ∷ []) ∷ []) ++ places NotAscii (codes "a" ∷ (0x7F ∷ []) ∷ []) ≡ []
-unfolding places_of place_in_text places_in
+unfolding places_of few_places place_in_text places_in
 ascii = refl
 
 first_other_byte : places NotAscii (codes "a" ∷ (0x7F ∷ 0x80 ∷ []) ∷ (0xFF ∷ []) ∷ []) ≡ 2 ∷ []
-unfolding places_of place_in_text places_in chars is_utf8 lib.Utf8.encode
+unfolding places_of few_places place_in_text places_in chars is_utf8 lib.Utf8.encode
 first_other_byte = refl
 
 -- not the line in UTF-8 before it
@@ -49,15 +49,15 @@ unfolding places_of place_in_text places_in chars is_utf8 lib.Utf8.encode
 not_the_first = refl
 
 in_utf8 : places Utf8 (codes "a" ∷ (0xC3 ∷ 0xA4 ∷ []) ∷ []) ≡ 2 ∷ []
-unfolding places_of place_in_text places_in chars is_utf8 lib.Utf8.encode
+unfolding places_of few_places place_in_text places_in chars is_utf8 lib.Utf8.encode
 in_utf8 = refl
 
 -- one of both alone: the text is UTF-8 as a whole or not at all
 one_warning : places NotAscii ((0xC3 ∷ 0xA4 ∷ []) ∷ []) ++ places Utf8 ((0xC3 ∷ 0xA4 ∷ []) ∷ (0xE4 ∷ []) ∷ []) ≡ []
-unfolding places_of place_in_text places_in chars is_utf8 lib.Utf8.encode
+unfolding places_of few_places place_in_text places_in chars is_utf8 lib.Utf8.encode
 one_warning = refl
 
 -- the mark is part of no line
 marked : places Utf8 ((0xEF ∷ 0xBB ∷ 0xBF ∷ codes "a") ∷ []) ≡ []
-unfolding places_of place_in_text places_in
+unfolding places_of few_places place_in_text places_in
 marked = refl

@@ -4,7 +4,7 @@ use Rattle.co_sheet_text.specs.declared.section_kind.SectionKind.TheVariants.{Ma
 use Rattle.co_sheet_warnings.specs.declared.warning.WarningKind.TheVariants.{WrongList, Unlisted, NoErrorControl, ListOrder}
 use Rattle.co_sheet_warnings.specs.Lists.{is_right_list}
 use Rattle.co_sheet_warnings.specs.declared.known_key.KnownKey.TheVariants.{SupportedObjects}
-use Rattle.co_sheet_warnings.specs.Warnings.{place_in_text, places_in, places_of}
+use Rattle.co_sheet_warnings.specs.Warnings.{few_places, place_in_text, places_in, places_of}
 use Rattle.co_sheet_warnings.proofs.ExampleTexts.{places}
 
 mandatory : map (is_right_list MandatoryObjects) (0x0FFF ∷ 0x1000 ∷ 0x1001 ∷ 0x1002 ∷ 0x1017 ∷ 0x1018 ∷ 0x1019 ∷ 0x2000 ∷ [])
@@ -21,11 +21,11 @@ optional = refl
 
 -- a list's keys from 1 to its count, whose values are indices from 1000h on
 wrong : places WrongList (codes "[OptionalObjects]" ∷ codes "SupportedObjects=5" ∷ codes "1=0x1000" ∷ codes "2=0x1017" ∷ codes "3=0x10000" ∷ codes "4=0x0FFF" ∷ codes "5=0x2000" ∷ codes "6=0x2001" ∷ codes "05=0x2002" ∷ []) ≡ 3 ∷ 7 ∷ []
-unfolding places_of place_in_text places_in
+unfolding places_of few_places place_in_text places_in
 wrong = refl
 
 no_list : places WrongList (codes "[OptionalObjects]" ∷ codes "1=0x1000" ∷ []) ≡ []
-unfolding places_of place_in_text places_in
+unfolding places_of few_places place_in_text places_in
 no_list = refl
 
 abbrev listed : List ℕ → List ℕ → List ℕ → List (List ℕ)
@@ -34,38 +34,38 @@ listed first second third =
 
 -- the first index of a list that is smaller than the one before it
 falls : places ListOrder (listed (codes "1=0x1005") (codes "2=0x1003") (codes "3=0x1002")) ≡ 4 ∷ []
-unfolding places_of place_in_text places_in
+unfolding places_of few_places place_in_text places_in
 falls = refl
 
 rises : places ListOrder (listed (codes "1=0x1002") (codes "2=0x1003") (codes "3=0x1003")) ≡ []
-unfolding places_of place_in_text places_in
+unfolding places_of few_places place_in_text places_in
 rises = refl
 
 each_list : places ListOrder (listed (codes "1=0x1005") (codes "2=0x1006") (codes "3=0x1007") ++ codes "[ManufacturerObjects]" ∷ codes "SupportedObjects=2" ∷ codes "2=0x1004" ∷ codes "1=0x1003" ∷ []) ≡ 9 ∷ []
-unfolding places_of place_in_text places_in
+unfolding places_of few_places place_in_text places_in
 each_list = refl
 
 not_listed : places Unlisted (listed (codes "1=0x1002") (codes "2=0x1003") (codes "3=0x1003") ++ codes "[1002]" ∷ codes "[1004]" ∷ codes "[FFF]" ∷ codes "[1000]" ∷ codes "[1005sub0]" ∷ []) ≡ 7 ∷ 9 ∷ []
-unfolding places_of place_in_text places_in
+unfolding places_of few_places place_in_text places_in
 not_listed = refl
 
 no_heartbeat : places NoErrorControl (listed (codes "1=0x1000") (codes "2=0x100C") (codes "3=0x1018")) ≡ 0 ∷ []
-unfolding places_of place_in_text places_in
+unfolding places_of few_places place_in_text places_in
 no_heartbeat = refl
 
 half_guarding : places NoErrorControl (listed (codes "1=0x1000") (codes "2=0x100D") (codes "3=0x1018")) ≡ 0 ∷ []
-unfolding places_of place_in_text places_in
+unfolding places_of few_places place_in_text places_in
 half_guarding = refl
 
 guarding : places NoErrorControl (listed (codes "1=0x1000") (codes "2=0x100C") (codes "3=0x100D")) ≡ []
-unfolding places_of place_in_text places_in
+unfolding places_of few_places place_in_text places_in
 guarding = refl
 
 heartbeat : places NoErrorControl (listed (codes "1=0x1000") (codes "2=0x1017") (codes "3=0x1018")) ≡ []
-unfolding places_of place_in_text places_in
+unfolding places_of few_places place_in_text places_in
 heartbeat = refl
 
 -- where the lists don't even name 1000h, other things are missing
 no_device : places NoErrorControl (listed (codes "1=0x1001") (codes "2=0x1005") (codes "3=0x1018")) ≡ []
-unfolding places_of place_in_text places_in
+unfolding places_of few_places place_in_text places_in
 no_device = refl

@@ -1,13 +1,13 @@
 -- What comes twice, on both sides of each edge.
 use Rattle.std.proofs.Common.{◌≡◌, ℕ, List, Option, [], ◌∷◌, Some, None, true, false, refl, codes, map}
-use Rattle.std.specs.Prelude.{option_and_then}
+use Rattle.std.specs.Prelude.{filter_map, option_and_then}
 use Rattle.co_sheet_text.specs.declared.section_kind.SectionKind.TheVariants.{MandatoryObjects, Object}
 use Rattle.co_sheet_warnings.specs.declared.warning.WarningKind.TheVariants.{SharedCobId, HeartbeatTwice, EqualNames, MissingName}
-use Rattle.co_sheet_warnings.specs.Repeats.{has_cob_id, enabled_cob_id, first_equal, identifier_with}
+use Rattle.co_sheet_warnings.specs.Repeats.{compared, has_cob_id, enabled_cob_id, first_equal, identifier_with}
 use Rattle.co_sheet_warnings.specs.declared.warning.WarningKind.{WarningKind}
 use Rattle.co_sheet_text.specs.LinesAtFault.{sections_read}
 use Rattle.co_sheet_text.specs.Text.{lines_of}
-use Rattle.co_sheet_warnings.specs.Warnings.{place_in_text, places_in, places_of}
+use Rattle.co_sheet_warnings.specs.Warnings.{few_places, place_in_text, places_in, places_of}
 use Rattle.co_sheet_warnings.proofs.ExampleTexts.{joined, places, places_at, sub_index}
 
 -- ---- SharedCobId
@@ -30,22 +30,22 @@ three_cob_ids first second third =
     codes "[1800sub1]" ∷ first ∷ codes "[1014]" ∷ second ∷ codes "[1201sub2]" ∷ third ∷ codes "[1801sub2]" ∷ codes "DefaultValue=0x185" ∷ []
 
 all_the_same : places_at 5 (SharedCobId 0) (three_cob_ids (codes "DefaultValue=0x185") (codes "DefaultValue=$NODEID+0x180") (codes "ParameterValue=0x185")) ≡ 4 ∷ 6 ∷ []
-unfolding places_of place_in_text places_in
+unfolding places_of few_places place_in_text places_in
 all_the_same = refl
 
 for_another_node : places_at 6 (SharedCobId 0) (three_cob_ids (codes "DefaultValue=0x185") (codes "DefaultValue=$NODEID+0x180") (codes "DefaultValue=0x186")) ≡ 6 ∷ []
-unfolding places_of place_in_text places_in
+unfolding places_of few_places place_in_text places_in
 for_another_node = refl
 
 for_no_node : places (SharedCobId 0) (three_cob_ids (codes "DefaultValue=0x185") (codes "DefaultValue=0x185") (codes "DefaultValue=0x185")) ≡ []
-unfolding places_of place_in_text places_in
+unfolding places_of few_places place_in_text places_in
 for_no_node = refl
 
 -- ---- EqualNames
 
 -- of objects, and of the sub-indices of each object
 names_again : places EqualNames (codes "[2000]" ∷ codes "ParameterName=a" ∷ codes "[2001]" ∷ codes "ParameterName=a" ∷ codes "[2000sub1]" ∷ codes "ParameterName=a" ∷ codes "[2000sub2]" ∷ codes "ParameterName=a" ∷ codes "[2001sub1]" ∷ codes "ParameterName=a" ∷ codes "[2002]" ∷ codes "ParameterName=A" ∷ codes "[2003]" ∷ codes "ParameterName=a" ∷ codes "[Comments]" ∷ codes "ParameterName=a" ∷ []) ≡ 4 ∷ 8 ∷ 14 ∷ []
-unfolding places_of place_in_text places_in
+unfolding places_of few_places place_in_text places_in
 names_again = refl
 
 -- ---- the first of what comes twice
@@ -80,3 +80,19 @@ named =
 first_name : first_in named EqualNames 10 ∷ first_in named EqualNames 8 ∷ first_in named EqualNames 6 ∷ first_in named EqualNames 12 ∷ first_in named MissingName 10 ∷ []
     ≡ Some 2 ∷ Some 4 ∷ None ∷ None ∷ None ∷ []
 first_name = refl
+
+-- ---- what is compared
+
+abbrev compared_in : WarningKind → List (List ℕ) → List (ℕ × ℕ)
+compared_in kind lines = map (λ c. (c.number, c.line)) (filter_map (compared kind) (sections_read (lines_of (joined lines))))
+
+-- identifiers for a node-ID; a value that isn't enabled, another entry, and another kind have none
+identifiers_compared : compared_in (SharedCobId 5) cob_ids ∷ compared_in (SharedCobId 6) cob_ids
+    ∷ compared_in (SharedCobId 5) (three_cob_ids (codes "DefaultValue=0x80000185") (codes "DefaultValue=7") (codes "AccessType=ro")) ∷ compared_in EqualNames named ∷ []
+    ≡ ((0x185, 2) ∷ (0x185, 4) ∷ (0x185, 6) ∷ []) ∷ ((0x185, 2) ∷ (0x186, 4) ∷ (0x185, 6) ∷ []) ∷ ((7, 4) ∷ []) ∷ [] ∷ []
+identifiers_compared = refl
+
+-- node-IDs of words that are used
+nodes_compared : compared_in (HeartbeatTwice (Some 9)) consumers ∷ compared_in (HeartbeatTwice None) consumers ∷ []
+    ≡ ((5, 6) ∷ (6, 10) ∷ (5, 12) ∷ (5, 14) ∷ []) ∷ ((6, 10) ∷ (5, 12) ∷ (5, 14) ∷ []) ∷ []
+nodes_compared = refl

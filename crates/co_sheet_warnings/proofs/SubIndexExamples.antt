@@ -4,7 +4,7 @@ use Rattle.co_sheet_warnings.specs.declared.warning.WarningKind.TheVariants.{Sub
 use Rattle.co_sheet_warnings.specs.SubIndices.{is_highest_by_rule, counted}
 use Rattle.co_sheet_warnings.specs.declared.keys.Topic.TheVariants.{FileInfo}
 use Rattle.co_sheet_warnings.specs.declared.known_key.KnownKey.TheVariants.{AccessType}
-use Rattle.co_sheet_warnings.specs.Warnings.{place_in_text, places_in, places_of}
+use Rattle.co_sheet_warnings.specs.Warnings.{few_places, place_in_text, places_in, places_of}
 use Rattle.co_sheet_warnings.proofs.ExampleTexts.{places}
 
 -- ---- SubNumber
@@ -15,7 +15,7 @@ with_sub_number line =
 
 sub_numbers : map (λ line. places SubNumber (with_sub_number line)) (codes "SubNumber=1" ∷ codes "SubNumber=0x2" ∷ codes "SubNumber=3" ∷ codes "SubNumber=two" ∷ codes "SubNumber=" ∷ [])
     ≡ (2 ∷ []) ∷ [] ∷ (2 ∷ []) ∷ (2 ∷ []) ∷ [] ∷ []
-unfolding places_of place_in_text places_in
+unfolding places_of few_places place_in_text places_in
 sub_numbers = refl
 
 -- ---- SubIndex0
@@ -25,45 +25,45 @@ with_count access value =
     codes "[2000sub1]" ∷ codes "[2000sub4]" ∷ codes "[2000sub0]" ∷ access ∷ value ∷ codes "[2001sub5]" ∷ []
 
 highest : places SubIndex0 (with_count (codes "AccessType=RO") (codes "DefaultValue=4")) ≡ []
-unfolding places_of place_in_text places_in
+unfolding places_of few_places place_in_text places_in
 highest = refl
 
 number_of_sections : places SubIndex0 (with_count (codes "AccessType=ro") (codes "DefaultValue=2")) ≡ 5 ∷ []
-unfolding places_of place_in_text places_in
+unfolding places_of few_places place_in_text places_in
 number_of_sections = refl
 
 above_highest : places SubIndex0 (with_count (codes "AccessType=const") (codes "DefaultValue=5")) ≡ 5 ∷ []
-unfolding places_of place_in_text places_in
+unfolding places_of few_places place_in_text places_in
 above_highest = refl
 
 written : places SubIndex0 (with_count (codes "AccessType=rw") (codes "DefaultValue=2")) ≡ []
-unfolding places_of place_in_text places_in
+unfolding places_of few_places place_in_text places_in
 written = refl
 
 no_access : places SubIndex0 (with_count (codes "ObjectType=7") (codes "DefaultValue=2")) ≡ []
-unfolding places_of place_in_text places_in
+unfolding places_of few_places place_in_text places_in
 no_access = refl
 
 no_default : places SubIndex0 (with_count (codes "AccessType=ro") (codes "DataType=5")) ≡ []
-unfolding places_of place_in_text places_in
+unfolding places_of few_places place_in_text places_in
 no_default = refl
 
 -- a value that is at fault: none of one byte
 greatest_byte : places SubIndex0 (with_count (codes "AccessType=ro") (codes "DefaultValue=255")) ≡ 5 ∷ []
-unfolding places_of place_in_text places_in
+unfolding places_of few_places place_in_text places_in
 greatest_byte = refl
 
 no_byte : places SubIndex0 (with_count (codes "AccessType=ro") (codes "DefaultValue=256")) ≡ []
-unfolding places_of place_in_text places_in
+unfolding places_of few_places place_in_text places_in
 no_byte = refl
 
 no_number : places SubIndex0 (with_count (codes "AccessType=ro") (codes "DefaultValue=many")) ≡ []
-unfolding places_of place_in_text places_in
+unfolding places_of few_places place_in_text places_in
 no_number = refl
 
 -- a configured value comes before the default
 configured : places SubIndex0 (with_count (codes "AccessType=ro") (codes "DefaultValue=2") ++ codes "[2002sub0]" ∷ codes "AccessType=ro" ∷ codes "DefaultValue=0" ∷ codes "ParameterValue=1" ∷ []) ≡ 5 ∷ 10 ∷ []
-unfolding places_of place_in_text places_in
+unfolding places_of few_places place_in_text places_in
 configured = refl
 
 -- FFh isn't counted, FEh is
@@ -77,5 +77,5 @@ by_rule = refl
 -- ---- MissingName
 
 names : places MissingName (codes "[1000]" ∷ codes "ParameterName=a" ∷ codes "[1001]" ∷ codes "[1018sub0]" ∷ codes "ParameterName=" ∷ codes "[FileInfo]" ∷ codes "[DummyUsage]" ∷ []) ≡ 3 ∷ 4 ∷ []
-unfolding places_of place_in_text places_in
+unfolding places_of few_places place_in_text places_in
 names = refl

@@ -1,16 +1,16 @@
 -- All warnings of small texts, kind by kind.
-use Rattle.std.proofs.Common.{◌≡◌, ℕ, List, [], ◌∷◌, ◌++◌, Some, None, true, false, refl, codes, Option}
+use Rattle.std.proofs.Common.{◌≡◌, ℕ, List, [], ◌∷◌, ◌++◌, map, Some, None, true, false, refl, codes, Option}
 use Rattle.co_sheet_warnings.specs.WarningWords.{is_quiet}
 use Rattle.std.specs.List.{list_any}
 use Rattle.std.specs.Prelude.{not, replicate}
 use Rattle.co_sheet_warnings.specs.declared.warning.Warning.{Warning}
-use Rattle.co_sheet_warnings.specs.declared.warning.WarningKind.TheVariants.{SubNumber, FileInfoKeys, DeviceInfoKeys, Unlisted, FixedCobId, SharedCobId, HeartbeatTwice, MissingName}
+use Rattle.co_sheet_warnings.specs.declared.warning.WarningKind.TheVariants.{SubNumber, FileInfoKeys, DeviceInfoKeys, Unlisted, FixedCobId, SharedCobId, HeartbeatTwice, NodeId, MissingName}
 use Rattle.co_sheet_warnings.specs.ReadTexts.{read_text}
-use Rattle.co_sheet_warnings.specs.Warnings.{all_warnings, kind_in, warning_at, place_in_text, places_in, places_of, warnings_of, warnings_of_kinds, first_kinds, last_kinds, quiet_kinds}
+use Rattle.co_sheet_warnings.specs.Warnings.{all_warnings, kind_in, warning_at, few_places, place_in_text, places_in, places_of, warnings_of, warnings_of_kinds, first_kinds, last_kinds, quiet_kinds}
 
 several : warnings_of_kinds (read_text (codes "[2000]\nSubNumber=1\n[1800sub1]\nParameterName=COB-ID\nDefaultValue=0x185\n") None) (SubNumber ∷ Unlisted ∷ FixedCobId ∷ MissingName ∷ [])
     ≡ warning_at SubNumber 2 ∷ warning_at Unlisted 1 ∷ warning_at FixedCobId 5 ∷ warning_at MissingName 1 ∷ []
-unfolding kind_in places_of place_in_text places_in
+unfolding kind_in places_of few_places place_in_text places_in
 several = refl
 
 -- where there is no section, each key is missing
@@ -18,7 +18,7 @@ abbrev no_infos : List Warning
 no_infos = warning_at (FileInfoKeys (replicate 10 true)) 0 ∷ warning_at (DeviceInfoKeys (replicate 22 true)) 0 ∷ []
 
 none : warnings_of [] None true ≡ no_infos
-unfolding all_warnings kind_in places_of place_in_text places_in
+unfolding all_warnings kind_in places_of few_places place_in_text places_in
 none = refl
 
 -- the kinds that a sheet is asked for without those of taste, and with them
@@ -29,11 +29,11 @@ all_quiet : list_any (λ kind. not (is_quiet kind)) quiet_kinds ≡ false
 all_quiet = refl
 
 taste_left_out : warnings_of (codes "[2000]\n") None false ≡ no_infos ++ warning_at Unlisted 1 ∷ []
-unfolding all_warnings kind_in places_of place_in_text places_in
+unfolding all_warnings kind_in places_of few_places place_in_text places_in
 taste_left_out = refl
 
 taste_asked_for : warnings_of (codes "[2000]\n") None true ≡ no_infos ++ warning_at Unlisted 1 ∷ warning_at MissingName 1 ∷ []
-unfolding all_warnings kind_in places_of place_in_text places_in
+unfolding all_warnings kind_in places_of few_places place_in_text places_in
 taste_asked_for = refl
 
 -- the node-ID: given; the text's own, beside a line at fault; none, where it isn't 1 to 127
@@ -52,7 +52,7 @@ no_own_node = refl
 -- a line at fault is passed over; the section that comes again isn't read
 in_spite_of_faults : warnings_of_kinds (read_text (codes "x\n[2000]\nSubNumber 3\nSubNumber=1\n[2000]\nSubNumber=2\n[2001\nSubNumber=3") None) (SubNumber ∷ Unlisted ∷ [])
     ≡ warning_at SubNumber 4 ∷ warning_at Unlisted 2 ∷ []
-unfolding kind_in places_of place_in_text places_in
+unfolding kind_in places_of few_places place_in_text places_in
 in_spite_of_faults = refl
 
 -- what a kind says of a text: of each key whether it is missing, and the node-ID
@@ -69,3 +69,9 @@ for_node : kind_in (read_text [] (Some 5)) (SharedCobId 0) ∷ kind_in (read_tex
     ≡ SharedCobId 5 ∷ HeartbeatTwice (Some 5) ∷ MissingName ∷ []
 unfolding kind_in
 for_node = refl
+
+-- a NodeID of 0 to 128, and one that is no number; NodeID of another section
+node_ids : map (λ value. warnings_of_kinds (read_text (codes "[DeviceComissioning]\nNodeID=" ++ value) None) (NodeId ∷ [])) (codes "0" ∷ codes "1" ∷ codes "127" ∷ codes "128" ∷ codes "x" ∷ codes "" ∷ codes "5\n[1000]\nNodeID=0" ∷ [])
+    ≡ (warning_at NodeId 2 ∷ []) ∷ [] ∷ [] ∷ (warning_at NodeId 2 ∷ []) ∷ [] ∷ [] ∷ [] ∷ []
+unfolding kind_in places_of few_places place_in_text places_in
+node_ids = refl

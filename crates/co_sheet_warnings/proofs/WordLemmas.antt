@@ -1,8 +1,7 @@
 -- The tables of words have each kind's words in its row.
 use Rattle.std.proofs.Common.{◌≡◌, ◌<◌, ℕ, List, [], get_or, map, refl, arith}
-use Rattle.co_sheet_warnings.specs.declared.known_key.KnownKey.{KnownKey}
 use Rattle.co_sheet_warnings.specs.declared.warning.WarningKind.{WarningKind}
-use Rattle.co_sheet_warnings.specs.declared.warning.WarningKind.TheVariants.{SubNumber, SubIndex0, FileInfoKeys, DeviceInfoKeys, PdoCount, WrongList, Unlisted, IdentityNumber, FixedCobId, NodeIdPlace, MisspeltKey, SharedCobId, InhibitTime, OwnHeartbeat, HeartbeatTwice, NoErrorControl, LongLine, Utf8, NotAscii, ListOrder, EqualNames, MissingName, UnknownKey, DateFormat, LineEnds}
+use Rattle.co_sheet_warnings.specs.declared.warning.WarningKind.TheVariants.{SubNumber, SubIndex0, FileInfoKeys, DeviceInfoKeys, PdoCount, WrongList, Unlisted, IdentityNumber, FixedCobId, NodeIdPlace, MisspeltKey, SharedCobId, InhibitTime, OwnHeartbeat, HeartbeatTwice, NoErrorControl, LongLine, Utf8, NotAscii, NodeId, ListOrder, EqualNames, MissingName, UnknownKey, DateFormat, LineEnds}
 use Rattle.co_sheet_warnings.specs.declared.words.TheConstants.{NAMES, MEANINGS, FIXES, SUBJECTS}
 use Rattle.co_sheet_warnings.specs.WarningWords.{name_of, meaning_of, fix_of, subject_of}
 use Rattle.co_sheet_warnings.specs.private.Views.{kind_row}
@@ -27,7 +26,7 @@ named (DeviceInfoKeys missing) = refl
 named PdoCount = refl
 named WrongList = refl
 named Unlisted = refl
-named IdentityNumber = refl
+named (IdentityNumber sub) = refl
 named FixedCobId = refl
 named NodeIdPlace = refl
 named (MisspeltKey key) = refl
@@ -39,6 +38,7 @@ named NoErrorControl = refl
 named LongLine = refl
 named Utf8 = refl
 named NotAscii = refl
+named NodeId = refl
 named ListOrder = refl
 named EqualNames = refl
 named MissingName = refl
@@ -54,7 +54,7 @@ meant (DeviceInfoKeys missing) = refl
 meant PdoCount = refl
 meant WrongList = refl
 meant Unlisted = refl
-meant IdentityNumber = refl
+meant (IdentityNumber sub) = refl
 meant FixedCobId = refl
 meant NodeIdPlace = refl
 meant (MisspeltKey key) = refl
@@ -66,6 +66,7 @@ meant NoErrorControl = refl
 meant LongLine = refl
 meant Utf8 = refl
 meant NotAscii = refl
+meant NodeId = refl
 meant ListOrder = refl
 meant EqualNames = refl
 meant MissingName = refl
@@ -81,7 +82,7 @@ ruled (DeviceInfoKeys missing) = refl
 ruled PdoCount = refl
 ruled WrongList = refl
 ruled Unlisted = refl
-ruled IdentityNumber = refl
+ruled (IdentityNumber sub) = refl
 ruled FixedCobId = refl
 ruled NodeIdPlace = refl
 ruled (MisspeltKey key) = refl
@@ -93,6 +94,7 @@ ruled NoErrorControl = refl
 ruled LongLine = refl
 ruled Utf8 = refl
 ruled NotAscii = refl
+ruled NodeId = refl
 ruled ListOrder = refl
 ruled EqualNames = refl
 ruled MissingName = refl
@@ -100,35 +102,36 @@ ruled UnknownKey = refl
 ruled DateFormat = refl
 ruled LineEnds = refl
 
-pub fixed : (kind : WarningKind) → ((key : KnownKey) → kind ≡ MisspeltKey key → ⊥) → get_or fixes (kind_row kind) [] ≡ fix_of kind
-fixed SubNumber other = refl
-fixed SubIndex0 other = refl
-fixed (FileInfoKeys missing) other = refl
-fixed (DeviceInfoKeys missing) other = refl
-fixed PdoCount other = refl
-fixed WrongList other = refl
-fixed Unlisted other = refl
-fixed IdentityNumber other = refl
-fixed FixedCobId other = refl
-fixed NodeIdPlace other = refl
-fixed (MisspeltKey key) other = absurd (other key refl)
-fixed (SharedCobId node) other = refl
-fixed InhibitTime other = refl
-fixed OwnHeartbeat other = refl
-fixed (HeartbeatTwice given) other = refl
-fixed NoErrorControl other = refl
-fixed LongLine other = refl
-fixed Utf8 other = refl
-fixed NotAscii other = refl
-fixed ListOrder other = refl
-fixed EqualNames other = refl
-fixed MissingName other = refl
-fixed UnknownKey other = refl
-fixed DateFormat other = refl
-fixed LineEnds other = refl
+pub fixed : (kind : WarningKind) → get_or fixes (kind_row kind) [] ≡ fix_of kind
+fixed SubNumber = refl
+fixed SubIndex0 = refl
+fixed (FileInfoKeys missing) = refl
+fixed (DeviceInfoKeys missing) = refl
+fixed PdoCount = refl
+fixed WrongList = refl
+fixed Unlisted = refl
+fixed (IdentityNumber sub) = refl
+fixed FixedCobId = refl
+fixed NodeIdPlace = refl
+fixed (MisspeltKey key) = refl
+fixed (SharedCobId node) = refl
+fixed InhibitTime = refl
+fixed OwnHeartbeat = refl
+fixed (HeartbeatTwice given) = refl
+fixed NoErrorControl = refl
+fixed LongLine = refl
+fixed Utf8 = refl
+fixed NotAscii = refl
+fixed NodeId = refl
+fixed ListOrder = refl
+fixed EqualNames = refl
+fixed MissingName = refl
+fixed UnknownKey = refl
+fixed DateFormat = refl
+fixed LineEnds = refl
 
 -- no row past the last
-pub few_rows : (kind : WarningKind) → kind_row kind < 25
+pub few_rows : (kind : WarningKind) → kind_row kind < 26
 few_rows SubNumber = omega arith
 few_rows SubIndex0 = omega arith
 few_rows (FileInfoKeys missing) = omega arith
@@ -136,7 +139,7 @@ few_rows (DeviceInfoKeys missing) = omega arith
 few_rows PdoCount = omega arith
 few_rows WrongList = omega arith
 few_rows Unlisted = omega arith
-few_rows IdentityNumber = omega arith
+few_rows (IdentityNumber sub) = omega arith
 few_rows FixedCobId = omega arith
 few_rows NodeIdPlace = omega arith
 few_rows (MisspeltKey key) = omega arith
@@ -148,6 +151,7 @@ few_rows NoErrorControl = omega arith
 few_rows LongLine = omega arith
 few_rows Utf8 = omega arith
 few_rows NotAscii = omega arith
+few_rows NodeId = omega arith
 few_rows ListOrder = omega arith
 few_rows EqualNames = omega arith
 few_rows MissingName = omega arith

@@ -3,9 +3,11 @@ use Rattle.std.specs.Prelude.{
   ℕ,
   Bool,
   false,
+  not,
   ◌&&◌,
   ◌||◌,
   ◌==◌,
+  ◌%◌,
   ◌^◌,
   nat_lt,
   if◌then◌else◌,
@@ -23,7 +25,7 @@ use Rattle.co_sheet_text.specs.declared.section_kind.SectionKind.TheVariants.{Ob
 use Rattle.co_sheet_text.specs.Text.{trim}
 use Rattle.co_sheet_text.specs.Numerals.{unsigned_number}
 use Rattle.co_sheet_text.specs.Sections.{Property, TextSection, property_at}
-use Rattle.co_sheet_text.specs.Properties.{property_number}
+use Rattle.co_sheet_text.specs.Properties.{number_at, property_number}
 use Rattle.co_sheet.specs.Limits.{is_plus, is_node_id}
 use Rattle.co_sheet_warnings.specs.SubIndices.{is_within}
 
@@ -34,9 +36,10 @@ has_default_cob_id (SubIndex key) =
     (key.sub == 1) && (is_within 0x1400 0x1403 key.index || is_within 0x1800 0x1803 key.index)
 has_default_cob_id kind = false
 
--- a number without `$NODEID` and without bit 31, which disables a PDO and EMCY
+-- a number without `$NODEID` and without bit 31, which disables a PDO and EMCY; without an identifier,
+-- bits 29 to 0, the object isn't used either
 abbrev pub is_enabled : ℕ → Bool
-is_enabled cob_id = nat_lt cob_id (2 ^ 31)
+is_enabled cob_id = nat_lt cob_id (2 ^ 31) && not (cob_id % 2 ^ 30 == 0)
 
 abbrev pub fixed_number : Property → List ℕ
 fixed_number k = if option_map_or is_enabled (property_number k) false then k.line ∷ [] else []
@@ -56,5 +59,14 @@ is_node_id_last value =
 abbrev pub node_id_last : Property → List ℕ
 node_id_last k = if is_node_id_last k.value then k.line ∷ [] else []
 
+-- strings and domains, where `$NODEID` has no meaning (CiA 301, data types)
+abbrev pub is_text_type : ℕ → Bool
+is_text_type code = is_within 0x9 0xB code || (code == 0xF)
+
+abbrev pub has_text_type : TextSection → Bool
+has_text_type s = option_map_or is_text_type (number_at (codes "DataType") s) false
+
 abbrev pub node_id_place : TextSection → List ℕ
-node_id_place s = option_map_or node_id_last (property_at (codes "DefaultValue") s) []
+node_id_place s =
+    if has_text_type s then []
+    else option_map_or node_id_last (property_at (codes "DefaultValue") s) []

@@ -124,16 +124,17 @@ pdo_counts keys sections =
     else other_number_at keys key.NrOfRxPdo (object_count 0x1400 0x15FF sections)
     ++ other_number_at keys key.NrOfTxPdo (object_count 0x1800 0x19FF sections)
 
--- a number that isn't the initial one of that sub-index of the identity object, by its entries
-abbrev pub identity_number : List WrittenKey → List Entry → KnownKey → ℕ → List ℕ
-identity_number keys entries known sub =
-    option_map_or (other_number_at keys known) (number_at_sub sub entries) []
+-- the key with the number of a sub-index of the identity object, 1 to 3 (CiA 301, identity object)
+abbrev pub identity_key : ℕ → KnownKey
+identity_key sub =
+    if sub == 1 then key.VendorNumber
+    else if sub == 2 then key.ProductNumber
+    else key.RevisionNumber
 
-abbrev pub identity_numbers : List WrittenKey → List Entry → List ℕ
-identity_numbers keys entries =
-    identity_number keys entries key.VendorNumber 1
-    ++ identity_number keys entries key.ProductNumber 2
-    ++ identity_number keys entries key.RevisionNumber 3
+-- where it isn't the initial number of that sub-index, by the entries of the object
+abbrev pub identity_number : List WrittenKey → List Entry → ℕ → List ℕ
+identity_number keys entries sub =
+    option_map_or (other_number_at keys (identity_key sub)) (number_at_sub sub entries) []
 
 -- ---- dates and times of FileInfo
 

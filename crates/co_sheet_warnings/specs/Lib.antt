@@ -1,5 +1,6 @@
 pub mod Keys
 pub mod KnownKeys
+pub mod NodeIds
 pub mod ReadTexts
 pub mod SubIndices
 pub mod Lists

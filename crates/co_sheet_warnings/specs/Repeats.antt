@@ -36,6 +36,7 @@ use Rattle.co_sheet_text.specs.declared.section_kind.SectionKind.{SectionKind}
 use Rattle.co_sheet_text.specs.declared.section_kind.SectionKind.TheVariants.{Object, SubIndex}
 use Rattle.co_sheet_text.specs.Sections.{Property, TextSection, property_at}
 use Rattle.co_sheet.specs.Limits.{Default, number, node_id, numeric_default}
+use Rattle.co_sheet_warnings.specs.declared.repeats.ComparedNumber.{ComparedNumber}
 use Rattle.co_sheet_warnings.specs.declared.warning.WarningKind.{WarningKind}
 use Rattle.co_sheet_warnings.specs.declared.warning.WarningKind.TheVariants.{SharedCobId, HeartbeatTwice, EqualNames}
 use Rattle.co_sheet_warnings.specs.Communication.{is_used_word, node_of_word, word_of}
@@ -165,6 +166,16 @@ is_consumer kind = false
 abbrev pub consumed_in : Option ℕ → TextSection → Option (Placed ScopedName)
 consumed_in given s =
     if is_consumer s.kind then option_and_then (node_consumed given) (value_in s) else None
+
+-- what a kind of warning compares, of a section that has it: identifiers, or the node-IDs of words of
+-- 1016h
+abbrev pub compared_as : Placed ScopedName → ComparedNumber
+compared_as p = record { number = p.key.scope; line = p.line }
+
+abbrev pub compared : WarningKind → TextSection → Option ComparedNumber
+compared (SharedCobId node) s = option_map compared_as (identifier_name node s)
+compared (HeartbeatTwice given) s = option_map compared_as (consumed_in given s)
+compared kind s = None
 
 -- the first of what sections have that passes a test
 abbrev pub passing :

@@ -22,6 +22,7 @@ use Rattle.co_sheet_warnings.specs.declared.warning.WarningKind.TheVariants.{
   LongLine,
   Utf8,
   NotAscii,
+  NodeId,
   ListOrder,
   EqualNames,
   MissingName,
@@ -29,7 +30,6 @@ use Rattle.co_sheet_warnings.specs.declared.warning.WarningKind.TheVariants.{
   DateFormat,
   LineEnds,
 }
-use Rattle.co_sheet_warnings.specs.KnownKeys.{key_text}
 
 -- its name
 abbrev pub name_of : WarningKind → List ℕ
@@ -40,7 +40,7 @@ name_of (DeviceInfoKeys missing) = codes "DeviceInfoKeys"
 name_of PdoCount = codes "PdoCount"
 name_of WrongList = codes "WrongList"
 name_of Unlisted = codes "Unlisted"
-name_of IdentityNumber = codes "IdentityNumber"
+name_of (IdentityNumber sub) = codes "IdentityNumber"
 name_of FixedCobId = codes "FixedCobId"
 name_of NodeIdPlace = codes "NodeIdPlace"
 name_of (MisspeltKey meant) = codes "MisspeltKey"
@@ -52,6 +52,7 @@ name_of NoErrorControl = codes "NoErrorControl"
 name_of LongLine = codes "LongLine"
 name_of Utf8 = codes "Utf8"
 name_of NotAscii = codes "NotAscii"
+name_of NodeId = codes "NodeId"
 name_of ListOrder = codes "ListOrder"
 name_of EqualNames = codes "EqualNames"
 name_of MissingName = codes "MissingName"
@@ -68,7 +69,7 @@ meaning_of (DeviceInfoKeys missing) = codes "DeviceInfo is missing, or a key tha
 meaning_of PdoCount = codes "this isn't the number of PDOs that the sheet has"
 meaning_of WrongList = codes "the object belongs in another list"
 meaning_of Unlisted = codes "no list names the object, so it isn't read"
-meaning_of IdentityNumber = codes "the identity object has another number"
+meaning_of (IdentityNumber sub) = codes "the identity object has another number"
 meaning_of FixedCobId =
     codes "the COB-ID doesn't depend on the node-ID, so two such devices disturb each other"
 meaning_of NodeIdPlace = codes "$NODEID comes after the number, which other tools don't read"
@@ -83,6 +84,7 @@ meaning_of Utf8 =
     codes "the text has bytes above 7Fh, in UTF-8, which older tools read as Windows-1252"
 meaning_of NotAscii =
     codes "the text has bytes above 7Fh and isn't UTF-8, so it is read as Windows-1252"
+meaning_of NodeId = codes "NodeID isn't 1 to 127, so the sheet has no node-ID"
 meaning_of ListOrder = codes "an index of the list is smaller than the one before it"
 meaning_of EqualNames = codes "an object or sub-index before it has the same name"
 meaning_of MissingName = codes "the object or sub-index has no ParameterName"
@@ -94,20 +96,18 @@ meaning_of LineEnds = codes "the line ends otherwise than line 1: CR and LF, or 
 abbrev pub fix_of : WarningKind → List ℕ
 fix_of SubNumber = codes "count the sections, or leave the key out"
 fix_of SubIndex0 = codes "give it the highest sub-index that the object has"
-fix_of (FileInfoKeys missing) =
-    codes "give it FileName, FileVersion, FileRevision, Description, CreationTime, CreationDate, CreatedBy, ModificationTime, ModificationDate and ModifiedBy"
-fix_of (DeviceInfoKeys missing) =
-    codes "give it VendorName, VendorNumber, ProductName, ProductNumber, RevisionNumber, OrderCode, the eight BaudRate_.., SimpleBootUpMaster, SimpleBootUpSlave, Granularity, DynamicChannelsSupported, GroupMessaging, NrOfRXPDO, NrOfTXPDO and LSS_Supported"
+fix_of (FileInfoKeys missing) = codes "add the missing section or keys"
+fix_of (DeviceInfoKeys missing) = codes "add the missing section or keys"
 fix_of PdoCount =
     codes "count the objects 1400h to 15FFh for NrOfRXPDO, 1800h to 19FFh for NrOfTXPDO"
 fix_of WrongList =
     codes "list 1000h, 1001h and 1018h as mandatory, 2000h to 5FFFh as the manufacturer's, all others as optional"
 fix_of Unlisted = codes "list it, or take its section out"
-fix_of IdentityNumber =
+fix_of (IdentityNumber sub) =
     codes "give VendorNumber as in 1018:01, ProductNumber as in 1018:02, RevisionNumber as in 1018:03"
 fix_of FixedCobId = codes "write $NODEID+ and the number of the predefined connection set"
 fix_of NodeIdPlace = codes "write $NODEID first, as $NODEID+0x180"
-fix_of (MisspeltKey meant) = codes "did you mean " ++ key_text meant
+fix_of (MisspeltKey meant) = codes "write the key as the standard has it"
 fix_of (SharedCobId node) =
     codes "give each PDO, SDO channel and EMCY an identifier of its own, or set bit 31"
 fix_of InhibitTime = codes "set it to 0, or take a transmission type from 254 on"
@@ -117,6 +117,7 @@ fix_of NoErrorControl = codes "add 1017h, or 100Ch and 100Dh"
 fix_of LongLine = codes "shorten the line"
 fix_of Utf8 = codes "write ASCII alone"
 fix_of NotAscii = codes "write ASCII alone"
+fix_of NodeId = codes "give the node-ID of the device"
 fix_of ListOrder = codes "sort the list by index"
 fix_of EqualNames = codes "give each object, and each sub-index of an object, a name of its own"
 fix_of MissingName = codes "add ParameterName"
@@ -133,7 +134,7 @@ subject_of (DeviceInfoKeys missing) = codes "CiA 306-1, device information"
 subject_of PdoCount = codes "CiA 306-1, device information"
 subject_of WrongList = codes "CiA 306-1, object lists"
 subject_of Unlisted = codes "CiA 306-1, object lists"
-subject_of IdentityNumber = codes "CiA 306-1, device information"
+subject_of (IdentityNumber sub) = codes "CiA 306-1, device information"
 subject_of FixedCobId = codes "CiA 301, predefined connection set"
 subject_of NodeIdPlace = codes "CiA 306-1, object description"
 subject_of (MisspeltKey meant) = codes "CiA 306-1, structure of an EDS"
@@ -145,6 +146,7 @@ subject_of NoErrorControl = codes "CiA 301, error control"
 subject_of LongLine = codes "CiA 306-1, structure of an EDS"
 subject_of Utf8 = codes "CiA 306-1, structure of an EDS"
 subject_of NotAscii = codes "CiA 306-1, structure of an EDS"
+subject_of NodeId = codes "CiA 306-1, device commissioning"
 subject_of ListOrder = codes "CiA 306-1, object lists"
 subject_of EqualNames = codes "CiA 306-1, object description"
 subject_of MissingName = codes "CiA 306-1, object description"

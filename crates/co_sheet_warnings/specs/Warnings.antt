@@ -45,6 +45,7 @@ use Rattle.co_sheet_warnings.specs.declared.warning.WarningKind.TheVariants.{
   LongLine,
   Utf8,
   NotAscii,
+  NodeId,
   ListOrder,
   EqualNames,
   MissingName,
@@ -60,6 +61,7 @@ use Rattle.co_sheet_warnings.specs.SubIndices.{sub_number, sub_index_0, missing_
 use Rattle.co_sheet_warnings.specs.Lists.{wrong_lists, list_orders, unlisted, no_error_control}
 use Rattle.co_sheet_warnings.specs.CobIds.{fixed_cob_id, node_id_place}
 use Rattle.co_sheet_warnings.specs.Communication.{inhibit_time, own_heartbeat, heartbeat_twice}
+use Rattle.co_sheet_warnings.specs.NodeIds.{no_node_id}
 use Rattle.co_sheet_warnings.specs.Lines.{long_lines, utf8, not_ascii, mixed_line_ends}
 use Rattle.co_sheet_warnings.specs.declared.keys.Topic.TheVariants.{FileInfo, DeviceInfo}
 use Rattle.co_sheet_warnings.specs.Keys.{WrittenKey}
@@ -70,7 +72,7 @@ use Rattle.co_sheet_warnings.specs.Infos.{
   file_keys,
   device_keys,
   pdo_counts,
-  identity_numbers,
+  identity_number,
   date_formats,
 }
 use Rattle.co_sheet_warnings.specs.Repeats.{shared_cob_ids, equal_names}
@@ -92,6 +94,7 @@ places_in t NodeIdPlace s = node_id_place s
 places_in t InhibitTime s = inhibit_time t.sections s s.kind
 places_in t OwnHeartbeat s = own_heartbeat t.node s s.kind
 places_in t (HeartbeatTwice given) s = heartbeat_twice t.node t.sections s s.kind
+places_in t NodeId s = no_node_id s s.kind
 places_in t MissingName s = missing_name s
 places_in t kind s = []
 
@@ -110,29 +113,34 @@ place_in_text t kind = []
 abbrev pub other_places : ReadText → WarningKind → List ℕ
 other_places t kind = place_in_text t kind ++ flat_map (places_in t kind) t.sections
 
+-- the same, and of the kinds that are about the keys of DeviceInfo and FileInfo
+unfoldable pub few_places : ReadText → WarningKind → List ℕ
+few_places t PdoCount = pdo_counts t.keys t.sections
+few_places t (IdentityNumber sub) = identity_number t.keys (sub_indices t.sections 0x1018) sub
+few_places t DateFormat = date_formats t.keys
+few_places t kind = other_places t kind
+
 -- the lines of a text where a kind applies
 unfoldable pub places_of : ReadText → WarningKind → List ℕ
-places_of t PdoCount = pdo_counts t.keys t.sections
-places_of t IdentityNumber = identity_numbers t.keys (sub_indices t.sections 0x1018)
-places_of t DateFormat = date_formats t.keys
 places_of t WrongList = wrong_lists t.sections
 places_of t ListOrder = list_orders t.sections
 places_of t (SharedCobId node) = shared_cob_ids t.node t.sections
 places_of t EqualNames = equal_names t.sections
 places_of t LongLine = long_lines t.lines
-places_of t kind = other_places t kind
+places_of t kind = few_places t kind
 
 -- the kinds, in the order in which the sheets of vendors show them: those before misspelt keys,
 -- those after them, and those of taste; what a kind says of a text is still open
 abbrev pub first_kinds : List WarningKind
 first_kinds =
     SubNumber ∷ SubIndex0 ∷ FileInfoKeys (replicate 10 false) ∷ DeviceInfoKeys (replicate 22 false)
-    ∷ PdoCount ∷ WrongList ∷ Unlisted ∷ IdentityNumber ∷ FixedCobId ∷ NodeIdPlace ∷ []
+    ∷ PdoCount ∷ WrongList ∷ Unlisted ∷ IdentityNumber 1 ∷ IdentityNumber 2 ∷ IdentityNumber 3
+    ∷ FixedCobId ∷ NodeIdPlace ∷ []
 
 abbrev pub last_kinds : List WarningKind
 last_kinds =
     SharedCobId 0 ∷ InhibitTime ∷ OwnHeartbeat ∷ HeartbeatTwice None ∷ NoErrorControl ∷ LongLine
-    ∷ Utf8 ∷ NotAscii ∷ []
+    ∷ Utf8 ∷ NotAscii ∷ NodeId ∷ []
 
 abbrev pub quiet_kinds : List WarningKind
 quiet_kinds =

@@ -5,6 +5,8 @@ ghost use Rattle.co_sheet_text.specs.Views.{section_view};
 ghost use Rattle.co_sheet_warnings.specs.CobIds.{
   has_default_cob_id,
   fixed_cob_id,
+  has_text_type,
+  is_enabled,
   is_node_id_last,
   node_id_place,
 };
@@ -29,6 +31,13 @@ fn has_default_cob_id(kind: SectionKind) -> bool
 /// This bit of a COB-ID word disables it.
 const DISABLED: u64 = 1 << 31;
 
+// whether a number is the COB-ID of an object that is used
+fn is_enabled(word: u64) -> bool
+    ensures { result ≡ is_enabled word }
+{
+    word < DISABLED && word % (1 << 30) != 0
+}
+
 /// The line of a COB-ID that is a fixed number, and depends on the node-ID by default.
 pub(crate) fn fixed_cob_id(section: &TextSection) -> Option<usize>
     ensures { option_to_list result ≡ fixed_cob_id (section_view section.now) }
@@ -40,7 +49,7 @@ pub(crate) fn fixed_cob_id(section: &TextSection) -> Option<usize>
         return None;
     };
     match given.number() {
-        Some(word) if word < DISABLED => Some(given.line),
+        Some(word) if is_enabled(word) => Some(given.line),
         _ => None,
     }
 }
@@ -56,10 +65,23 @@ fn is_node_id_last(value: &[u8]) -> bool
     }
 }
 
+// whether a section is that of a string or a domain
+fn has_text_type(section: &TextSection) -> bool
+    ensures { result ≡ has_text_type (section_view section.now) }
+{
+    match section.number_at(b"DataType") {
+        Some(code) => (0x9 <= code && code <= 0xB) || code == 0xF,
+        None => false,
+    }
+}
+
 /// The line of a formula with `$NODEID` after its number.
 pub(crate) fn node_id_place(section: &TextSection) -> Option<usize>
     ensures { option_to_list result ≡ node_id_place (section_view section.now) }
 {
+    if has_text_type(section) {
+        return None;
+    }
     match section.property(b"DefaultValue") {
         Some(given) if is_node_id_last(given.value) => Some(given.line),
         _ => None,

@@ -6,6 +6,7 @@ ghost use Rattle.co_sheet_warnings.specs.Warnings.{places_in};
 
 use crate::cob_ids::{fixed_cob_id, node_id_place};
 use crate::communication::{heartbeat_twice, inhibit_time, own_heartbeat};
+use crate::node_id::no_node_id;
 use crate::read_text::ReadText;
 use crate::sub_indices::{missing_name, sub_index_0, sub_number, unlisted};
 use crate::warning::WarningKind;
@@ -25,6 +26,7 @@ pub(crate) fn place_in(text: &ReadText, kind: WarningKind, section: &TextSection
         WarningKind::InhibitTime => inhibit_time(text, section),
         WarningKind::OwnHeartbeat => own_heartbeat(text.node, section),
         WarningKind::HeartbeatTwice(_) => heartbeat_twice(text, text.node, section),
+        WarningKind::NodeId => no_node_id(section),
         WarningKind::MissingName => missing_name(section),
         _ => None,
     }

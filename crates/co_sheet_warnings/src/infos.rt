@@ -6,9 +6,11 @@ ghost use Rattle.co_sheet.specs.SectionViews.{entry_view};
 ghost use Rattle.co_sheet_text.specs.Views.{section_view};
 ghost use Rattle.co_sheet_warnings.specs.Infos.{
   date_formats,
+  device_keys,
+  file_keys,
   has_compact_pdos,
+  identity_key,
   identity_number,
-  identity_numbers,
   is_day_and_year,
   is_info,
   is_missing,
@@ -62,7 +64,7 @@ fn key_at<'k, 'a>(
 }
 
 /// The keys that FileInfo must have.
-pub(crate) const FILE_KEYS: [KnownKey; 10] = [
+const FILE_KEYS: [KnownKey; 10] = [
     KnownKey::FileName,
     KnownKey::FileVersion,
     KnownKey::FileRevision,
@@ -76,7 +78,7 @@ pub(crate) const FILE_KEYS: [KnownKey; 10] = [
 ];
 
 /// The keys that DeviceInfo must have.
-pub(crate) const DEVICE_KEYS: [KnownKey; 22] = [
+const DEVICE_KEYS: [KnownKey; 22] = [
     KnownKey::VendorName,
     KnownKey::VendorNumber,
     KnownKey::ProductName,
@@ -100,6 +102,20 @@ pub(crate) const DEVICE_KEYS: [KnownKey; 22] = [
     KnownKey::NrOfTxPdo,
     KnownKey::LssSupported,
 ];
+
+/// The keys that FileInfo must have (CiA 306-1, file information).
+pub fn file_keys() -> &'static [KnownKey]
+    ensures { result.now ≡ file_keys }
+{
+    &FILE_KEYS
+}
+
+/// The keys that DeviceInfo must have (CiA 306-1, device information).
+pub fn device_keys() -> &'static [KnownKey]
+    ensures { result.now ≡ device_keys }
+{
+    &DEVICE_KEYS
+}
 
 fn is_missing(info: Topic, keys: &[WrittenKey], known: KnownKey) -> bool
     ensures { result ≡ is_missing info (map key_view keys.now) known }
@@ -190,8 +206,8 @@ fn is_object_within(low: u16, high: u16, kind: SectionKind) -> bool
     }
 }
 
-// the number of objects in a range of indices
-fn object_count(low: u16, high: u16, sections: &[TextSection]) -> usize
+/// The number of objects in a range of indices with both its ends.
+pub fn object_count(low: u16, high: u16, sections: &[TextSection]) -> usize
     ensures { result ≡ object_count low high (map section_view sections.now) }
 {
     let mut count = 0;
@@ -229,33 +245,27 @@ pub(crate) fn pdo_counts(keys: &[WrittenKey], sections: &[TextSection]) -> [Opti
     ]
 }
 
-// the line of a number that isn't the initial one of that sub-index of the identity object
-fn identity_number(
-    keys: &[WrittenKey],
-    parts: &[EntrySection],
-    known: KnownKey,
-    sub: u8,
-) -> Option<usize>
-    ensures { option_to_list result
-        ≡ identity_number (map key_view keys.now) (map entry_view parts.now) known sub }
+// the key with the number of a sub-index of the identity object, 1 to 3
+fn identity_key(sub: u8) -> KnownKey
+    ensures { result ≡ identity_key sub }
 {
-    match number_at_sub(parts, sub) {
-        Some(number) => other_number_at(keys, known, number),
-        None => None,
+    match sub {
+        1 => KnownKey::VendorNumber,
+        2 => KnownKey::ProductNumber,
+        _ => KnownKey::RevisionNumber,
     }
 }
 
-/// The lines of VendorNumber, ProductNumber and RevisionNumber, where they aren't those of the
-/// identity object, which has these entries.
-pub(crate) fn identity_numbers(keys: &[WrittenKey], parts: &[EntrySection]) -> [Option<usize>; 3]
-    ensures { flat_map option_to_list result
-        ≡ identity_numbers (map key_view keys.now) (map entry_view parts.now) }
+/// The line of VendorNumber, ProductNumber or RevisionNumber, where it isn't the number at that
+/// sub-index of the identity object, which has these entries.
+pub(crate) fn identity_number(keys: &[WrittenKey], parts: &[EntrySection], sub: u8) -> Option<usize>
+    ensures { option_to_list result
+        ≡ identity_number (map key_view keys.now) (map entry_view parts.now) sub }
 {
-    [
-        identity_number(keys, parts, KnownKey::VendorNumber, 1),
-        identity_number(keys, parts, KnownKey::ProductNumber, 2),
-        identity_number(keys, parts, KnownKey::RevisionNumber, 3),
-    ]
+    match number_at_sub(parts, sub) {
+        Some(number) => other_number_at(keys, identity_key(sub), number),
+        None => None,
+    }
 }
 
 // this many decimal digits, of a number in a range

@@ -41,9 +41,11 @@ mod whole;
 mod words;
 
 pub use find::find_warnings;
+pub use infos::{device_keys, file_keys, object_count};
 pub use known_key::KnownKey;
 pub use lines::text_lines;
 pub use node_id::own_node;
-pub use repeats::first_equal;
+pub use repeats::{ComparedNumber, compared, first_equal};
+pub use sub_indices::value_in;
 pub use warning::{Warning, WarningKind};
 pub use words::{fix_of, meaning_of, name_of, subject_of};

@@ -1,7 +1,8 @@
 //! The node-ID that a device configuration file has for its node.
 
-ghost use Rattle.std.specs.Prelude.{◌≡◌, map};
+ghost use Rattle.std.specs.Prelude.{◌≡◌, map, option_to_list};
 ghost use Rattle.co_sheet_text.specs.Views.{section_view};
+ghost use Rattle.co_sheet_warnings.specs.NodeIds.{no_node_id};
 ghost use Rattle.co_sheet_warnings.specs.ReadTexts.{own_node};
 
 use co_sheet::section_at;
@@ -23,6 +24,24 @@ pub fn own_node(node: Option<u8>, sections: &[TextSection]) -> Option<u8>
     };
     match given.number() {
         Some(number @ 1..=127) => Some(number as u8),
+        _ => None,
+    }
+}
+
+/// The line of a NodeID that is a number, but not 1 to 127.
+pub(crate) fn no_node_id(section: &TextSection) -> Option<usize>
+    ensures { option_to_list result ≡ no_node_id (section_view section.now) section.now.kind }
+{
+    match section.kind {
+        SectionKind::DeviceCommissioning => {
+            let Some(given) = section.property(b"NodeID") else {
+                return None;
+            };
+            match given.number() {
+                Some(1..=127) | None => None,
+                Some(_) => Some(given.line),
+            }
+        }
         _ => None,
     }
 }

@@ -15,6 +15,8 @@ ghost use Rattle.std.specs.Prelude.{
 ghost use Rattle.std.specs.List.{list_any};
 ghost use Rattle.co_sheet_text.specs.Views.{section_view};
 ghost use Rattle.co_sheet_warnings.specs.Repeats.{
+  compared,
+  compared_as,
   consumed_in,
   enabled_number,
   first_equal,
@@ -202,6 +204,38 @@ fn placed_in<'a>(once: Once, section: &TextSection<'_, 'a>) -> Option<PlacedName
         Once::Identifiers(node) => identifier_in(node, section),
         Once::Consumed(node) => consumed_in(node, section),
         Once::Names => name_in(section),
+    }
+}
+
+/// What a warning compares, and its line.
+#[derive(Clone, Copy)]
+pub struct ComparedNumber {
+    /// An identifier, with bit 29 of its COB-ID; or a node-ID.
+    pub number: u64,
+    pub line: usize,
+}
+
+fn compared_as(found: Option<PlacedName>) -> Option<ComparedNumber>
+    ensures { result ≡ option_map compared_as (option_map name_view found.entry) }
+{
+    match found {
+        Some(place) => Some(ComparedNumber {
+            number: place.name.scope,
+            line: place.line,
+        }),
+        None => None,
+    }
+}
+
+/// Of a section what SharedCobId or HeartbeatTwice compares: its identifier, or the node-ID that it
+/// consumes, if it has one.
+pub fn compared(kind: WarningKind, section: &TextSection) -> Option<ComparedNumber>
+    ensures { result ≡ compared kind (section_view section.now) }
+{
+    match kind {
+        WarningKind::SharedCobId(node) => compared_as(identifier_in(node, section)),
+        WarningKind::HeartbeatTwice(node) => compared_as(consumed_in(node, section)),
+        _ => None,
     }
 }
 

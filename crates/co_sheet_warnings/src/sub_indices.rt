@@ -77,7 +77,7 @@ pub(crate) fn missing_name(section: &TextSection) -> Option<usize>
 }
 
 /// What an entry begins with, by its section: ParameterValue, or else DefaultValue.
-pub(crate) fn value_in<'a>(section: &TextSection<'_, 'a>) -> Option<Property<'a>>
+pub fn value_in<'a>(section: &TextSection<'_, 'a>) -> Option<Property<'a>>
     ensures { option_map property_view result ≡ value_in (section_view section.now) }
 {
     match section.property(b"ParameterValue") {

@@ -20,8 +20,9 @@ pub enum WarningKind {
     WrongList,
     /// An object section that no object list names.
     Unlisted,
-    /// VendorNumber, ProductNumber or RevisionNumber isn't that of the identity object.
-    IdentityNumber,
+    /// VendorNumber, ProductNumber or RevisionNumber isn't that of the identity object, at this
+    /// sub-index: 1, 2 or 3.
+    IdentityNumber(u8),
     /// A COB-ID that depends on the node-ID by default is a fixed number.
     FixedCobId,
     /// `$NODEID` comes after the number of a formula.
@@ -45,6 +46,8 @@ pub enum WarningKind {
     Utf8,
     /// Bytes above 7Fh that aren't UTF-8.
     NotAscii,
+    /// NodeID of a device configuration file isn't 1 to 127.
+    NodeId,
     /// The indices of a list don't increase.
     ListOrder,
     /// An object, or a sub-index of an object, has the name of one before it.

@@ -5,6 +5,7 @@ ghost use Rattle.co_sheet_warnings.specs.Infos.{device_keys, file_keys, missing_
 ghost use Rattle.co_sheet_warnings.specs.Lists.{no_error_control};
 ghost use Rattle.co_sheet_warnings.specs.declared.keys.Topic.TheVariants.{FileInfo, DeviceInfo};
 ghost use Rattle.co_sheet_warnings.specs.Warnings.{
+  few_places,
   kind_in,
   other_places,
   place_in_text,
@@ -14,7 +15,7 @@ ghost use Rattle.co_sheet_warnings.specs.Warnings.{
 
 use crate::in_sections::place_in;
 use crate::infos::{
-    DEVICE_KEYS, FILE_KEYS, date_formats, identity_numbers, missing_keys, note_missing, pdo_counts,
+    date_formats, device_keys, file_keys, identity_number, missing_keys, note_missing, pdo_counts,
 };
 use crate::keys::Topic;
 use crate::known_key::unknown_key;
@@ -48,13 +49,13 @@ fn place_in_text(text: &ReadText, kind: WarningKind) -> Option<usize>
             Topic::FileInfo,
             text.keys,
             text.sections(),
-            &FILE_KEYS,
+            file_keys(),
         ),
         WarningKind::DeviceInfoKeys(_) => missing_keys(
             Topic::DeviceInfo,
             text.keys,
             text.sections(),
-            &DEVICE_KEYS,
+            device_keys(),
         ),
         WarningKind::NoErrorControl => no_error_control(text),
         WarningKind::Utf8 => other_bytes(text, true),
@@ -69,7 +70,7 @@ fn file_keys_missing(text: &ReadText) -> [bool; 10]
     ensures { result ≡ missing_each FileInfo text.now.keys file_keys }
 {
     let mut missing = [false; 10];
-    note_missing(&mut missing, Topic::FileInfo, text.keys, &FILE_KEYS);
+    note_missing(&mut missing, Topic::FileInfo, text.keys, file_keys());
     missing
 }
 
@@ -77,7 +78,7 @@ fn device_keys_missing(text: &ReadText) -> [bool; 22]
     ensures { result ≡ missing_each DeviceInfo text.now.keys device_keys }
 {
     let mut missing = [false; 22];
-    note_missing(&mut missing, Topic::DeviceInfo, text.keys, &DEVICE_KEYS);
+    note_missing(&mut missing, Topic::DeviceInfo, text.keys, device_keys());
     missing
 }
 
@@ -111,6 +112,28 @@ fn add_others(
     Ok(())
 }
 
+// the same, and of the kinds that are about the keys of DeviceInfo and FileInfo
+#[tactic(auto, unfolding(crate::specs::Warnings::few_places))]
+fn add_few(
+    warnings: &mut Vec<Warning>,
+    text: &ReadText,
+    kind: WarningKind,
+) -> Result<(), AllocError>
+    ensures { OnOk result (warnings.new.items
+        ≡ warnings.old.items ++ warnings_at kind (few_places text.now kind)) }
+{
+    match kind {
+        WarningKind::PdoCount => add_each(warnings, kind, &pdo_counts(text.keys, text.sections())),
+        WarningKind::IdentityNumber(sub) => add_one(
+            warnings,
+            kind,
+            identity_number(text.keys, text.parts(0x1018), sub),
+        ),
+        WarningKind::DateFormat => add_each(warnings, kind, &date_formats(text.keys)),
+        _ => add_others(warnings, text, kind),
+    }
+}
+
 /// Adds the warnings of a kind.
 #[tactic(auto, unfolding(crate::specs::Warnings::places_of))]
 pub(crate) fn add_warnings_with(
@@ -123,13 +146,6 @@ pub(crate) fn add_warnings_with(
 {
     let sections = text.sections();
     match kind {
-        WarningKind::PdoCount => add_each(warnings, kind, &pdo_counts(text.keys, sections)),
-        WarningKind::IdentityNumber => add_each(
-            warnings,
-            kind,
-            &identity_numbers(text.keys, text.parts(0x1018)),
-        ),
-        WarningKind::DateFormat => add_each(warnings, kind, &date_formats(text.keys)),
         WarningKind::WrongList => {
             add_places_of_lists(alloc, warnings, kind, ListCheck::Objects, sections)
         }
@@ -142,6 +158,6 @@ pub(crate) fn add_warnings_with(
         },
         WarningKind::EqualNames => add_repeats_of(alloc, warnings, kind, Once::Names, sections),
         WarningKind::LongLine => add_long_lines(warnings, kind, text.lines),
-        _ => add_others(warnings, text, kind),
+        _ => add_few(warnings, text, kind),
     }
 }

@@ -23,7 +23,7 @@ fn row(kind: WarningKind) -> usize
         WarningKind::PdoCount => 4,
         WarningKind::WrongList => 5,
         WarningKind::Unlisted => 6,
-        WarningKind::IdentityNumber => 7,
+        WarningKind::IdentityNumber(_) => 7,
         WarningKind::FixedCobId => 8,
         WarningKind::NodeIdPlace => 9,
         WarningKind::MisspeltKey(_) => 10,
@@ -35,12 +35,13 @@ fn row(kind: WarningKind) -> usize
         WarningKind::LongLine => 16,
         WarningKind::Utf8 => 17,
         WarningKind::NotAscii => 18,
-        WarningKind::ListOrder => 19,
-        WarningKind::EqualNames => 20,
-        WarningKind::MissingName => 21,
-        WarningKind::UnknownKey => 22,
-        WarningKind::DateFormat => 23,
-        WarningKind::LineEnds => 24,
+        WarningKind::NodeId => 19,
+        WarningKind::ListOrder => 20,
+        WarningKind::EqualNames => 21,
+        WarningKind::MissingName => 22,
+        WarningKind::UnknownKey => 23,
+        WarningKind::DateFormat => 24,
+        WarningKind::LineEnds => 25,
     }
 }
 
@@ -53,7 +54,7 @@ fn text_at(texts: &[&'static str], row: usize) -> &'static str
 }
 
 /// The names of all kinds, by row.
-const NAMES: [&str; 25] = [
+const NAMES: [&str; 26] = [
     "SubNumber",
     "SubIndex0",
     "FileInfoKeys",
@@ -73,6 +74,7 @@ const NAMES: [&str; 25] = [
     "LongLine",
     "Utf8",
     "NotAscii",
+    "NodeId",
     "ListOrder",
     "EqualNames",
     "MissingName",
@@ -89,7 +91,7 @@ pub fn name_of(kind: WarningKind) -> &'static str
 }
 
 /// What a warning of each kind means, by row.
-const MEANINGS: [&str; 25] = [
+const MEANINGS: [&str; 26] = [
     "SubNumber isn't the number of the object's sub-index sections",
     "sub-index 0 isn't the highest sub-index of the object",
     "FileInfo is missing, or a key that it has to have",
@@ -109,6 +111,7 @@ const MEANINGS: [&str; 25] = [
     "the line has more than 255 characters, which other tools may cut",
     "the text has bytes above 7Fh, in UTF-8, which older tools read as Windows-1252",
     "the text has bytes above 7Fh and isn't UTF-8, so it is read as Windows-1252",
+    "NodeID isn't 1 to 127, so the sheet has no node-ID",
     "an index of the list is smaller than the one before it",
     "an object or sub-index before it has the same name",
     "the object or sub-index has no ParameterName",
@@ -124,15 +127,12 @@ pub fn meaning_of(kind: WarningKind) -> &'static str
     text_at(&MEANINGS, row(kind))
 }
 
-/// How a warning of each kind is fixed, by row; that of a misspelt key is a question.
-const FIXES: [&str; 25] = [
+/// How a warning of each kind is fixed, by row.
+const FIXES: [&str; 26] = [
     "count the sections, or leave the key out",
     "give it the highest sub-index that the object has",
-    "give it FileName, FileVersion, FileRevision, Description, CreationTime, CreationDate, \
-    CreatedBy, ModificationTime, ModificationDate and ModifiedBy",
-    "give it VendorName, VendorNumber, ProductName, ProductNumber, RevisionNumber, OrderCode, the \
-    eight BaudRate_.., SimpleBootUpMaster, SimpleBootUpSlave, Granularity, \
-    DynamicChannelsSupported, GroupMessaging, NrOfRXPDO, NrOfTXPDO and LSS_Supported",
+    "add the missing section or keys",
+    "add the missing section or keys",
     "count the objects 1400h to 15FFh for NrOfRXPDO, 1800h to 19FFh for NrOfTXPDO",
     "list 1000h, 1001h and 1018h as mandatory, 2000h to 5FFFh as the manufacturer's, all others \
     as optional",
@@ -140,7 +140,7 @@ const FIXES: [&str; 25] = [
     "give VendorNumber as in 1018:01, ProductNumber as in 1018:02, RevisionNumber as in 1018:03",
     "write $NODEID+ and the number of the predefined connection set",
     "write $NODEID first, as $NODEID+0x180",
-    "",
+    "write the key as the standard has it",
     "give each PDO, SDO channel and EMCY an identifier of its own, or set bit 31",
     "set it to 0, or take a transmission type from 254 on",
     "give the node-ID of another node, or set the word to 0",
@@ -149,6 +149,7 @@ const FIXES: [&str; 25] = [
     "shorten the line",
     "write ASCII alone",
     "write ASCII alone",
+    "give the node-ID of the device",
     "sort the list by index",
     "give each object, and each sub-index of an object, a name of its own",
     "add ParameterName",
@@ -161,14 +162,11 @@ const FIXES: [&str; 25] = [
 pub fn fix_of(kind: WarningKind) -> &'static str
     ensures { result.now ≡ fix_of kind }
 {
-    match kind {
-        WarningKind::MisspeltKey(meant) => meant.question(),
-        _ => text_at(&FIXES, row(kind)),
-    }
+    text_at(&FIXES, row(kind))
 }
 
 /// The subject that has the rule of each kind, by row.
-const SUBJECTS: [&str; 25] = [
+const SUBJECTS: [&str; 26] = [
     "CiA 306-1, object description",
     "CiA 301, sub-index 0 of arrays and records",
     "CiA 306-1, file information",
@@ -188,6 +186,7 @@ const SUBJECTS: [&str; 25] = [
     "CiA 306-1, structure of an EDS",
     "CiA 306-1, structure of an EDS",
     "CiA 306-1, structure of an EDS",
+    "CiA 306-1, device commissioning",
     "CiA 306-1, object lists",
     "CiA 306-1, object description",
     "CiA 306-1, object description",

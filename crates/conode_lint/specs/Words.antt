@@ -59,6 +59,11 @@ place_of other = Beginning
 
 -- what it is about, at a line with this text among these sections: what the line alone doesn't show
 abbrev pub fault_about : List TextSection → ℕ → List ℕ → FaultKind → About
+fault_about sections line text fault.TooLarge = facts.too_large line
+fault_about sections line text fault.MissingSection = facts.missing_section line
+fault_about sections line text fault.MissingMandatory = facts.missing_mandatory sections
+fault_about sections line text fault.BadNumber = facts.bad_number text
+fault_about sections line text fault.BadType = facts.bad_type line sections text
 fault_about sections line text fault.BadList = facts.bad_list line sections
 fault_about sections line text fault.ListedTwice = facts.listed_twice sections text
 fault_about sections line text fault.MissingKey = facts.missing_key line sections
@@ -75,14 +80,15 @@ warning_about sections line text (warning.FileInfoKeys missing) = facts.file_inf
 warning_about sections line text (warning.DeviceInfoKeys missing) =
     facts.device_info line missing
 warning_about sections line text warning.PdoCount = facts.pdo_count sections text
-warning_about sections line text warning.IdentityNumber = facts.identity_number sections text
+warning_about sections line text (warning.IdentityNumber sub) =
+    facts.identity_number sections sub text
 warning_about sections line text (warning.SharedCobId node) =
     facts.first_at (first_equal (warning.SharedCobId node) line sections)
 warning_about sections line text (warning.HeartbeatTwice given) =
     facts.first_at (first_equal (warning.HeartbeatTwice given) line sections)
 warning_about sections line text warning.EqualNames =
     facts.first_at (first_equal warning.EqualNames line sections)
-warning_about sections line text (warning.MisspeltKey known) = about.Misspelt
+warning_about sections line text (warning.MisspeltKey known) = about.Misspelt known
 warning_about sections line text other = about.Line
 
 abbrev pub about_of : List TextSection → ℕ → List ℕ → Subject → About
@@ -92,8 +98,7 @@ about_of sections line text (Mapping fault) = mapping_about fault
 about_of sections line text (Warning kind) = warning_about sections line text kind
 about_of sections line text (Format format) = about.Line
 
--- how to fix it: what `conode adapt` mends, by that; of a misspelt key what is wrong asks for the one
--- that is meant
+-- how to fix it: what `conode adapt` mends, by that
 abbrev pub fault_fix : FaultKind → List ℕ
 fault_fix fault.LeftOutType =
     codes "run conode adapt, which gives it a supported type; or take the object out of its list"
@@ -101,16 +106,12 @@ fault_fix fault.CompactForm =
     codes "run conode adapt, or have the sheet's editor write each sub-index as a section of its own"
 fault_fix kind = faults.fix_of kind
 
-abbrev pub warning_fix : WarningKind → List ℕ
-warning_fix (warning.MisspeltKey known) = codes "write the key as the standard has it"
-warning_fix kind = warnings.fix_of kind
-
 abbrev pub fix_of : Subject → List ℕ
 fix_of (Format format) = format_fix format
 fix_of (Fault kind) = fault_fix kind
 fix_of (Build fault) = build_fix fault
 fix_of (Mapping fault) = mapping_fix fault.reason
-fix_of (Warning kind) = warning_fix kind
+fix_of (Warning kind) = warnings.fix_of kind
 
 abbrev pub subject_of : Subject → List ℕ
 subject_of (Format format) = format_subject
@@ -119,17 +120,13 @@ subject_of (Build fault) = build_subject fault
 subject_of (Mapping fault) = mapping_subject
 subject_of (Warning kind) = warnings.subject_of kind
 
-abbrev pub warning_meaning : WarningKind → List ℕ
-warning_meaning (warning.MisspeltKey known) = warnings.fix_of (warning.MisspeltKey known)
-warning_meaning kind = warnings.meaning_of kind
-
 -- what is wrong, at a line, or 0 if no line is to blame
 abbrev pub meaning_at : ℕ → Subject → List ℕ
 meaning_at line (Format format) = format_meaning format
 meaning_at line (Fault kind) = faults.meaning_of (record { kind = kind; line = line })
 meaning_at line (Build fault) = build_meaning fault
 meaning_at line (Mapping fault) = mapping_meaning fault.reason
-meaning_at line (Warning kind) = warning_meaning kind
+meaning_at line (Warning kind) = warnings.meaning_of kind
 
 abbrev pub meaning_of : Mark → List ℕ
 meaning_of mark = meaning_at mark.line mark.subject

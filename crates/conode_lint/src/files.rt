@@ -1,6 +1,8 @@
 //! Linting files, folders and standard input.
 
-ghost use Rattle.std.specs.Prelude.{◌≡◌, nat_lt};
+ghost use Rattle.std.specs.Prelude.{◌≡◌, nat_lt, IfOk, string_bytes};
+ghost use Rattle.conode_json.specs.Characters.{characters_of};
+ghost use Rattle.conode_lint_text.specs.Characters.{shown_all};
 ghost use Rattle.conode_lint.specs.Statuses.{lint_status};
 
 use crate::folder::{Sheets, is_folder, sheets_in};
@@ -10,6 +12,8 @@ use crate::report::{Counts, Form, Report};
 use crate::rules::unknown_name;
 use co_sheet::{StreamFault, read_text};
 use conode_io::{CmdFault, cannot_read, file_text, flushed, hand_over, stopped};
+use conode_json::characters_of;
+use conode_lint_text::push_all_shown;
 use std::alloc::{AllocError, Global};
 use std::io::{Input, Write};
 use std::process::ExitCode;
@@ -26,6 +30,27 @@ pub struct LintOptions<'a> {
     pub strict: bool,
     /// The program's version, for the log of SARIF.
     pub version: &'a str,
+}
+
+// a name of the command line or of a folder, as findings have it
+fn shown_name(alloc: Global, name: &str) -> Result<String, AllocError>
+    ensures { IfOk result (λ shown. string_bytes shown ≡ shown_all (characters_of name.now)) }
+{
+    let characters = attempt!(characters_of(alloc, name.as_bytes()));
+    let mut shown = String::new(alloc);
+    attempt!(push_all_shown(&mut shown, characters.as_slice()));
+    Ok(shown)
+}
+
+// names a folder without data sheets
+fn no_sheets<E: Write>(alloc: Global, folder: &str, err: &mut E) -> Result<(), CmdFault> {
+    match shown_name(alloc, folder) {
+        Ok(shown) => {
+            let _ = writeln!(err, "no data sheets in {shown}");
+            Ok(())
+        }
+        Err(_) => Err(CmdFault::Memory),
+    }
 }
 
 /// The report and the counts so far.
@@ -73,6 +98,7 @@ impl Session {
     // names a file or a folder that can't be read; ends if memory ran out
     fn take_fault<E: Write>(
         &mut self,
+        alloc: Global,
         name: &str,
         fault: CmdFault,
         err: &mut E,
@@ -80,7 +106,12 @@ impl Session {
         if fault == CmdFault::Memory {
             return Err(fault);
         }
-        let _ = cannot_read(name, err);
+        match shown_name(alloc, name) {
+            Ok(shown) => {
+                let _ = cannot_read(shown.as_str(), err);
+            }
+            Err(_) => return Err(CmdFault::Memory),
+        }
         self.counts.unread = self.counts.unread.saturating_add(1);
         self.report.add_unread(name);
         Ok(())
@@ -97,7 +128,7 @@ impl Session {
     ) -> Result<(), CmdFault> {
         match text_of(rt, path) {
             Ok(text) => self.take_text(rt.alloc(), path, text.as_slice(), options, out),
-            Err(fault) => self.take_fault(path, fault, err),
+            Err(fault) => self.take_fault(rt.alloc(), path, fault, err),
         }
     }
 
@@ -115,10 +146,10 @@ impl Session {
             attempt!(self.take_file(rt, path.as_str(), options, out, err));
         }
         if !sheets.are_all {
-            return self.take_fault(folder, CmdFault::Read, err);
+            return self.take_fault(rt.alloc(), folder, CmdFault::Read, err);
         }
         if sheets.paths.is_empty() {
-            let _ = writeln!(err, "no data sheets in {folder}");
+            return no_sheets(rt.alloc(), folder, err);
         }
         Ok(())
     }
@@ -137,7 +168,7 @@ impl Session {
         }
         match sheets_in(rt, path) {
             Ok(sheets) => self.take_sheets(rt, path, &sheets, options, out, err),
-            Err(fault) => self.take_fault(path, fault, err),
+            Err(fault) => self.take_fault(rt.alloc(), path, fault, err),
         }
     }
 
@@ -221,10 +252,26 @@ fn status_of(counts: &Counts, strict: bool) -> u8
     }
 }
 
+// a name to be allowed is that of no finding
+fn no_such_name<O: Write, E: Write>(
+    alloc: Global,
+    name: &str,
+    out: &mut O,
+    err: &mut E,
+) -> ExitCode {
+    match shown_name(alloc, name) {
+        Ok(shown) => {
+            let _ = writeln!(err, "no finding has the name {shown}");
+            ExitCode::from(2)
+        }
+        Err(_) => stopped(CmdFault::Memory, out, err).status(),
+    }
+}
+
 /// Lints files, the `*.eds` and `*.dcf` of folders, and standard input for `-`, and writes what is
 /// found to `out`. A file or a folder that can't be read is named on `err`, and the others are
-/// linted all the same. So is a folder without data sheets, which is no error. The status is 2 if one couldn't be read, or if a name to be allowed is that
-/// of no finding. Else it is 1 with an error, if `strict` also with a warning, and if the command
+/// linted all the same; so is a folder without data sheets, which is no error. The status is 2 if
+/// one couldn't be read, or if a name to be allowed is that of no finding. Else it is 1 with an error, if `strict` also with a warning, and if the command
 /// stopped early. Else it is 0.
 pub fn lint_files<R: Files + AllocGlobal + Input + Clone + Drop, O: Write, E: Write>(
     rt: &R,
@@ -234,8 +281,7 @@ pub fn lint_files<R: Files + AllocGlobal + Input + Clone + Drop, O: Write, E: Wr
     err: &mut E,
 ) -> ExitCode {
     if let Some(name) = unknown_name(options.checks.allowed) {
-        let _ = writeln!(err, "no finding has the name {name}");
-        return ExitCode::from(2);
+        return no_such_name(rt.alloc(), name, out, err);
     }
     let outcome = lint_paths(rt, paths, options, out, err);
     match flushed(out, outcome) {

@@ -12,7 +12,7 @@ use std::alloc::AllocError;
 const KEY: Key = Key { index: 0, sub: 0 };
 
 /// All kinds: another format, the faults of a text, those of a build, and the warnings.
-static SUBJECTS: [Subject; 50] = [
+static SUBJECTS: [Subject; 51] = [
     Subject::Format(OtherFormat::Xml),
     Subject::Fault(FaultKind::TooLarge),
     Subject::Fault(FaultKind::BadLine),
@@ -45,7 +45,7 @@ static SUBJECTS: [Subject; 50] = [
     Subject::Warning(WarningKind::PdoCount),
     Subject::Warning(WarningKind::WrongList),
     Subject::Warning(WarningKind::Unlisted),
-    Subject::Warning(WarningKind::IdentityNumber),
+    Subject::Warning(WarningKind::IdentityNumber(1)),
     Subject::Warning(WarningKind::FixedCobId),
     Subject::Warning(WarningKind::NodeIdPlace),
     Subject::Warning(WarningKind::MisspeltKey(KnownKey::AccessType)),
@@ -57,6 +57,7 @@ static SUBJECTS: [Subject; 50] = [
     Subject::Warning(WarningKind::LongLine),
     Subject::Warning(WarningKind::Utf8),
     Subject::Warning(WarningKind::NotAscii),
+    Subject::Warning(WarningKind::NodeId),
     Subject::Warning(WarningKind::ListOrder),
     Subject::Warning(WarningKind::EqualNames),
     Subject::Warning(WarningKind::MissingName),
@@ -70,15 +71,13 @@ fn subjects() -> &'static [Subject] {
     &SUBJECTS
 }
 
-// what is wrong and how to fix it, of a kind: of a text of another format without saying which; what
-// is wrong with a misspelt key doesn't ask for the one that is meant
+// what is wrong and how to fix it, of a kind; of a text of another format without saying which
 fn words_of(subject: Subject) -> (&'static str, &'static str) {
     match subject {
         Subject::Format(_) => (
             "this is no EDS of CANopen: it is XML, an EDS of EtherNet/IP, or in UTF-16",
             "export or ask for an EDS of CANopen, in ASCII",
         ),
-        Subject::Warning(kind) => (co_sheet_warnings::meaning_of(kind), fix_of(subject)),
         _ => (meaning_of(Mark { line: 1, subject }), fix_of(subject)),
     }
 }

@@ -14,8 +14,6 @@ ghost use Rattle.conode_lint.specs.Words.{
   severity_of,
   subject_of,
   warning_about,
-  warning_fix,
-  warning_meaning,
 };
 
 use crate::build_words::{build_about, build_fix, build_meaning, build_place, build_subject};
@@ -26,9 +24,9 @@ use co_sheet_text::TextSection;
 use co_sheet_warnings::{WarningKind, first_equal};
 use conode_lint_marks::{Mark, Subject};
 use conode_lint_text::{
-    About, Place, Severity, bad_default, bad_limits, bad_list, device_info, duplicate_key,
-    duplicate_section, file_info, first_at, identity_number, listed_twice, missing_key, pdo_count,
-    sub_index_0, sub_number,
+    About, Place, Severity, bad_default, bad_limits, bad_list, bad_number, bad_type, device_info,
+    duplicate_key, duplicate_section, file_info, first_at, identity_number, listed_twice,
+    missing_key, missing_mandatory, missing_section, pdo_count, sub_index_0, sub_number, too_large,
 };
 
 /// Its name, as `BadList`.
@@ -90,6 +88,11 @@ fn fault_about(sections: &[TextSection<'_, '_>], line: usize, text: &[u8], kind:
     ensures { result ≡ fault_about (map section_view sections.now) line text.now kind }
 {
     match kind {
+        FaultKind::TooLarge => too_large(line),
+        FaultKind::MissingSection => missing_section(line),
+        FaultKind::MissingMandatory => missing_mandatory(sections),
+        FaultKind::BadNumber => bad_number(text),
+        FaultKind::BadType => bad_type(sections, line, text),
         FaultKind::BadList => bad_list(sections, line),
         FaultKind::ListedTwice => listed_twice(sections, text),
         FaultKind::MissingKey => missing_key(sections, line),
@@ -115,11 +118,11 @@ fn warning_about(
         WarningKind::FileInfoKeys(missing) => file_info(line, missing),
         WarningKind::DeviceInfoKeys(missing) => device_info(line, missing),
         WarningKind::PdoCount => pdo_count(sections, text),
-        WarningKind::IdentityNumber => identity_number(sections, text),
+        WarningKind::IdentityNumber(sub) => identity_number(sections, sub, text),
         WarningKind::SharedCobId(_) | WarningKind::HeartbeatTwice(_) | WarningKind::EqualNames => {
             first_at(first_equal(kind, sections, line))
         }
-        WarningKind::MisspeltKey(_) => About::Misspelt,
+        WarningKind::MisspeltKey(known) => About::Misspelt(known),
         _ => About::Line,
     }
 }
@@ -134,16 +137,6 @@ pub(crate) fn about_of(sections: &[TextSection<'_, '_>], mark: Mark, text: &[u8]
         Subject::Mapping(fault) => mapping_about(fault),
         Subject::Warning(kind) => warning_about(sections, mark.line, text, kind),
         Subject::Format(_) => About::Line,
-    }
-}
-
-// of a misspelt key, the question for the one that is meant
-fn warning_meaning(kind: WarningKind) -> &'static str
-    ensures { result.now ≡ warning_meaning kind }
-{
-    match kind {
-        WarningKind::MisspeltKey(_) => co_sheet_warnings::fix_of(kind),
-        _ => co_sheet_warnings::meaning_of(kind),
     }
 }
 
@@ -162,7 +155,7 @@ pub(crate) fn meaning_of(mark: Mark) -> &'static str
         }
         Subject::Build(fault) => build_meaning(fault),
         Subject::Mapping(fault) => mapping_meaning(fault.reason),
-        Subject::Warning(kind) => warning_meaning(kind),
+        Subject::Warning(kind) => co_sheet_warnings::meaning_of(kind),
     }
 }
 
@@ -182,15 +175,6 @@ fn fault_fix(kind: FaultKind) -> &'static str
     }
 }
 
-fn warning_fix(kind: WarningKind) -> &'static str
-    ensures { result.now ≡ warning_fix kind }
-{
-    match kind {
-        WarningKind::MisspeltKey(_) => "write the key as the standard has it",
-        _ => co_sheet_warnings::fix_of(kind),
-    }
-}
-
 /// How to fix it, in one line.
 pub(crate) fn fix_of(subject: Subject) -> &'static str
     ensures { result.now ≡ fix_of subject }
@@ -200,7 +184,7 @@ pub(crate) fn fix_of(subject: Subject) -> &'static str
         Subject::Fault(kind) => fault_fix(kind),
         Subject::Build(fault) => build_fix(fault),
         Subject::Mapping(fault) => mapping_fix(fault.reason),
-        Subject::Warning(kind) => warning_fix(kind),
+        Subject::Warning(kind) => co_sheet_warnings::fix_of(kind),
     }
 }
 

@@ -1,11 +1,12 @@
 -- The lines of a sheet's text that build faults are about, and their marks.
-use Rattle.std.specs.Prelude.{ℕ, ◌==◌, List, [], ◌∷◌, ◌++◌, map, find, codes, Option, option_map}
+use Rattle.std.specs.Prelude.{ℕ, ◌==◌, List, [], ◌∷◌, ◌++◌, map, find, Option, option_map}
 use Rattle.std.specs.List.{flat_map}
-use Rattle.std.specs.Option.{option_map_or, option_or}
+use Rattle.std.specs.Option.{option_map_or}
 use Rattle.co_value.specs.declared.key.Key.{Key}
 use Rattle.co_value.specs.Keys.{same_key}
 use Rattle.co_sheet.specs.Content.{Row, ObjectRow, SheetContent}
-use Rattle.co_sheet_text.specs.Sections.{TextSection, property_at}
+use Rattle.co_sheet_text.specs.Sections.{TextSection}
+use Rattle.co_sheet_warnings.specs.Repeats.{value_in}
 use Rattle.co_dict_build.specs.Built.{Plan}
 use Rattle.co_dict_build.specs.declared.build_fault.BuildFault.{BuildFault}
 use Rattle.co_dict_build.specs.declared.build_fault.BuildFault.TheVariants.{ValueRange, BadCobId, PdoPair, BadMapping}
@@ -26,9 +27,7 @@ row_line rows key = option_map (λ r. r.line) (find (λ r. same_key r.key key) r
 -- section's own
 unfoldable pub value_line : TextSection → ℕ
 value_line section =
-    option_map_or (λ p. p.line)
-    (option_or (property_at (codes "ParameterValue") section)
-    (property_at (codes "DefaultValue") section)) section.line
+    option_map_or (λ p. p.line) (value_in section) section.line
 
 -- the line of the value of the section at a line; that line itself if there is no section
 abbrev pub value_line_in : List TextSection → ℕ → ℕ

@@ -6,11 +6,10 @@ use Rattle.co_value.specs.Keys.{same_key}
 use Rattle.co_profile.specs.Indices.{is_within, sdo_server}
 use Rattle.co_sheet_text.specs.declared.section_kind.SectionKind.{SectionKind}
 use Rattle.co_sheet_text.specs.declared.section_kind.SectionKind.TheVariants.{DeviceCommissioning, DeviceInfo, Object, PassedOver, SubIndex}
-use Rattle.co_sheet_warnings.specs.Repeats.{has_cob_id}
 use Rattle.co_sheet_warnings.specs.SubIndices.{is_within as is_from_to}
 use Rattle.co_dict_build.specs.BuildFaults.{is_channel_key}
 use Rattle.conode_lint_marks.specs.declared.concerns.Concern.{Concern}
-use Rattle.conode_lint_marks.specs.declared.concerns.Concern.TheVariants.{EntryOf, ObjectOf, PdoOf, Channel, Hiding, SectionLine, CompactPdo, CobId, SubsOf}
+use Rattle.conode_lint_marks.specs.declared.concerns.Concern.TheVariants.{EntryOf, ObjectOf, PdoOf, Channel, Hiding, SectionLine, CompactPdo, Same, SubsOf}
 
 -- an entry: its own section, or that of its object, which has the type of the object
 abbrev pub is_of_entry : Key → SectionKind → Bool
@@ -58,6 +57,12 @@ abbrev pub is_info : SectionKind → Bool
 is_info DeviceInfo = true
 is_info kind = false
 
+-- the same object or sub-index
+abbrev pub is_same : SectionKind → SectionKind → Bool
+is_same (Object index) (Object other) = index == other
+is_same (SubIndex key) (SubIndex other) = same_key key other
+is_same kind other = false
+
 -- a sub-index of an object, from one to another
 abbrev pub is_sub_of : ℕ → ℕ → ℕ → SectionKind → Bool
 is_sub_of index first last (SubIndex key) = (key.index == index) && is_from_to first last key.sub
@@ -73,7 +78,7 @@ concerns Channel kind = is_of_channel kind
 concerns Hiding kind = hides kind
 concerns SectionLine kind = is_passed_over kind
 concerns CompactPdo kind = is_info kind
-concerns CobId kind = has_cob_id kind
+concerns (Same other) kind = is_same other kind
 concerns (SubsOf index first last) kind = is_sub_of index first last kind
 
 abbrev pub is_any : Concern → List SectionKind → Bool

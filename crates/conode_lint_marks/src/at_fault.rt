@@ -16,7 +16,7 @@ ghost use Rattle.conode_lint_marks.specs.AtFault.{
 };
 
 use crate::concerns::{Concern, is_any};
-use crate::doubts::is_in_doubt;
+use crate::doubts::{add_kinds_again, is_in_doubt};
 use co_sheet::{FaultKind, SheetFault, section_at};
 use co_sheet_text::{SectionKind, TextSection};
 use std::alloc::{AllocError, Global};
@@ -108,7 +108,7 @@ fn add_kinds(
         let (own, later) = left.split_at(count_before(more, left));
         let is_one = is_at_fault(section.kind, section.line, own);
         attempt!(add_if(&mut found.kinds, is_one, section.kind));
-        let is_in_doubt = is_in_doubt(lines, section.line, own);
+        let is_in_doubt = is_in_doubt(lines, section, own);
         attempt!(add_if(&mut found.doubts, is_in_doubt, section.kind));
         rest = more;
         left = later;
@@ -136,6 +136,7 @@ pub fn sections_at_fault(
     };
     let (_, later) = faults.split_at(count_before(sections, faults));
     attempt!(add_kinds(&mut found, lines, later, sections));
+    attempt!(add_kinds_again(&mut found.doubts, lines, faults));
     Ok(found)
 }
 

@@ -15,6 +15,7 @@ ghost use Rattle.conode_lint_marks.specs.BuildLines.{
 use co_dict_build::BuildFault;
 use co_sheet::{EntryRow, Object, Sheet};
 use co_sheet_text::TextSection;
+use co_sheet_warnings::value_in;
 use co_value::Key;
 
 // the line of an object's section; 0 if there is none
@@ -46,10 +47,7 @@ fn row_line(entries: &[EntryRow<'_>], key: Key) -> Option<usize>
 pub(crate) fn value_line(section: &TextSection<'_, '_>) -> usize
     ensures { result ≡ value_line (section_view section.now) }
 {
-    if let Some(property) = section.property(b"ParameterValue") {
-        return property.line;
-    }
-    match section.property(b"DefaultValue") {
+    match value_in(section) {
         Some(property) => property.line,
         None => section.line,
     }

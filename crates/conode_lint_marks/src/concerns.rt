@@ -1,7 +1,6 @@
 //! What a section is about, as far as a finding rests on it.
 
 ghost use Rattle.std.specs.Prelude.{◌≡◌};
-ghost use Rattle.co_sheet_warnings.specs.Repeats.{has_cob_id};
 ghost use Rattle.co_sheet_warnings.specs.SubIndices.{is_within};
 ghost use Rattle.conode_lint_marks.specs.Concerns.{
   concerns,
@@ -13,6 +12,7 @@ ghost use Rattle.conode_lint_marks.specs.Concerns.{
   is_of_object,
   is_of_pdo,
   is_passed_over,
+  is_same,
   is_same_pdo,
   is_sub_of,
 };
@@ -39,8 +39,8 @@ pub(crate) enum Concern {
     SectionLine,
     /// It has CompactPDO.
     CompactPdo,
-    /// It has the COB-ID of EMCY, of a PDO, or of one way of an SDO channel.
-    CobId,
+    /// It is that of the same object or sub-index.
+    Same(SectionKind),
     /// It is that of a sub-index of an object, from one sub-index to another.
     SubsOf(u16, u16, u16),
 }
@@ -125,17 +125,13 @@ fn is_within(first: u16, last: u16, number: u16) -> bool
     first <= number && number <= last
 }
 
-// whether an entry is the COB-ID of EMCY, of a PDO, or of one way of an SDO channel
-fn has_cob_id(kind: SectionKind) -> bool
-    ensures { result ≡ has_cob_id kind }
+// whether two sections are about the same object or sub-index
+fn is_same(kind: SectionKind, other: SectionKind) -> bool
+    ensures { result ≡ is_same kind other }
 {
-    match kind {
-        SectionKind::Object(index) => index == 0x1014,
-        SectionKind::SubIndex(key) => {
-            (key.sub == 1
-                && (is_within(0x1400, 0x15FF, key.index) || is_within(0x1800, 0x19FF, key.index)))
-                || ((key.sub == 1 || key.sub == 2) && is_within(0x1200, 0x12FF, key.index))
-        }
+    match (kind, other) {
+        (SectionKind::Object(index), SectionKind::Object(of)) => index == of,
+        (SectionKind::SubIndex(key), SectionKind::SubIndex(of)) => key == of,
         _ => false,
     }
 }
@@ -163,7 +159,7 @@ fn concerns(concern: Concern, kind: SectionKind) -> bool
         Concern::Hiding => hides(kind),
         Concern::SectionLine => is_passed_over(kind),
         Concern::CompactPdo => is_info(kind),
-        Concern::CobId => has_cob_id(kind),
+        Concern::Same(other) => is_same(other, kind),
         Concern::SubsOf(index, first, last) => is_sub_of(index, first, last, kind),
     }
 }

@@ -1,7 +1,9 @@
 -- What a sheet has where a finding is, evaluated.
-use Rattle.std.proofs.Common.{◌≡◌, ℕ, true, false, List, Some, None, [], ◌∷◌, ◌++◌, codes, refl}
+use Rattle.std.proofs.Common.{◌≡◌, ℕ, true, false, List, Some, None, [], ◌∷◌, ◌++◌, codes, map, refl}
 use Rattle.std.specs.Prelude.{replicate}
 use Rattle.std.specs.Fmt.{digits}
+use Rattle.co_sheet_warnings.specs.declared.known_key.KnownKey.TheVariants.{NrOfRxPdo}
+use Rattle.co_text.specs.Printed.{digits_text}
 use Rattle.conode_text.specs.Filled.{filled}
 use Rattle.co_sheet_text.specs.declared.section_kind.SectionKind.{SectionKind}
 use Rattle.co_sheet_text.specs.declared.section_kind.SectionKind.TheVariants.{MandatoryObjects, OptionalObjects, ManufacturerObjects, Object, SubIndex}
@@ -9,43 +11,66 @@ use Rattle.co_sheet_text.specs.Sections.{Property, TextSection}
 use Rattle.conode_lint_text.specs.declared.finding.About.{About}
 use Rattle.conode_lint_text.specs.declared.finding.About.TheVariants.{Line, FirstAt, Misspelt, Fact}
 use Rattle.conode_lint_text.specs.declared.fact.Fact.TheVariants as fact
-use Rattle.conode_lint_text.specs.FactTexts.{count_text, device_lacks, fact_text, file_lacks, hexadecimal, identity_text, missing_text}
-use Rattle.conode_lint_text.specs.Facts.{bad_list, count_fact, device_info, duplicate_key, duplicate_section, file_info, first_at, identity_number, list_fact, listed_twice, missing_key, pdo_count, sub_index_0, sub_number}
+use Rattle.conode_lint_text.specs.FactTexts.{count_text, fact_text, hexadecimal, identity_text, missing_text}
+use Rattle.conode_lint_text.specs.Facts.{bad_list, bad_number, bad_type, count_fact, device_info, duplicate_key, duplicate_section, file_info, first_at, identity_number, list_fact, listed_twice, missing_key, missing_mandatory, missing_section, pdo_count, sub_index_0, sub_number, too_large}
 use Rattle.conode_lint_text.specs.Bounds.{bad_default, bad_limits}
 use Rattle.conode_lint_text.specs.Findings.{about_message, fix_with}
 
 -- ---- the sentences
 
-lists : fact_text fact.NoCount ∷ fact_text (fact.ListGap 7 6 3) ∷ fact_text (fact.ListCount 3 2) ∷ fact_text fact.HighIndex ∷ []
+lists : fact_text fact.NoCount ∷ fact_text (fact.ListGap 7 6 3) ∷ fact_text (fact.ListCount 3 2) ∷ fact_text (fact.HighIndex 12) ∷ []
     ≡ codes "the list has no SupportedObjects" ∷ codes "the list counts 7 objects and has 6: key 3 is missing"
-    ∷ codes "the list counts 3 objects and has 2 of the keys 1 to 3" ∷ codes "an index of the list is above 0xFFFF" ∷ []
+    ∷ codes "the list counts 3 objects and has 2 of the keys 1 to 3" ∷ codes "the index of line 12 is above 0xFFFF" ∷ []
 unfolding fact_text count_text filled digits
 lists = refl
 
-keys : fact_text fact.NoType ∷ fact_text fact.NoAccess ∷ fact_text fact.NoTypeOrAccess ∷ []
+keys : fact_text (fact.NoType true) ∷ fact_text (fact.NoAccess true) ∷ fact_text (fact.NoTypeOrAccess false) ∷ []
     ≡ codes "the entry has no DataType" ∷ codes "the entry has no AccessType" ∷ codes "the entry has neither DataType nor AccessType" ∷ []
 unfolding fact_text
 keys = refl
 
-infos : fact_text fact.NoFileInfo ∷ fact_text (fact.FileInfoLacks (true ∷ replicate 8 false ++ true ∷ [])) ∷ fact_text fact.NoDeviceInfo ∷ fact_text (fact.DeviceInfoLacks (replicate 21 false ++ true ∷ [])) ∷ []
-    ≡ codes "there is no section [FileInfo]" ∷ codes "FileInfo lacks FileName, ModifiedBy"
-    ∷ codes "there is no section [DeviceInfo]" ∷ codes "DeviceInfo lacks LSS_Supported" ∷ []
-unfolding fact_text file_lacks device_lacks missing_text
+infos : fact_text (fact.NoFileInfo (replicate 10 true)) ∷ fact_text (fact.FileInfoLacks (true ∷ replicate 8 false ++ true ∷ [])) ∷ fact_text (fact.NoDeviceInfo (replicate 20 false ++ true ∷ true ∷ [])) ∷ fact_text (fact.DeviceInfoLacks (replicate 21 false ++ true ∷ [])) ∷ []
+    ≡ codes "there is no section [FileInfo] with FileName, FileVersion, FileRevision, Description, CreationTime, CreationDate, CreatedBy, ModificationTime, ModificationDate, ModifiedBy"
+    ∷ codes "FileInfo lacks FileName, ModifiedBy"
+    ∷ codes "there is no section [DeviceInfo] with NrOfTXPDO, LSS_Supported" ∷ codes "DeviceInfo lacks LSS_Supported" ∷ []
+unfolding fact_text missing_text
 infos = refl
 
 -- each key at its place
 all_missing : fact_text (fact.FileInfoLacks (replicate 10 true)) ∷ fact_text (fact.DeviceInfoLacks (replicate 22 true)) ∷ []
     ≡ codes "FileInfo lacks FileName, FileVersion, FileRevision, Description, CreationTime, CreationDate, CreatedBy, ModificationTime, ModificationDate, ModifiedBy"
     ∷ codes "DeviceInfo lacks VendorName, VendorNumber, ProductName, ProductNumber, RevisionNumber, OrderCode, BaudRate_10, BaudRate_20, BaudRate_50, BaudRate_125, BaudRate_250, BaudRate_500, BaudRate_800, BaudRate_1000, SimpleBootUpMaster, SimpleBootUpSlave, Granularity, DynamicChannelsSupported, GroupMessaging, NrOfRXPDO, NrOfTXPDO, LSS_Supported" ∷ []
-unfolding fact_text file_lacks device_lacks missing_text
+unfolding fact_text missing_text
 all_missing = refl
 
--- which of the keys to add
-fixes : fix_with (Fact fact.NoType) (codes "f") ∷ fix_with (Fact fact.NoAccess) (codes "f") ∷ fix_with (Fact fact.NoTypeOrAccess) (codes "f") ∷ fix_with (Fact fact.NoCount) (codes "f") ∷ fix_with Line (codes "f") ∷ []
+-- which of the keys to add to an object, and to a sub-index
+fixes : fix_with (Fact (fact.NoType false)) (codes "f") ∷ fix_with (Fact (fact.NoAccess false)) (codes "f") ∷ fix_with (Fact (fact.NoTypeOrAccess false)) (codes "f") ∷ fix_with (Fact fact.NoCount) (codes "f") ∷ fix_with Line (codes "f") ∷ []
     ≡ codes "add DataType; to an ARRAY or a RECORD add ObjectType=8 or ObjectType=9" ∷ codes "add AccessType; to an ARRAY or a RECORD add ObjectType=8 or ObjectType=9"
     ∷ codes "add DataType and AccessType; to an ARRAY or a RECORD add ObjectType=8 or ObjectType=9" ∷ codes "f" ∷ codes "f" ∷ []
 unfolding fix_with
 fixes = refl
+
+sub_index_fixes : fix_with (Fact (fact.NoType true)) (codes "f") ∷ fix_with (Fact (fact.NoAccess true)) (codes "f") ∷ fix_with (Fact (fact.NoTypeOrAccess true)) (codes "f") ∷ []
+    ≡ codes "add DataType" ∷ codes "add AccessType" ∷ codes "add DataType and AccessType" ∷ []
+unfolding fix_with
+sub_index_fixes = refl
+
+-- the three of the mandatory objects
+mandatory_objects : map (λ missing. fact_text missing) (fact.NotListed true true true ∷ fact.NotListed true true false ∷ fact.NotListed true false true ∷ fact.NotListed false true true ∷ fact.NotListed true false false ∷ fact.NotListed false true false ∷ fact.NotListed false false true ∷ [])
+    ≡ codes "no object list names 1000h, 1001h and 1018h" ∷ codes "no object list names 1000h and 1001h" ∷ codes "no object list names 1000h and 1018h" ∷ codes "no object list names 1001h and 1018h"
+    ∷ codes "no object list names 1000h" ∷ codes "no object list names 1001h" ∷ codes "no object list names 1018h" ∷ []
+unfolding fact_text
+mandatory_objects = refl
+
+whole_texts : fact_text fact.NoMandatoryList ∷ fact_text fact.LargeText ∷ fact_text fact.NoValue ∷ [] ≡ codes "there is no section [MandatoryObjects]" ∷ codes "the text has more than 1,048,576 bytes" ∷ codes "the value is no number" ∷ []
+unfolding fact_text
+whole_texts = refl
+
+other_fixes : fix_with (Fact (fact.HighIndex 12)) (codes "f") ∷ fix_with (Fact fact.NoMandatoryList) (codes "f") ∷ fix_with (Fact (fact.NotListed true false false)) (codes "f") ∷ fix_with (Fact fact.LargeText) (codes "f") ∷ fix_with (Fact fact.NoValue) (codes "f") ∷ []
+    ≡ codes "give an index of at most four hexadecimal digits" ∷ codes "add it, with 1000h, 1001h and 1018h" ∷ codes "list what is missing, with its section" ∷ codes "take out comments and sections that are passed over"
+    ∷ codes "write decimal digits, 0x and hexadecimal digits, or a sum as $NODEID+0x180" ∷ []
+unfolding fix_with
+other_fixes = refl
 
 counts : fact_text (fact.SubNumber 3 4) ∷ fact_text (fact.NoSubNumber 4) ∷ fact_text (fact.SubIndex0 2 4) ∷ []
     ≡ codes "SubNumber is 3, and the number of the object's sub-index sections is 4"
@@ -65,8 +90,8 @@ bounds : fact_text (fact.BelowLow 7) ∷ fact_text (fact.AboveHigh 8) ∷ fact_t
 unfolding fact_text count_text filled digits
 bounds = refl
 
-with_meaning : about_message (FirstAt 40) (codes "m") ∷ about_message Misspelt (codes "did you mean A") ∷ about_message (Fact fact.NoType) (codes "m") ∷ []
-    ≡ codes "m, first at line 40" ∷ codes "the standard has no such key: did you mean A" ∷ codes "the entry has no DataType" ∷ []
+with_meaning : about_message (FirstAt 40) (codes "m") ∷ about_message (Misspelt NrOfRxPdo) (codes "m") ∷ about_message (Fact (fact.NoType true)) (codes "m") ∷ []
+    ≡ codes "m, first at line 40" ∷ codes "the standard has no such key: did you mean NrOfRXPDO" ∷ codes "the entry has no DataType" ∷ []
 unfolding about_message fact_text filled digits
 with_meaning = refl
 
@@ -106,8 +131,34 @@ sections =
 
 -- of a line where no section begins, nothing
 bad_lists : bad_list 1 sections ∷ bad_list 10 sections ∷ bad_list 20 sections ∷ bad_list 2 sections ∷ []
-    ≡ Fact (fact.ListGap 3 2 2) ∷ Fact fact.HighIndex ∷ Fact fact.NoCount ∷ Line ∷ []
+    ≡ Fact (fact.ListGap 3 2 2) ∷ Fact (fact.HighIndex 12) ∷ Fact fact.NoCount ∷ Line ∷ []
 bad_lists = refl
+
+-- of two high indices the first, and one past the count is none
+high_indices : list_fact (section 1 MandatoryObjects
+    (property 2 (codes "SupportedObjects") (codes "3") ∷ property 3 (codes "1") (codes "0xFFFF") ∷ property 4 (codes "9") (codes "0x20000") ∷ property 5 (codes "2") (codes "0x10000") ∷ property 6 (codes "3") (codes "0x10001") ∷ []))
+    ≡ Fact (fact.HighIndex 5)
+high_indices = refl
+
+-- the whole text, and a line
+no_line : too_large 0 ∷ too_large 1 ∷ missing_section 0 ∷ missing_section 1 ∷ [] ≡ Fact fact.LargeText ∷ Line ∷ Fact fact.NoMandatoryList ∷ Line ∷ []
+no_line = refl
+
+-- of the lists above: 1018h is past the count of the first
+listed_nowhere : missing_mandatory sections ∷ missing_mandatory [] ∷ [] ≡ Fact (fact.NotListed false false true) ∷ Fact (fact.NotListed true true true) ∷ []
+listed_nowhere = refl
+
+-- 1000h is an UNSIGNED32, 1001h an UNSIGNED8; 1018:01 and 1400h have no type of their own, nor has a line of another key
+bad_types : bad_type 35 sections (codes "DataType=5") ∷ bad_type 45 sections (codes " datatype = 7") ∷ bad_type 75 sections (codes "DataType=5") ∷ bad_type 105 sections (codes "DataType=5") ∷ bad_type 35 sections (codes "ObjectType=5") ∷ bad_type 1 sections (codes "DataType=5") ∷ []
+    ≡ Fact (fact.FixedType 7) ∷ Fact (fact.FixedType 5) ∷ Line ∷ Line ∷ Line ∷ Line ∷ []
+bad_types = refl
+
+type_text : fact_text (fact.FixedType 7) ∷ fix_with (Fact (fact.FixedType 7)) (codes "f") ∷ [] ≡ codes "CiA 301 has DataType=0x0007 here" ∷ codes "give that type, or take the object out of its list" ∷ []
+unfolding fact_text count_text fix_with filled digits digits_text
+type_text = refl
+
+bad_numbers : bad_number (codes " defaultvalue = x") ∷ bad_number (codes "ParameterValue=x") ∷ bad_number (codes "LowLimit=x") ∷ [] ≡ Fact fact.NoValue ∷ Fact fact.NoValue ∷ Line ∷ []
+bad_numbers = refl
 
 -- 2, 1 and then 4: the key after them isn't known from their order
 other_order : list_fact (section 1 MandatoryObjects
@@ -119,8 +170,8 @@ other_order = refl
 too_many : count_fact 65536 [] 65536 ≡ Line
 too_many = refl
 
-missing_keys : missing_key 30 sections ∷ missing_key 40 sections ∷ missing_key 50 sections ∷ missing_key 31 sections ∷ []
-    ≡ Fact fact.NoAccess ∷ Fact fact.NoType ∷ Fact fact.NoTypeOrAccess ∷ Line ∷ []
+missing_keys : missing_key 30 sections ∷ missing_key 40 sections ∷ missing_key 50 sections ∷ missing_key 60 sections ∷ missing_key 31 sections ∷ []
+    ≡ Fact (fact.NoAccess false) ∷ Fact (fact.NoType false) ∷ Fact (fact.NoTypeOrAccess false) ∷ Fact (fact.NoTypeOrAccess true) ∷ Line ∷ []
 missing_keys = refl
 
 -- in the section that the line is in; in any case of letters
@@ -148,13 +199,13 @@ pdo_counts : pdo_count sections (codes "NrOfRxPdo=3") ∷ pdo_count sections (co
     ≡ Fact (fact.RpdoCount 3 2) ∷ Fact (fact.TpdoCount 16 1) ∷ Line ∷ []
 pdo_counts = refl
 
-infos_at : file_info 0 [] ∷ file_info 1 (true ∷ []) ∷ device_info 0 [] ∷ device_info 1 (true ∷ []) ∷ []
-    ≡ Fact fact.NoFileInfo ∷ Fact (fact.FileInfoLacks (true ∷ [])) ∷ Fact fact.NoDeviceInfo ∷ Fact (fact.DeviceInfoLacks (true ∷ [])) ∷ []
+infos_at : file_info 0 (true ∷ []) ∷ file_info 1 (true ∷ []) ∷ device_info 0 (true ∷ []) ∷ device_info 1 (true ∷ []) ∷ []
+    ≡ Fact (fact.NoFileInfo (true ∷ [])) ∷ Fact (fact.FileInfoLacks (true ∷ [])) ∷ Fact (fact.NoDeviceInfo (true ∷ [])) ∷ Fact (fact.DeviceInfoLacks (true ∷ [])) ∷ []
 infos_at = refl
 
 -- DefaultValue, ParameterValue before it, and a sub-index that isn't there
-identities : identity_number sections (codes "VendorNumber=1") ∷ identity_number sections (codes "productnumber=1") ∷ identity_number sections (codes "RevisionNumber=1") ∷ []
-    ≡ Fact (fact.Identity 1 0x12) ∷ Fact (fact.Identity 1 4) ∷ Line ∷ []
+identities : identity_number sections 1 (codes "VendorNumber=1") ∷ identity_number sections 2 (codes "productnumber=1") ∷ identity_number sections 3 (codes "RevisionNumber=1") ∷ identity_number sections 1 (codes "VendorNumber=x") ∷ []
+    ≡ Fact (fact.Identity 1 0x12) ∷ Fact (fact.Identity 1 4) ∷ Line ∷ Line ∷ []
 identities = refl
 
 first_of_two : first_at (Some 7) ∷ first_at None ∷ [] ≡ FirstAt 7 ∷ Line ∷ []

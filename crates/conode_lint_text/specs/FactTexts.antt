@@ -1,9 +1,13 @@
 -- The sentence of a fact: what a sheet has where a finding is.
 use Rattle.std.specs.Prelude.{ℕ, Bool, true, false, List, [], ◌∷◌, ◌++◌, codes, decimal}
 use Rattle.std.specs.Fmt.{digits}
+use Rattle.co_sheet_warnings.specs.declared.known_key.KnownKey.{KnownKey}
+use Rattle.co_sheet_warnings.specs.Infos.{device_keys, file_keys}
+use Rattle.co_sheet_warnings.specs.KnownKeys.{key_text}
+use Rattle.co_text.specs.Printed.{digits_text}
 use Rattle.conode_text.specs.Filled.{filled}
 use Rattle.conode_lint_text.specs.declared.fact.Fact.{Fact}
-use Rattle.conode_lint_text.specs.declared.fact.Fact.TheVariants.{NoCount, ListCount, ListGap, HighIndex, NoType, NoAccess, NoTypeOrAccess, NoFileInfo, FileInfoLacks, NoDeviceInfo, DeviceInfoLacks, NoSubNumber, SubNumber, SubIndex0, RpdoCount, TpdoCount, Identity, BelowLow, AboveHigh, LimitsCrossed}
+use Rattle.conode_lint_text.specs.declared.fact.Fact.TheVariants.{NoCount, ListCount, ListGap, HighIndex, NoMandatoryList, NotListed, LargeText, NoValue, FixedType, NoType, NoAccess, NoTypeOrAccess, NoFileInfo, FileInfoLacks, NoDeviceInfo, DeviceInfoLacks, NoSubNumber, SubNumber, SubIndex0, RpdoCount, TpdoCount, Identity, BelowLow, AboveHigh, LimitsCrossed}
 
 -- words with numbers in their places; those past the last place aren't written
 abbrev pub with_numbers : List ℕ → ℕ → ℕ → ℕ → List ℕ
@@ -21,36 +25,23 @@ identity_text number other =
     ++ codes ", and that of the identity object is " ++ hexadecimal other
 
 -- of keys those that are missing, after these words, with commas between them
-unfoldable pub missing_text : List ℕ → List (List ℕ) → List Bool → List ℕ
+unfoldable pub missing_text : List ℕ → List KnownKey → List Bool → List ℕ
 missing_text words (key ∷ keys) (true ∷ missing) =
-    words ++ key ++ missing_text (codes ", ") keys missing
+    words ++ key_text key ++ missing_text (codes ", ") keys missing
 missing_text words (key ∷ keys) (false ∷ missing) = missing_text words keys missing
 missing_text words keys missing = []
 
--- the keys that FileInfo and DeviceInfo must have (CiA 306-1, file information, device information)
-abbrev pub file_keys : List (List ℕ)
-file_keys =
-    codes "FileName" ∷ codes "FileVersion" ∷ codes "FileRevision" ∷ codes "Description"
-    ∷ codes "CreationTime" ∷ codes "CreationDate" ∷ codes "CreatedBy" ∷ codes "ModificationTime"
-    ∷ codes "ModificationDate" ∷ codes "ModifiedBy" ∷ []
+-- which of 1000h, 1001h and 1018h no object list names
+abbrev pub not_listed : Bool → Bool → Bool → List ℕ
+not_listed true true true = codes "no object list names 1000h, 1001h and 1018h"
+not_listed true true false = codes "no object list names 1000h and 1001h"
+not_listed true false true = codes "no object list names 1000h and 1018h"
+not_listed false true true = codes "no object list names 1001h and 1018h"
+not_listed true false false = codes "no object list names 1000h"
+not_listed false true false = codes "no object list names 1001h"
+not_listed false false identity = codes "no object list names 1018h"
 
-abbrev pub device_keys : List (List ℕ)
-device_keys =
-    codes "VendorName" ∷ codes "VendorNumber" ∷ codes "ProductName" ∷ codes "ProductNumber"
-    ∷ codes "RevisionNumber" ∷ codes "OrderCode" ∷ codes "BaudRate_10" ∷ codes "BaudRate_20"
-    ∷ codes "BaudRate_50" ∷ codes "BaudRate_125" ∷ codes "BaudRate_250" ∷ codes "BaudRate_500"
-    ∷ codes "BaudRate_800" ∷ codes "BaudRate_1000" ∷ codes "SimpleBootUpMaster"
-    ∷ codes "SimpleBootUpSlave" ∷ codes "Granularity" ∷ codes "DynamicChannelsSupported"
-    ∷ codes "GroupMessaging" ∷ codes "NrOfRXPDO" ∷ codes "NrOfTXPDO" ∷ codes "LSS_Supported" ∷ []
-
--- which of them are missing
-unfoldable pub file_lacks : List Bool → List ℕ
-file_lacks missing = missing_text (codes "FileInfo lacks ") file_keys missing
-
-unfoldable pub device_lacks : List Bool → List ℕ
-device_lacks missing = missing_text (codes "DeviceInfo lacks ") device_keys missing
-
--- of a fact with two numbers or three
+-- of a fact with numbers
 unfoldable pub count_text : Fact → List ℕ
 count_text (ListCount counted has) =
     with_numbers (codes "the list counts % objects and has % of the keys 1 to %")
@@ -73,6 +64,10 @@ count_text (BelowLow line) =
     with_numbers (codes "the value is below the LowLimit of line %") line 0 0
 count_text (AboveHigh line) =
     with_numbers (codes "the value is above the HighLimit of line %") line 0 0
+count_text (FixedType code) =
+    filled (codes "CiA 301 has DataType=0x% here") (digits_text 16 4 code ∷ [])
+count_text (HighIndex line) =
+    with_numbers (codes "the index of line % is above 0xFFFF") line 0 0
 count_text (LimitsCrossed line) =
     with_numbers (codes "HighLimit is below the LowLimit of line %") line 0 0
 count_text other = []
@@ -80,14 +75,19 @@ count_text other = []
 -- of any fact
 unfoldable pub fact_text : Fact → List ℕ
 fact_text NoCount = codes "the list has no SupportedObjects"
-fact_text HighIndex = codes "an index of the list is above 0xFFFF"
-fact_text NoType = codes "the entry has no DataType"
-fact_text NoAccess = codes "the entry has no AccessType"
-fact_text NoTypeOrAccess = codes "the entry has neither DataType nor AccessType"
-fact_text NoFileInfo = codes "there is no section [FileInfo]"
-fact_text (FileInfoLacks missing) = file_lacks missing
-fact_text NoDeviceInfo = codes "there is no section [DeviceInfo]"
-fact_text (DeviceInfoLacks missing) = device_lacks missing
+fact_text NoMandatoryList = codes "there is no section [MandatoryObjects]"
+fact_text (NotListed device error identity) = not_listed device error identity
+fact_text LargeText = codes "the text has more than 1,048,576 bytes"
+fact_text NoValue = codes "the value is no number"
+fact_text (NoType is_sub) = codes "the entry has no DataType"
+fact_text (NoAccess is_sub) = codes "the entry has no AccessType"
+fact_text (NoTypeOrAccess is_sub) = codes "the entry has neither DataType nor AccessType"
+fact_text (NoFileInfo missing) =
+    missing_text (codes "there is no section [FileInfo] with ") file_keys missing
+fact_text (FileInfoLacks missing) = missing_text (codes "FileInfo lacks ") file_keys missing
+fact_text (NoDeviceInfo missing) =
+    missing_text (codes "there is no section [DeviceInfo] with ") device_keys missing
+fact_text (DeviceInfoLacks missing) = missing_text (codes "DeviceInfo lacks ") device_keys missing
 fact_text (NoSubNumber has) =
     with_numbers
     (codes "SubNumber is no number, and the number of the object's sub-index sections is %") has 0 0

@@ -1,10 +1,13 @@
 -- What a sheet has where a finding is (CiA 306-1, structure of an EDS, object lists, object
 -- description, device information): its sections as they are read in spite of lines at fault, and
 -- the text of the finding's line.
-use Rattle.std.specs.Prelude.{ℕ, ◌+◌, ◌==◌, nat_lt, nat_le, max, fold, Bool, true, false, ◌&&◌, if◌then◌else◌, List, [], ◌∷◌, drop, find, count_by, codes, Option, Some, None, is_some, option_and_then, option_map}
+use Rattle.std.specs.Prelude.{ℕ, ◌+◌, ◌==◌, nat_lt, nat_le, max, fold, Bool, true, false, ◌&&◌, ◌||◌, if◌then◌else◌, List, [], ◌∷◌, drop, find, count_by, codes, Option, Some, None, is_some, is_none, option_and_then, option_map}
 use Rattle.std.specs.List.{list_any, before_first, after_first}
 use Rattle.std.specs.Option.{option_map_or, option_or}
 use Rattle.std.specs.Result.{result_ok}
+use Rattle.co_value.specs.declared.key.Key.{Key}
+use Rattle.co_value.specs.Types.{code_of}
+use Rattle.co_profile.specs.FixedTypes.{fixed_type_of}
 use Rattle.co_sheet_text.specs.declared.section_kind.SectionKind.{SectionKind}
 use Rattle.co_sheet_text.specs.declared.section_kind.SectionKind.TheVariants.{Object, SubIndex}
 use Rattle.co_sheet_text.specs.Names.{is_list, kind_of, number_in}
@@ -12,6 +15,8 @@ use Rattle.co_sheet_text.specs.Numerals.{is_number_in, unsigned_number}
 use Rattle.co_sheet_text.specs.Properties.{number_at, property_number}
 use Rattle.co_sheet_text.specs.Sections.{Property, TextSection, is_bracket, is_equals, property_at, section_at}
 use Rattle.co_sheet_text.specs.Text.{same_name, trim}
+use Rattle.co_sheet_warnings.specs.Infos.{object_count}
+use Rattle.co_sheet_warnings.specs.Repeats.{value_in}
 use Rattle.conode_lint_text.specs.declared.fact.Fact.{Fact as SheetFact}
 use Rattle.conode_lint_text.specs.declared.fact.Fact.TheVariants as fact
 use Rattle.conode_lint_text.specs.declared.finding.About.{About}
@@ -72,12 +77,23 @@ gap_fact counted has properties next =
     if has_key next properties then Fact (fact.ListCount counted has)
     else Fact (fact.ListGap counted has next)
 
--- or where an index is too high
+-- or where an index is too high: the line of the first
+abbrev pub is_high : ℕ → Property → Bool
+is_high counted k =
+    is_key_to counted k.name && option_map_or (λ n. nat_lt 65535 n) (property_number k) false
+
+abbrev pub high_line : ℕ → List Property → Option ℕ
+high_line counted properties = option_map (λ k. k.line) (find (is_high counted) properties)
+
+abbrev pub high_fact : ℕ → List Property → About
+high_fact counted properties =
+    option_map_or (λ line. Fact (fact.HighIndex line)) (high_line counted properties) Line
+
 abbrev pub count_fact : ℕ → List Property → ℕ → About
 count_fact counted properties has =
     if nat_lt has counted then gap_fact counted has properties (next_key properties)
     else if nat_lt 65535 counted then Line
-    else Fact fact.HighIndex
+    else high_fact counted properties
 
 abbrev pub counted_fact : TextSection → ℕ → About
 counted_fact list counted =
@@ -121,23 +137,69 @@ first_listed sections index = option_map_or (λ line. FirstAt line) (listed_line
 abbrev pub listed_twice : List TextSection → List ℕ → About
 listed_twice sections text = option_map_or (first_listed sections) (key_number text) Line
 
+-- ---- the whole text, where no line is to blame
+
+-- of the TooLarge and of the MissingSection of a line
+abbrev pub too_large : ℕ → About
+too_large line = if line == 0 then Fact fact.LargeText else Line
+
+abbrev pub missing_section : ℕ → About
+missing_section line = if line == 0 then Fact fact.NoMandatoryList else Line
+
+-- of MissingMandatory: which are listed nowhere
+abbrev pub is_listed_nowhere : List TextSection → ℕ → Bool
+is_listed_nowhere sections index = is_none (listed_line index sections)
+
+abbrev pub missing_mandatory : List TextSection → About
+missing_mandatory sections =
+    Fact (fact.NotListed (is_listed_nowhere sections 0x1000) (is_listed_nowhere sections 0x1001)
+    (is_listed_nowhere sections 0x1018))
+
 -- ---- keys and sections
 
--- of an entry that has DataType or AccessType, or not
-abbrev pub key_fact : Bool → Bool → About
-key_fact false false = Fact fact.NoTypeOrAccess
-key_fact false true = Fact fact.NoType
-key_fact true false = Fact fact.NoAccess
-key_fact true true = Line
+-- of the BadNumber of a line: a value may be a sum with `$NODEID`
+abbrev pub bad_number : List ℕ → About
+bad_number text =
+    if same_name (key_name text) (codes "DefaultValue")
+    || same_name (key_name text) (codes "ParameterValue")
+    then Fact fact.NoValue else Line
+
+-- of an object or a sub-index that has DataType or AccessType, or not
+abbrev pub key_fact : Bool → Bool → Bool → About
+key_fact is_sub false false = Fact (fact.NoTypeOrAccess is_sub)
+key_fact is_sub false true = Fact (fact.NoType is_sub)
+key_fact is_sub true false = Fact (fact.NoAccess is_sub)
+key_fact is_sub true true = Line
+
+abbrev pub is_sub_index : SectionKind → Bool
+is_sub_index (SubIndex key) = true
+is_sub_index other = false
 
 abbrev pub entry_fact : TextSection → About
 entry_fact s =
-    key_fact (is_some (property_at (codes "DataType") s))
+    key_fact (is_sub_index s.kind) (is_some (property_at (codes "DataType") s))
     (is_some (property_at (codes "AccessType") s))
 
 -- of the MissingKey of the section at a line
 abbrev pub missing_key : ℕ → List TextSection → About
 missing_key line sections = option_map_or entry_fact (section_on line sections) Line
+
+-- of the BadType of a line: the type that CiA 301 has for the entry, if it has one
+abbrev pub entry_key : SectionKind → Option Key
+entry_key (Object index) = Some (record { index = index; sub = 0 })
+entry_key (SubIndex key) = Some key
+entry_key other = None
+
+abbrev pub fixed_code : SectionKind → Option ℕ
+fixed_code kind = option_map code_of (option_and_then fixed_type_of (entry_key kind))
+
+abbrev pub type_fact : TextSection → About
+type_fact s = option_map_or (λ code. Fact (fact.FixedType code)) (fixed_code s.kind) Line
+
+abbrev pub bad_type : ℕ → List TextSection → List ℕ → About
+bad_type line sections text =
+    if same_name (key_name text) (codes "DataType")
+    then option_map_or type_fact (section_before line sections) Line else Line
 
 -- of the DuplicateKey of a line
 abbrev pub first_key : List ℕ → TextSection → About
@@ -222,19 +284,11 @@ sub_index_0 line sections text =
 -- which keys are missing
 abbrev pub file_info : ℕ → List Bool → About
 file_info line missing =
-    if line == 0 then Fact fact.NoFileInfo else Fact (fact.FileInfoLacks missing)
+    if line == 0 then Fact (fact.NoFileInfo missing) else Fact (fact.FileInfoLacks missing)
 
 abbrev pub device_info : ℕ → List Bool → About
 device_info line missing =
-    if line == 0 then Fact fact.NoDeviceInfo else Fact (fact.DeviceInfoLacks missing)
-
--- the number of objects in a range of indices
-abbrev pub is_object_in : ℕ → ℕ → SectionKind → Bool
-is_object_in low high (Object index) = nat_le low index && nat_le index high
-is_object_in low high other = false
-
-abbrev pub object_count : ℕ → ℕ → List TextSection → ℕ
-object_count low high sections = count_by (λ s. is_object_in low high s.kind) sections
+    if line == 0 then Fact (fact.NoDeviceInfo missing) else Fact (fact.DeviceInfoLacks missing)
 
 -- of the PdoCount of a line
 abbrev pub pdo_fact : List TextSection → List ℕ → ℕ → About
@@ -246,29 +300,20 @@ pdo_fact sections name number =
 abbrev pub pdo_count : List TextSection → List ℕ → About
 pdo_count sections text = option_map_or (pdo_fact sections (key_name text)) (key_number text) Line
 
--- the sub-index of the identity object that has the number of this name
-abbrev pub identity_sub : List ℕ → ℕ
-identity_sub name =
-    if same_name name (codes "VendorNumber") then 1
-    else if same_name name (codes "ProductNumber") then 2
-    else 3
-
--- the initial number of a section: by its ParameterValue, or else by its DefaultValue
+-- the initial number of a section
 abbrev pub initial_number : TextSection → Option ℕ
-initial_number s =
-    option_and_then property_number
-    (option_or (property_at (codes "ParameterValue") s) (property_at (codes "DefaultValue") s))
+initial_number s = option_and_then property_number (value_in s)
 
 abbrev pub identity_at : List TextSection → ℕ → Option ℕ
 identity_at sections sub =
     option_and_then initial_number
     (section_at (SubIndex (record { index = 0x1018; sub = sub })) sections)
 
--- of the IdentityNumber of a line
+-- of the IdentityNumber of a line, by the sub-index of the identity object
 abbrev pub identity_fact : Option ℕ → Option ℕ → About
 identity_fact (Some number) (Some other) = Fact (fact.Identity number other)
 identity_fact number other = Line
 
-abbrev pub identity_number : List TextSection → List ℕ → About
-identity_number sections text =
-    identity_fact (key_number text) (identity_at sections (identity_sub (key_name text)))
+abbrev pub identity_number : List TextSection → ℕ → List ℕ → About
+identity_number sections sub text =
+    identity_fact (key_number text) (identity_at sections sub)

@@ -1,12 +1,13 @@
 -- The texts and the column of a finding.
-use Rattle.std.specs.Prelude.{ℕ, ◌+◌, ◌==◌, nat_lt, if◌then◌else◌, List, [], ◌∷◌, length, drop, codes, decimal}
+use Rattle.std.specs.Prelude.{ℕ, ◌+◌, ◌==◌, nat_lt, true, false, if◌then◌else◌, List, [], ◌∷◌, length, drop, codes, decimal}
 use Rattle.std.specs.List.{position_or_len}
 use Rattle.co_text.specs.Printed.{digits_text}
+use Rattle.co_sheet_warnings.specs.KnownKeys.{key_text}
 use Rattle.conode_text.specs.Filled.{filled}
 use Rattle.conode_json.specs.Characters.{characters_of}
 use Rattle.conode_lint_text.specs.Characters.{blanks}
 use Rattle.conode_lint_text.specs.FactTexts.{fact_text}
-use Rattle.conode_lint_text.specs.declared.fact.Fact.TheVariants.{NoType, NoAccess, NoTypeOrAccess}
+use Rattle.conode_lint_text.specs.declared.fact.Fact.TheVariants.{HighIndex, NoMandatoryList, NotListed, LargeText, NoValue, FixedType, NoType, NoAccess, NoTypeOrAccess}
 use Rattle.conode_lint_text.specs.declared.finding.About.{About}
 use Rattle.conode_lint_text.specs.declared.finding.About.TheVariants.{Line, Object, Entry, Bits, FirstAt, Misspelt, Fact}
 use Rattle.conode_lint_text.specs.declared.finding.Finding.{Finding}
@@ -49,20 +50,33 @@ about_message (Bits index bits) meaning =
     filled (codes "%:00: % bits in all: %") (digits_text 16 4 index ∷ decimal bits ∷ meaning ∷ [])
 about_message (FirstAt line) meaning =
     filled (codes "%, first at line %") (meaning ∷ decimal line ∷ [])
-about_message Misspelt meaning = filled (codes "the standard has no such key: %") (meaning ∷ [])
+about_message (Misspelt known) meaning =
+    filled (codes "the standard has no such key: did you mean %") (key_text known ∷ [])
 about_message (Fact fact) meaning = fact_text fact
 
 -- what is wrong
 unfoldable pub message_of : Finding → List ℕ
 message_of finding = about_message finding.about finding.meaning.now
 
--- how to fix it: where keys of an entry are missing, which to add
+-- how to fix it, where what the sheet has there says more than the kind. An object may be an ARRAY or
+-- a RECORD that lacks its type; a sub-index is none.
 unfoldable pub fix_with : About → List ℕ → List ℕ
-fix_with (Fact NoType) fix =
+fix_with (Fact (HighIndex line)) fix = codes "give an index of at most four hexadecimal digits"
+fix_with (Fact NoMandatoryList) fix = codes "add it, with 1000h, 1001h and 1018h"
+fix_with (Fact (NotListed device error identity)) fix =
+    codes "list what is missing, with its section"
+fix_with (Fact LargeText) fix = codes "take out comments and sections that are passed over"
+fix_with (Fact NoValue) fix =
+    codes "write decimal digits, 0x and hexadecimal digits, or a sum as $NODEID+0x180"
+fix_with (Fact (FixedType code)) fix = codes "give that type, or take the object out of its list"
+fix_with (Fact (NoType true)) fix = codes "add DataType"
+fix_with (Fact (NoAccess true)) fix = codes "add AccessType"
+fix_with (Fact (NoTypeOrAccess true)) fix = codes "add DataType and AccessType"
+fix_with (Fact (NoType false)) fix =
     codes "add DataType; to an ARRAY or a RECORD add ObjectType=8 or ObjectType=9"
-fix_with (Fact NoAccess) fix =
+fix_with (Fact (NoAccess false)) fix =
     codes "add AccessType; to an ARRAY or a RECORD add ObjectType=8 or ObjectType=9"
-fix_with (Fact NoTypeOrAccess) fix =
+fix_with (Fact (NoTypeOrAccess false)) fix =
     codes "add DataType and AccessType; to an ARRAY or a RECORD add ObjectType=8 or ObjectType=9"
 fix_with about fix = fix
 

@@ -21,8 +21,9 @@ fn push_shown(text: &mut String, character: char) -> Result<(), AllocError>
     }
 }
 
-/// Appends characters as they are shown.
-pub(crate) fn push_all_shown(text: &mut String, characters: &[char]) -> Result<(), AllocError>
+/// Appends characters as they are shown: control characters as `\t` and `\x1B`. `Err`: out of memory; a
+/// part of the text may be there.
+pub fn push_all_shown(text: &mut String, characters: &[char]) -> Result<(), AllocError>
     ensures { OnOk result
         (string_bytes text.new ≡ string_bytes text.old ++ shown_all characters.now) }
 {

@@ -1,17 +1,17 @@
 //! What a sheet has at a finding, as numbers, and its sentence.
 
-ghost use Rattle.std.specs.Prelude.{◌≡◌, ◌++◌, [], ◌∷◌, decimal, map, OnOk, string_bytes};
+ghost use Rattle.std.specs.Prelude.{◌≡◌, ◌++◌, [], ◌∷◌, decimal, OnOk, string_bytes};
 ghost use Rattle.conode_text.specs.Filled.{filled};
 ghost use Rattle.conode_lint_text.specs.FactTexts.{
   count_text,
-  device_lacks,
   fact_text,
-  file_lacks,
   hexadecimal,
   identity_text,
   missing_text,
+  not_listed,
 };
 
+use co_sheet_warnings::{KnownKey, device_keys, file_keys};
 use conode_text::{Value, push_filled};
 use std::alloc::AllocError;
 
@@ -24,20 +24,31 @@ pub enum Fact {
     ListCount(u64, usize),
     /// The same, and the first key that is missing.
     ListGap(u64, usize, usize),
-    /// An object list that names an index above 0xFFFF.
-    HighIndex,
-    /// An entry without DataType.
-    NoType,
-    /// An entry without AccessType.
-    NoAccess,
-    /// An entry without both.
-    NoTypeOrAccess,
-    /// A sheet without the section FileInfo.
-    NoFileInfo,
+    /// An object list that names an index above 0xFFFF, by the line of that key.
+    HighIndex(usize),
+    /// A sheet without the list of the mandatory objects.
+    NoMandatoryList,
+    /// Whether no object list names 1000h, 1001h and 1018h.
+    NotListed(bool, bool, bool),
+    /// A text that is too large.
+    LargeText,
+    /// A value that is no number.
+    NoValue,
+    /// A type that isn't the one of CiA 301 for this entry, by its code.
+    FixedType(u16),
+    /// An entry without DataType, and whether it is a sub-index.
+    NoType(bool),
+    /// The same without AccessType.
+    NoAccess(bool),
+    /// The same without both.
+    NoTypeOrAccess(bool),
+    /// A sheet without the section FileInfo: of the keys that it must have, whether they are
+    /// missing.
+    NoFileInfo([bool; 10]),
     /// A FileInfo without keys that it must have: of each whether it is missing.
     FileInfoLacks([bool; 10]),
-    /// A sheet without the section DeviceInfo.
-    NoDeviceInfo,
+    /// A sheet without the section DeviceInfo: the same.
+    NoDeviceInfo([bool; 22]),
     /// A DeviceInfo without keys that it must have: of each whether it is missing.
     DeviceInfoLacks([bool; 22]),
     /// A SubNumber that is no number, and the number of the object's sub-index sections.
@@ -166,6 +177,18 @@ fn push_count(text: &mut String, fact: Fact) -> Result<(), AllocError>
                 0,
             )
         }
+        Fact::FixedType(code) => {
+            push_filled(text, "CiA 301 has DataType=0x% here", &[Value::Short(code)])
+        }
+        Fact::HighIndex(line) => {
+            push_numbers(
+                text,
+                "the index of line % is above 0xFFFF",
+                line as u64,
+                0,
+                0,
+            )
+        }
         Fact::LimitsCrossed(line) => {
             push_numbers(
                 text,
@@ -178,46 +201,6 @@ fn push_count(text: &mut String, fact: Fact) -> Result<(), AllocError>
         _ => Ok(()),
     }
 }
-
-/// The keys that FileInfo must have.
-const FILE_KEYS: [&str; 10] = [
-    "FileName",
-    "FileVersion",
-    "FileRevision",
-    "Description",
-    "CreationTime",
-    "CreationDate",
-    "CreatedBy",
-    "ModificationTime",
-    "ModificationDate",
-    "ModifiedBy",
-];
-
-/// The keys that DeviceInfo must have.
-const DEVICE_KEYS: [&str; 22] = [
-    "VendorName",
-    "VendorNumber",
-    "ProductName",
-    "ProductNumber",
-    "RevisionNumber",
-    "OrderCode",
-    "BaudRate_10",
-    "BaudRate_20",
-    "BaudRate_50",
-    "BaudRate_125",
-    "BaudRate_250",
-    "BaudRate_500",
-    "BaudRate_800",
-    "BaudRate_1000",
-    "SimpleBootUpMaster",
-    "SimpleBootUpSlave",
-    "Granularity",
-    "DynamicChannelsSupported",
-    "GroupMessaging",
-    "NrOfRXPDO",
-    "NrOfTXPDO",
-    "LSS_Supported",
-];
 
 fn push_key(text: &mut String, words: &str, key: &str) -> Result<(), AllocError>
     ensures { OnOk result
@@ -232,11 +215,11 @@ fn push_key(text: &mut String, words: &str, key: &str) -> Result<(), AllocError>
 fn push_missing(
     text: &mut String,
     words: &'static str,
-    keys: &[&'static str],
+    keys: &[KnownKey],
     missing: &[bool],
 ) -> Result<(), AllocError>
-    ensures { OnOk result (string_bytes text.new ≡ string_bytes text.old
-        ++ missing_text words.now (map (λ key. key.now) keys.now) missing.now) }
+    ensures { OnOk result (string_bytes text.new
+        ≡ string_bytes text.old ++ missing_text words.now keys.now missing.now) }
 {
     let [key, keys @ ..] = keys else {
         return Ok(());
@@ -247,24 +230,23 @@ fn push_missing(
     if !*is_missing {
         return push_missing(text, words, keys, missing);
     }
-    attempt!(push_key(text, words, *key));
+    attempt!(push_key(text, words, key.name()));
     push_missing(text, ", ", keys, missing)
 }
 
-#[tactic(auto, unfolding(crate::specs::FactTexts::file_lacks))]
-fn push_file_lacks(text: &mut String, missing: &[bool]) -> Result<(), AllocError>
-    ensures { OnOk result
-        (string_bytes text.new ≡ string_bytes text.old ++ file_lacks missing.now) }
+// which of 1000h, 1001h and 1018h no object list names
+fn not_listed(device: bool, error: bool, identity: bool) -> &'static str
+    ensures { result.now ≡ not_listed device error identity }
 {
-    push_missing(text, "FileInfo lacks ", &FILE_KEYS, missing)
-}
-
-#[tactic(auto, unfolding(crate::specs::FactTexts::device_lacks))]
-fn push_device_lacks(text: &mut String, missing: &[bool]) -> Result<(), AllocError>
-    ensures { OnOk result
-        (string_bytes text.new ≡ string_bytes text.old ++ device_lacks missing.now) }
-{
-    push_missing(text, "DeviceInfo lacks ", &DEVICE_KEYS, missing)
+    match (device, error, identity) {
+        (true, true, true) => "no object list names 1000h, 1001h and 1018h",
+        (true, true, false) => "no object list names 1000h and 1001h",
+        (true, false, true) => "no object list names 1000h and 1018h",
+        (false, true, true) => "no object list names 1001h and 1018h",
+        (true, false, false) => "no object list names 1000h",
+        (false, true, false) => "no object list names 1001h",
+        (false, false, _) => "no object list names 1018h",
+    }
 }
 
 /// Appends the sentence of a fact. `Err`: out of memory; a part of the text may be there.
@@ -274,14 +256,33 @@ pub(crate) fn push_fact(text: &mut String, fact: Fact) -> Result<(), AllocError>
 {
     match fact {
         Fact::NoCount => text.push_str("the list has no SupportedObjects"),
-        Fact::HighIndex => text.push_str("an index of the list is above 0xFFFF"),
-        Fact::NoType => text.push_str("the entry has no DataType"),
-        Fact::NoAccess => text.push_str("the entry has no AccessType"),
-        Fact::NoTypeOrAccess => text.push_str("the entry has neither DataType nor AccessType"),
-        Fact::NoFileInfo => text.push_str("there is no section [FileInfo]"),
-        Fact::FileInfoLacks(missing) => push_file_lacks(text, &missing),
-        Fact::NoDeviceInfo => text.push_str("there is no section [DeviceInfo]"),
-        Fact::DeviceInfoLacks(missing) => push_device_lacks(text, &missing),
+        Fact::NoMandatoryList => text.push_str("there is no section [MandatoryObjects]"),
+        Fact::NotListed(device, error, identity) => {
+            text.push_str(not_listed(device, error, identity))
+        }
+        Fact::LargeText => text.push_str("the text has more than 1,048,576 bytes"),
+        Fact::NoValue => text.push_str("the value is no number"),
+        Fact::NoType(_) => text.push_str("the entry has no DataType"),
+        Fact::NoAccess(_) => text.push_str("the entry has no AccessType"),
+        Fact::NoTypeOrAccess(_) => text.push_str("the entry has neither DataType nor AccessType"),
+        Fact::NoFileInfo(missing) => push_missing(
+            text,
+            "there is no section [FileInfo] with ",
+            file_keys(),
+            &missing,
+        ),
+        Fact::FileInfoLacks(missing) => {
+            push_missing(text, "FileInfo lacks ", file_keys(), &missing)
+        }
+        Fact::NoDeviceInfo(missing) => push_missing(
+            text,
+            "there is no section [DeviceInfo] with ",
+            device_keys(),
+            &missing,
+        ),
+        Fact::DeviceInfoLacks(missing) => {
+            push_missing(text, "DeviceInfo lacks ", device_keys(), &missing)
+        }
         Fact::NoSubNumber(has) => push_numbers(
             text,
             "SubNumber is no number, and the number of the object's sub-index sections is %",

@@ -5,26 +5,33 @@ ghost use Rattle.std.specs.Option.{option_copied};
 ghost use Rattle.co_sheet_text.specs.Views.{property_view, section_view};
 ghost use Rattle.conode_lint_text.specs.Facts.{
   bad_list,
+  bad_number,
+  bad_type,
   count_fact,
   device_info,
   duplicate_key,
   duplicate_section,
   entry_fact,
+  entry_key,
   file_info,
   first_at,
   first_key,
   first_listed,
   first_section,
+  fixed_code,
   gap_fact,
   has_key,
+  high_fact,
+  high_line,
   highest_of,
   identity_at,
   identity_number,
-  identity_sub,
   initial_number,
   is_key_at,
+  is_high,
   is_key_to,
-  is_object_in,
+  is_listed_nowhere,
+  is_sub_index,
   is_sub_index_of,
   key_count,
   key_fact,
@@ -36,9 +43,10 @@ ghost use Rattle.conode_lint_text.specs.Facts.{
   listed_line,
   listed_twice,
   missing_key,
+  missing_mandatory,
+  missing_section,
   names_index,
   next_key,
-  object_count,
   pdo_count,
   pdo_fact,
   section_before,
@@ -51,14 +59,18 @@ ghost use Rattle.conode_lint_text.specs.Facts.{
   sub_index_in,
   sub_number,
   sub_number_of,
+  too_large,
+  type_fact,
 };
 
 use crate::fact::Fact;
 use crate::finding::About;
+use co_profile::fixed_type;
 use co_sheet::section_at;
 use co_sheet_text::{
     Property, SectionKind, TextSection, number_in, same_name, trim, unsigned_number,
 };
+use co_sheet_warnings::{object_count, value_in};
 use co_text::split_at_first;
 use co_value::Key;
 
@@ -180,6 +192,39 @@ fn gap_fact(counted: u64, has: usize, properties: &[Property<'_>], next: usize) 
     }
 }
 
+fn is_high(counted: u64, property: &Property<'_>) -> bool
+    ensures { result ≡ is_high counted (property_view property.now) }
+{
+    if !is_key_to(counted, property.name) {
+        return false;
+    }
+    match property.number() {
+        Some(number) => number > 65535,
+        None => false,
+    }
+}
+
+// the line of the first key with an index above 0xFFFF
+fn high_line(counted: u64, properties: &[Property<'_>]) -> Option<usize>
+    ensures { result ≡ high_line counted (map property_view properties.now) }
+{
+    for property in properties {
+        if is_high(counted, property) {
+            return Some(property.line);
+        }
+    }
+    None
+}
+
+fn high_fact(counted: u64, properties: &[Property<'_>]) -> About
+    ensures { result ≡ high_fact counted (map property_view properties.now) }
+{
+    match high_line(counted, properties) {
+        Some(line) => About::Fact(Fact::HighIndex(line)),
+        None => About::Line,
+    }
+}
+
 fn count_fact(counted: u64, properties: &[Property<'_>], has: usize) -> About
     ensures { result ≡ count_fact counted (map property_view properties.now) has }
 {
@@ -188,7 +233,7 @@ fn count_fact(counted: u64, properties: &[Property<'_>], has: usize) -> About
     } else if counted > 65535 {
         About::Line
     } else {
-        About::Fact(Fact::HighIndex)
+        high_fact(counted, properties)
     }
 }
 
@@ -279,15 +324,72 @@ pub fn listed_twice(sections: &[TextSection<'_, '_>], text: &[u8]) -> About
     }
 }
 
-fn key_fact(has_type: bool, has_access: bool) -> About
-    ensures { result ≡ key_fact has_type has_access }
+/// Of the TooLarge of a line, 0 where the text has too many bytes.
+pub fn too_large(line: usize) -> About
+    ensures { result ≡ too_large line }
+{
+    if line == 0 {
+        About::Fact(Fact::LargeText)
+    } else {
+        About::Line
+    }
+}
+
+/// Of the MissingSection of a line, 0 where there is no list of the mandatory objects.
+pub fn missing_section(line: usize) -> About
+    ensures { result ≡ missing_section line }
+{
+    if line == 0 {
+        About::Fact(Fact::NoMandatoryList)
+    } else {
+        About::Line
+    }
+}
+
+fn is_listed_nowhere(sections: &[TextSection<'_, '_>], index: u64) -> bool
+    ensures { result ≡ is_listed_nowhere (map section_view sections.now) index }
+{
+    listed_line(index, sections).is_none()
+}
+
+/// Of MissingMandatory: which of 1000h, 1001h and 1018h no object list names.
+pub fn missing_mandatory(sections: &[TextSection<'_, '_>]) -> About
+    ensures { result ≡ missing_mandatory (map section_view sections.now) }
+{
+    About::Fact(Fact::NotListed(
+        is_listed_nowhere(sections, 0x1000),
+        is_listed_nowhere(sections, 0x1001),
+        is_listed_nowhere(sections, 0x1018),
+    ))
+}
+
+/// Of the BadNumber of a line: a value may be a sum with `$NODEID`.
+pub fn bad_number(text: &[u8]) -> About
+    ensures { result ≡ bad_number text.now }
+{
+    let name = key_name(text);
+    if same_name(name, b"DefaultValue") || same_name(name, b"ParameterValue") {
+        About::Fact(Fact::NoValue)
+    } else {
+        About::Line
+    }
+}
+
+fn key_fact(is_sub: bool, has_type: bool, has_access: bool) -> About
+    ensures { result ≡ key_fact is_sub has_type has_access }
 {
     match (has_type, has_access) {
-        (false, false) => About::Fact(Fact::NoTypeOrAccess),
-        (false, true) => About::Fact(Fact::NoType),
-        (true, false) => About::Fact(Fact::NoAccess),
+        (false, false) => About::Fact(Fact::NoTypeOrAccess(is_sub)),
+        (false, true) => About::Fact(Fact::NoType(is_sub)),
+        (true, false) => About::Fact(Fact::NoAccess(is_sub)),
         (true, true) => About::Line,
     }
+}
+
+fn is_sub_index(kind: SectionKind) -> bool
+    ensures { result ≡ is_sub_index kind }
+{
+    matches!(kind, SectionKind::SubIndex(_))
 }
 
 fn entry_fact(section: &TextSection<'_, '_>) -> About
@@ -295,7 +397,7 @@ fn entry_fact(section: &TextSection<'_, '_>) -> About
 {
     let has_type = section.property(b"DataType").is_some();
     let has_access = section.property(b"AccessType").is_some();
-    key_fact(has_type, has_access)
+    key_fact(is_sub_index(section.kind), has_type, has_access)
 }
 
 /// Of the MissingKey of the section at a line: which keys it lacks.
@@ -323,6 +425,51 @@ pub fn duplicate_key(sections: &[TextSection<'_, '_>], line: usize, text: &[u8])
 {
     match section_before(sections, line) {
         Some(section) => first_key(key_name(text), section),
+        None => About::Line,
+    }
+}
+
+fn entry_key(kind: SectionKind) -> Option<Key>
+    ensures { result ≡ entry_key kind }
+{
+    match kind {
+        SectionKind::Object(index) => Some(Key { index, sub: 0 }),
+        SectionKind::SubIndex(key) => Some(key),
+        _ => None,
+    }
+}
+
+// the code of the type that CiA 301 has for an entry
+fn fixed_code(kind: SectionKind) -> Option<u16>
+    ensures { result ≡ fixed_code kind }
+{
+    let Some(key) = entry_key(kind) else {
+        return None;
+    };
+    match fixed_type(key) {
+        Some(data_type) => Some(data_type.code()),
+        None => None,
+    }
+}
+
+fn type_fact(section: &TextSection<'_, '_>) -> About
+    ensures { result ≡ type_fact (section_view section.now) }
+{
+    match fixed_code(section.kind) {
+        Some(code) => About::Fact(Fact::FixedType(code)),
+        None => About::Line,
+    }
+}
+
+/// Of the BadType of a line: the type that CiA 301 has for the entry, if it has one.
+pub fn bad_type(sections: &[TextSection<'_, '_>], line: usize, text: &[u8]) -> About
+    ensures { result ≡ bad_type line (map section_view sections.now) text.now }
+{
+    if !same_name(key_name(text), b"DataType") {
+        return About::Line;
+    }
+    match section_before(sections, line) {
+        Some(section) => type_fact(section),
         None => About::Line,
     }
 }
@@ -466,7 +613,7 @@ pub fn file_info(line: usize, missing: [bool; 10]) -> About
     ensures { result ≡ file_info line missing }
 {
     if line == 0 {
-        About::Fact(Fact::NoFileInfo)
+        About::Fact(Fact::NoFileInfo(missing))
     } else {
         About::Fact(Fact::FileInfoLacks(missing))
     }
@@ -477,32 +624,10 @@ pub fn device_info(line: usize, missing: [bool; 22]) -> About
     ensures { result ≡ device_info line missing }
 {
     if line == 0 {
-        About::Fact(Fact::NoDeviceInfo)
+        About::Fact(Fact::NoDeviceInfo(missing))
     } else {
         About::Fact(Fact::DeviceInfoLacks(missing))
     }
-}
-
-fn is_object_in(low: u16, high: u16, kind: SectionKind) -> bool
-    ensures { result ≡ is_object_in low high kind }
-{
-    match kind {
-        SectionKind::Object(index) => low <= index && index <= high,
-        _ => false,
-    }
-}
-
-// the number of objects in a range of indices
-fn object_count(low: u16, high: u16, sections: &[TextSection<'_, '_>]) -> usize
-    ensures { result ≡ object_count low high (map section_view sections.now) }
-{
-    let mut count = 0;
-    for section in sections {
-        if is_object_in(low, high, section.kind) {
-            count += 1;
-        }
-    }
-    count
 }
 
 fn pdo_fact(sections: &[TextSection<'_, '_>], name: &[u8], number: u64) -> About
@@ -525,25 +650,10 @@ pub fn pdo_count(sections: &[TextSection<'_, '_>], text: &[u8]) -> About
     }
 }
 
-fn identity_sub(name: &[u8]) -> u8
-    ensures { result ≡ identity_sub name.now }
-{
-    if same_name(name, b"VendorNumber") {
-        1
-    } else if same_name(name, b"ProductNumber") {
-        2
-    } else {
-        3
-    }
-}
-
 fn initial_number(section: &TextSection<'_, '_>) -> Option<u64>
     ensures { result ≡ initial_number (section_view section.now) }
 {
-    if let Some(property) = section.property(b"ParameterValue") {
-        return property.number();
-    }
-    match section.property(b"DefaultValue") {
+    match value_in(section) {
         Some(property) => property.number(),
         None => None,
     }
@@ -559,14 +669,11 @@ fn identity_at(sections: &[TextSection<'_, '_>], sub: u8) -> Option<u64>
     }
 }
 
-/// Of the IdentityNumber of a line: its number, and that of the identity object.
-pub fn identity_number(sections: &[TextSection<'_, '_>], text: &[u8]) -> About
-    ensures { result ≡ identity_number (map section_view sections.now) text.now }
+/// Of the IdentityNumber of a line: its number, and that of the identity object, at this sub-index.
+pub fn identity_number(sections: &[TextSection<'_, '_>], sub: u8, text: &[u8]) -> About
+    ensures { result ≡ identity_number (map section_view sections.now) sub text.now }
 {
-    match (
-        key_number(text),
-        identity_at(sections, identity_sub(key_name(text))),
-    ) {
+    match (key_number(text), identity_at(sections, sub)) {
         (Some(number), Some(other)) => About::Fact(Fact::Identity(number, other)),
         _ => About::Line,
     }

@@ -1,6 +1,7 @@
 //! What `lint` finds.
 
 use crate::fact::Fact;
+use co_sheet_warnings::KnownKey;
 
 /// The severity of a finding.
 #[derive(Clone, Copy)]
@@ -33,8 +34,8 @@ pub enum About {
     Bits(u16, u16),
     /// What comes a second time, by the line of the first.
     FirstAt(usize),
-    /// A key that the standard doesn't have; what is wrong asks for the one that is meant.
-    Misspelt,
+    /// A key that the standard doesn't have, by the one that is meant.
+    Misspelt(KnownKey),
     /// What the sheet has there, which is said in place of what is wrong.
     Fact(Fact),
 }

@@ -26,10 +26,12 @@ mod text_form;
 mod words;
 
 pub use bounds::{bad_default, bad_limits};
+pub use characters::push_all_shown;
 pub use fact::Fact;
 pub use facts::{
-    bad_list, device_info, duplicate_key, duplicate_section, file_info, first_at, identity_number,
-    listed_twice, missing_key, pdo_count, sub_index_0, sub_number,
+    bad_list, bad_number, bad_type, device_info, duplicate_key, duplicate_section, file_info,
+    first_at, identity_number, listed_twice, missing_key, missing_mandatory, missing_section,
+    pdo_count, sub_index_0, sub_number, too_large,
 };
 pub use finding::{About, Finding, Place, Rule, Severity};
 pub use json_form::{put_document_end, put_document_head, put_file};

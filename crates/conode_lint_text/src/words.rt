@@ -53,10 +53,10 @@ fn push_about(text: &mut String, about: About, meaning: &str) -> Result<(), Allo
             "%, first at line %",
             &[Value::Words(meaning), Value::Number(line as u64)],
         ),
-        About::Misspelt => push_filled(
+        About::Misspelt(known) => push_filled(
             text,
-            "the standard has no such key: %",
-            &[Value::Words(meaning)],
+            "the standard has no such key: did you mean %",
+            &[Value::Words(known.name())],
         ),
         About::Fact(fact) => push_fact(text, fact),
     }
@@ -71,19 +71,31 @@ pub(crate) fn push_message(text: &mut String, finding: &Finding<'_>) -> Result<(
     push_about(text, finding.about, finding.meaning)
 }
 
-/// How to fix it: where keys of an entry are missing, which to add.
+/// How to fix it, where what the sheet has there says more than the kind. Without its type an ARRAY or
+/// a RECORD is taken for an entry.
 #[tactic(auto, unfolding(crate::specs::Findings::fix_with))]
 pub(crate) fn fix_of<'a>(finding: &Finding<'a>) -> &'a str
     ensures { result.now ≡ fix_of finding.now }
 {
     match finding.about {
-        About::Fact(Fact::NoType) => {
+        About::Fact(Fact::HighIndex(_)) => "give an index of at most four hexadecimal digits",
+        About::Fact(Fact::NoMandatoryList) => "add it, with 1000h, 1001h and 1018h",
+        About::Fact(Fact::NotListed(_, _, _)) => "list what is missing, with its section",
+        About::Fact(Fact::LargeText) => "take out comments and sections that are passed over",
+        About::Fact(Fact::NoValue) => {
+            "write decimal digits, 0x and hexadecimal digits, or a sum as $NODEID+0x180"
+        }
+        About::Fact(Fact::FixedType(_)) => { "give that type, or take the object out of its list" }
+        About::Fact(Fact::NoType(true)) => "add DataType",
+        About::Fact(Fact::NoAccess(true)) => "add AccessType",
+        About::Fact(Fact::NoTypeOrAccess(true)) => "add DataType and AccessType",
+        About::Fact(Fact::NoType(false)) => {
             "add DataType; to an ARRAY or a RECORD add ObjectType=8 or ObjectType=9"
         }
-        About::Fact(Fact::NoAccess) => {
+        About::Fact(Fact::NoAccess(false)) => {
             "add AccessType; to an ARRAY or a RECORD add ObjectType=8 or ObjectType=9"
         }
-        About::Fact(Fact::NoTypeOrAccess) => {
+        About::Fact(Fact::NoTypeOrAccess(false)) => {
             "add DataType and AccessType; to an ARRAY or a RECORD add ObjectType=8 or ObjectType=9"
         }
         _ => finding.fix,

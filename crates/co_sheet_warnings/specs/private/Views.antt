@@ -35,6 +35,7 @@ use Rattle.co_sheet_warnings.specs.declared.warning.WarningKind.TheVariants.{
   LongLine,
   Utf8,
   NotAscii,
+  NodeId,
   ListOrder,
   EqualNames,
   MissingName,
@@ -63,7 +64,7 @@ kind_row (DeviceInfoKeys missing) = 3
 kind_row PdoCount = 4
 kind_row WrongList = 5
 kind_row Unlisted = 6
-kind_row IdentityNumber = 7
+kind_row (IdentityNumber sub) = 7
 kind_row FixedCobId = 8
 kind_row NodeIdPlace = 9
 kind_row (MisspeltKey meant) = 10
@@ -75,12 +76,13 @@ kind_row NoErrorControl = 15
 kind_row LongLine = 16
 kind_row Utf8 = 17
 kind_row NotAscii = 18
-kind_row ListOrder = 19
-kind_row EqualNames = 20
-kind_row MissingName = 21
-kind_row UnknownKey = 22
-kind_row DateFormat = 23
-kind_row LineEnds = 24
+kind_row NodeId = 19
+kind_row ListOrder = 20
+kind_row EqualNames = 21
+kind_row MissingName = 22
+kind_row UnknownKey = 23
+kind_row DateFormat = 24
+kind_row LineEnds = 25
 
 -- the lines of a list's listings that fail a check, and of a section
 abbrev pub failing : ListCheck → SectionKind → List Listing → List ℕ

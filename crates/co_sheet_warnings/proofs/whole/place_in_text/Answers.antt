@@ -1,6 +1,7 @@
 use Rattle.std.proofs.Common.{◌≡◌, List, ◌∙◌, ap, map, refl, subst, sym}
 use Rattle.std.specs.Prelude.{option_to_list}
 use Rattle.co_sheet_text.specs.Sections.{TextSection}
+use Rattle.co_sheet_text.specs.Views.{section_view}
 use Rattle.co_sheet_warnings.specs.declared.keys.Topic.TheVariants.{FileInfo, DeviceInfo}
 use Rattle.co_sheet_warnings.specs.declared.warning.WarningKind.{WarningKind}
 use Rattle.co_sheet_warnings.specs.Infos.{device_keys, file_keys, missing_keys}
@@ -14,14 +15,16 @@ use Rattle.co_sheet_warnings.proofs.whole.place_in_text.Goals as goal
 pub returns-in-FileInfoKeys : goal.returns-in-FileInfoKeys
 unfolding place_in_text
 returns-in-FileInfoKeys c =
-    let missing = c.missing_keys.ensures ∙ ap (λ (ss : List TextSection). missing_keys FileInfo (map key_view c.text.inside.keys.now) ss file_keys) c.sections.ensures
+    let missing = c.missing_keys.ensures ∙ ap (missing_keys FileInfo (map key_view c.text.inside.keys.now) (map section_view c.sections.result.now)) c.file_keys.ensures
+    ∙ ap (λ (ss : List TextSection). missing_keys FileInfo (map key_view c.text.inside.keys.now) ss file_keys) c.sections.ensures
     ∙ ap (λ (t : ReadText). missing_keys FileInfo t.keys c.args.text.now.sections file_keys) c.text.view_is in
     subst (λ (kind : WarningKind). option_to_list c.missing_keys.result ≡ place_in_text c.args.text.now kind) (sym c.in-FileInfoKeys.is) missing
 
 pub returns-in-DeviceInfoKeys : goal.returns-in-DeviceInfoKeys
 unfolding place_in_text
 returns-in-DeviceInfoKeys c =
-    let missing = c.missing_keys-in-DeviceInfoKeys.ensures ∙ ap (λ (ss : List TextSection). missing_keys DeviceInfo (map key_view c.text.inside.keys.now) ss device_keys) c.sections-in-DeviceInfoKeys.ensures
+    let missing = c.missing_keys-in-DeviceInfoKeys.ensures ∙ ap (missing_keys DeviceInfo (map key_view c.text.inside.keys.now) (map section_view c.sections-in-DeviceInfoKeys.result.now)) c.device_keys.ensures
+    ∙ ap (λ (ss : List TextSection). missing_keys DeviceInfo (map key_view c.text.inside.keys.now) ss device_keys) c.sections-in-DeviceInfoKeys.ensures
     ∙ ap (λ (t : ReadText). missing_keys DeviceInfo t.keys c.args.text.now.sections device_keys) c.text.view_is in
     subst (λ (kind : WarningKind). option_to_list c.missing_keys-in-DeviceInfoKeys.result ≡ place_in_text c.args.text.now kind) (sym c.in-DeviceInfoKeys.is) missing
 
