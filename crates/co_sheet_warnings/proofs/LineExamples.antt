@@ -45,7 +45,7 @@ first_other_byte = refl
 
 -- not the line in UTF-8 before it
 not_the_first : places NotAscii ((0xC3 ∷ 0xA4 ∷ []) ∷ codes "a" ∷ (0xE4 ∷ []) ∷ (0xE4 ∷ []) ∷ []) ≡ 3 ∷ []
-unfolding places_of place_in_text places_in chars is_utf8 lib.Utf8.encode
+unfolding places_of few_places place_in_text places_in chars is_utf8 lib.Utf8.encode
 not_the_first = refl
 
 in_utf8 : places Utf8 (codes "a" ∷ (0xC3 ∷ 0xA4 ∷ []) ∷ []) ≡ 2 ∷ []
