@@ -1,24 +1,24 @@
--- The sheet of a text whose sections are read: by the faults of its lines.
-use Rattle.std.proofs.Common.{◌≡◌, ◌∙◌, ℕ, ◌≤◌, Bool, false, ltb, List, [], ◌∷◌, ◌++◌, length, Option, Some, None, IfSome, refl, sym, ap, arith}
+-- The sheet of a text whose sections are read, by the faults of its lines.
+use Rattle.std.proofs.Common.{◌≡◌, ◌∙◌, ℕ, ◌<◌, ◌≤◌, Bool, true, false, ltb, eqb, eqb-true, List, [], ◌∷◌, ◌++◌, length, Option, Some, None, IfSome, refl, sym, ap, arith}
 use Rattle.std.proofs.lemmas.Bool.{lt-ltb}
 use Rattle.std.proofs.lemmas.Bool.Decides.{nat_tests}
-use Rattle.std.specs.Prelude.{◌<◌, option_map}
+use Rattle.std.specs.Prelude.{option_map}
 use Rattle.std.specs.List.{cons_option}
-use Rattle.std.specs.Option.{option_or}
+use Rattle.std.specs.Option.{option_map_or, option_or}
 use Rattle.co_sheet_text.specs.declared.fault.TextFaultKind.{TextFaultKind}
 use Rattle.co_sheet_text.specs.declared.fault.TextFault.{TextFault}
 use Rattle.co_sheet_text.specs.Text.{Line, lines_of}
 use Rattle.co_sheet_text.specs.Sections.{TextSection, fault_at, first_line_fault, sections_of}
 use Rattle.co_sheet_text.specs.LinesAtFault.{own_fault, read_as, lines_read, own_faults, sections_read}
-use Rattle.co_sheet_rows.specs.declared.fault.FaultKind.TheVariants.{Memory, TooLarge}
+use Rattle.co_sheet_rows.specs.declared.fault.FaultKind.TheVariants.{TooLarge}
 use Rattle.co_sheet_rows.specs.declared.fault.SheetFault.{SheetFault}
-use Rattle.co_sheet.specs.Accepted.{IsAnswered, first_fault, first_found, sections_in}
+use Rattle.co_sheet.specs.Accepted.{first_fault, first_found, sections_in}
 use Rattle.co_sheet.specs.Checks.{checks}
-use Rattle.co_sheet.specs.Content.{SheetContent, IsSheetOf, content_of}
-use Rattle.co_sheet.specs.Faults.{sheet_fault}
-use Rattle.co_sheet.specs.Faults as sheet
+use Rattle.co_sheet.specs.Content.{SheetContent, content_of}
+use Rattle.co_sheet.specs.Faults.{sheet_fault, fault_at as large_fault}
+use Rattle.conode_lint.specs.Marks.{sheet_in}
 use Rattle.conode_lint_marks.specs.Beside.{sheet_of}
-use Rattle.conode_lint.proofs.FaultLemmas.{not_memory, sheet_read, sheet_refused}
+use Rattle.conode_lint.proofs.FaultLemmas.{sheet_refused}
 
 -- ---- where no line is at fault
 
@@ -58,36 +58,34 @@ first_own before (l ∷ ls) f more h = first_line (own_fault before l) before ls
 not_large : (text : List ℕ) → length text ≤ 1048576 → ltb 1048576 (length text) ≡ false
 not_large text small = grind (arith, nat_tests)
 
-pub none_at_fault : (text : List ℕ) (f : TextFault) (more : List TextFault) → length text ≤ 1048576 → own_faults [] (lines_of text) ≡ f ∷ more → None ≡ sheet_of text
-none_at_fault text f more small h = sheet_refused text (sheet_fault f) (rw (not_large text small, first_own [] (lines_of text) f more h) refl)
+pub none_at_fault : (text : List ℕ) (faults : List TextFault) → length text ≤ 1048576 → faults ≡ own_faults [] (lines_of text) → eqb (length faults) 0 ≡ false → None ≡ sheet_of text
+none_at_fault text [] small own h = absurd (cc)
+none_at_fault text (f ∷ more) small own h =
+    sheet_refused text (sheet_fault f) (rw (not_large text small, first_own [] (lines_of text) f more (sym own)) refl)
 
--- ---- by the checks of the sections
+-- ---- where none is, by the checks of the sections
 
-pub record IsGood (text : List ℕ) (sections : List TextSection) : Type 0 where
-  pub small : length text ≤ 1048576
-  pub none : own_faults [] (lines_of text) ≡ []
-  pub sections : sections ≡ sections_read (lines_of text)
+none_there : (faults : List TextFault) → eqb (length faults) 0 ≡ true → faults ≡ []
+none_there [] h = refl
+none_there (f ∷ more) h = absurd (let none : length (f ∷ more) ≡ 0 = eqb-true _ _ h in cc)
 
-same_sections : (text : List ℕ) (sections : List TextSection) → IsGood text sections → sections ≡ sections_in text
-same_sections text sections good = good.sections ∙ ap sections_of (all_good [] (lines_of text) good.none).same
+abbrev sheet_unless : Option SheetFault → List TextSection → Option SheetContent
+sheet_unless first sections = option_map_or (λ fault. None) first (Some (content_of sections))
 
-by_checks : (text : List ℕ) (sections : List TextSection) (first : Option SheetFault) → IsGood text sections → first_found checks sections ≡ first → first_fault text ≡ first
-by_checks text sections first good h =
-    rw (not_large text good.small, (all_good [] (lines_of text) good.none).none) (ap (first_found checks) (sym (same_sections text sections good)) ∙ h)
-
-pub sheet_by_sections : (text : List ℕ) (sections : List TextSection) (s : SheetContent) → IsGood text sections → IsSheetOf sections s → Some s ≡ sheet_of text
-sheet_by_sections text sections s good is =
-    sheet_read text s (record { accepted = by_checks text sections None good is.accepted; content = is.content ∙ ap content_of (same_sections text sections good) })
-
-pub none_by_sections : (text : List ℕ) (sections : List TextSection) (fault : SheetFault) → IsGood text sections → IsAnswered (first_found checks sections) fault → (fault.kind ≡ Memory → ⊥)
-    → None ≡ sheet_of text
-none_by_sections text sections fault good is other =
-    sheet_refused text fault (by_checks text sections (Some fault) good (not_memory (first_found checks sections) fault is other))
+pub same_sheet : (text : List ℕ) (faults : List TextFault) (sections : List TextSection) → length text ≤ 1048576 → faults ≡ own_faults [] (lines_of text) → eqb (length faults) 0 ≡ true
+    → sections ≡ sections_read (lines_of text) → sheet_in sections ≡ sheet_of text
+unfolding sheet_in sheet_of
+same_sheet text faults sections small own empty is =
+    let good = all_good [] (lines_of text) (sym own ∙ none_there faults empty) in
+    let same : sections ≡ sections_in text = is ∙ ap sections_of good.same in
+    let first : first_fault text ≡ first_found checks (sections_in text) = rw (not_large text small, good.none) refl in
+    ap (λ (ss : List TextSection). sheet_unless (first_found checks ss) ss) same
+    ∙ ap (λ (o : Option SheetFault). sheet_unless o (sections_in text)) (sym first)
 
 -- ---- a text that is too large
 
 pub none_of_large : (text : List ℕ) → 1048576 < length text → None ≡ sheet_of text
-none_of_large text large = sheet_refused text (sheet.fault_at 0 TooLarge) (rw (lt-ltb 1048576 (length text) large) refl)
+none_of_large text large = sheet_refused text (large_fault 0 TooLarge) (rw (lt-ltb 1048576 (length text) large) refl)
 
 pub if_some : {X : Type 0} (o : Option X) (P : Type 0) → P → IfSome o (λ x. P)
 if_some None P p = tt

@@ -2,9 +2,11 @@
 use Rattle.std.specs.Prelude.{◌≡◌, ℕ, nat_lt, if◌then◌else◌, List, [], ◌∷◌, ◌++◌, length, map, Contains, Option, Some, None, option_and_then}
 use Rattle.std.specs.List.Sorted.{IsNonDecreasingBy, IsPermutation, IsStableByKey, IsStrictlySortedBy}
 use Rattle.std.specs.Ordering.{nat_cmp}
-use Rattle.std.specs.Option.{option_or}
+use Rattle.std.specs.Option.{option_map_or, option_or}
 use Rattle.co_sheet_rows.specs.declared.fault.SheetFault.{SheetFault}
-use Rattle.co_sheet.specs.Content.{SheetContent}
+use Rattle.co_sheet.specs.Accepted.{first_found}
+use Rattle.co_sheet.specs.Checks.{checks}
+use Rattle.co_sheet.specs.Content.{SheetContent, content_of}
 use Rattle.co_sheet_text.specs.LinesAtFault.{sections_read}
 use Rattle.co_sheet_text.specs.Sections.{TextSection}
 use Rattle.co_sheet_text.specs.Text.{lines_of}
@@ -36,6 +38,11 @@ format_mark format = record { line = 1; subject = Format format }
 abbrev pub text_sections : List ℕ → List TextSection
 text_sections text =
     if nat_lt 1048576 (length text) then [] else sections_read (lines_of text)
+
+-- the sheet of sections, if no check finds anything in them
+unfoldable pub sheet_in : List TextSection → Option SheetContent
+sheet_in sections =
+    option_map_or (λ fault. None) (first_found checks sections) (Some (content_of sections))
 
 -- ---- why no dictionary can be built
 
