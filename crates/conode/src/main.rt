@@ -145,7 +145,7 @@ fn is_off(rt: &HostRuntime) -> bool {
         Err(_) => false,
     };
     let is_dumb = match env::var(rt, "TERM") {
-        Ok(value) => value == "dumb",
+        Ok(value) => value.as_str() == "dumb",
         Err(_) => false,
     };
     no_color || is_dumb
