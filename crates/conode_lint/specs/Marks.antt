@@ -5,7 +5,7 @@ use Rattle.std.specs.Ordering.{nat_cmp}
 use Rattle.std.specs.Option.{option_map_or, option_or}
 use Rattle.co_sheet_rows.specs.declared.fault.SheetFault.{SheetFault}
 use Rattle.co_sheet.specs.Accepted.{first_found}
-use Rattle.co_sheet.specs.Checks.{checks}
+use Rattle.co_sheet.specs.Checks.{checks as sheet_checks}
 use Rattle.co_sheet.specs.Content.{SheetContent, content_of}
 use Rattle.co_sheet_text.specs.LinesAtFault.{sections_read}
 use Rattle.co_sheet_text.specs.Sections.{TextSection}
@@ -42,7 +42,7 @@ text_sections text =
 -- the sheet of sections, if no check finds anything in them
 unfoldable pub sheet_in : List TextSection → Option SheetContent
 sheet_in sections =
-    option_map_or (λ fault. None) (first_found checks sections) (Some (content_of sections))
+    option_map_or (λ fault. None) (first_found sheet_checks sections) (Some (content_of sections))
 
 -- ---- why no dictionary can be built
 
