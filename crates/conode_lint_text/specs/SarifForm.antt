@@ -61,15 +61,15 @@ said_tokens finding =
     ++ text_member (codes "level") (severity_name finding.severity)
     ++ message_member (codes "message") (message_of finding))
 
--- how to fix it
-abbrev pub fix_member : Finding → List Token
-fix_member finding =
+-- how to fix it, and the end of the result
+abbrev pub result_end : Finding → List Token
+result_end finding =
     object_begin (codes "properties") ++ text_member (codes "fix") (fix_of finding)
-    ++ end_object ∷ []
+    ++ (end_object ∷ end_object ∷ [])
 
 unfoldable pub result_tokens : List ℕ → Finding → List Token
 result_tokens uri finding =
-    said_tokens finding ++ locations_member uri finding ++ fix_member finding ++ end_object ∷ []
+    said_tokens finding ++ locations_member uri finding ++ result_end finding
 
 -- the tool that made the log, its name and its version, before its rules
 unfoldable pub tool_begin : List ℕ → List Token

@@ -5,11 +5,11 @@ ghost use Rattle.std.specs.List.{flat_map};
 ghost use Rattle.json.specs.Token.{Token, end_array, end_object};
 ghost use Rattle.conode_text.specs.Appended.{Appended};
 ghost use Rattle.conode_lint_text.specs.SarifForm.{
-  fix_member,
   left_out,
   log_end,
   log_head,
   region_members,
+  result_end,
   result_tokens,
   rule_tokens,
 };
@@ -85,8 +85,7 @@ fn put_region<'p>(document: &mut Document, finding: &'p Finding<'p>)
 // the end of where it is, and how to fix it
 fn end_result<'p>(document: &mut Document, finding: &'p Finding<'p>)
     ensures { Appended document.old
-        (end_object ∷ end_object ∷ end_array ∷ (fix_member finding.now ++ end_object ∷ []))
-        document.new }
+        (end_object ∷ end_object ∷ end_array ∷ result_end finding.now) document.new }
 {
     document.put(&[
         Part::EndObject,

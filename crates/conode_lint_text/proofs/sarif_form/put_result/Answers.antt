@@ -4,7 +4,7 @@ use Rattle.json.specs.Token.{Token, end_array, end_object}
 use Rattle.conode_json.specs.Members.{array_begin, object_begin, text_member}
 use Rattle.conode_text.specs.Appended.{Appended}
 use Rattle.conode_text.proofs.Appending.{both}
-use Rattle.conode_lint_text.specs.SarifForm.{fix_member, region_members, result_tokens}
+use Rattle.conode_lint_text.specs.SarifForm.{region_members, result_end, result_tokens}
 use Rattle.conode_lint_text.proofs.sarif_form.put_result.Goals as goal
 
 -- the ends of the place, of the location and of the locations, each by itself
@@ -17,4 +17,4 @@ apart {t = t} {u = u} region rest h =
 pub returns : goal.returns
 unfolding result_tokens array_begin object_begin text_member
 returns c =
-    both c.put.ensures (apart (region_members c.args.finding.now) (fix_member c.args.finding.now ++ end_object ∷ []) (both c.put_region.ensures c.end_result.ensures))
+    both c.put.ensures (apart (region_members c.args.finding.now) (result_end c.args.finding.now) (both c.put_region.ensures c.end_result.ensures))
