@@ -34,6 +34,9 @@ SPEED = 16000
 SECONDS, SECONDS_A_LINE, MEGABYTES = 10, 0.08, 1500
 # How much faster a crate is proved by each further job.
 GAIN = 0.8
+# The prover's allocator gives memory back that was free for a second, and soon asks for it again, a fault for each page: after ten
+# seconds, it has a third fewer of these faults, and holds a twentieth more memory.
+KEEPS_MEMORY = {"MIMALLOC_PURGE_DELAY": "10000"}
 
 
 class Crate:
@@ -268,7 +271,8 @@ class Run:
                 os.remove(f"{os.path.dirname(crate.made())}/stamp")
         how = {"cwd": crate.folder, "stdin": subprocess.DEVNULL, "stdout": self.log, "stderr": subprocess.STDOUT}
         words = [f"{kit}/bin/rattle", "build", *crate.words(kit, jobs)]
-        self.process = subprocess.Popen(words, start_new_session=True, pass_fds=[held], **how)
+        given = {**KEEPS_MEMORY, **os.environ}
+        self.process = subprocess.Popen(words, env=given, start_new_session=True, pass_fds=[held], **how)
         self.status = None
 
     def seconds_left(self):
