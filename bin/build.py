@@ -58,6 +58,10 @@ class Crate:
             return f"{self.folder}/out/{self.target or 'release'}/lib{self.name}.a"
         return f"{self.folder}/out/rlib/{self.name}.rlib"
 
+    def proved(self):
+        """The folder of what was proved of an archive: it is the same for each processor, so that the next one takes it from there."""
+        return f"{self.folder}/out/proved"
+
     def sources(self):
         """The crate's files and folders."""
         for part in ("src", "specs", "proofs"):
@@ -90,6 +94,7 @@ class Crate:
         if self.is_program or self.is_archive:
             words += ["--crate-type", "staticlib"] * self.is_archive
             words += ["--target", self.target] if self.target else CPU
+            words += ["--incremental", self.proved()] * self.is_archive
             return [*words, "--toolchain", f"{kit}/toolchain", "--backend", "llvm", "-o", self.object()]
         return [*words, "--statements", "-o", self.made()]
 
@@ -269,6 +274,8 @@ class Run:
             shutil.rmtree(crate.made(), ignore_errors=True)
             if os.path.exists(f"{os.path.dirname(crate.made())}/stamp"):
                 os.remove(f"{os.path.dirname(crate.made())}/stamp")
+        if crate.is_archive and not crate.target:
+            shutil.rmtree(crate.proved(), ignore_errors=True)
         how = {"cwd": crate.folder, "stdin": subprocess.DEVNULL, "stdout": self.log, "stderr": subprocess.STDOUT}
         words = [f"{kit}/bin/rattle", "build", *crate.words(kit, jobs)]
         given = {**KEEPS_MEMORY, **os.environ}
@@ -341,9 +348,11 @@ def build(crates, kit, held):
                         return False
                     ended += 1
                     used, foreseen = used + it.used, foreseen + it.crate.seconds
-                    took[it.crate.name] = it.used, it.megabytes
                     speed.look(1)
-                    write_measured(took, speed.rate())
+                    if not it.crate.target:
+                        # (another processor's archive takes what was proved for x86-64)
+                        took[it.crate.name] = it.used, it.megabytes
+                        write_measured(took, speed.rate())
                     # what has ended says how fast this machine really is
                     at_work = [(it.seconds_left(), it.crate, it.jobs) for it in running]
                     rest = used / foreseen * estimate([*schedule.left.values()], at_work, cores)
