@@ -52,8 +52,23 @@ sources_sum() (
 # What release/MADE-OF says after a word: version, kit or sources.
 released() { sed -n "s/^$1 //p" "$release/MADE-OF" 2> /dev/null; }
 
-# Whether the files of a release have the checksums that are released with them.
-is_intact() { (cd "$release" && sha256sum --quiet --strict -c SHA256SUMS) > /dev/null 2>&1; }
+# Whether the files of a release are there, with the checksums that are released with them; else standard error names, once, those
+# that aren't so.
+has_named=
+is_intact() {
+    if [ -s "$release/MADE-OF" ] && (cd "$release" && sha256sum --quiet --strict -c SHA256SUMS) > /dev/null 2>&1; then
+        return 0
+    fi
+    [ -n "$has_named" ] || echo "$(damaged_files): not what was released; git checkout release restores it" >&2
+    has_named=yes
+    return 1
+}
+damaged_files() {
+    {
+        for file in MADE-OF SHA256SUMS; do [ -s "$release/$file" ] || echo "$file"; done
+        [ ! -e "$release" ] || (cd "$release" && LC_ALL=C sha256sum --quiet -c SHA256SUMS 2> /dev/null) || true
+    } | sed 's/: FAILED.*//; s/^/release\//' | paste -s -d ' ' -
+}
 
 # Whether the released files are there, whole, and made of exactly these sources. Where that was found before and nothing is newer,
 # it isn't looked at again.
@@ -66,10 +81,7 @@ is_released() {
         [ -n "$(find "$@" -newer "$mark" -print 2> /dev/null | head -n 1)" ] || return 0
     fi
     [ "$(sources_sum)" = "$(released sources)" ] || return 1
-    if ! is_intact; then
-        echo "release/ isn't what was released: its files have other checksums than SHA256SUMS" >&2
-        return 1
-    fi
+    is_intact || return 1
     # not `:`, whose failed redirection would end the shell
     { mkdir -p "$root/crates/conode/out" && true > "$mark"; } 2> /dev/null || true
 }

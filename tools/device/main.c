@@ -61,9 +61,9 @@ static void build(struct device *device, const char *word)
     if (!bafokun_build(&device->node, text, size, (uint8_t)node_id, &config, &fault)) {
         bafokun_fault_text(&fault, what, sizeof what);
         if (fault.stage == BAFOKUN_FAULT_DEVICE)
-            errx(1, "%s: build fault %u %04X:%02X: %s; `conode adapt --force %s` may mend it", word, fault.number, fault.index,
+            errx(1, "%s: build fault %u %04X:%02X: %s; `conode adapt --force %s` may fix it", word, fault.number, fault.index,
                  fault.sub_index, what, sheet);
-        errx(1, "%s: fault %u line %" PRIu64 ": %s; `conode adapt %s` may mend it", word, fault.number, fault.line, what, sheet);
+        errx(1, "%s: fault %u line %" PRIu64 ": %s; `conode lint %s` says how to fix it", word, fault.number, fault.line, what, sheet);
     }
     name_objects(device, text);
 }

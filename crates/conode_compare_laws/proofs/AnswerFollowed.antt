@@ -45,7 +45,7 @@ use Rattle.conode_explain_transfers.specs.Unanswered.{not_followed_by}
 use Rattle.conode_explain_laws.proofs.Begins.{response_is}
 use Rattle.conode_explain_laws.proofs.Follows.{none_of_server}
 use Rattle.conode_explain_laws.proofs.Kept.{Keeps, keeps}
-use Rattle.conode_explain_laws.proofs.Readings.{Reading, Segment, Begin, Abort, Request, Response, Nothing, begun_with, request_reading, response_reading, plain_reading, beginning, segment_reading, reading_of, turn_of, follows_by, same as same_reading, begun_on, went_on_as}
+use Rattle.conode_explain_laws.proofs.Readings.{Reading, Segment, Begin, Abort, Request, Response, Nothing, request_reading, response_reading, plain_reading, beginning, segment_reading, reading_of, turn_of, follows_by, same as same_reading, begun_on, went_on_as}
 use Rattle.conode_explain_laws.proofs.Views.{abort_is, is_abort_reading, is_begin, server_no_begin}
 use Rattle.conode_compare_transfers.specs.Dialogues.{continues, ends_in_doubt, is_initiate, is_known_end, is_odd, leaves_request_open}
 use Rattle.conode_compare_laws.proofs.AnswerTurns.{Asked, Blocks, Lasts, Plain, Sound, Turned, asked, asks_for_blocks, in_blocks, is_request, is_turned, lasts, turned, unconfirmed}

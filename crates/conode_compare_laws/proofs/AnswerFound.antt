@@ -28,9 +28,10 @@ use Rattle.conode_compare_rules.specs.declared.nmt.Commanded.{Commanded}
 use Rattle.conode_compare_rules.specs.declared.nmt.Nmt.{Nmt}
 use Rattle.conode_compare_rules.specs.Answers.{answer_finding, answers_in, breach_finding, ended_finding, finding_of, held_finding, is_abort, is_exact, known_answer, late_after, late_answer, overdue_answer, refuses_other, shows_stopped, silence_finding, silence_of, stopped_finding, stopped_with, transfer_breach, value_finding, what_finding}
 use Rattle.conode_compare_rules.specs.EmergencyRules.{is_stopped}
-use Rattle.conode_compare_rules.specs.States.{is_settled}
+use Rattle.conode_compare_rules.specs.States.{is_settled, is_steady}
 use Rattle.conode_compare_laws.specs.AnswerFindings.{of_answers}
 use Rattle.conode_compare_laws.proofs.AnswerTurns.{is_turned}
+use Rattle.conode_compare_laws.proofs.Shown.{freer_running}
 
 -- ---- what isn't of these kinds
 
@@ -147,7 +148,7 @@ unfolding stopped_finding
 asked_stopped limits started nmt x a is off = by x.certain
   where
     by : (certain : Bool) → of_answers (if certain then stopped_with limits started nmt x.asked else None) ≡ []
-    by true = rw (is, off) refl
+    by true = rw (is, freer_running nmt.state nmt.due off) refl
     by false = refl
 
 asked_what : (subject : Subject) (rows : List Row) (x : Exchange) (frame : FrameContent) → x.heard.what ≡ what.Part → of_answers (what_finding subject rows x frame) ≡ []
@@ -205,7 +206,7 @@ unfolding silence_finding
 commanded_since limits started nmt dialogue micros byte a c is commanded h = by (shows_stopped byte)
   where
     certain : Bool
-    certain = is_certain limits.answer started dialogue.slow dialogue.doubted a.micros
+    certain = is_steady limits nmt a.micros && is_certain limits.answer started dialogue.slow dialogue.doubted a.micros
 
     off : (answers settled : Bool) → settled ≡ false → (if answers && (settled && certain) then late_after limits a micros else None) ≡ None
     off answers true e = absurd (false≢true (sym e))

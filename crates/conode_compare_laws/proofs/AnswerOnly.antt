@@ -32,7 +32,7 @@ use Rattle.conode_compare_rules.specs.declared.progress.Progress.{Progress}
 use Rattle.conode_compare_rules.specs.Answers.{answer_finding, breach_finding, confirmed_finding, ended_finding, finding_of, held_finding, is_abort, is_exact, known_answer, late_answer, overdue_answer, refuses_other, stopped_finding, stopped_with, transfer_breach, value_finding, what_finding}
 use Rattle.conode_compare_rules.specs.EmergencyRules.{is_stopped}
 use Rattle.conode_compare_rules.specs.Progresses.{answer_findings, answer_noted, confirmed_findings, exchange_at, findings_in, late_noted, request_findings}
-use Rattle.conode_compare_rules.specs.States.{is_settled}
+use Rattle.conode_compare_rules.specs.States.{is_settled, is_steady, judged_state}
 use Rattle.conode_compare_rules.specs.Verdicts.{found}
 
 -- a difference within a transfer, but that the device times out early
@@ -78,7 +78,7 @@ module _ (only : Option Finding → List Finding) (nothing : only None ≡ []) (
 
   stopped_by : (limits : Limits) (started : ℕ) (nmt : Nmt) (asked : Option Asked) → only (stopped_with limits started nmt asked) ≡ []
   stopped_by limits started nmt None = nothing
-  stopped_by limits started nmt (Some a) = either (is_stopped nmt.state && is_settled limits started nmt.commanded a.micros) (Some (AnswerStopped a.key)) (others _ refl)
+  stopped_by limits started nmt (Some a) = either (is_stopped (judged_state nmt) && (is_settled limits started nmt.commanded a.micros && is_steady limits nmt a.micros)) (Some (AnswerStopped a.key)) (others _ refl)
 
   stopped_none : (limits : Limits) (started : ℕ) (nmt : Nmt) (x : Exchange) → only (stopped_finding limits started nmt x) ≡ []
   unfolding stopped_finding

@@ -1,6 +1,6 @@
 -- What holds of what compare knows of the channel, frame by frame: which transfer is open, and why an initiate request isn't answered.
 use Rattle.std.proofs.Common.{◌≡◌, ℕ, ◌-◌, ◌*◌, ◌≤◌, Bool, true, false, List, [], ◌∷◌, Option, Some, None, refl, sym, ap, ◌∙◌, subst, arith}
-use Rattle.std.specs.Prelude.{◌==◌, ◌&&◌, ◌||◌, if◌then◌else◌, is_some, IfSome, nat_lt}
+use Rattle.std.specs.Prelude.{◌==◌, ◌||◌, if◌then◌else◌, is_some, IfSome, nat_lt}
 use Rattle.std.specs.Option.{option_map_or, option_or, option_to_list}
 use Rattle.std.proofs.lemmas.Bool.{false≢true}
 use Rattle.std.proofs.lemmas.Bool.Decides.{nat_tests}
@@ -22,7 +22,7 @@ use Rattle.conode_compare_transfers.specs.Dialogues.{dialogue_heard, exchange_in
 use Rattle.conode_compare_transfers.specs.Times.{is_past, micros_of}
 use Rattle.conode_compare_rules.specs.declared.finding.Finding.{Finding}
 use Rattle.conode_compare_rules.specs.declared.kind.FrameKind.{FrameKind}
-use Rattle.conode_compare_rules.specs.declared.kind.FrameKind.TheVariants.{Command, CommandToAll, LongCommand, Control, Emergency as Emcy, OddEmergency, Process, Sdo, Other}
+use Rattle.conode_compare_rules.specs.declared.kind.FrameKind.TheVariants.{Command, CommandToAll, Control, Emergency as Emcy, OddEmergency, Process, Sdo, Other}
 use Rattle.conode_compare_rules.specs.declared.limits.Limits.{Limits}
 use Rattle.conode_compare_rules.specs.declared.limits.Subject.{Subject}
 use Rattle.conode_compare_rules.specs.declared.nmt.Commanded.{Commanded}
@@ -289,17 +289,17 @@ same_command : (limits : Limits) (started : ℕ) (nmt : Nmt) (free micros : ℕ)
 unfolding states.after_control after_other
 same_command limits started nmt free micros node.PreOperational = by (shows_state limits started nmt free 127)
   where
-    by : (b : Bool) → (if b then record (after_other limits nmt micros) { state = states.state_of 127 } else after_other limits nmt micros).commanded ≡ nmt.commanded
+    by : (b : Bool) → (if b then states.with_state (after_other limits nmt micros) (states.state_of 127) micros else after_other limits nmt micros).commanded ≡ nmt.commanded
     by true = refl
     by false = refl
 same_command limits started nmt free micros node.Operational = by (shows_state limits started nmt free 5)
   where
-    by : (b : Bool) → (if b then record (after_other limits nmt micros) { state = states.state_of 5 } else after_other limits nmt micros).commanded ≡ nmt.commanded
+    by : (b : Bool) → (if b then states.with_state (after_other limits nmt micros) (states.state_of 5) micros else after_other limits nmt micros).commanded ≡ nmt.commanded
     by true = refl
     by false = refl
 same_command limits started nmt free micros node.Stopped = by (shows_state limits started nmt free 4)
   where
-    by : (b : Bool) → (if b then record (after_other limits nmt micros) { state = states.state_of 4 } else after_other limits nmt micros).commanded ≡ nmt.commanded
+    by : (b : Bool) → (if b then states.with_state (after_other limits nmt micros) (states.state_of 4) micros else after_other limits nmt micros).commanded ≡ nmt.commanded
     by true = refl
     by false = refl
 

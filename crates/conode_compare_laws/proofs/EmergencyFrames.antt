@@ -42,14 +42,14 @@ use Rattle.conode_compare_rules.specs.declared.progress.Progress.{Progress}
 use Rattle.conode_compare_rules.specs.declared.verdict.Findings.{Findings}
 use Rattle.conode_compare_rules.specs.EmergencyRules.{emergency_finding, gap_finding, has_register, inhibit_finding, inhibit_with, is_in_force, is_stopped, least_gap}
 use Rattle.conode_compare_rules.specs.FrameKinds.{command_kind, command_to, control_kind, data_kind, emergency_kind, length_of, long_command_in}
-use Rattle.conode_compare_rules.specs.Progresses.{before_recording, begun, emergency_findings, findings_at, findings_in, progress_with}
-use Rattle.conode_compare_rules.specs.States.{is_initialising, is_settled}
+use Rattle.conode_compare_rules.specs.Progresses.{before_recording, begun, emergency_findings, findings_at, findings_in, progress_with, steady_when_free}
+use Rattle.conode_compare_rules.specs.States.{is_initialising, judged_state}
 use Rattle.conode_compare_rules.specs.Verdicts.{found}
 use Rattle.conode_compare_laws.specs.Differences.{besides_inhibit, differences_from, differences_in, emergency_differences, state_differences}
 use Rattle.conode_compare_laws.specs.Identifiers.{AllSendAside, AllSendWithout, AreElsewhere, AreNoEvents, AreWithout, IsAside, IsElsewhere, IsNoEvent, SendsAside, SendsWithout}
 use Rattle.conode_compare_laws.specs.Recordings.{Stamped, frame_of, heard_from, recording}
 use Rattle.conode_compare_laws.proofs.LongCommands.{long_such}
-use Rattle.conode_compare_laws.proofs.Shown.{Fits, Stage, boots, runs, fits_nothing, is_shown, stage_after}
+use Rattle.conode_compare_laws.proofs.Shown.{Fits, Stage, boots, runs, fits_nothing, freer_running, is_shown, stage_after}
 use Rattle.conode_compare_laws.proofs.Frames.{FitsAt, begun_fits}
 use Rattle.conode_compare_laws.proofs.Along.{AllGo, Goes, joined, one, then_none}
 use Rattle.conode_compare_laws.proofs.Inputs.{command_in, command_is, end_shown, state_by}
@@ -154,7 +154,7 @@ judged_none : (subject : Subject) (rows : List Row) (p : Progress) (micros code 
     → emergency_differences (Emcy code register) (findings_in subject rows p micros (Emcy code register)) ≡ []
 unfolding emergency_findings found
 judged_none subject rows p micros code register up odd =
-    finding_none subject.limits p.entries p.nmt.state (is_settled subject.limits p.started p.nmt.commanded p.free) p.emergency micros code register up odd
+    finding_none subject.limits p.entries (judged_state p.nmt) (steady_when_free subject p) p.emergency micros code register (freer_running p.nmt.state p.nmt.due up) odd
 
 -- its bytes are read as it is
 whole : (e : Emergency) → e.manufacturer ≡ no_manufacturer → e ≡ record { code = e.code; register = e.register; manufacturer = no_manufacturer }

@@ -83,7 +83,7 @@ module _ (key : Key) (word : ℕ) where
         (kind_has (Holds key spoilt) tt subject (begun subject p micros) micros (data_kind subject.node frame) off (begun_has (Holds key spoilt) tt subject p micros h)),
   )
 
-  others_show : (subject : Subject) (micros : ℕ) (frames : List FrameContent) (p : Progress) → AreOther subject.node frames → Has false p → AllShow key word subject micros p frames (Has false)
+  pub others_show : (subject : Subject) (micros : ℕ) (frames : List FrameContent) (p : Progress) → AreOther subject.node frames → Has false p → AllShow key word subject micros p frames (Has false)
   others_show subject micros [] p other h = h
   others_show subject micros (frame ∷ later) p other h =
       kind_shows false subject micros p frame later (Has false) (other_kind subject.node frame other.0) h (λ q g. others_show subject micros later q other.1 g)

@@ -1,13 +1,11 @@
 -- A device confirms no expedited download of an entry where each that is asked for is refused.
 use Rattle.std.proofs.Common.{◌≡◌, ℕ, ◌+◌, Bool, true, false, List, [], ◌∷◌, length, Option, Some, None, refl, sym, ap, ◌∙◌, subst, ◌⊎◌, inl, inr}
-use Rattle.std.specs.Prelude.{◌==◌, if◌then◌else◌}
+use Rattle.std.specs.Prelude.{if◌then◌else◌}
 use Rattle.std.specs.List.{AllByRecursion}
-use Rattle.std.specs.Option.{option_map_or}
 use Rattle.std.proofs.lemmas.Bool.{false≢true}
 use Rattle.co_value.specs.declared.key.Key.{Key}
 use Rattle.co_value.specs.Keys.{same_key}
 use Rattle.co_frame.specs.AbortCodes.{unknown_command}
-use Rattle.co_frame.specs.FrameContent.{FrameContent}
 use Rattle.co_frame.specs.SdoRequests.{request_in}
 use Rattle.co_frame.specs.SdoResponses.{response_bytes, response_in, response_row_in}
 use Rattle.co_frame.specs.SegmentSizes.{segments_per_sub_block}
@@ -24,30 +22,25 @@ use Rattle.co_sdo.specs.declared.stage.Stage.{Stage}
 use Rattle.co_sdo.specs.declared.stage.Stage.TheVariants.{SubBlock as InSubBlock}
 use Rattle.co_sdo.specs.Completed.{key_set, set_by, unless}
 use Rattle.co_sdo.specs.Downloads.{Download, expedited_part}
-use Rattle.co_sdo.specs.Events.{exchange_at, exchange_of, exchange_on, receiver, set_at, set_of}
 use Rattle.co_sdo.specs.Log.{Answer, Log, Response as Replied, answer_bytes}
 use Rattle.co_sdo.specs.Opened.{OpenTransfer, opened_after}
-use Rattle.co_sdo.specs.OpenTransfers.{is_inside, open_transfer}
+use Rattle.co_sdo.specs.OpenTransfers.{open_transfer}
 use Rattle.co_sdo.specs.Refused.{completion_refusal}
 use Rattle.co_sdo.specs.Replies.{aborted, frame_answers, is_in_sub_block, on_open, open_key, reply_to, request_answers, sub_block_refusal, taken_with, unless_refused}
 use Rattle.co_sdo.specs.SubBlocks.{ends_sub_block}
 use Rattle.co_sdo.proofs.Logs.{inside_is}
-use Rattle.co_node_laws.proofs.Channel.{default_channel, receives, takes}
 use Rattle.co_node_parts.specs.declared.nmt_state.NodeState.TheVariants as node
 use Rattle.co_node_parts.specs.NmtStates.{is_state}
-use Rattle.co_node_model.specs.declared.address.Address.TheVariants.{Channel}
-use Rattle.co_node_model.specs.Addresses.{address_at}
 use Rattle.co_node_model.specs.Device.{contents_of, moment, moments, state_of}
 use Rattle.co_node_model.specs.Inputs.{Applied, Framed, Inputs, InputView, Ticked}
 use Rattle.co_node_model.specs.Keys.{is_set}
-use Rattle.co_node_model.specs.Marks.{marked_key, written_mark}
-use Rattle.co_node_model.specs.Moments.{Constants, History, channels, contents_at}
-use Rattle.co_node_model.specs.Nmt.{state_at}
+use Rattle.co_node_model.specs.Moments.{Constants}
 use Rattle.co_node_model.specs.Sdo.{channel_logs}
 use Rattle.co_node_model.specs.Sync.{is_sync_id}
 use Rattle.conode_compare_laws.specs.Periods.{AllKeepPeriod, KeepsPeriod}
 use Rattle.conode_compare_laws.specs.Recordings.{Stamped}
 use Rattle.conode_compare_laws.specs.ShownWords.{AllKeepWord, KeepsWord, is_expedited_download, number_asked}
+use Rattle.conode_compare_laws.proofs.ChannelMarks.{expedited_sets, mark_is}
 use Rattle.conode_compare_laws.proofs.ExpeditedWrites.{NotDone}
 
 -- ---- answers that confirm none
@@ -92,10 +85,6 @@ module _ (key : Key) where
   abbrev part : Description → Key → ExpeditedData → List ℕ
   part d named value = expedited_part d.rows named value
 
-  set_outside : (d : Description) (contents : Contents) (log : Log) (bytes : List ℕ) (named : Key) (value : ExpeditedData) → option_map_or is_inside (open_transfer log) false ≡ false → request_in bytes ≡ Some (DownloadExpedited named value)
-      → set_by d contents log bytes ≡ unless (completion_refusal d contents named None (part d named value)) (Some (record { key = named; indicated = None; bytes = part d named value }))
-  set_outside d contents log bytes named value out r = rw (out, r) refl
-
   unset_refused : (refusal : Option ℕ) (named : Key) (download : Download) → download.key ≡ named → same_key named key ≡ true → is_set (key_set (unless refusal (Some download))) key ≡ false
       → AllRefused (unless_refused refusal named (Replied (DownloadDone named) ∷ []))
   unset_refused None named download is own off = absurd (false≢true (sym off ∙ ap (λ (x : Key). same_key x key) is ∙ own))
@@ -111,7 +100,7 @@ module _ (key : Key) where
       by false e =
           subst (λ x. AllRefused (request_answers d contents (opened_after log) x)) (sym r)
           (unset_refused (completion_refusal d contents named None (part d named value)) named (record { key = named; indicated = None; bytes = part d named value }) refl own
-          (subst (λ x. is_set (key_set x) key ≡ false) (set_outside d contents log bytes named value (sym (inside_is (open_transfer log)) ∙ e) r) off))
+          (subst (λ x. is_set (key_set x) key ≡ false) (expedited_sets d log bytes named value (sym (inside_is (open_transfer log)) ∙ e) r contents) off))
 
   request_refused : (d : Description) (contents : Contents) (log : Log) (bytes : List ℕ) (r : Option SdoRequest) → request_in bytes ≡ r → is_expedited_download key r ≡ true → is_set (key_set (set_by d contents log bytes)) key ≡ false
       → AllRefused (reply_to d contents log bytes)
@@ -134,34 +123,13 @@ module _ (key : Key) where
 
 -- ---- where the entry isn't written at an input, none is done
 
-pub written_key : (key : Option Key) → marked_key (written_mark key) ≡ key
-written_key None = refl
-written_key (Some key) = refl
-
-exchange_is : (k : Constants) (history : History) (frame : FrameContent) → frame.id ≡ 0x600 + k.description.node → length frame.bytes ≡ 8
-    → exchange_of (channels k) k.description (contents_at k history) (channel_logs history) frame ≡ Some (exchange_on (default_channel k) k.description (contents_at k history) (channel_logs history 0) frame.bytes)
-exchange_is k history frame id eight =
-    ap (λ o. exchange_at o k.description (contents_at k history) (channel_logs history) frame) (ap (receiver (channels k)) id ∙ receives k)
-    ∙ ap (λ n. if n == 8 then Some (exchange_on (default_channel k) k.description (contents_at k history) (channel_logs history 0) frame.bytes) else None) eight
-
-pub set_is : (k : Constants) (history : History) (frame : FrameContent) → frame.id ≡ 0x600 + k.description.node → length frame.bytes ≡ 8
-    → set_of (channels k) k.description (contents_at k history) (channel_logs history) frame ≡ set_by k.description (contents_at k history) (channel_logs history 0) frame.bytes
-set_is k history frame id eight = ap (λ o. set_at o k.description (contents_at k history) (channel_logs history) frame) (exchange_is k history frame id eight)
-
-mark_is : (k : Constants) (history : History) (frame : FrameContent) → frame.id ≡ 0x600 + k.description.node → length frame.bytes ≡ 8 → is_sync_id (contents_at k history) (0x600 + k.description.node) ≡ false → is_state node.Stopped (state_at history) ≡ false
-    → marked_key (moment k history (Framed frame)).mark ≡ key_set (set_by k.description (contents_at k history) (channel_logs history 0) frame.bytes)
-mark_is k history frame id eight sync running =
-    let address : address_at k history frame.id ≡ Channel 0 = ap (address_at k history) id ∙ takes k history sync in
-    let received : marked_key (moment k history (Framed frame)).mark ≡ marked_key (written_mark (key_set (set_of (channels k) k.description (contents_at k history) (channel_logs history) frame))) = rw (address, running) refl in
-    received ∙ written_key (key_set (set_of (channels k) k.description (contents_at k history) (channel_logs history) frame)) ∙ ap key_set (set_is k history frame id eight)
-
 pub refuses : (key : Key) (word : ℕ) (k : Constants) (before : Inputs) (input : InputView) → is_sync_id (contents_of k before) (0x600 + k.description.node) ≡ false → KeepsWord key word k before input → RefusesAt key word k before input
 refuses key word k before (Framed frame) sync h = λ id eight running own.
     elim (h id own) [
       | inl asked ↦ inl asked
       | inr unset ↦ inr
           (request_refused key k.description (contents_of k before) (channel_logs (moments k before) 0) frame.bytes (request_in frame.bytes) refl own
-          (subst (λ x. is_set x key ≡ false) (mark_is k (moments k before) frame id eight sync running) unset))
+          (subst (λ x. is_set x key ≡ false) (mark_is k (moments k before) frame id sync eight running) unset))
     ]
 refuses key word k before Ticked sync h = tt
 refuses key word k before (Applied event) sync h = tt

@@ -97,7 +97,7 @@ pub row_width : (o : Option Row) (w : ℕ) → option_map_or (λ row. option_map
 row_width None w h = absurd (cc)
 row_width (Some row) w h = record { row = row; is = refl; width = type_width (width_of row.data_type) w h }
 
-fits_width : (row : Row) (n w : ℕ) → width_of row.data_type ≡ Some w → fits row n ≡ true → n ≡ w
+pub fits_width : (row : Row) (n w : ℕ) → width_of row.data_type ≡ Some w → fits row n ≡ true → n ≡ w
 fits_width row n w width h =
     let test : (n == w) ≡ true = sym (ap (λ o. option_map_or (λ v. n == v) o (nat_le n row.capacity)) width) ∙ h in
     eqb-true n w test

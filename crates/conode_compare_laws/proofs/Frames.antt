@@ -6,7 +6,6 @@ use Rattle.std.proofs.lemmas.Bool.Decides.{nat_tests}
 use Rattle.co_frame.specs.FrameContent.{FrameContent}
 use Rattle.co_frame.specs.Emergencies.{emergency_in}
 use Rattle.co_frame.specs.Heartbeats.{state_byte, heartbeat_bytes}
-use Rattle.co_frame.specs.Nmt.{nmt_command_in}
 use Rattle.co_frame.specs.declared.emergency.Emergency.{Emergency}
 use Rattle.co_frame.specs.declared.heartbeat.Heartbeat.{Heartbeat}
 use Rattle.co_frame.specs.declared.nmt.NmtCommand.{NmtCommand}
@@ -23,7 +22,7 @@ use Rattle.conode_compare_rules.specs.declared.finding.Finding.{Finding}
 use Rattle.conode_compare_rules.specs.declared.finding.Finding.TheVariants.{BootMissing}
 use Rattle.conode_compare_rules.specs.declared.finding.NmtState.TheVariants.{Unknown, PreOperational}
 use Rattle.conode_compare_rules.specs.declared.kind.FrameKind.{FrameKind}
-use Rattle.conode_compare_rules.specs.declared.kind.FrameKind.TheVariants.{Command, CommandToAll, LongCommand, Control, Emergency as Emcy, OddEmergency, Sdo, Process, Other}
+use Rattle.conode_compare_rules.specs.declared.kind.FrameKind.TheVariants.{Command, CommandToAll, Control, Emergency as Emcy, OddEmergency, Sdo, Process, Other}
 use Rattle.conode_compare_rules.specs.declared.limits.Limits.{Limits}
 use Rattle.conode_compare_rules.specs.declared.limits.Subject.{Subject}
 use Rattle.conode_compare_rules.specs.declared.progress.Progress.{Progress}
@@ -63,7 +62,7 @@ use Rattle.conode_compare_rules.specs.Verdicts.{found}
 use Rattle.conode_compare_pdos.specs.Followed as tpdos
 use Rattle.conode_compare_laws.specs.Differences.{state_differences}
 use Rattle.conode_compare_laws.proofs.LongCommands.{long_such}
-use Rattle.conode_compare_laws.proofs.Shown.{Stage, boots, runs, Fits, fits_nothing, unbooted, or_unknown, none_overdue, none_wrong, is_shown, stage_after, command_fits, either_shown}
+use Rattle.conode_compare_laws.proofs.Shown.{Stage, boots, runs, Fits, fits_nothing, unbooted, or_unknown, none_overdue, none_judged, is_shown, stage_after, command_fits, either_shown}
 
 -- what compare knows of the NMT state fits
 abbrev pub FitsAt : ℕ → Stage → Progress → Type 0
@@ -251,19 +250,19 @@ none_controlled : (subject : Subject) (p : Progress) (micros : ℕ) (actual : No
 unfolding control_finding
 none_controlled subject p micros node.PreOperational h = by (p.heartbeats.guarded || (is_guarded_state 127 || not (is_settled subject.limits p.started p.nmt.commanded p.free)))
   where
-    by : (b : Bool) → (if b then None else state_finding subject.facts.starts_itself p.nmt.state 127) ≡ None
+    by : (b : Bool) → (if b then None else state_finding subject.facts.starts_itself (states.judged_state p.nmt) 127) ≡ None
     by true = refl
-    by false = none_wrong subject.facts.starts_itself p.nmt.state node.PreOperational h
+    by false = none_judged subject.facts.starts_itself p.nmt.state p.nmt.due node.PreOperational h
 none_controlled subject p micros node.Operational h = by (p.heartbeats.guarded || (is_guarded_state 5 || not (is_settled subject.limits p.started p.nmt.commanded p.free)))
   where
-    by : (b : Bool) → (if b then None else state_finding subject.facts.starts_itself p.nmt.state 5) ≡ None
+    by : (b : Bool) → (if b then None else state_finding subject.facts.starts_itself (states.judged_state p.nmt) 5) ≡ None
     by true = refl
-    by false = none_wrong subject.facts.starts_itself p.nmt.state node.Operational h
+    by false = none_judged subject.facts.starts_itself p.nmt.state p.nmt.due node.Operational h
 none_controlled subject p micros node.Stopped h = by (p.heartbeats.guarded || (is_guarded_state 4 || not (is_settled subject.limits p.started p.nmt.commanded p.free)))
   where
-    by : (b : Bool) → (if b then None else state_finding subject.facts.starts_itself p.nmt.state 4) ≡ None
+    by : (b : Bool) → (if b then None else state_finding subject.facts.starts_itself (states.judged_state p.nmt) 4) ≡ None
     by true = refl
-    by false = none_wrong subject.facts.starts_itself p.nmt.state node.Stopped h
+    by false = none_judged subject.facts.starts_itself p.nmt.state p.nmt.due node.Stopped h
 
 heartbeat_none : (subject : Subject) (rows : List Row) (p : Progress) (micros : ℕ) (actual : NodeState) → FitsAt micros (runs actual) p
     → option_to_list (boot_finding subject.limits p.nmt micros)
@@ -285,7 +284,7 @@ heartbeat_passes subject rows p micros node.PreOperational h = record {
   fits = by (shows_state subject.limits p.started p.nmt p.free 127);
 }
   where
-    by : (b : Bool) → is_shown (if b then record (after_other subject.limits p.nmt micros) { state = states.state_of 127 } else after_other subject.limits p.nmt micros).state node.PreOperational ≡ true
+    by : (b : Bool) → is_shown (if b then states.with_state (after_other subject.limits p.nmt micros) (states.state_of 127) micros else after_other subject.limits p.nmt micros).state node.PreOperational ≡ true
     by true = refl
     by false = other_shown subject.limits p micros node.PreOperational h
 heartbeat_passes subject rows p micros node.Operational h = record {
@@ -293,7 +292,7 @@ heartbeat_passes subject rows p micros node.Operational h = record {
   fits = by (shows_state subject.limits p.started p.nmt p.free 5);
 }
   where
-    by : (b : Bool) → is_shown (if b then record (after_other subject.limits p.nmt micros) { state = states.state_of 5 } else after_other subject.limits p.nmt micros).state node.Operational ≡ true
+    by : (b : Bool) → is_shown (if b then states.with_state (after_other subject.limits p.nmt micros) (states.state_of 5) micros else after_other subject.limits p.nmt micros).state node.Operational ≡ true
     by true = refl
     by false = other_shown subject.limits p micros node.Operational h
 heartbeat_passes subject rows p micros node.Stopped h = record {
@@ -301,6 +300,6 @@ heartbeat_passes subject rows p micros node.Stopped h = record {
   fits = by (shows_state subject.limits p.started p.nmt p.free 4);
 }
   where
-    by : (b : Bool) → is_shown (if b then record (after_other subject.limits p.nmt micros) { state = states.state_of 4 } else after_other subject.limits p.nmt micros).state node.Stopped ≡ true
+    by : (b : Bool) → is_shown (if b then states.with_state (after_other subject.limits p.nmt micros) (states.state_of 4) micros else after_other subject.limits p.nmt micros).state node.Stopped ≡ true
     by true = refl
     by false = other_shown subject.limits p micros node.Stopped h

@@ -63,6 +63,7 @@ pub mod ExpeditedFrames
 pub mod ExpeditedAnswers
 pub mod ExpeditedWrites
 pub mod ExpeditedSame
+pub mod ChannelMarks
 pub mod ExpeditedRefusals
 pub mod ExpeditedInputs
 mod ExpeditedExamples
@@ -70,6 +71,7 @@ pub mod OpenDownloads
 pub mod UnknownPeriods
 pub mod WrittenPeriods
 mod WrittenExamples
+mod OtherWriterExamples
 mod AbortExamples
 mod UploadExamples
 mod AnswerExamples
@@ -85,6 +87,10 @@ pub mod BuiltEntries
 pub mod KeptEntries
 pub mod AlwaysFitted
 pub mod WordsHeld
+pub mod WrittenNumbers
+pub mod ConstantEntries
+pub mod PeriodsKept
+pub mod OtherWriters
 pub mod WrittenBytes
 pub mod HeldBytes
 pub mod TpdoImages
@@ -102,6 +108,9 @@ mod TpdoExamples
 pub mod TpdoKept
 pub mod SheetNumbers
 pub mod TpdoMapped
+pub mod SheetTimes
+pub mod SheetClients
+pub mod LateOfSheet
 pub mod TpdoSheets
 pub mod RoomsOfDevices
 pub mod RpdoDifferences

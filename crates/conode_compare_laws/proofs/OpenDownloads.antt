@@ -43,8 +43,7 @@ use Rattle.co_sdo.specs.Downloads.{
   whole_download,
 }
 use Rattle.co_sdo.specs.SubBlocks.{has_last}
-use Rattle.co_sdo.specs.Channels.{ChannelSettings}
-use Rattle.co_sdo.specs.Events.{ChannelEvent, exchange_at, logs_after, receiver, set_at, set_of}
+use Rattle.co_sdo.specs.Events.{ChannelEvent, logs_after, set_of}
 use Rattle.co_sdo.specs.Log.{Event, Exchange, Exchanged, Log, TimedOut, is_abort, requests}
 use Rattle.co_sdo.specs.Opened.{opened, opened_after}
 use Rattle.co_sdo.specs.OpenTransfers.{Transfer, begins, is_abort_request, is_cut, is_finished, is_initiate, is_inside, open_transfer, since_initiate}
@@ -52,7 +51,6 @@ use Rattle.co_sdo.specs.Refused.{completion_refusal}
 use Rattle.co_sdo.specs.Replies.{answers_to, frame_answers, is_in_sub_block, on_open, reply_to, request_answers}
 use Rattle.co_sdo.proofs.Logs.{after_initiates, after_nothing, after_open, inside_is}
 use Rattle.co_sdo_laws.proofs.Channel.{ended, tick_opens}
-use Rattle.co_node_laws.proofs.Channel.{takes}
 use Rattle.co_node_parts.specs.declared.nmt_state.NodeState.TheVariants as node
 use Rattle.co_node_parts.specs.NmtStates.{is_state}
 use Rattle.co_node_model.specs.declared.address.Address.TheVariants.{Channel}
@@ -70,9 +68,10 @@ use Rattle.conode_compare_laws.proofs.AnswerCalm.{another_exchange}
 use Rattle.conode_compare_laws.proofs.AnswerDevice.{IsAnother, IsNumbered, IsTimeOut, all_time_outs, dropped_since, expired_at, no_exchange_of_event, none_stopped, timed_out}
 use Rattle.conode_compare_laws.proofs.AnswerInputs.{nmt_exchange, served_is}
 use Rattle.conode_compare_laws.proofs.AnswerTransferInputs.{not_equal, same_log}
+use Rattle.conode_compare_laws.proofs.ChannelMarks.{address, mark_is, short_mark, stopped_mark}
 use Rattle.conode_compare_laws.proofs.ExpeditedAnswers.{AllFit, expedited_fits, inside_fits, is_long_download, long_fits}
 use Rattle.conode_compare_laws.proofs.ExpeditedInputs.{AnswersAt}
-use Rattle.conode_compare_laws.proofs.ExpeditedRefusals.{AllRefused, inside_refused, refuses, set_is, written_key}
+use Rattle.conode_compare_laws.proofs.ExpeditedRefusals.{AllRefused, inside_refused, refuses}
 
 -- of this entry
 abbrev pub downloads : Key → Option Transfer → Bool
@@ -356,33 +355,13 @@ module _ (key : Key) where
     abbrev Written : FrameContent → Type 0
     Written frame = is_set (marked_key (moment k (moments k before) (Framed frame)).mark) key ≡ true
 
-    unset_short : (c : Option ChannelSettings) (d : Description) (contents : Contents) (logs : ℕ → Log) (frame : FrameContent) → (length frame.bytes == 8) ≡ false → set_at (exchange_at c d contents logs frame) d contents logs frame ≡ None
-    unset_short None d contents logs frame off = refl
-    unset_short (Some c) d contents logs frame off = rw off refl
-
     mark_by : (frame : FrameContent) (stopped eight : Bool) → frame.id ≡ 0x600 + k.description.node → is_state node.Stopped (state_of k before) ≡ stopped → (length frame.bytes == 8) ≡ eight → Written frame
         → Completes (open_transfer (channel_logs (moments k before) 0)) frame.bytes
-    mark_by frame true eight id on e h =
-        let address : address_at k (moments k before) frame.id ≡ Channel 0 = ap (address_at k (moments k before)) id ∙ takes k (moments k before) sync in
-        let none : marked_key (moment k (moments k before) (Framed frame)).mark ≡ None = rw (address, on) refl in
-        absurd (false≢true (subst (λ x. is_set x key ≡ true) none h))
-    mark_by frame false eight id on e h = by eight e
-      where
-        address : address_at k (moments k before) frame.id ≡ Channel 0
-        address = ap (address_at k (moments k before)) id ∙ takes k (moments k before) sync
-
-        received : marked_key (moment k (moments k before) (Framed frame)).mark ≡ key_set (set_of (channels k) k.description (contents_of k before) (channel_logs (moments k before)) frame)
-        received =
-            let marked : marked_key (moment k (moments k before) (Framed frame)).mark ≡ marked_key (written_mark (key_set (set_of (channels k) k.description (contents_of k before) (channel_logs (moments k before)) frame))) = rw (address, on) refl in
-            marked ∙ written_key (key_set (set_of (channels k) k.description (contents_of k before) (channel_logs (moments k before)) frame))
-
-        by : (eight : Bool) → (length frame.bytes == 8) ≡ eight → Completes (open_transfer (channel_logs (moments k before) 0)) frame.bytes
-        by true e =
-            set_asks k.description (contents_of k before) (channel_logs (moments k before) 0) frame.bytes
-            (subst (λ x. is_set x key ≡ true) (received ∙ ap key_set (set_is k (moments k before) frame id (eqb-true (length frame.bytes) 8 e))) h)
-        by false e =
-            absurd (false≢true (subst (λ x. is_set x key ≡ true)
-            (received ∙ ap key_set (unset_short (receiver (channels k) frame.id) k.description (contents_of k before) (channel_logs (moments k before)) frame e)) h))
+    mark_by frame true eight id on e h = absurd (false≢true (subst (λ x. is_set x key ≡ true) (stopped_mark k (moments k before) frame id sync on) h))
+    mark_by frame false true id on e h =
+        set_asks k.description (contents_of k before) (channel_logs (moments k before) 0) frame.bytes
+        (subst (λ x. is_set x key ≡ true) (mark_is k (moments k before) frame id sync (eqb-true (length frame.bytes) 8 e) on) h)
+    mark_by frame false false id on e h = absurd (false≢true (subst (λ x. is_set x key ≡ true) (short_mark k (moments k before) frame id sync e on) h))
 
     pub written_asks : (frame : FrameContent) → frame.id ≡ 0x600 + k.description.node → Written frame → Completes (open_transfer (channel_logs (moments k before) 0)) frame.bytes
     written_asks frame id h = mark_by frame (is_state node.Stopped (state_of k before)) (length frame.bytes == 8) id refl refl h
@@ -416,6 +395,6 @@ module _ (key : Key) where
     reset_answers word Ticked h = tt
     reset_answers word (Applied event) h = tt
     reset_answers word (Framed frame) h = λ id eight running.
-        let address : address_at k (moments k before) frame.id ≡ Channel 0 = ap (address_at k (moments k before)) id ∙ takes k (moments k before) sync in
-        let mark : (moment k (moments k before) (Framed frame)).mark ≡ written_mark (key_set (set_of (channels k) k.description (contents_of k before) (channel_logs (moments k before)) frame)) = rw (address, running) refl in
+        let to : address_at k (moments k before) frame.id ≡ Channel 0 = address k (moments k before) frame id sync in
+        let mark : (moment k (moments k before) (Framed frame)).mark ≡ written_mark (key_set (set_of (channels k) k.description (contents_of k before) (channel_logs (moments k before)) frame)) = rw (to, running) refl in
         absurd (false≢true (sym (ap is_reset mark ∙ mark_resets (key_set (set_of (channels k) k.description (contents_of k before) (channel_logs (moments k before)) frame))) ∙ h))

@@ -57,9 +57,10 @@ use Rattle.conode_compare_rules.specs.Progresses.{
   findings_in,
   late_noted,
   progress_with,
+  steady_when_free,
   with_gap,
 }
-use Rattle.conode_compare_rules.specs.States.{is_initialising, is_settled}
+use Rattle.conode_compare_rules.specs.States.{is_initialising, judged_state}
 use Rattle.conode_compare_rules.specs.Times.{drift_of}
 use Rattle.conode_compare_rules.specs.Verdicts.{found}
 use Rattle.conode_compare_transfers.specs.declared.dialogue.Asked.{Asked}
@@ -371,7 +372,7 @@ emergency_passes : (inhibit micros code register : ℕ) (sent : List Sending) (s
     → Passes inhibit micros (just_now inhibit ∷ sent) subject rows p (Emcy code register)
 unfolding emergency_findings found after_emergency
 emergency_passes inhibit micros code register sent subject rows p over h = record {
-  none = finding_none subject.limits p.entries p.nmt.state (is_settled subject.limits p.started p.nmt.commanded p.free) p.emergency micros code register
+  none = finding_none subject.limits p.entries (judged_state p.nmt) (steady_when_free subject p) p.emergency micros code register
       (inhibit_none subject.limits p.entries p.emergency micros inhibit sent h.known h.since over);
   calm = record { known = h.known; since = (omega arith, refl) };
 }

@@ -29,7 +29,7 @@ use Rattle.conode_compare_pdos.specs.SheetNumbers.{number_of, preset_at, small, 
 
 -- ---- the row of an entry
 
-same_back : (a b : Key) (x : Bool) → same_key a b ≡ x → same_key b a ≡ x
+pub same_back : (a b : Key) (x : Bool) → same_key a b ≡ x → same_key b a ≡ x
 same_back a b true is = ap (λ k. same_key b k) (same_key-is a b is) ∙ same_key-refl b
 same_back a b false is = by (same_key b a) refl
   where
@@ -38,7 +38,7 @@ same_back a b false is = by (same_key b a) refl
     by true on = absurd (let yes : same_key a b ≡ true = ap (λ k. same_key a k) (same_key-is b a on) ∙ same_key-refl a in cc)
 
 -- the number that the entry of a key begins with, 0 where there is none
-number_found : (node : ℕ) (limits : Limits) (rows : List Row) (key : Key)
+pub number_found : (node : ℕ) (limits : Limits) (rows : List Row) (key : Key)
     → unsigned_of (unwrap_or (option_map (λ (e : ListedEntry). e.bytes) (entry_at (map (entry_of node limits) rows) key)) []) ≡ option_map_or (λ row. unsigned_of (initial_of node row)) (row_at rows key) 0
 number_found node limits [] key = refl
 number_found node limits (row ∷ rows) key = by (same_key row.key key) refl (number_found node limits rows key)

@@ -13,7 +13,8 @@ use Rattle.co_node_parts.specs.NmtStates.{after_loss, heartbeat_of}
 use Rattle.conode_compare_rules.specs.declared.finding.NmtState.{NmtState}
 use Rattle.conode_compare_rules.specs.declared.finding.NmtState.TheVariants.{Unknown, Initialising, PreOperational, Operational, Stopped}
 use Rattle.conode_compare_rules.specs.declared.limits.Limits.{Limits}
-use Rattle.conode_compare_rules.specs.States.{either_state, is_reset, is_wrong, overdue_in, state_after, state_finding}
+use Rattle.conode_compare_rules.specs.EmergencyRules.{is_stopped}
+use Rattle.conode_compare_rules.specs.States.{either_state, freer, is_reset, is_wrong, overdue_in, state_after, state_finding}
 use Rattle.conode_compare_transfers.specs.Times.{is_past}
 
 -- compare may have this state for a device that is in that one: nothing, the same, or one from which it has fallen back without a
@@ -107,11 +108,47 @@ not_wrong alone Stopped node.PreOperational h = absurd (cc)
 not_wrong alone Stopped node.Operational h = absurd (cc)
 not_wrong alone Stopped node.Stopped h = refl
 
-pub none_wrong : (alone : Bool) (state : NmtState) (actual : NodeState) → is_shown state actual ≡ true → state_finding alone state (state_byte (heartbeat_of actual)) ≡ None
+-- where the newest command leads to another state, a frame is judged by the freer one
+freer_not_wrong : (alone : Bool) (state due : NmtState) (actual : NodeState) → is_shown state actual ≡ true → is_wrong alone (freer state due) (same_state actual) ≡ false
+freer_not_wrong alone Unknown due actual h = refl
+freer_not_wrong alone Initialising due actual h = refl
+freer_not_wrong alone PreOperational Operational actual h = refl
+freer_not_wrong alone PreOperational Unknown actual h = not_wrong alone PreOperational actual h
+freer_not_wrong alone PreOperational Initialising actual h = not_wrong alone PreOperational actual h
+freer_not_wrong alone PreOperational PreOperational actual h = not_wrong alone PreOperational actual h
+freer_not_wrong alone PreOperational Stopped actual h = not_wrong alone PreOperational actual h
+freer_not_wrong alone Operational due actual h = refl
+freer_not_wrong alone Stopped Operational actual h = refl
+freer_not_wrong alone Stopped PreOperational node.PreOperational h = refl
+freer_not_wrong alone Stopped PreOperational node.Operational h = absurd (cc)
+freer_not_wrong alone Stopped PreOperational node.Stopped h = refl
+freer_not_wrong alone Stopped Unknown actual h = not_wrong alone Stopped actual h
+freer_not_wrong alone Stopped Initialising actual h = not_wrong alone Stopped actual h
+freer_not_wrong alone Stopped Stopped actual h = not_wrong alone Stopped actual h
+
+pub none_judged : (alone : Bool) (state due : NmtState) (actual : NodeState) → is_shown state actual ≡ true → state_finding alone (freer state due) (state_byte (heartbeat_of actual)) ≡ None
 unfolding state_finding
-none_wrong alone state node.PreOperational h = rw (not_wrong alone state node.PreOperational h) refl
-none_wrong alone state node.Operational h = rw (not_wrong alone state node.Operational h) refl
-none_wrong alone state node.Stopped h = rw (not_wrong alone state node.Stopped h) refl
+none_judged alone state due node.PreOperational h = rw (freer_not_wrong alone state due node.PreOperational h) refl
+none_judged alone state due node.Operational h = rw (freer_not_wrong alone state due node.Operational h) refl
+none_judged alone state due node.Stopped h = rw (freer_not_wrong alone state due node.Stopped h) refl
+
+pub freer_running : (state due : NmtState) → is_stopped state ≡ false → is_stopped (freer state due) ≡ false
+freer_running Unknown due h = refl
+freer_running Initialising due h = refl
+freer_running PreOperational Operational h = refl
+freer_running PreOperational Unknown h = refl
+freer_running PreOperational Initialising h = refl
+freer_running PreOperational PreOperational h = refl
+freer_running PreOperational Stopped h = refl
+freer_running Operational due h = refl
+freer_running Stopped due h = absurd (cc)
+
+pub freer_operational : (state due : NmtState) → is_shown state node.Operational ≡ true → freer state due ≡ state
+freer_operational Unknown due h = refl
+freer_operational Initialising due h = absurd (cc)
+freer_operational PreOperational due h = absurd (cc)
+freer_operational Operational due h = refl
+freer_operational Stopped due h = absurd (cc)
 
 -- ---- a lost heartbeat
 

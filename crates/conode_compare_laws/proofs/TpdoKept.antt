@@ -11,6 +11,9 @@ use Rattle.co_frame.specs.declared.nmt.NmtService.TheVariants.{Start, Stop, Ente
 use Rattle.co_profile.specs.Indices.{communication_profile, is_within}
 use Rattle.co_dict.specs.Rows.{Contents}
 use Rattle.co_dict.specs.Stores.{Description}
+use Rattle.co_dict_build.specs.Built.{Plan, built_contents, built_description}
+use Rattle.co_dict_build.proofs.Plans.{begins_initially}
+use Rattle.co_node.specs.Built.{IsBuilt}
 use Rattle.co_node_model.specs.declared.address.Address.TheVariants.{Nmt}
 use Rattle.co_node_model.specs.Addresses.{address_at}
 use Rattle.co_node_model.specs.Device.{contents_of, moment, moments}
@@ -29,6 +32,11 @@ use Rattle.conode_compare_laws.proofs.Inputs.{command_in, command_is}
 -- the parameters are those that the device was built with
 abbrev pub AreBuilt : Constants → Contents → Type 0
 AreBuilt k c = (key : Key) → is_tpdo_parameter key ≡ true → c key ≡ k.start key
+
+-- a device that is built begins with what a reset restores
+pub begins_as_built : (plan : Plan) (k : Constants) → IsBuilt plan k → (key : Key) → k.description.initial key ≡ k.start key
+begins_as_built plan k built key =
+    ap (λ (d : Description). d.initial key) built.description ∙ sym (begins_initially plan (built_description plan) (built_contents plan) refl refl key) ∙ ap (λ (c : Contents). c key) (sym built.start)
 
 from_1005 : (key : Key) → is_tpdo_parameter key ≡ true → 0x1005 ≤ key.index
 from_1005 key is = grind (arith, nat_tests)

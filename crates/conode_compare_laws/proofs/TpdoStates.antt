@@ -1,5 +1,5 @@
 -- A device sends TPDOs while operational alone, and compare never has it in another state then.
-use Rattle.std.proofs.Common.{◌≡◌, ℕ, ◌+◌, Bool, true, false, List, [], ◌∷◌, ◌++◌, map, refl, sym, subst, ◌⊎◌, inl, inr}
+use Rattle.std.proofs.Common.{◌≡◌, ℕ, ◌+◌, Bool, true, false, List, [], ◌∷◌, ◌++◌, map, refl, sym, ap, ◌∙◌, subst, ◌⊎◌, inl, inr}
 use Rattle.std.specs.Prelude.{if◌then◌else◌, ◌&&◌, not, is_some}
 use Rattle.std.specs.List.{AllByRecursion}
 use Rattle.std.proofs.lemmas.Bool.{ne_eqb}
@@ -33,7 +33,7 @@ use Rattle.conode_compare_rules.specs.declared.limits.Subject.{Subject}
 use Rattle.conode_compare_rules.specs.declared.progress.Progress.{Progress}
 use Rattle.conode_compare_rules.specs.declared.verdict.Findings.{Findings}
 use Rattle.conode_compare_rules.specs.FrameKinds.{data_kind, length_of}
-use Rattle.conode_compare_rules.specs.Progresses.{before_recording, begun, is_idle, moment_at, progress_with, settled_when_free}
+use Rattle.conode_compare_rules.specs.Progresses.{before_recording, begun, is_idle, moment_at, progress_with, steady_when_free}
 use Rattle.conode_compare_laws.specs.Differences.{differences_from, differences_in, state_differences}
 use Rattle.conode_compare_laws.specs.Identifiers.{AllSendAside, AreElsewhere, IsElsewhere, SendsAside}
 use Rattle.conode_compare_laws.specs.NamedTpdos.{NameNoTpdos, NamesNoTpdo}
@@ -47,7 +47,8 @@ use Rattle.conode_compare_laws.proofs.Heard.{Ends, aside_goes, asides, before_se
 use Rattle.conode_compare_laws.proofs.Inputs.{command_in, command_is, end_shown, state_by}
 use Rattle.conode_compare_laws.proofs.NamedKeys.{first_of, last_of}
 use Rattle.conode_compare_laws.proofs.Runs.{AllRun, joined, then_none}
-use Rattle.conode_compare_laws.proofs.Shown.{Stage, boots, fits_nothing, is_shown, runs, stage_after}
+use Rattle.conode_compare_rules.specs.States.{judged_state}
+use Rattle.conode_compare_laws.proofs.Shown.{Stage, boots, fits_nothing, freer_operational, is_shown, runs, stage_after}
 use Rattle.conode_compare_laws.proofs.TpdoDue.{AreDistinct, due_distinct}
 use Rattle.conode_compare_laws.proofs.TpdoKinds.{deviation_none, length_none, sync_none, untimed}
 use Rattle.conode_compare_laws.proofs.TpdoNames.{AllNameNone, unstamped_names}
@@ -70,7 +71,9 @@ last_off false b h = refl
 
 operational : (subject : Subject) (p : Progress) (micros : ℕ) → is_shown p.nmt.state node.Operational ≡ true → is_of is_pdo_state (state_deviation (moment_at subject p micros)) ≡ false
 unfolding moment_at
-operational subject p micros h = rw (last_off (settled_when_free subject p) (is_idle subject.facts.starts_itself p.nmt.state) (never_idle subject.facts.starts_itself p.nmt.state h)) refl
+operational subject p micros h =
+    rw (last_off (steady_when_free subject p) (is_idle subject.facts.starts_itself (judged_state p.nmt))
+    (ap (is_idle subject.facts.starts_itself) (freer_operational p.nmt.state p.nmt.due h) ∙ never_idle subject.facts.starts_itself p.nmt.state h)) refl
 
 fine : (subject : Subject) (p : Progress) (micros length : ℕ) (has_sync : Bool) (pdo : Tpdo) → is_shown p.nmt.state node.Operational ≡ true → is_of is_pdo_state (deviation_at (moment_at subject p micros) has_sync pdo length) ≡ false
 fine subject p micros length has_sync pdo h =

@@ -1,7 +1,8 @@
--- Where compare knows nothing of 1017:00, it knows nothing after frames that show nothing of it; nor after a request to write it.
+-- Where compare knows nothing of 1017:00, it knows nothing after frames that show nothing of it; nor after a request to write it, or a frame
+-- of the client of another SDO channel.
 use Rattle.std.proofs.Common.{◌≡◌, ◌≢◌, ℕ, ◌+◌, Bool, true, false, List, [], ◌∷◌, length, Option, Some, None, refl, sym, ◌∙◌, ◌⊎◌, inl, inr, subst}
 use Rattle.std.specs.Prelude.{◌==◌, ◌||◌, if◌then◌else◌, IfSome}
-use Rattle.std.proofs.lemmas.Bool.{eqb-true, false≢true}
+use Rattle.std.proofs.lemmas.Bool.{eqb-false, eqb-true, false≢true, or_parts}
 use Rattle.co_value.specs.declared.key.Key.{Key}
 use Rattle.co_value.specs.Keys.{same_key}
 use Rattle.co_frame.specs.FrameContent.{FrameContent}
@@ -22,15 +23,18 @@ use Rattle.conode_explain_transfers.specs.declared.kinds.Side.{Side}
 use Rattle.conode_explain_transfers.specs.declared.kinds.Side.TheVariants.{Client, Server}
 use Rattle.conode_compare_transfers.specs.Breaches as breaches
 use Rattle.conode_compare_transfers.specs.Dialogues.{asks_to_write, exchange_in}
+use Rattle.conode_compare_rules.specs.declared.clients.OtherClients.{OtherClients}
 use Rattle.conode_compare_rules.specs.declared.kind.FrameKind.{FrameKind}
 use Rattle.conode_compare_rules.specs.declared.kind.FrameKind.TheVariants.{Command, CommandToAll, LongCommand, Control, Emergency as Emcy, OddEmergency, Other, Process, Sdo}
 use Rattle.conode_compare_rules.specs.declared.limits.Subject.{Subject}
 use Rattle.conode_compare_rules.specs.declared.progress.Progress.{Progress}
-use Rattle.conode_compare_rules.specs.EntriesInForce.{asked_to_write, shown_period}
-use Rattle.conode_compare_rules.specs.FrameKinds.{data_kind}
+use Rattle.conode_compare_rules.specs.EntriesInForce.{asked_to_write, overwritten, shown_period}
+use Rattle.conode_compare_rules.specs.FrameKinds.{command_kind, control_kind, data_kind, emergency_kind, length_of}
 use Rattle.conode_compare_rules.specs.Progresses as progresses
 use Rattle.conode_compare_rules.specs.Progresses.{after_command, after_emergency, after_frame, after_process, after_sdo, answer_noted, begins_anew, begun, channel_heard, exchange_at, exchange_noted, is_of_client, late_noted, progress_with, with_gap}
+use Rattle.conode_compare_laws.specs.AnswerSenders.{IsOther}
 use Rattle.conode_compare_laws.specs.Identifiers.{AreWithout}
+use Rattle.conode_compare_laws.specs.OtherWriters.{IsTold}
 use Rattle.conode_compare_laws.specs.ShownWords.{is_expedited_download}
 use Rattle.conode_compare_laws.proofs.AnswerExchange.{request_kind}
 use Rattle.conode_compare_laws.proofs.Beats.{client_such, is_other, noted_shows, other_kind, right_shown, sdo_such}
@@ -112,6 +116,41 @@ pub asked_unknown : (subject : Subject) (p : Progress) (micros : ℕ) (frame : F
 unfolding progress_with
 asked_unknown subject p micros frame id asks =
     subst (λ kind. IsUnknown (after_frame subject (begun subject p micros) micros kind)) (sym (request_kind subject.node frame id)) (asked_sdo subject (begun subject p micros) micros frame asks)
+
+-- ---- a frame of the client of another SDO channel
+
+-- such an identifier is one of neither the default channel's frames
+pub told_other : (node : ℕ) (clients : OtherClients) (id : ℕ) → IsTold node clients id → IsOther node id
+told_other node clients id told =
+    let parts = or_parts (id == 0x80 + node) ((id == 0x580 + node) || ((id == 0x600 + node) || (id == 0x700 + node))) told.device in
+    let next = or_parts (id == 0x580 + node) ((id == 0x600 + node) || (id == 0x700 + node)) parts.1 in
+    (eqb-false id (0x580 + node) next.0, eqb-false id (0x600 + node) (or_parts (id == 0x600 + node) (id == 0x700 + node) next.1).0)
+
+told_kind : (node : ℕ) (clients : OtherClients) (frame : FrameContent) → IsTold node clients frame.id → data_kind node frame ≡ Process frame.id (length_of frame)
+told_kind node clients frame told = by (frame.id == 0) (frame.id == 0x80 + node) (frame.id == 0x580 + node) (frame.id == 0x600 + node) (frame.id == 0x700 + node) told.command told.device
+  where
+    by : (a b c d e : Bool) → a ≡ false → (b || (c || (d || e))) ≡ false
+        → (if a then command_kind node frame
+        else (if b then emergency_kind frame
+        else (if c then Sdo Server frame
+        else (if d then Sdo Client frame
+        else (if e then control_kind frame else Process frame.id (length_of frame)))))) ≡ Process frame.id (length_of frame)
+    by true b c d e p q = absurd (false≢true (sym p))
+    by false true c d e p q = absurd (false≢true (sym q))
+    by false false true d e p q = absurd (false≢true (sym q))
+    by false false false true e p q = absurd (false≢true (sym q))
+    by false false false false true p q = absurd (false≢true (sym q))
+    by false false false false false p q = refl
+
+told_process : (subject : Subject) (p : Progress) (micros id length : ℕ) → is_of_client subject id ≡ true → IsUnknown (after_process subject p micros id length)
+unfolding after_process overwritten
+told_process subject p micros id length on = rw on tt
+
+-- nothing is known of it after such a frame either
+pub told_unknown : (subject : Subject) (p : Progress) (micros : ℕ) (frame : FrameContent) → IsTold subject.node subject.facts.clients frame.id → IsUnknown (progress_with subject p micros (data_kind subject.node frame))
+unfolding progress_with
+told_unknown subject p micros frame told =
+    subst (λ kind. IsUnknown (after_frame subject (begun subject p micros) micros kind)) (sym (told_kind subject.node subject.facts.clients frame told)) (told_process subject (begun subject p micros) micros frame.id (length_of frame) told.client)
 
 -- ---- a frame that shows nothing
 

@@ -53,10 +53,10 @@ asked : KeepsWord producer_key (period_after k (at_once ∷ [])) k [] at_once
 unfolding searches request_row_in
 asked id own = inl refl
 
-followed : FollowsPeriod k [] at_once (moment k [] at_once)
+followed : FollowsPeriod no_clients k [] at_once (moment k [] at_once)
 unfolding searches request_row_in
 followed = record {
-  by = λ on. refl;
+  by = λ on. inl refl;
   kept = λ off. absurd (false≢true (sym off));
   restored = λ on. absurd (false≢true on);
 }

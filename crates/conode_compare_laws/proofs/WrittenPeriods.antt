@@ -1,4 +1,4 @@
--- All inputs of a device whose clients write 1017:00 with the number that it has: after a frame that writes it, compare knows nothing of it.
+-- All inputs of a device whose clients write 1017:00: after a frame that writes it, compare knows nothing of it.
 -- A download in segments or in blocks that is open leaves nothing known from its request on.
 use Rattle.std.proofs.Common.{◌≡◌, ◌≢◌, ℕ, ◌+◌, Bool, true, false, List, [], ◌∷◌, ◌++◌, length, map, Some, None, refl, sym, ◌∙◌, ◌⊎◌, inl, inr, subst, arith}
 use Rattle.std.specs.Prelude.{◌==◌, IfSome}
@@ -28,17 +28,17 @@ use Rattle.conode_compare_rules.specs.declared.progress.Progress.{Progress}
 use Rattle.conode_compare_rules.specs.Progresses.{before_recording}
 use Rattle.conode_compare_laws.specs.AnswerSenders.{AllSendOther, HasBytes, HaveBytes, HaveOtherChannels, SendsOther}
 use Rattle.conode_compare_laws.specs.Identifiers.{AllSendAside, AreElsewhere, AreWithout, IsAside, IsElsewhere, SendsAside}
-use Rattle.conode_compare_laws.specs.Periods.{AllFollowPeriod, FollowsPeriod, IsOfClient, KnowsPeriod, period_after}
+use Rattle.conode_compare_laws.specs.Periods.{AllFollowPeriod, FollowsPeriod, IsOfClient, IsOfOther, KnowsPeriod, WritesSeen, period_after}
 use Rattle.conode_compare_laws.specs.Recordings.{Stamped, frame_of}
 use Rattle.conode_compare_laws.specs.ShownWords.{AllAskPeriod, AllHavePeriodBytes, KeepsWord}
 use Rattle.conode_compare_laws.proofs.AnswerDevice.{IsNumbered, numbered}
-use Rattle.conode_compare_laws.proofs.ExpeditedInputs.{AnswersAt, Given, Has, answers_at, ignored_shows, input_shows, life_shows}
+use Rattle.conode_compare_laws.proofs.ExpeditedInputs.{AnswersAt, Given, Has, answers_at, ignored_shows, input_shows, life_shows, others_show}
 use Rattle.conode_compare_laws.proofs.ExpeditedRefusals.{refuses}
 use Rattle.conode_compare_laws.proofs.Heard.{of_device}
 use Rattle.conode_compare_laws.proofs.Heartbeats.{AllFollow, IsUnknown, ShowsAll, ShowsBy, came_without, is_written, life_beats, uncontrolled, without_both, written_no_reset}
 use Rattle.conode_compare_laws.proofs.OpenDownloads.{AsksLong, Completes, exchanged, open_after, quiet_at, reset_answers, was_open, written_answers, written_asks}
 use Rattle.conode_compare_laws.proofs.ShowsWord.{AllShow, both_shows, joined_shows, mapped_shows, parts}
-use Rattle.conode_compare_laws.proofs.UnknownPeriods.{asked_unknown, asks_period, beats_unknown, others_unknown}
+use Rattle.conode_compare_laws.proofs.UnknownPeriods.{asked_unknown, asks_period, beats_unknown, others_unknown, told_other, told_unknown}
 
 module _ (k : Constants) (subject : Subject) (unknown : subject.facts.before.period ≡ None) (period : ℕ) where
   abbrev own : Subject
@@ -120,14 +120,17 @@ module _ (k : Constants) (subject : Subject) (unknown : subject.facts.before.per
             mapped_shows producer_key period own micros (frame ∷ []) p (λ q. x q × (Holding q × IsUnknown q)) (λ q. x q × IsUnknown q) (λ q g. (g.0, g.1.1))
             (others_unknown period other differ own micros unknown (frame ∷ []) p x Holding (elsewhere, tt) (h last.0) a (ignored_shows producer_key other own micros frame p id has))
 
-    written_unknown : (is_written k before input ≡ true → IsOfClient k.description.node input) → (x : Progress → Type 0) (p : Progress) → Holding p → WhileOpen before p → Shows period (frame_of input) x p
+    written_unknown : WritesSeen subject.facts.clients producer_key k (moment k (moments k before) input) input → (x : Progress → Type 0) (p : Progress) → Holding p → WhileOpen before p → Shows period (frame_of input) x p
         → Shows period (frame_of input) (λ q. (is_written k before input ≡ true → IsUnknown q) × x q) p
     written_unknown by x p has h a = if_written (is_written k before input) refl
       where
-        by_input : (i : InputView) → input ≡ i → IsOfClient k.description.node i → is_written k before i ≡ true → Shows period (frame_of i) x p → Shows period (frame_of i) (λ q. x q × IsUnknown q) p
-        by_input Ticked is client on a = absurd client
-        by_input (Applied event) is client on a = absurd client
-        by_input (Framed frame) is client on a = writing_unknown frame is client on x p has h a
+        by_input : (i : InputView) → input ≡ i → IsOfClient k.description.node i ⊎ IsOfOther k.description.node subject.facts.clients i → is_written k before i ≡ true → Shows period (frame_of i) x p → Shows period (frame_of i) (λ q. x q × IsUnknown q) p
+        by_input Ticked is (inl client) on a = absurd client
+        by_input Ticked is (inr other) on a = absurd other
+        by_input (Applied event) is (inl client) on a = absurd client
+        by_input (Applied event) is (inr other) on a = absurd other
+        by_input (Framed frame) is (inl client) on a = writing_unknown frame is client on x p has h a
+        by_input (Framed frame) is (inr told) on a = (a.0, (a.1, told_unknown own p micros frame told))
 
         if_written : (b : Bool) → is_written k before input ≡ b → Shows period (frame_of input) (λ q. (is_written k before input ≡ true → IsUnknown q) × x q) p
         if_written true is =
@@ -137,7 +140,7 @@ module _ (k : Constants) (subject : Subject) (unknown : subject.facts.before.per
     shown_by : (word : ℕ) → Given producer_key word k before input → (p : Progress) → Holding p → Shows word (frame_of input) (Sends word) p
     shown_by word g p has = parts producer_key word own micros (frame_of input) (prescribed k before input) p Holding (input_shows producer_key word k subject micros before input p g has)
 
-    pub input_by : (is_written k before input ≡ true → IsOfClient k.description.node input) → (p : Progress) → Holding p → WhileOpen before p
+    pub input_by : WritesSeen subject.facts.clients producer_key k (moment k (moments k before) input) input → (p : Progress) → Holding p → WhileOpen before p
         → Shows period (frame_of input)
         (λ q. (is_written k before input ≡ true → IsUnknown q) × AllShow producer_key period own micros q (prescribed k before input) (λ r. Holding r × WhileOpen (input ∷ before) r)) p
     input_by by p has h = if_open (open_after producer_key k (input ∷ before)) refl
@@ -174,7 +177,7 @@ module _ (k : Constants) (subject : Subject) (unknown : subject.facts.before.per
   module _ (micros : ℕ) (before : Inputs) (input : InputView) (elsewhere : IsElsewhere (0x580 + k.description.node) input) (bytes : HasBytes input)
       (wide : (length (value_at (contents_of k before) producer_key) ≡ 0) ⊎ (length (value_at (contents_of k before) producer_key) ≡ 2))
       (asks : KeepsWord producer_key (period_after k (input ∷ before)) k before input) (others : SendsOther k (moment k (moments k before) input)) (all : AllByRecursion (IsNumbered k.description.node) (channels k))
-      (follows : FollowsPeriod k before input (moment k (moments k before) input)) (control : IsElsewhere (0x700 + k.description.node) input) (aside : SendsAside k (moment k (moments k before) input)) where
+      (follows : FollowsPeriod subject.facts.clients k before input (moment k (moments k before) input)) (control : IsElsewhere (0x700 + k.description.node) input) (aside : SendsAside k (moment k (moments k before) input)) where
     abbrev was : ℕ
     was = period_after k before
 
@@ -198,10 +201,14 @@ module _ (k : Constants) (subject : Subject) (unknown : subject.facts.before.per
         answers_at producer_key next k before input bytes (refuses producer_key next k before input (sync before) asks) (record { bytes = wide; number = sym (follows.kept is reset) })
 
     -- its own frame shows whatever number, and at a reset all frames do
-    client_shows : (i : InputView) → input ≡ i → IsOfClient k.description.node i → (p : Progress) → Holds p → AllShow producer_key was this micros p (frame_of i) (λ q. Unit {0})
-    client_shows Ticked is client p has = absurd client
-    client_shows (Applied event) is client p has = absurd client
-    client_shows (Framed frame) is client p has = mapped_shows producer_key was this micros (frame ∷ []) p Holds (λ q. Unit {0}) (λ q g. tt) (ignored_shows producer_key was this micros frame p client has)
+    client_shows : (i : InputView) → IsOfClient k.description.node i ⊎ IsOfOther k.description.node subject.facts.clients i → (p : Progress) → Holds p → AllShow producer_key was this micros p (frame_of i) (λ q. Unit {0})
+    client_shows Ticked (inl client) p has = absurd client
+    client_shows Ticked (inr other) p has = absurd other
+    client_shows (Applied event) (inl client) p has = absurd client
+    client_shows (Applied event) (inr other) p has = absurd other
+    client_shows (Framed frame) (inl client) p has = mapped_shows producer_key was this micros (frame ∷ []) p Holds (λ q. Unit {0}) (λ q g. tt) (ignored_shows producer_key was this micros frame p client has)
+    client_shows (Framed frame) (inr told) p has =
+        mapped_shows producer_key was this micros (frame ∷ []) p Holds (λ q. Unit {0}) (λ q g. tt) (others_show producer_key was this micros (frame ∷ []) p (told_other k.description.node subject.facts.clients frame.id told, tt) has)
 
     forgotten : (word : ℕ) (p : Progress) → AllShow producer_key word this micros p (frame_of input) (λ q. AllShow producer_key word this micros q sent Holds) → AllShow producer_key word this micros p (frame_of input) (λ q. AllShow producer_key word this micros q sent (λ r. Unit {0}))
     forgotten word p g =
@@ -215,7 +222,7 @@ module _ (k : Constants) (subject : Subject) (unknown : subject.facts.before.per
         → AllShow producer_key was this micros p (frame_of input) (λ q. resets ≡ true → AllShow producer_key was this micros q sent (λ r. Unit {0}))
     first_shows true r is reset p has =
         mapped_shows producer_key was this micros (frame_of input) p (λ q. Unit {0}) _ (λ q g. λ on. absurd (false≢true (sym (written_no_reset (moment k (moments k before) input).mark is) ∙ on)))
-        (client_shows input refl (follows.by is) p has)
+        (client_shows input (follows.by is) p has)
     first_shows false true is reset p has =
         mapped_shows producer_key was this micros (frame_of input) p (λ q. AllShow producer_key was this micros q sent (λ r. Unit {0})) _ (λ q g. λ on. g) (shown_as was (reset_answers producer_key k before (sync before) was input reset) p has)
     first_shows false false is reset p has =
@@ -234,7 +241,7 @@ module _ (k : Constants) (subject : Subject) (unknown : subject.facts.before.per
         (input_by k subject unknown next micros before input (given_by next (next_answers (is_written k before input) resets refl refl)) aside control follows.by p has h))
 
   all_by : (inputs : List Stamped) (before : Inputs) (p : Progress) → AreElsewhere (0x580 + k.description.node) inputs → HaveBytes inputs → AllHavePeriodBytes k before inputs → AllAskPeriod k before inputs → AllSendOther k before inputs
-      → AllByRecursion (IsNumbered k.description.node) (channels k) → AllFollowPeriod k before inputs → AreElsewhere (0x700 + k.description.node) inputs → AllSendAside k before inputs → Holds p → While before p
+      → AllByRecursion (IsNumbered k.description.node) (channels k) → AllFollowPeriod subject.facts.clients k before inputs → AreElsewhere (0x700 + k.description.node) inputs → AllSendAside k before inputs → Holds p → While before p
       → ShowsBy k this p before inputs
   all_by [] before p answers bytes wide asks others all follow control aside has h = tt
   all_by (s ∷ later) before p answers bytes wide asks others all follow control aside has h =
@@ -250,7 +257,7 @@ module _ (k : Constants) (subject : Subject) (unknown : subject.facts.before.per
       (each_by s.micros before s.input answers.0 bytes.0 wide.0 asks.0 others.0 all follow.0 control.0 aside.0 p has h)
 
   pub written_shows : (inputs : List Stamped) → AreElsewhere (0x580 + k.description.node) inputs → HaveBytes inputs → AllHavePeriodBytes k [] inputs → AllAskPeriod k [] inputs → AllSendOther k [] inputs → HaveOtherChannels k
-      → AllByRecursion (λ c. IsAside k.description.node c.response) (channels k) → AllFollowPeriod k [] inputs → AreElsewhere (0x700 + k.description.node) inputs → AllSendAside k [] inputs → ShowsAll k this inputs
+      → AllByRecursion (λ c. IsAside k.description.node c.response) (channels k) → AllFollowPeriod subject.facts.clients k [] inputs → AreElsewhere (0x700 + k.description.node) inputs → AllSendAside k [] inputs → ShowsAll k this inputs
   written_shows [] answers bytes wide asks others channels aside follow control sends = tt
   written_shows (s ∷ later) answers bytes wide asks others channels aside follow control sends =
       mapped_shows producer_key (period_after k []) this s.micros (boot_up k ∷ []) (before_recording this) Holds (λ q. ShowsBy k this q [] (s ∷ later))
@@ -258,7 +265,7 @@ module _ (k : Constants) (subject : Subject) (unknown : subject.facts.before.per
       (life_shows producer_key (period_after k []) this s.micros (Some BootUp) (before_recording this) tt)
 
 -- what the period is then
-pub written_follows : (k : Constants) (subject : Subject) → subject.facts.before.period ≡ None → KnowsPeriod (period_after k []) subject → (inputs : List Stamped) (before : Inputs) → AllFollowPeriod k before inputs → AllFollow k subject before inputs
+pub written_follows : (k : Constants) (subject : Subject) → subject.facts.before.period ≡ None → KnowsPeriod (period_after k []) subject → (inputs : List Stamped) (before : Inputs) → AllFollowPeriod subject.facts.clients k before inputs → AllFollow k subject before inputs
 written_follows k subject unknown knows [] before follow = tt
 written_follows k subject unknown knows (s ∷ later) before follow = (
   record {

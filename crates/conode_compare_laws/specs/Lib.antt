@@ -1,6 +1,7 @@
 pub mod Recordings
 pub mod Differences
 pub mod Identifiers
+pub mod OtherWriters
 pub mod Periods
 pub mod TpdoDifferences
 pub mod RpdoDifferences

@@ -1,6 +1,7 @@
 -- Heartbeats of one period, EMCY of one inhibit time, and the SDO timeout: what the laws about them ask of a device, of its data sheet,
 -- and of the limits.
-use Rattle.std.specs.Prelude.{◌≡◌, ℕ, ◌+◌, ◌<◌, ◌≤◌, true, false, List, [], ◌∷◌, IfSome}
+use Rattle.std.specs.Prelude.{◌≡◌, ◌⊎◌, ℕ, ◌+◌, ◌<◌, ◌≤◌, true, false, List, [], ◌∷◌, IfSome}
+use Rattle.co_value.specs.declared.key.Key.{Key}
 use Rattle.co_profile.specs.Keys.{emergency_inhibit_key, producer_key}
 use Rattle.co_dict.specs.Rows.{number_at}
 use Rattle.co_node_model.specs.Inputs.{Applied, Framed, Inputs, InputView, Ticked}
@@ -9,7 +10,9 @@ use Rattle.co_node_model.specs.Marks.{marked_key}
 use Rattle.co_node_model.specs.Moments.{Constants, Moment}
 use Rattle.co_node_model.specs.Device.{contents_of, moment, moments}
 use Rattle.co_node_model.specs.Nmt.{is_reset}
+use Rattle.conode_compare_rules.specs.declared.clients.OtherClients.{OtherClients}
 use Rattle.conode_compare_rules.specs.declared.limits.Subject.{Subject}
+use Rattle.conode_compare_laws.specs.OtherWriters.{IsTold}
 use Rattle.conode_compare_laws.specs.Recordings.{Stamped}
 
 -- 1017:00 isn't written at an input, and has this number after it
@@ -30,20 +33,36 @@ IsOfClient node (Framed frame) = frame.id ≡ 0x600 + node
 IsOfClient node Ticked = ⊥
 IsOfClient node (Applied event) = ⊥
 
+-- an input is a frame of the client of another SDO channel, and compare takes it for one
+abbrev pub IsOfOther : ℕ → OtherClients → InputView → Type 0
+IsOfOther node clients (Framed frame) = IsTold node clients frame.id
+IsOfOther node clients Ticked = ⊥
+IsOfOther node clients (Applied event) = ⊥
+
+-- an entry that is written at an input is written by one of these clients: compare sees the write
+abbrev pub WritesSeen : OtherClients → Key → Constants → Moment → InputView → Type 0
+WritesSeen clients key k m input = is_set (marked_key m.mark) key ≡ true → IsOfClient k.description.node input ⊎ IsOfOther k.description.node clients input
+
+-- at each of these inputs, which come after those before
+abbrev pub AllWriteSeen : OtherClients → Key → Constants → Inputs → List Stamped → Type 0
+AllWriteSeen clients key k before [] = Unit {0}
+AllWriteSeen clients key k before (s ∷ later) = WritesSeen clients key k (moment k (moments k before) s.input) s.input × AllWriteSeen clients key k (s.input ∷ before) later
+
 -- the number of 1017:00 after inputs
 abbrev pub period_after : Constants → Inputs → ℕ
 period_after k before = number_at (contents_of k before) producer_key
 
--- 1017:00 changes at an input where that client writes it, and at a reset, which restores its first number
-pub record FollowsPeriod (k : Constants) (before : Inputs) (input : InputView) (m : Moment) : Type 0 where
-  pub by : is_set (marked_key m.mark) producer_key ≡ true → IsOfClient k.description.node input
+-- 1017:00 changes at an input where one of these clients writes it, and at a reset, which restores its
+-- first number
+pub record FollowsPeriod (clients : OtherClients) (k : Constants) (before : Inputs) (input : InputView) (m : Moment) : Type 0 where
+  pub by : WritesSeen clients producer_key k m input
   pub kept : is_set (marked_key m.mark) producer_key ≡ false → is_reset m.mark ≡ false → number_at m.contents producer_key ≡ period_after k before
   pub restored : is_reset m.mark ≡ true → number_at m.contents producer_key ≡ number_at k.start producer_key
 
 -- at each of these inputs, which come after those before
-abbrev pub AllFollowPeriod : Constants → Inputs → List Stamped → Type 0
-AllFollowPeriod k before [] = Unit {0}
-AllFollowPeriod k before (s ∷ later) = FollowsPeriod k before s.input (moment k (moments k before) s.input) × AllFollowPeriod k (s.input ∷ before) later
+abbrev pub AllFollowPeriod : OtherClients → Constants → Inputs → List Stamped → Type 0
+AllFollowPeriod clients k before [] = Unit {0}
+AllFollowPeriod clients k before (s ∷ later) = FollowsPeriod clients k before s.input (moment k (moments k before) s.input) × AllFollowPeriod clients k (s.input ∷ before) later
 
 -- ---- what is known of it
 
@@ -59,6 +78,14 @@ abbrev pub AllHaveInhibit : ℕ → Constants → Inputs → List Stamped → Ty
 AllHaveInhibit inhibit k before [] = Unit {0}
 AllHaveInhibit inhibit k before (s ∷ later) =
     (number_at (moment k (moments k before) s.input).contents emergency_inhibit_key ≡ inhibit) × AllHaveInhibit inhibit k (s.input ∷ before) later
+
+-- where an entry is written at one of these inputs, which come after those before, it then has the
+-- number that it began with
+abbrev pub AllWriteFirst : Key → Constants → Inputs → List Stamped → Type 0
+AllWriteFirst key k before [] = Unit {0}
+AllWriteFirst key k before (s ∷ later) =
+    (is_set (marked_key (moment k (moments k before) s.input).mark) key ≡ true → number_at (moment k (moments k before) s.input).contents key ≡ number_at k.start key)
+    × AllWriteFirst key k (s.input ∷ before) later
 
 -- what is known of 1015:00 by the data sheet, before a boot-up and after one, is nothing or this
 pub record KnowsInhibit (inhibit : ℕ) (subject : Subject) : Type 0 where

@@ -1,6 +1,6 @@
 //! When EMCY come.
 
-ghost use Rattle.std.specs.Prelude.{◌≡◌, ◌+◌, ℕ, List, []};
+ghost use Rattle.std.specs.Prelude.{◌≡◌, ◌+◌, ℕ, Bool, List, []};
 ghost use Rattle.std.specs.List.{All};
 ghost use Rattle.co_profile.specs.Keys.{emergency_inhibit_key};
 ghost use Rattle.co_dict.specs.Rows.{number_at};
@@ -11,6 +11,7 @@ ghost use Rattle.co_sheet.specs.SheetLaws.{IsSheetRow};
 ghost use Rattle.co_node_laws.specs.Apart.{BeginsApart};
 ghost use Rattle.co_node_model.specs.Moments.{Constants};
 ghost use Rattle.conode_compare_rules.specs.declared.limits.Subject.{Subject};
+ghost use Rattle.conode_compare_rules.specs.EntriesInForce.{facts_of};
 ghost use Rattle.conode_compare_laws.specs.AnswerSenders.{BeginsOther, HaveBytes};
 ghost use Rattle.conode_compare_laws.specs.Differences.{differences_in, inhibit_differences};
 ghost use Rattle.conode_compare_laws.specs.Identifiers.{
@@ -19,13 +20,14 @@ ghost use Rattle.conode_compare_laws.specs.Identifiers.{
   BeginsAside,
   IsUnnamed,
 };
-ghost use Rattle.conode_compare_laws.specs.Periods.{AllHaveInhibit, KnowsInhibit};
+ghost use Rattle.conode_compare_laws.specs.Periods.{AllHaveInhibit, AllWriteFirst, KnowsInhibit};
 ghost use Rattle.conode_compare_laws.specs.Recordings.{AreUnhurried, Stamped, recording};
 ghost use Rattle.conode_compare_laws.specs.ShownWords.{AllHaveWord, AllKeepWord};
 
 use crate::answer_laws::{begins_other, sends_other};
 use crate::aside::sends_aside;
 use crate::built_devices::begins_aside;
+use crate::kept_times::{keeps_inhibit, leaves_asked, times_of_sheet};
 use co_node::begins_apart;
 use co_node_laws::stays_apart;
 use co_sdo::Bank;
@@ -78,17 +80,17 @@ pub fn no_early_emergencies_shown()
 
 /// So has the recording of each device that is built from a data sheet:
 /// `no_early_emergencies_shown` of it, without a condition on the bytes of 1015:00, since what is
-/// written into it fits. Conditions: the rows are those of a sheet that was read (`IsSheetRow`);
-/// `compare` has the device's node-ID; 1015:00 has one number from the build on (`AllHaveInhibit`);
-/// and those of `no_early_emergencies_shown` on the data sheet, the stamps and the frames. This is a
-/// law: a call of it changes nothing.
+/// written into it fits, nor on what clients ask to write, since that is what it then has.
+/// Conditions: the rows are those of a sheet that was read (`IsSheetRow`); `compare` has the device's
+/// node-ID; 1015:00 has one number from the build on (`AllHaveInhibit`); and those of
+/// `no_early_emergencies_shown` on the data sheet, the stamps and the frames. This is a law: a call
+/// of it changes nothing.
 pub fn built_no_early_emergencies()
     ensures { (plan : Plan) (k : Constants) (subject : Subject) (rows : List Row) (inhibit : ℕ)
         (inputs : List Stamped) → IsBuilt plan k → All IsSheetRow plan.rows →
         subject.node ≡ k.description.node → number_at k.start emergency_inhibit_key ≡ inhibit →
         AllHaveInhibit inhibit k [] inputs → KnowsInhibit inhibit subject →
         AreUnhurried inputs → HaveBytes inputs →
-        AllKeepWord emergency_inhibit_key inhibit k [] inputs →
         AreElsewhere (0x700 + k.description.node) inputs →
         AreElsewhere (0x80 + k.description.node) inputs →
         AreElsewhere (0x580 + k.description.node) inputs →
@@ -99,5 +101,29 @@ pub fn built_no_early_emergencies()
     begins_apart();
     begins_aside();
     begins_other();
+    leaves_asked();
     no_early_emergencies_shown();
+}
+
+/// So has the recording of each such device where `compare` has the facts of its data sheet
+/// (`facts_of`), without a condition on what is known of 1015:00. Conditions: the rows are those of
+/// a sheet that was read (`IsSheetRow`); `compare` has the device's node-ID; whoever writes 1015:00
+/// writes the number that it began with (`AllWriteFirst`), as where it is constant
+/// (`constant_unwritten`); and those of `no_early_emergencies_shown` on the stamps and the frames.
+/// This is a law: a call of it changes nothing.
+pub fn sheet_no_early_emergencies()
+    ensures { (plan : Plan) (k : Constants) (subject : Subject) (rows : List Row)
+        (configured : Bool) (inputs : List Stamped) → IsBuilt plan k →
+        All IsSheetRow plan.rows → subject.node ≡ k.description.node →
+        subject.facts ≡ facts_of plan.rows plan.node configured →
+        AllWriteFirst emergency_inhibit_key k [] inputs → AreUnhurried inputs →
+        HaveBytes inputs → AreElsewhere (0x700 + k.description.node) inputs →
+        AreElsewhere (0x80 + k.description.node) inputs →
+        AreElsewhere (0x580 + k.description.node) inputs →
+        AllSendWithout (0x80 + k.description.node) k [] inputs →
+        differences_in inhibit_differences subject rows (recording k inputs) ≡ [] }
+{
+    built_no_early_emergencies();
+    keeps_inhibit();
+    times_of_sheet();
 }

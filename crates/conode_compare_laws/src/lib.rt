@@ -10,6 +10,7 @@ mod early_emergencies;
 mod emergencies;
 mod entries;
 mod held_entries;
+mod kept_times;
 mod late_heartbeats;
 mod rooms;
 mod states;
@@ -27,13 +28,18 @@ pub use built_devices::{begins_aside, built_no_state_differences};
 pub use early_aborts::{built_no_early_aborts, no_early_aborts};
 pub use early_emergencies::{
     built_no_early_emergencies, no_early_emergencies, no_early_emergencies_shown,
+    sheet_no_early_emergencies,
 };
 pub use emergencies::no_emergency_differences;
 pub use entries::stays_dictionary;
 pub use held_entries::held_changes_no_other;
+pub use kept_times::{
+    constant_unwritten, follows_period, keeps_inhibit, leaves_asked, times_of_sheet, told_of_sheet,
+    writes_seen,
+};
 pub use late_heartbeats::{
     built_no_late_heartbeats, built_no_late_heartbeats_written, no_late_heartbeats,
-    no_late_heartbeats_shown, no_late_heartbeats_written,
+    no_late_heartbeats_shown, no_late_heartbeats_written, sheet_no_late_heartbeats,
 };
 pub use rooms::rooms_of_device;
 pub use states::no_state_differences;

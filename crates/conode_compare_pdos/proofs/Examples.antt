@@ -5,6 +5,14 @@ use Rattle.co_profile.specs.declared.access.Access.TheVariants.{Constant, Rw}
 use Rattle.co_sheet.specs.Content.{Row}
 use Rattle.co_sheet.specs.Limits.{Default, absent, number, node_id}
 use Rattle.co_value.specs.declared.data_type.DataType.TheVariants.{Unsigned32}
+use Rattle.conode_explain_transfers.specs.declared.ended.Ended.{Ended}
+use Rattle.conode_explain_transfers.specs.declared.ended.Ending.{Ending}
+use Rattle.conode_explain_transfers.specs.declared.ended.Ending.TheVariants.{Aborted, Done, Irregular}
+use Rattle.conode_explain_transfers.specs.declared.kinds.Direction.{Direction}
+use Rattle.conode_explain_transfers.specs.declared.kinds.Direction.TheVariants.{Download, Upload}
+use Rattle.conode_explain_transfers.specs.declared.kinds.Protocol.{Protocol}
+use Rattle.conode_explain_transfers.specs.declared.kinds.Protocol.TheVariants.{Expedited, Segmented}
+use Rattle.conode_explain_transfers.specs.declared.kinds.Side.TheVariants.{Server}
 use Rattle.conode_compare_pdos.specs.declared.deviation.Deviation.TheVariants.{Length, NotOperational, WithoutSync, Inhibit, Timer}
 use Rattle.conode_compare_pdos.specs.declared.deviation.Moment.{Moment}
 use Rattle.conode_compare_pdos.specs.declared.parameters.Parameters.{Parameters}
@@ -13,7 +21,7 @@ use Rattle.conode_compare_pdos.specs.Deviations.{deviation_at, is_judged, time_d
 use Rattle.conode_compare_pdos.specs.Followed.{are_several, sighting, unknown_pdos}
 use Rattle.conode_compare_pdos.specs.Identifiers.{is_cob_id, may_change, may_get, may_have}
 use Rattle.conode_compare_pdos.specs.PdoParameters.{asked_to_write, counted_bytes, identifier_of, length_of, mapped_bytes, parameters_of, shown}
-use Rattle.conode_compare_pdos.specs.Tpdos.{after_frame, after_gap, after_poll, after_request, after_sync, booted_tpdo}
+use Rattle.conode_compare_pdos.specs.Tpdos.{after_frame, after_gap, after_poll, after_request, after_sync, after_transfer, booted_tpdo}
 
 -- 10 ms and 1 %, operational; the bus was free 1 ms before the frame
 abbrev at : ℕ → Moment
@@ -297,6 +305,46 @@ mapping_written = refl
 
 other_mapping : after_request (record { index = 0x1A01; sub = 1 }) 7 0 tpdo ≡ tpdo
 other_mapping = refl
+
+-- a transfer of 1800h ended: the event timer may begin anew, whatever the sub-index and the protocol
+abbrev transferred : Direction → Protocol → Ending → ℕ → ℕ → Ended
+transferred direction protocol ending index sub = record {
+  key = record { index = index; sub = sub };
+  direction = direction;
+  protocol = protocol;
+  bytes = 2;
+  first = record { items = 1 ∷ 2 ∷ [] };
+  frames = 4;
+  begun = 5;
+  newest = 6;
+  end = 7;
+  ending = ending;
+}
+
+in_one_frame : after_transfer (transferred Download Expedited (Done false) 0x1800 5) 7 0 sent
+    ≡ record sent { parameters = record event_driven { timer = Some 0x201 }; sent = None; syncs = 2; changed = Some 7 }
+in_one_frame = refl
+
+-- in segments it shows nothing
+in_segments : map (λ ending. after_transfer (transferred Download Segmented ending 0x1800 5) 7 0 sent) (Done false ∷ Irregular ∷ [])
+    ≡ record sent { sent = None; syncs = 2; changed = Some 7 } ∷ record sent { sent = None; syncs = 2; changed = Some 7 } ∷ []
+in_segments = refl
+
+other_sub_index : after_transfer (transferred Download Segmented (Done false) 0x1800 6) 7 0 sent ≡ record sent { sent = None; syncs = 2; changed = Some 7 }
+other_sub_index = refl
+
+-- an upload in segments, and one that is refused, change nothing; one in one frame shows what the entry has
+uploaded : map (λ ending. after_transfer (transferred Upload Segmented ending 0x1800 5) 7 0 sent) (Done false ∷ Aborted Server (record { 0 = 0x06090011 }) ∷ []) ≡ sent ∷ sent ∷ []
+uploaded = refl
+
+refused : after_transfer (transferred Upload Expedited (Aborted Server (record { 0 = 0x06090011 })) 0x1800 4) 7 0 sent ≡ sent
+refused = refl
+
+shown_upload : (after_transfer (transferred Upload Expedited (Done false) 0x1800 5) 7 0 sent).parameters ≡ record event_driven { timer = Some 0x201 }
+shown_upload = refl
+
+of_another : after_transfer (transferred Download Segmented (Done false) 0x1801 5) 7 0 sent ≡ sent
+of_another = refl
 
 -- ---- frames of others
 

@@ -1,10 +1,12 @@
 -- A TPDO in a recording: its parameters, its newest frame, and the SYNCs that it may answer (CiA
 -- 301, 7.2.2).
-use Rattle.std.specs.Prelude.{ℕ, ◌+◌, ◌-◌, ◌==◌, nat_le, Bool, true, false, if◌then◌else◌, Option, Some, None}
+use Rattle.std.specs.Prelude.{ℕ, ◌+◌, ◌-◌, ◌==◌, nat_le, Bool, true, false, ◌||◌, if◌then◌else◌, Option, Some, None}
 use Rattle.co_value.specs.declared.key.Key.{Key}
 use Rattle.conode_explain_transfers.specs.declared.ended.Ended.{Ended}
 use Rattle.conode_explain_transfers.specs.declared.ended.Ending.{Ending}
 use Rattle.conode_explain_transfers.specs.declared.ended.Ending.TheVariants.{Done}
+use Rattle.conode_explain_transfers.specs.declared.kinds.Direction.{Direction}
+use Rattle.conode_explain_transfers.specs.declared.kinds.Direction.TheVariants.{Download}
 use Rattle.conode_explain_transfers.specs.declared.kinds.Protocol.{Protocol}
 use Rattle.conode_explain_transfers.specs.declared.kinds.Protocol.TheVariants.{Expedited}
 use Rattle.conode_compare_pdos.specs.declared.deviation.Moment.{Moment}
@@ -68,10 +70,20 @@ abbrev pub shows_bytes : Protocol → Ending → Bool
 shows_bytes Expedited (Done crc) = true
 shows_bytes protocol ending = false
 
--- a transfer ended
+-- one in segments or blocks doesn't show what its entry has
+abbrev pub parameters_shown : Ended → Parameters → Parameters
+parameters_shown ended parameters =
+    if shows_bytes ended.protocol ended.ending then shown parameters ended.key.sub ended.first.items else parameters
+
+abbrev pub is_download : Direction → Bool
+is_download Download = true
+is_download other = false
+
+-- A transfer ended. A device may begin the event timer anew where a parameter is written, whatever the
+-- sub-index and the protocol; an upload that shows nothing changes nothing.
 abbrev pub after_transfer : Ended → ℕ → ℕ → Tpdo → Tpdo
 after_transfer ended micros number pdo =
     if ended.key.index == communication number then
-    (if shows_bytes ended.protocol ended.ending then with_parameters micros pdo.odd (shown pdo.parameters ended.key.sub ended.first.items)
-    else pdo)
+    (if is_download ended.direction || shows_bytes ended.protocol ended.ending
+    then with_parameters micros pdo.odd (parameters_shown ended pdo.parameters) else pdo)
     else pdo

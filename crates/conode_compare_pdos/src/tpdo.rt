@@ -11,7 +11,9 @@ ghost use Rattle.conode_compare_pdos.specs.Tpdos.{
   after_sync,
   after_transfer,
   booted_tpdo,
+  is_download,
   is_id,
+  parameters_shown,
   shows_bytes,
   unknown_tpdo,
   with_parameters,
@@ -20,7 +22,7 @@ ghost use Rattle.conode_compare_pdos.specs.Tpdos.{
 use crate::deviation::{Moment, shows_length};
 use crate::parameters::{Parameters, communication, mapping};
 use co_value::Key;
-use conode_explain_transfers::{Ended, Ending, Protocol};
+use conode_explain_transfers::{Direction, Ended, Ending, Protocol};
 
 /// When a frame of it came.
 #[derive(Clone, Copy)]
@@ -67,6 +69,23 @@ pub(crate) fn shows_bytes(ended: &Ended) -> bool
         (ended.protocol, ended.ending),
         (Protocol::Expedited, Ending::Done { crc: _ })
     )
+}
+
+fn is_download(direction: Direction) -> bool
+    ensures { result ≡ is_download direction }
+{
+    matches!(direction, Direction::Download)
+}
+
+// the parameters after a transfer of one of them
+fn parameters_shown(ended: &Ended, parameters: Parameters) -> Parameters
+    ensures { result ≡ parameters_shown ended.now parameters }
+{
+    if shows_bytes(ended) {
+        parameters.shown(ended.key.sub, ended.first.as_slice())
+    } else {
+        parameters
+    }
 }
 
 impl Tpdo {
@@ -199,14 +218,18 @@ impl Tpdo {
         self
     }
 
-    /// A transfer ended.
+    /// A transfer ended. Where a parameter is written a device may begin the event timer anew,
+    /// whatever the protocol.
     pub(crate) fn after_transfer(self, number: u8, ended: &Ended, micros: u64) -> Tpdo
         ensures { result ≡ after_transfer ended.now micros number self }
     {
-        if ended.key.index != communication(number) || !shows_bytes(ended) {
+        if ended.key.index != communication(number) {
             return self;
         }
-        let parameters = self.parameters.shown(ended.key.sub, ended.first.as_slice());
-        self.with_parameters(micros, parameters)
+        if is_download(ended.direction) || shows_bytes(ended) {
+            self.with_parameters(micros, parameters_shown(ended, self.parameters))
+        } else {
+            self
+        }
     }
 }

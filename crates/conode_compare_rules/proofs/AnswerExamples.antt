@@ -1,5 +1,5 @@
 -- What is found of answers while the device is stopped, and by the client's confirmation of a block upload, computed from the definitions.
-use Rattle.std.proofs.Common.{◌≡◌, ℕ, Bool, true, false, List, [], ◌∷◌, Option, Some, None, refl}
+use Rattle.std.proofs.Common.{◌≡◌, ℕ, Bool, true, false, List, [], ◌∷◌, map, Option, Some, None, refl}
 use Rattle.std.specs.Prelude.{pos}
 use Rattle.co_frame.specs.FrameContent.{FrameContent}
 use Rattle.co_frame.specs.declared.nmt.NmtService.TheVariants.{Stop}
@@ -19,7 +19,7 @@ use Rattle.conode_compare_values.specs.SheetValues.{mismatch_at, row_mismatch, v
 use Rattle.conode_compare_values.specs.HeldNumbers.{held_mismatch, nothing_written}
 use Rattle.conode_compare_rules.specs.declared.finding.Finding.{Finding}
 use Rattle.conode_compare_rules.specs.declared.finding.Finding.TheVariants.{AnswerStopped, Transfer, Value}
-use Rattle.conode_compare_rules.specs.declared.finding.NmtState.TheVariants.{Operational, Stopped}
+use Rattle.conode_compare_rules.specs.declared.finding.NmtState.TheVariants.{PreOperational, Operational, Stopped}
 use Rattle.conode_compare_rules.specs.declared.limits.Subject.{Subject}
 use Rattle.conode_compare_rules.specs.declared.nmt.Nmt.{Nmt}
 use Rattle.conode_compare_rules.specs.Answers.{answer_finding, confirmed_finding, ended_finding, held_finding, is_exact, stopped_finding, what_finding}
@@ -36,6 +36,8 @@ stopped_at micros = record {
   reset = None;
   several = false;
   booted = None;
+  due = Stopped;
+  changed = None;
 }
 
 abbrev answered_in : Bool → Exchange
@@ -56,6 +58,16 @@ answered_stopped = refl
 requested_just_now : stopped_finding limits 0 (stopped_at 100001) (answered_in true) ≡ None
 unfolding stopped_finding is_settled
 requested_just_now = refl
+
+-- the device had stopped by itself just then
+stopped_just_now : map (λ changed. stopped_finding limits 0 (record (stopped_at 0) { changed = Some changed }) (answered_in true)) (100000 ∷ 100001 ∷ []) ≡ Some (AnswerStopped (key 0x1000 0)) ∷ None ∷ []
+unfolding stopped_finding is_settled
+stopped_just_now = refl
+
+-- it may have left stopped by the newest command, whatever the heartbeat showed since
+leaves_stopped : map (λ due. stopped_finding limits 0 (record (stopped_at 0) { due = due }) (answered_in true)) (Operational ∷ PreOperational ∷ []) ≡ None ∷ None ∷ []
+unfolding stopped_finding is_settled
+leaves_stopped = refl
 
 -- a request that came before may be answered
 perhaps_earlier : stopped_finding limits 0 (stopped_at 100000) (answered_in false) ≡ None

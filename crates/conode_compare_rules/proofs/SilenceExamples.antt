@@ -4,7 +4,7 @@ use Rattle.co_value.specs.declared.key.Key.{Key}
 use Rattle.conode_compare_transfers.specs.declared.dialogue.Dialogue.{Dialogue}
 use Rattle.conode_compare_transfers.specs.Dialogues.{is_certain, nothing_asked}
 use Rattle.conode_compare_rules.specs.declared.finding.Finding.TheVariants.{NoAnswer}
-use Rattle.conode_compare_rules.specs.declared.finding.NmtState.TheVariants.{Operational}
+use Rattle.conode_compare_rules.specs.declared.finding.NmtState.TheVariants.{Unknown, Operational}
 use Rattle.conode_compare_rules.specs.declared.limits.Limits.{Limits}
 use Rattle.conode_compare_rules.specs.declared.nmt.Nmt.{Nmt}
 use Rattle.conode_compare_rules.specs.Answers.{shows_stopped, silence_finding}
@@ -14,7 +14,7 @@ abbrev limits : Limits
 limits = record { tolerance = 10; drift = 1; answer = 1000; boot = 10000; time = None }
 
 abbrev operational : Nmt
-operational = record { state = Operational; commanded = None; reset = None; several = false; booted = None }
+operational = record { state = Operational; commanded = None; reset = None; several = false; booted = None; due = Unknown; changed = None }
 
 abbrev awaited : Key
 awaited = record { index = 0x1000; sub = 0 }
@@ -29,6 +29,11 @@ late = refl
 not_yet : silence_finding limits 0 operational asking 3000000 5 ≡ None
 unfolding silence_finding is_settled is_certain
 not_yet = refl
+
+-- a heartbeat showed another state, 10 ms before the request and later
+changed_before : map (λ changed. silence_finding limits 0 (record operational { changed = Some changed }) asking 3000001 5) (1989999 ∷ 1990000 ∷ []) ≡ Some (NoAnswer awaited 1000001) ∷ None ∷ []
+unfolding silence_finding is_settled is_certain
+changed_before = refl
 
 -- a heartbeat that shows stopped: it may have stopped by itself before the request
 stopped_since : silence_finding limits 0 operational asking 3000001 4 ≡ None

@@ -3,7 +3,8 @@
 use Rattle.std.proofs.Common.{◌≡◌, ℕ, true, false, [], ◌∷◌, map, Some, None, refl}
 use Rattle.co_frame.specs.SdoRequests.{request_row_in}
 use Rattle.co_frame.specs.declared.nmt.NmtService.{NmtService}
-use Rattle.co_frame.specs.declared.nmt.NmtService.TheVariants.{Start, Stop, ResetNode}
+use Rattle.co_frame.specs.declared.nmt.NmtService.TheVariants.{Start, Stop, EnterPreOperational, ResetNode}
+use Rattle.conode_compare_pdos.specs.declared.deviation.Moment.{Moment}
 use Rattle.conode_compare_pdos.specs.Followed.{unknown_pdos}
 use Rattle.conode_explain_transfers.specs.declared.kinds.Side.TheVariants.{Client}
 use Rattle.conode_compare_rules.specs.declared.finding.Finding.TheVariants.{BootMissing, SecondBootUp, NoState, WrongState, EmergencyStopped}
@@ -19,8 +20,8 @@ use Rattle.conode_compare_transfers.specs.NewestFrames.{newest_after, newest_wit
 use Rattle.conode_compare_rules.specs.EmergencyRules.{emergency_finding, inhibit_finding}
 use Rattle.conode_compare_rules.specs.FrameKinds.{command_kind}
 use Rattle.conode_compare_rules.specs.Progresses as progresses
-use Rattle.conode_compare_rules.specs.Progresses.{after_frame, before_recording, control_judged, emergency_findings, still_awaited}
-use Rattle.conode_compare_rules.specs.States.{either_state, after_boot_up, after_command, after_control, after_other, awaits_boot_up, boot_finding, control_finding, is_settled, nothing_commanded, restart_remark, second_boot_up, state_finding}
+use Rattle.conode_compare_rules.specs.Progresses.{after_frame, before_recording, control_judged, emergency_findings, moment_at, still_awaited}
+use Rattle.conode_compare_rules.specs.States.{either_state, after_boot_up, after_command, after_control, after_other, awaits_boot_up, boot_finding, control_finding, freer, is_settled, is_steady, is_turn, nothing_commanded, restart_remark, second_boot_up, state_finding, with_state}
 use Rattle.conode_compare_rules.specs.Verdicts.{found}
 use Rattle.conode_compare_rules.specs.OtherClients.{no_clients}
 use Rattle.conode_compare_rules.proofs.Examples.{entries, limits}
@@ -83,6 +84,8 @@ reset_at micros = record {
   reset = Some micros;
   several = false;
   booted = None;
+  due = Unknown;
+  changed = None;
 }
 
 awaited : boot_finding limits (reset_at 1) 10000001 ≡ None
@@ -117,7 +120,7 @@ unfolding second_boot_up
 again = refl
 
 -- a boot-up without a reset
-restarted : restart_remark (record { state = Stopped; commanded = None; reset = Some 5; several = false; booted = None }) 9000000 ≡ Some Restarted
+restarted : restart_remark (record { state = Stopped; commanded = None; reset = Some 5; several = false; booted = None; due = Unknown; changed = None }) 9000000 ≡ Some Restarted
 unfolding restart_remark second_boot_up
 restarted = refl
 
@@ -131,21 +134,21 @@ unfolding restart_remark second_boot_up
 power_on = refl
 
 -- of which more than one boot-up may come
-perhaps_commanded : restart_remark (record { state = PreOperational; commanded = None; reset = Some 5; several = true; booted = None }) 9000000 ≡ None
+perhaps_commanded : restart_remark (record { state = PreOperational; commanded = None; reset = Some 5; several = true; booted = None; due = Unknown; changed = None }) 9000000 ≡ None
 unfolding restart_remark second_boot_up
 perhaps_commanded = refl
 
 -- a second one within a second is another device's
-of_another : restart_remark (record { state = PreOperational; commanded = None; reset = None; several = false; booted = Some 0 }) 1000000 ≡ None
+of_another : restart_remark (record { state = PreOperational; commanded = None; reset = None; several = false; booted = Some 0; due = Unknown; changed = None }) 1000000 ≡ None
 unfolding restart_remark second_boot_up
 of_another = refl
 
-restarted_again : restart_remark (record { state = PreOperational; commanded = None; reset = None; several = false; booted = Some 0 }) 1000001 ≡ Some Restarted
+restarted_again : restart_remark (record { state = PreOperational; commanded = None; reset = None; several = false; booted = Some 0; due = Unknown; changed = None }) 1000001 ≡ Some Restarted
 unfolding restart_remark second_boot_up
 restarted_again = refl
 
 -- a device that is up answers a reset by one boot-up
-one_due : (after_boot_up limits (after_command (record { state = Stopped; commanded = None; reset = None; several = false; booted = None }) ResetNode false 0) 5).booted ≡ Some 5
+one_due : (after_boot_up limits (after_command (record { state = Stopped; commanded = None; reset = None; several = false; booted = None; due = Unknown; changed = None }) ResetNode false 0) 5).booted ≡ Some 5
 unfolding after_command after_boot_up
 one_due = refl
 
@@ -174,6 +177,8 @@ started_at micros = record {
   reset = None;
   several = false;
   booted = None;
+  due = Unknown;
+  changed = None;
 }
 
 -- a Start shortly before a boot-up may have been taken
@@ -194,14 +199,14 @@ start_initialising : (after_command (reset_at 0) Start false 5).state ≡ Initia
 unfolding after_command
 start_initialising = refl
 
-start : (after_command (record { state = PreOperational; commanded = None; reset = None; several = false; booted = Some 0 }) Start false 5).state ≡ Operational
+start : (after_command (record { state = PreOperational; commanded = None; reset = None; several = false; booted = Some 0; due = Unknown; changed = None }) Start false 5).state ≡ Operational
 unfolding after_command
 start = refl
 
 -- a command to all nodes that the device may have sent itself, as the NMT master: it may follow it or
 -- not
 abbrev up_in : NmtState → Nmt
-up_in state = record { state = state; commanded = None; reset = None; several = false; booted = Some 0 }
+up_in state = record { state = state; commanded = None; reset = None; several = false; booted = Some 0; due = Unknown; changed = None }
 
 stop_of_others : (after_command (up_in Operational) Stop false 5).state ≡ Stopped
 unfolding after_command
@@ -285,6 +290,8 @@ commanded_to service state = record {
   reset = None;
   several = false;
   booted = None;
+  due = state;
+  changed = None;
 }
 
 -- the bus was free last 10 ms after it: the heartbeat may be one of the state before
@@ -316,6 +323,97 @@ judged_when_free = refl
 emergency_waits : map (λ free. (emergency_findings device (after_stop free) 150000 0 0).frame) (110000 ∷ 110001 ∷ []) ≡ None ∷ Some EmergencyStopped ∷ []
 unfolding emergency_findings emergency_finding inhibit_finding is_settled found
 emergency_waits = refl
+
+-- ---- a device that is slow to follow a command
+
+freer_states : map (λ state. map (freer state) (Unknown ∷ Initialising ∷ PreOperational ∷ Operational ∷ Stopped ∷ [])) (Unknown ∷ Initialising ∷ PreOperational ∷ Operational ∷ Stopped ∷ [])
+    ≡ (Unknown ∷ Unknown ∷ Unknown ∷ Unknown ∷ Unknown ∷ [])
+    ∷ (Initialising ∷ Initialising ∷ Initialising ∷ Initialising ∷ Initialising ∷ [])
+    ∷ (PreOperational ∷ PreOperational ∷ PreOperational ∷ Operational ∷ PreOperational ∷ [])
+    ∷ (Operational ∷ Operational ∷ Operational ∷ Operational ∷ Operational ∷ [])
+    ∷ (Stopped ∷ Stopped ∷ PreOperational ∷ Operational ∷ Stopped ∷ [])
+    ∷ []
+freer_states = refl
+
+commanded_is_due : map (λ service. (after_command (up_in PreOperational) service false 5).due) (Start ∷ Stop ∷ EnterPreOperational ∷ ResetNode ∷ []) ≡ Operational ∷ Stopped ∷ PreOperational ∷ Initialising ∷ []
+unfolding after_command
+commanded_is_due = refl
+
+-- a heartbeat of the state before, 50 ms after Start
+abbrev slow_start : Nmt
+slow_start = after_control limits 0 (commanded_to Start Operational) 150000 150000 127
+
+shows_before : slow_start ≡ record (commanded_to Start Operational) { state = PreOperational; changed = Some 150000 }
+unfolding after_control after_other awaits_boot_up is_settled
+shows_before = refl
+
+-- a TPDO and the next heartbeat may be those of either state
+abbrev later_in : Nmt → Progress
+later_in nmt = record (before_recording device) { free = 250000; nmt = nmt }
+
+sends_pdo : (moment_at device (later_in slow_start) 250000).idle ≡ false
+unfolding moment_at after_control after_other awaits_boot_up is_settled
+sends_pdo = refl
+
+becomes_operational : control_finding device 0 false slow_start 250000 250000 5 ≡ None
+unfolding control_finding state_finding after_control after_other awaits_boot_up is_settled
+becomes_operational = refl
+
+-- once a heartbeat showed the state, a device that falls back sends none
+abbrev fell_back : Nmt
+fell_back = after_control limits 0 (after_control limits 0 slow_start 160000 160000 5) 170000 170000 127
+
+falls_back_later : (fell_back.due ≡ Unknown) × ((moment_at device (later_in fell_back) 250000).idle ≡ true)
+unfolding moment_at after_control after_other awaits_boot_up is_settled
+falls_back_later = (refl, refl)
+
+-- from stopped to pre-operational
+abbrev slow_entry : Nmt
+slow_entry = after_control limits 0 (commanded_to EnterPreOperational PreOperational) 150000 150000 4
+
+enters_later : map (control_finding device 0 false slow_entry 250000 250000) (4 ∷ 127 ∷ 5 ∷ []) ≡ None ∷ None ∷ Some (WrongState Operational PreOperational) ∷ []
+unfolding control_finding state_finding after_control after_other awaits_boot_up is_settled
+enters_later = refl
+
+-- after a boot-up no state is due, but by a command that it may have taken
+due_after_boot_up : map (λ micros. (after_boot_up limits (record (started_at 0) { due = Operational }) micros).due) (10000000 ∷ 10000001 ∷ []) ≡ Operational ∷ Unknown ∷ []
+unfolding after_boot_up
+due_after_boot_up = refl
+
+-- ---- a device that changes its state by itself, at 100 ms
+
+abbrev changed_to : NmtState → Nmt
+changed_to state = with_state (up_in Operational) state 100000
+
+steady : map (is_steady limits (changed_to Stopped)) (110000 ∷ 110001 ∷ []) ≡ false ∷ true ∷ []
+steady = refl
+
+turns : map (λ state. map (is_turn state) (PreOperational ∷ Operational ∷ Stopped ∷ [])) (Unknown ∷ Initialising ∷ PreOperational ∷ Operational ∷ Stopped ∷ [])
+    ≡ (false ∷ false ∷ true ∷ []) ∷ (false ∷ false ∷ false ∷ []) ∷ (false ∷ false ∷ true ∷ []) ∷ (true ∷ false ∷ true ∷ []) ∷ (true ∷ true ∷ false ∷ []) ∷ []
+turns = refl
+
+-- a device that becomes operational leaves no doubt
+no_doubt : (with_state (up_in PreOperational) Operational 100000).changed ≡ None
+no_doubt = refl
+
+no_change : ((changed_to Operational).changed ≡ None) × (is_steady limits (changed_to Operational) 100000 ≡ true)
+no_change = (refl, refl)
+
+-- an EMCY and a TPDO may have been on their way
+emergency_on_its_way : map (λ free. (emergency_findings device (record (before_recording device) { free = free; nmt = changed_to Stopped }) 150000 0 0).frame) (110000 ∷ 110001 ∷ []) ≡ None ∷ Some EmergencyStopped ∷ []
+unfolding emergency_findings emergency_finding inhibit_finding is_settled found
+emergency_on_its_way = refl
+
+abbrev moment_after : ℕ → Moment
+moment_after free = moment_at device (record (before_recording device) { free = free; nmt = changed_to PreOperational }) 150000
+
+pdo_on_its_way : map (λ free. (moment_after free).idle) (110000 ∷ 110001 ∷ []) ≡ false ∷ true ∷ []
+unfolding moment_at is_settled
+pdo_on_its_way = refl
+
+pdo_unjudged : map (λ free. (moment_after free).known) (110000 ∷ 110001 ∷ []) ≡ false ∷ true ∷ []
+unfolding moment_at is_settled
+pdo_unjudged = refl
 
 -- ---- a command with more than two bytes: the device is in the state before, or in that after it
 

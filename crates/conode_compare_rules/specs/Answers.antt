@@ -27,7 +27,7 @@ use Rattle.conode_compare_rules.specs.declared.limits.Subject.{Subject}
 use Rattle.conode_compare_rules.specs.declared.nmt.Nmt.{Nmt}
 use Rattle.conode_compare_transfers.specs.Dialogues.{is_certain, is_timed}
 use Rattle.conode_compare_rules.specs.EmergencyRules.{is_stopped}
-use Rattle.conode_compare_rules.specs.States.{is_settled}
+use Rattle.conode_compare_rules.specs.States.{is_settled, is_steady, judged_state}
 use Rattle.conode_compare_transfers.specs.Timeouts.{early_abort}
 use Rattle.conode_compare_transfers.specs.Times.{is_past}
 
@@ -112,11 +112,11 @@ answer_finding subject rows micros exchange frame =
     else None
 
 -- `answer-state`: the answer to a request that came while the device was stopped, once the
--- tolerance after the command was over
+-- tolerance after the command, or the change, was over
 abbrev pub stopped_with : Limits → ℕ → Nmt → Option Asked → Option Finding
 stopped_with limits started nmt None = None
 stopped_with limits started nmt (Some asked) =
-    if is_stopped nmt.state && is_settled limits started nmt.commanded asked.micros then Some (AnswerStopped asked.key) else None
+    if is_stopped (judged_state nmt) && (is_settled limits started nmt.commanded asked.micros && is_steady limits nmt asked.micros) then Some (AnswerStopped asked.key) else None
 
 unfoldable pub stopped_finding : Limits → ℕ → Nmt → Exchange → Option Finding
 stopped_finding limits started nmt exchange = if exchange.certain then stopped_with limits started nmt exchange.asked else None
@@ -142,9 +142,12 @@ answers_in PreOperational = true
 answers_in Operational = true
 answers_in other = false
 
+-- Where a heartbeat after the request shows that the device left stopped, it may have been stopped.
 abbrev pub could_answer : Limits → ℕ → Nmt → Dialogue → Asked → Bool
 could_answer limits started nmt dialogue asked =
-    answers_in nmt.state && (is_settled limits started nmt.commanded asked.micros && is_certain limits.answer started dialogue.slow dialogue.doubted asked.micros)
+    answers_in nmt.state
+    && (is_settled limits started nmt.commanded asked.micros
+    && (is_steady limits nmt asked.micros && is_certain limits.answer started dialogue.slow dialogue.doubted asked.micros))
 
 -- `no-answer`, by a heartbeat: the device lives, and could have answered since it was asked
 abbrev pub silence_of : Limits → ℕ → Nmt → Dialogue → Option Asked → ℕ → Option Finding

@@ -39,7 +39,7 @@ use Rattle.conode_compare_rules.specs.EntriesInForce.{asked_by, asked_to_write, 
 use Rattle.conode_compare_rules.specs.OtherClients.{is_channel, may_send}
 use Rattle.conode_compare_rules.specs.Heartbeats.{after_byte, after_transfer, early_remark, follows_closely, late_finding, no_heartbeat, is_gap, is_missing, with_shown}
 use Rattle.conode_compare_rules.specs.States as states
-use Rattle.conode_compare_rules.specs.States.{boot_finding, control_finding, is_operational, is_reset, is_settled, nothing_commanded, restart_remark}
+use Rattle.conode_compare_rules.specs.States.{boot_finding, control_finding, is_operational, is_reset, is_settled, is_steady, judged_state, nothing_commanded, restart_remark}
 use Rattle.conode_compare_transfers.specs.Times.{is_past}
 use Rattle.conode_compare_rules.specs.Verdicts.{found, nothing_found}
 
@@ -176,6 +176,11 @@ is_known state = true
 abbrev pub settled_when_free : Subject → Progress → Bool
 settled_when_free subject progress = is_settled subject.limits progress.started progress.nmt.commanded progress.free
 
+-- and since a heartbeat showed that it left operational or stopped, or entered stopped
+abbrev pub steady_when_free : Subject → Progress → Bool
+steady_when_free subject progress =
+    settled_when_free subject progress && is_steady subject.limits progress.nmt progress.free
+
 -- a heartbeat is judged where the state is known, and was settled when the bus was free last
 unfoldable pub control_judged : Subject → Progress → Bool
 control_judged subject progress =
@@ -243,7 +248,7 @@ after_odd_control subject progress micros = record progress {
 unfoldable pub emergency_findings : Subject → Progress → ℕ → ℕ → ℕ → Findings
 emergency_findings subject progress micros code register =
     found None (late_by subject progress progress.entries.emergencies micros) None
-    (emergency_finding subject.limits progress.entries progress.nmt.state (settled_when_free subject progress) progress.emergency micros code register)
+    (emergency_finding subject.limits progress.entries (judged_state progress.nmt) (steady_when_free subject progress) progress.emergency micros code register)
     progress.entries.emergencies
 
 abbrev pub odd_emergency_findings : Progress → ℕ → Findings
@@ -381,8 +386,8 @@ moment_at subject progress micros = record {
   free = progress.free;
   tolerance = subject.limits.tolerance;
   drift = subject.limits.drift;
-  idle = settled_when_free subject progress && is_idle subject.facts.starts_itself progress.nmt.state;
-  known = settled_when_free subject progress && is_known progress.nmt.state;
+  idle = steady_when_free subject progress && is_idle subject.facts.starts_itself (judged_state progress.nmt);
+  known = steady_when_free subject progress && is_known progress.nmt.state;
 }
 
 abbrev pub sighting_findings : Option Finding → Option Sighting → Findings

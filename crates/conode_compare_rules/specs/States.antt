@@ -17,7 +17,7 @@ use Rattle.conode_compare_rules.specs.declared.nmt.Nmt.{Nmt}
 use Rattle.conode_compare_transfers.specs.Times.{is_past}
 
 abbrev pub nothing_commanded : Nmt
-nothing_commanded = record { state = Unknown; commanded = None; reset = None; several = false; booted = None }
+nothing_commanded = record { state = Unknown; commanded = None; reset = None; several = false; booted = None; due = Unknown; changed = None }
 
 -- ---- commands
 
@@ -73,6 +73,8 @@ after_command nmt service own micros = record {
   reset = if is_reset service then Some micros else nmt.reset;
   several = several_after service nmt;
   booted = if is_reset service then None else nmt.booted;
+  due = goes_to service;
+  changed = nmt.changed;
 }
 
 -- ---- boot-ups
@@ -119,6 +121,8 @@ after_boot_up limits nmt micros = record {
   reset = nmt.reset;
   several = nmt.several;
   booted = if nmt.several then None else Some micros;
+  due = if boots_known limits nmt.commanded micros then Unknown else nmt.due;
+  changed = None;
 }
 
 -- more than one boot-up may still come: the newest reset isn't so old that its boot-up would be
@@ -135,14 +139,60 @@ after_other limits nmt micros = record {
   reset = nmt.reset;
   several = several_left limits nmt micros;
   booted = None;
+  due = nmt.due;
+  changed = nmt.changed;
 }
-
--- ---- heartbeats
 
 -- the tolerance is over since the recording began, and since the newest command
 unfoldable pub is_settled : Limits → ℕ → Option Commanded → ℕ → Bool
 is_settled limits started commanded micros =
     is_past started limits.tolerance micros && option_map_or (λ c. is_past c.micros limits.tolerance micros) commanded true
+
+-- ---- states that change
+
+-- Where the newest command leads to another state than the one that is known, either is right: CiA 301
+-- sets no time for a transition. By its rules a frame is judged in the state in which a device may send
+-- more.
+abbrev pub freer : NmtState → NmtState → NmtState
+freer PreOperational Operational = Operational
+freer Stopped Operational = Operational
+freer Stopped PreOperational = PreOperational
+freer state due = state
+
+abbrev pub judged_state : Nmt → NmtState
+judged_state nmt = freer nmt.state nmt.due
+
+-- The tolerance is over since a heartbeat showed that a frame may be on its way which the state forbids, or
+-- that a request may have come while stopped.
+abbrev pub is_steady : Limits → Nmt → ℕ → Bool
+is_steady limits nmt micros = option_map_or (λ c. is_past c limits.tolerance micros) nmt.changed true
+
+abbrev pub same_state : NmtState → NmtState → Bool
+same_state PreOperational PreOperational = true
+same_state Operational Operational = true
+same_state Stopped Stopped = true
+same_state state other = false
+
+-- by itself a device went to a state that forbids more, or it was stopped
+abbrev pub is_turn : NmtState → NmtState → Bool
+is_turn Operational PreOperational = true
+is_turn Operational Stopped = true
+is_turn PreOperational Stopped = true
+is_turn Unknown Stopped = true
+is_turn Stopped PreOperational = true
+is_turn Stopped Operational = true
+is_turn state shown = false
+
+-- A heartbeat shows this state. That which the newest command leads to isn't awaited any more once it is
+-- shown.
+abbrev pub with_state : Nmt → NmtState → ℕ → Nmt
+with_state nmt shown micros = record nmt {
+  state = shown;
+  due = if same_state shown nmt.due then Unknown else nmt.due;
+  changed = if is_turn nmt.state shown then Some micros else nmt.changed;
+}
+
+-- ---- heartbeats
 
 -- a state with its toggle bit set: an answer of node guarding, whether its remote frame was
 -- recorded or not
@@ -185,7 +235,7 @@ unfoldable pub control_finding : Subject → ℕ → Bool → Nmt → ℕ → �
 control_finding subject started guarded nmt free micros byte =
     if byte == 0 then second_boot_up nmt.booted micros
     else (if guarded || (is_guarded_state byte || not (is_settled subject.limits started nmt.commanded free)) then None
-    else state_finding subject.facts.starts_itself nmt.state byte)
+    else state_finding subject.facts.starts_itself (judged_state nmt) byte)
 
 -- a heartbeat shows the state, once it was settled when the bus was free last, and unless the boot-up
 -- is awaited
@@ -196,5 +246,5 @@ shows_state limits started nmt free byte =
 unfoldable pub after_control : Limits → ℕ → Nmt → ℕ → ℕ → ℕ → Nmt
 after_control limits started nmt free micros byte =
     if byte == 0 then after_boot_up limits nmt micros
-    else (if shows_state limits started nmt free byte then record (after_other limits nmt micros) { state = state_of byte }
+    else (if shows_state limits started nmt free byte then with_state (after_other limits nmt micros) (state_of byte) micros
     else after_other limits nmt micros)

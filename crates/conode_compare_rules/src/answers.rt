@@ -148,7 +148,7 @@ fn known_answer(
 }
 
 /// `answer-state`: the answer to a request that came while the device was stopped, once the
-/// tolerance after the command was over.
+/// tolerance after the command, or the change, was over.
 #[tactic(auto, unfolding(crate::specs::Answers::stopped_finding))]
 pub(crate) fn stopped_finding(
     limits: &Limits,
@@ -162,7 +162,10 @@ pub(crate) fn stopped_finding(
         return None;
     }
     let asked = exchange.asked?;
-    if matches!(nmt.state, NmtState::Stopped) && nmt.is_settled(limits, started, asked.micros) {
+    if matches!(nmt.judged_state(), NmtState::Stopped)
+        && nmt.is_settled(limits, started, asked.micros)
+        && nmt.is_steady(limits, asked.micros)
+    {
         Some(Finding::AnswerStopped(asked.key))
     } else {
         None
@@ -229,7 +232,7 @@ pub(crate) fn answer_finding(
 
 /// The difference of a heartbeat while a request isn't answered in time: the device lives, and
 /// could have answered since it was asked. Not where the heartbeat shows stopped: the device may
-/// have stopped by itself (1029h) before it was asked.
+/// have stopped by itself (1029h) before it was asked. Nor where one showed since that it left stopped.
 #[tactic(auto, unfolding(crate::specs::Answers::silence_finding))]
 pub(crate) fn silence_finding(
     limits: &Limits,
@@ -250,6 +253,7 @@ pub(crate) fn silence_finding(
         return None;
     }
     if !nmt.is_settled(limits, started, asked.micros)
+        || !nmt.is_steady(limits, asked.micros)
         || !dialogue.is_certain(limits.answer, started, asked.micros)
     {
         return None;

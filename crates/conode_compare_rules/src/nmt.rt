@@ -11,12 +11,18 @@ ghost use Rattle.conode_compare_rules.specs.States.{
   boots_known,
   control_finding,
   either_state,
+  freer,
+  goes_to,
   is_guarded_state,
   is_reset,
   is_settled,
   is_state,
+  is_steady,
+  is_turn,
   is_up,
   is_wrong,
+  judged_state,
+  same_state,
   state_after,
   state_commanded,
   state_of,
@@ -25,6 +31,7 @@ ghost use Rattle.conode_compare_rules.specs.States.{
   second_boot_up,
   several_left,
   state_finding,
+  with_state,
 };
 
 use crate::finding::{Finding, NmtState, Remark};
@@ -56,6 +63,12 @@ pub(crate) struct Nmt {
     /// The stamp of its newest boot-up, where no heartbeat, answer or EMCY came since, no reset was
     /// commanded, and no other boot-up may come.
     pub(crate) booted: Option<u64>,
+    /// The state that the newest command leads to, until a heartbeat shows it: the device may reach
+    /// it at any time.
+    pub(crate) due: NmtState,
+    /// The stamp of the newest heartbeat that showed that it left operational or stopped, or entered
+    /// stopped.
+    pub(crate) changed: Option<u64>,
 }
 
 /// Whether a command is a reset.
@@ -68,6 +81,18 @@ pub fn is_reset(service: NmtService) -> bool
     )
 }
 
+// the state that a device goes to by a command
+fn goes_to(service: NmtService) -> NmtState
+    ensures { result ≡ goes_to service }
+{
+    match service {
+        NmtService::Start => NmtState::Operational,
+        NmtService::Stop => NmtState::Stopped,
+        NmtService::EnterPreOperational => NmtState::PreOperational,
+        NmtService::ResetNode | NmtService::ResetCommunication => NmtState::Initialising,
+    }
+}
+
 // the state after a command
 fn state_commanded(service: NmtService, state: NmtState) -> NmtState
     ensures { result ≡ state_commanded service state }
@@ -75,13 +100,9 @@ fn state_commanded(service: NmtService, state: NmtState) -> NmtState
     if is_reset(service) {
         return NmtState::Initialising;
     }
-    if matches!(state, NmtState::Unknown | NmtState::Initialising) {
-        return state;
-    }
-    match service {
-        NmtService::Start => NmtState::Operational,
-        NmtService::Stop => NmtState::Stopped,
-        _ => NmtState::PreOperational,
+    match state {
+        NmtState::Unknown | NmtState::Initialising => state,
+        _ => goes_to(service),
     }
 }
 
@@ -96,6 +117,46 @@ fn either_state(before: NmtState, after: NmtState) -> NmtState
         | (NmtState::Stopped, NmtState::Stopped) => before,
         _ => NmtState::Unknown,
     }
+}
+
+// of the two states that a device may be in, the one in which it may send more
+fn freer(state: NmtState, due: NmtState) -> NmtState
+    ensures { result ≡ freer state due }
+{
+    match (state, due) {
+        (NmtState::PreOperational | NmtState::Stopped, NmtState::Operational)
+        | (NmtState::Stopped, NmtState::PreOperational) => due,
+        _ => state,
+    }
+}
+
+fn same_state(state: NmtState, other: NmtState) -> bool
+    ensures { result ≡ same_state state other }
+{
+    matches!(
+        (state, other),
+        (NmtState::PreOperational, NmtState::PreOperational)
+            | (NmtState::Operational, NmtState::Operational)
+            | (NmtState::Stopped, NmtState::Stopped)
+    )
+}
+
+// whether a device went by itself to a state that forbids more, or was stopped
+fn is_turn(state: NmtState, shown: NmtState) -> bool
+    ensures { result ≡ is_turn state shown }
+{
+    matches!(
+        (state, shown),
+        (NmtState::Operational, NmtState::PreOperational)
+            | (
+                NmtState::Operational | NmtState::PreOperational | NmtState::Unknown,
+                NmtState::Stopped
+            )
+            | (
+                NmtState::Stopped,
+                NmtState::PreOperational | NmtState::Operational
+            )
+    )
 }
 
 // the state after a command; the NMT master needn't follow its own ones
@@ -165,6 +226,27 @@ impl Nmt {
             reset: None,
             several: false,
             booted: None,
+            due: NmtState::Unknown,
+            changed: None,
+        }
+    }
+
+    /// The state by which frames are judged: CiA 301 sets no time for a transition, so before and
+    /// after that which the newest command leads to either state is right.
+    pub(crate) fn judged_state(&self) -> NmtState
+        ensures { result ≡ judged_state self.now }
+    {
+        freer(self.state, self.due)
+    }
+
+    /// Whether the tolerance is over since a heartbeat showed that it left operational or stopped, or
+    /// entered stopped.
+    pub(crate) fn is_steady(&self, limits: &Limits, micros: u64) -> bool
+        ensures { result ≡ is_steady limits.now self.now micros }
+    {
+        match self.changed {
+            Some(changed) => is_past(changed, limits.tolerance, micros),
+            None => true,
         }
     }
 
@@ -237,17 +319,18 @@ impl Nmt {
     // the difference of a heartbeat's byte, once it is settled
     #[tactic(auto, unfolding(crate::specs::States::state_finding))]
     fn state_finding(&self, starts_itself: bool, byte: u8) -> Option<Finding>
-        ensures { result ≡ state_finding starts_itself self.now.state byte }
+        ensures { result ≡ state_finding starts_itself (judged_state self.now) byte }
     {
+        let state = self.judged_state();
         if is_state(byte) {
             let shown = state_of(byte);
-            return if is_wrong(starts_itself, self.state, shown) {
-                Some(Finding::WrongState(shown, self.state))
+            return if is_wrong(starts_itself, state, shown) {
+                Some(Finding::WrongState(shown, state))
             } else {
                 None
             };
         }
-        match self.state {
+        match state {
             NmtState::Initialising => None,
             _ => Some(Finding::NoState(byte)),
         }
@@ -305,6 +388,8 @@ impl Nmt {
             },
             several: self.several || is_reset(service) && !is_up(self.state),
             booted: if is_reset(service) { None } else { self.booted },
+            due: goes_to(service),
+            changed: self.changed,
         }
     }
 
@@ -324,6 +409,8 @@ impl Nmt {
             reset: self.reset,
             several: self.several,
             booted: if self.several { None } else { Some(micros) },
+            due: if known { NmtState::Unknown } else { self.due },
+            changed: None,
         }
     }
 
@@ -354,6 +441,31 @@ impl Nmt {
             reset: self.reset,
             several,
             booted: None,
+            due: self.due,
+            changed: self.changed,
+        }
+    }
+
+    // a heartbeat shows this state
+    fn with_state(self, shown: NmtState, micros: u64) -> Nmt
+        ensures { result ≡ with_state self shown micros }
+    {
+        Nmt {
+            state: shown,
+            commanded: self.commanded,
+            reset: self.reset,
+            several: self.several,
+            booted: self.booted,
+            due: if same_state(shown, self.due) {
+                NmtState::Unknown
+            } else {
+                self.due
+            },
+            changed: if is_turn(self.state, shown) {
+                Some(micros)
+            } else {
+                self.changed
+            },
         }
     }
 
@@ -377,12 +489,6 @@ impl Nmt {
         if !settled || !is_state(byte) || matches!(self.state, NmtState::Initialising) {
             return next;
         }
-        Nmt {
-            state: state_of(byte),
-            commanded: next.commanded,
-            reset: next.reset,
-            several: next.several,
-            booted: next.booted,
-        }
+        next.with_state(state_of(byte), micros)
     }
 }

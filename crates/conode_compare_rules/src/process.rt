@@ -38,11 +38,9 @@ impl Progress {
     fn moment_at(&self, subject: &Subject, micros: u64) -> Moment
         ensures { result ≡ moment_at subject.now self.now micros }
     {
-        let settled = self
-            .nmt
-            .is_settled(&subject.limits, self.started, self.free);
+        let steady = self.steady_when_free(subject);
         let is_known = !matches!(self.nmt.state, NmtState::Unknown | NmtState::Initialising);
-        let is_idle = match self.nmt.state {
+        let is_idle = match self.nmt.judged_state() {
             NmtState::PreOperational => !subject.facts.starts_itself,
             NmtState::Stopped => true,
             _ => false,
@@ -52,8 +50,8 @@ impl Progress {
             free: self.free,
             tolerance: subject.limits.tolerance,
             drift: subject.limits.drift,
-            idle: settled && is_idle,
-            known: settled && is_known,
+            idle: steady && is_idle,
+            known: steady && is_known,
         }
     }
 

@@ -36,6 +36,7 @@ ghost use Rattle.conode_compare_rules.specs.Progresses.{
   pdos_by,
   pdos_heard,
   shown_beside,
+  steady_when_free,
   pdos_requested,
   request_findings,
   channel_heard,
@@ -239,6 +240,16 @@ impl Progress {
         Findings::of(None, None, None, frame, true)
     }
 
+    // whether the tolerance was over when the bus was free last: since the newest command, and since
+    // a heartbeat showed that it left operational or stopped, or entered stopped
+    pub(crate) fn steady_when_free(&self, subject: &Subject) -> bool
+        ensures { result ≡ steady_when_free subject.now self.now }
+    {
+        let limits = &subject.limits;
+        self.nmt.is_settled(limits, self.started, self.free)
+            && self.nmt.is_steady(limits, self.free)
+    }
+
     // whether a heartbeat is judged: the state is known, and was settled when the bus was free last
     #[tactic(auto, unfolding(crate::specs::Progresses::control_judged))]
     fn control_judged(&self, subject: &Subject) -> bool
@@ -383,14 +394,13 @@ impl Progress {
         ensures findings { result ≡ emergency_findings subject.now self.old micros code register }
         ensures progress { self.new ≡ emergency_noted subject.now self.old micros }
     {
-        let limits = &subject.limits;
-        let settled = self.nmt.is_settled(limits, self.started, self.free);
+        let steady = self.steady_when_free(subject);
         let late = self.notice_late(subject, self.entries.emergencies, micros);
         let frame = emergency_finding(
-            limits,
+            &subject.limits,
             &self.entries,
-            self.nmt.state,
-            settled,
+            self.nmt.judged_state(),
+            steady,
             self.emergency,
             micros,
             code,

@@ -21,7 +21,7 @@ use Rattle.conode_text.specs.Filled.{filled}
 use Rattle.conode_compare_text.specs.FindingTexts.{finding_line, finding_text, mismatch_text, pdo_text, transfer_text}
 use Rattle.conode_compare_text.specs.LearnedTexts.{learned_line, other_text, typed_text}
 use Rattle.conode_compare_text.specs.Tallies.{summary, tally_text}
-use Rattle.conode_compare_text.specs.Values.{eight_digits, hexadecimal, line_front, millis_text, shown_value}
+use Rattle.conode_compare_text.specs.Values.{bytes_text, eight_digits, hexadecimal, line_front, millis_text, shown_value}
 use Rattle.conode_compare_text.specs.WarningTexts.{warning_line, warning_text}
 
 abbrev key : Key
@@ -43,7 +43,7 @@ unfolding finding_text millis_text digits_text digits filled
 second_boot_up = refl
 
 heartbeat_length : finding_text plain (HeartbeatLength 2) ≡ codes "heartbeat-length: 2 bytes, not 1"
-unfolding finding_text digits filled
+unfolding finding_text digits filled bytes_text
 heartbeat_length = refl
 
 no_state : finding_text plain (NoState 0xA) ≡ codes "heartbeat-state: 0Ah is no NMT state"
@@ -55,7 +55,7 @@ unfolding finding_text filled
 wrong_state = refl
 
 emergency_length : finding_text plain (EmergencyLength 7) ≡ codes "emcy-length: 7 bytes, not 8"
-unfolding finding_text digits filled
+unfolding finding_text digits filled bytes_text
 emergency_length = refl
 
 emergency_register : finding_text plain (EmergencyRegister 0x8130 0x10) ≡ codes "emcy-register: code 8130h with error register 10h, whose bit 0 isn't set"
@@ -79,7 +79,7 @@ unfolding finding_text digits_text filled
 answer_form = refl
 
 value_length : finding_text plain (Value (ValueLength key 2 4)) ≡ codes "value-length: 1018:01 has 2 bytes, its type 4"
-unfolding finding_text mismatch_text digits_text digits filled
+unfolding finding_text mismatch_text digits_text digits filled bytes_text
 value_length = refl
 
 value_const : finding_text plain (Value (ValueConst key 0x12345678 0xABC)) ≡ codes "value-const: 1018:01 has 12345678h, the sheet 00000ABCh"
@@ -117,7 +117,7 @@ unfolding finding_text mismatch_text digits_text filled
 below_limit = refl
 
 beyond_room : finding_text plain (Value (BeyondRoom key 17 16)) ≡ codes "access-limits: 1018:01 was written, with 17 bytes, its room is 16"
-unfolding finding_text mismatch_text digits_text digits filled
+unfolding finding_text mismatch_text digits_text digits filled bytes_text
 beyond_room = refl
 
 value_held : finding_text plain (Held (record { key = key; shown = 0x5; written = 0x12345678 })) ≡ codes "value-held: 1018:01 has 00000005h, written was 12345678h"
@@ -129,11 +129,19 @@ sums : summary 5 (record { prescribed = 118; different = 2; unjudged = 14 })
 unfolding summary tally_text digits filled
 sums = refl
 
+one_frame : summary 5 (record { prescribed = 1; different = 1; unjudged = 1 }) ≡ codes "node 5: 1 frame as prescribed, 1 with a difference, 1 unjudged" ++ 10 ∷ []
+unfolding summary tally_text digits filled
+one_frame = refl
+
 -- ---- TPDOs
 
 pdo_length : finding_text plain (Pdo 1 (Length 3 4)) ≡ codes "pdo-length: TPDO1 has 3 bytes, its mapping 4"
-unfolding finding_text pdo_text digits filled
+unfolding finding_text pdo_text digits filled bytes_text
 pdo_length = refl
+
+one_byte : finding_text plain (Pdo 1 (Length 1 4)) ≡ codes "pdo-length: TPDO1 has 1 byte, its mapping 4"
+unfolding finding_text pdo_text digits filled bytes_text
+one_byte = refl
 
 pdo_state : finding_text plain (Pdo 2 NotOperational) ≡ codes "pdo-state: TPDO2 while the device isn't operational"
 unfolding finding_text pdo_text digits filled
@@ -178,25 +186,25 @@ unfolding finding_text transfer_text digits_text filled
 abort_without_timeout = refl
 
 size : finding_text plain (Transfer (Size key 10 9)) ≡ codes "answer-size: 1018:01 has 9 bytes, its response to initiate has 10"
-unfolding finding_text transfer_text digits_text digits filled
+unfolding finding_text transfer_text digits_text digits filled bytes_text
 size = refl
 
-crc : finding_text plain (Transfer (Crc key 0x1234 0xABC)) ≡ codes "answer-crc: 1018:01 has the CRC 00001234h, that of its bytes is 00000ABCh"
-unfolding finding_text transfer_text hexadecimal eight_digits digits_text filled
+crc : finding_text plain (Transfer (Crc key 0x1234 0xABC)) ≡ codes "answer-crc: 1018:01 has the CRC 1234h, that of its bytes is 0ABCh"
+unfolding finding_text transfer_text digits_text filled
 crc = refl
 
 -- ---- choices
 
 choice_segments : choice_text (Segments key 2) ≡ codes "choice-segments: 1018:01 has 2 bytes, and is uploaded in segments"
-unfolding choice_text digits_text digits filled
+unfolding choice_text digits_text digits filled bytes_text
 choice_segments = refl
 
 choice_size : choice_text (NoSize key) ≡ codes "choice-size: 1018:01 is uploaded without its size"
-unfolding choice_text digits_text filled
+unfolding choice_text digits_text filled bytes_text
 choice_size = refl
 
 choice_short : choice_text (ShortSegment key 3) ≡ codes "choice-short-segment: 1018:01 is uploaded, a segment before the last has 3 bytes"
-unfolding choice_text digits_text digits filled
+unfolding choice_text digits_text digits filled bytes_text
 choice_short = refl
 
 choice_crc : choice_text (NoCrc key) ≡ codes "choice-crc: 1018:01 is transferred in blocks without a CRC"
@@ -204,7 +212,7 @@ unfolding choice_text digits_text filled
 choice_crc = refl
 
 choice_block : choice_text (BlockSize key 21) ≡ codes "choice-block-size: 1018:01 is downloaded, sub-blocks of 21 segments are asked for"
-unfolding choice_text digits_text digits filled
+unfolding choice_text digits_text digits filled bytes_text
 choice_block = refl
 
 choice_switch : choice_text (Switched key) ≡ codes "choice-switch: 1018:01 is asked for in blocks, and uploaded by another protocol"
@@ -253,6 +261,11 @@ sums_choices : choices_summary 5 (record { prescribed = 118; different = 2; unju
     ≡ codes "node 5: 118 frames as prescribed, 2 with a difference, 14 unjudged, 3 choices" ++ 10 ∷ []
 unfolding choices_summary tally_text digits filled
 sums_choices = refl
+
+sums_choice : choices_summary 5 (record { prescribed = 118; different = 2; unjudged = 14 }) 1
+    ≡ codes "node 5: 118 frames as prescribed, 2 with a difference, 14 unjudged, 1 choice" ++ 10 ∷ []
+unfolding choices_summary tally_text digits filled
+sums_choice = refl
 
 -- ---- warnings
 

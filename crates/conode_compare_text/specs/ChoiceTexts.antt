@@ -1,5 +1,5 @@
 -- The line of a choice, and the last line with their number.
-use Rattle.std.specs.Prelude.{ℕ, List, [], ◌∷◌, ◌++◌, codes, decimal}
+use Rattle.std.specs.Prelude.{ℕ, ◌==◌, if◌then◌else◌, List, [], ◌∷◌, ◌++◌, codes, decimal}
 use Rattle.co_value.specs.KeyTexts.{key_text}
 use Rattle.conode_text.specs.Filled.{filled}
 use Rattle.conode_compare_choices.specs.declared.choice.Choice.{Choice}
@@ -7,7 +7,7 @@ use Rattle.conode_compare_choices.specs.declared.choice.Choice.TheVariants.{Segm
 use Rattle.conode_compare_choices.specs.declared.length_error.LengthError.{LengthError}
 use Rattle.conode_compare_choices.specs.declared.length_error.LengthError.TheVariants.{ShortRpdo, LongRpdo, OddSync}
 use Rattle.conode_compare_text.specs.declared.tally.Tally.{Tally}
-use Rattle.conode_compare_text.specs.Values.{hexadecimal, line_text, millis_text}
+use Rattle.conode_compare_text.specs.Values.{bytes_text, hexadecimal, line_text, millis_text}
 use Rattle.conode_compare_text.specs.Tallies.{tally_text}
 
 -- what came, and that its EMCY didn't
@@ -24,13 +24,13 @@ other_words OddSync = codes "choice-emcy: a SYNC has another length, and EMCY 82
 -- the name of the kind, and what was chosen
 unfoldable pub choice_text : Choice → List ℕ
 choice_text (Segments key bytes) =
-    filled (codes "choice-segments: % has % bytes, and is uploaded in segments")
-    (key_text key ∷ decimal bytes ∷ [])
+    filled (codes "choice-segments: % has %, and is uploaded in segments")
+    (key_text key ∷ bytes_text bytes ∷ [])
 choice_text (NoSize key) =
     filled (codes "choice-size: % is uploaded without its size") (key_text key ∷ [])
 choice_text (ShortSegment key bytes) =
-    filled (codes "choice-short-segment: % is uploaded, a segment before the last has % bytes")
-    (key_text key ∷ decimal bytes ∷ [])
+    filled (codes "choice-short-segment: % is uploaded, a segment before the last has %")
+    (key_text key ∷ bytes_text bytes ∷ [])
 choice_text (NoCrc key) =
     filled (codes "choice-crc: % is transferred in blocks without a CRC") (key_text key ∷ [])
 choice_text (BlockSize key segments) =
@@ -61,7 +61,10 @@ choice_text (OtherEmergency error) = other_words error
 unfoldable pub choice_line : List ℕ → ℕ → Choice → List ℕ
 choice_line recording line choice = line_text recording line (choice_text choice)
 
--- the last line
+-- how many choices there are, in the last line
+abbrev pub choices_words : ℕ → List ℕ
+choices_words choices = if choices == 1 then codes ", % choice\n" else codes ", % choices\n"
+
 unfoldable pub choices_summary : ℕ → Tally → ℕ → List ℕ
 choices_summary node tally choices =
-    tally_text node tally ++ filled (codes ", % choices\n") (decimal choices ∷ [])
+    tally_text node tally ++ filled (choices_words choices) (decimal choices ∷ [])

@@ -15,7 +15,7 @@ use Rattle.conode_compare_rules.specs.declared.finding.Finding.TheVariants.{Boot
 use Rattle.conode_compare_rules.specs.declared.finding.NmtState.{NmtState}
 use Rattle.conode_compare_rules.specs.declared.finding.NmtState.TheVariants.{Unknown, Initialising, PreOperational, Operational, Stopped}
 use Rattle.conode_text.specs.Filled.{filled}
-use Rattle.conode_compare_text.specs.Values.{hexadecimal, line_text, millis_text, shown_value}
+use Rattle.conode_compare_text.specs.Values.{bytes_text, line_text, millis_text, shown_value}
 
 abbrev pub state_name : NmtState → List ℕ
 state_name Unknown = codes "unknown"
@@ -27,8 +27,8 @@ state_name Stopped = codes "stopped"
 -- of a TPDO by its number
 unfoldable pub pdo_text : ℕ → Deviation → List ℕ
 pdo_text number (Length length mapped) =
-    filled (codes "pdo-length: TPDO% has % bytes, its mapping %")
-    (decimal number ∷ decimal length ∷ decimal mapped ∷ [])
+    filled (codes "pdo-length: TPDO% has %, its mapping %")
+    (decimal number ∷ bytes_text length ∷ decimal mapped ∷ [])
 pdo_text number NotOperational =
     filled (codes "pdo-state: TPDO% while the device isn't operational") (decimal number ∷ [])
 pdo_text number WithoutSync =
@@ -62,18 +62,18 @@ transfer_text (Form key) =
 transfer_text (AbortKey key) =
     filled (codes "abort-key: % is transferred, the abort is of another entry") (key_text key ∷ [])
 transfer_text (Size key indicated bytes) =
-    filled (codes "answer-size: % has % bytes, its response to initiate has %")
-    (key_text key ∷ decimal bytes ∷ decimal indicated ∷ [])
+    filled (codes "answer-size: % has %, its response to initiate has %")
+    (key_text key ∷ bytes_text bytes ∷ decimal indicated ∷ [])
 transfer_text (Crc key came computed) =
-    filled (codes "answer-crc: % has the CRC %, that of its bytes is %")
-    (key_text key ∷ hexadecimal came ∷ hexadecimal computed ∷ [])
+    filled (codes "answer-crc: % has the CRC %h, that of its bytes is %h")
+    (key_text key ∷ digits_text 16 4 came ∷ digits_text 16 4 computed ∷ [])
 transfer_text (Early key waited time) = early_text key waited time
 
 -- at the end of a transfer, where the values of the entry have this type
 unfoldable pub mismatch_text : ValueType → Mismatch → List ℕ
 mismatch_text t (ValueLength key length width) =
-    filled (codes "value-length: % has % bytes, its type %")
-    (key_text key ∷ decimal length ∷ decimal width ∷ [])
+    filled (codes "value-length: % has %, its type %")
+    (key_text key ∷ bytes_text length ∷ decimal width ∷ [])
 mismatch_text t (ValueConst key shown held) =
     filled (codes "value-const: % has %, the sheet %")
     (key_text key ∷ shown_value t shown ∷ shown_value t held ∷ [])
@@ -91,8 +91,8 @@ mismatch_text t (BelowLimit key) =
     filled (codes "access-limits: % was written, with a value below its LowLimit")
     (key_text key ∷ [])
 mismatch_text t (BeyondRoom key bytes room) =
-    filled (codes "access-limits: % was written, with % bytes, its room is %")
-    (key_text key ∷ decimal bytes ∷ decimal room ∷ [])
+    filled (codes "access-limits: % was written, with %, its room is %")
+    (key_text key ∷ bytes_text bytes ∷ decimal room ∷ [])
 
 -- the name of the kind, and what is different, where the values of the entry have this type
 unfoldable pub finding_text : ValueType → Finding → List ℕ
@@ -111,7 +111,7 @@ finding_text t (HeartbeatLate passed period) =
     filled (codes "heartbeat-late: % since the last one, 1017:00 has % ms")
     (millis_text passed ∷ decimal period ∷ [])
 finding_text t (EmergencyLength length) =
-    filled (codes "emcy-length: % bytes, not 8") (decimal length ∷ [])
+    filled (codes "emcy-length: %, not 8") (bytes_text length ∷ [])
 finding_text t EmergencyStopped = codes "emcy-state: an EMCY while stopped"
 finding_text t (EmergencyRegister code register) =
     filled (codes "emcy-register: code %h with error register %h, whose bit 0 isn't set")

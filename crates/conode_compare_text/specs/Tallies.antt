@@ -1,5 +1,5 @@
 -- How many frames of the device have which verdict.
-use Rattle.std.specs.Prelude.{ℕ, ◌+◌, ◌-◌, ◌^◌, min, List, [], ◌∷◌, ◌++◌, codes, decimal, Option, Some, None}
+use Rattle.std.specs.Prelude.{ℕ, ◌+◌, ◌-◌, ◌^◌, ◌==◌, if◌then◌else◌, min, List, [], ◌∷◌, ◌++◌, codes, decimal, Option, Some, None}
 use Rattle.conode_text.specs.Filled.{filled}
 use Rattle.conode_compare_rules.specs.declared.verdict.Verdict.{Verdict}
 use Rattle.conode_compare_rules.specs.declared.verdict.Verdict.TheVariants.{Prescribed, Different, Unjudged}
@@ -23,9 +23,14 @@ tally_with tally None = tally
 tally_with tally (Some verdict) = with_verdict tally verdict
 
 -- how many there are, in words
+abbrev pub tally_words : ℕ → List ℕ
+tally_words prescribed =
+    if prescribed == 1 then codes "node %: % frame as prescribed, % with a difference, % unjudged"
+    else codes "node %: % frames as prescribed, % with a difference, % unjudged"
+
 unfoldable pub tally_text : ℕ → Tally → List ℕ
 tally_text node tally =
-    filled (codes "node %: % frames as prescribed, % with a difference, % unjudged")
+    filled (tally_words tally.prescribed)
     (decimal node ∷ decimal tally.prescribed ∷ decimal tally.different ∷ decimal tally.unjudged ∷ [])
 
 -- the line that ends a comparison

@@ -1,5 +1,5 @@
 -- The texts of values, and lines.
-use Rattle.std.specs.Prelude.{ℕ, ◌/◌, ◌%◌, nat_lt, if◌then◌else◌, List, [], ◌∷◌, ◌++◌, codes, decimal}
+use Rattle.std.specs.Prelude.{ℕ, ◌/◌, ◌%◌, ◌==◌, nat_lt, if◌then◌else◌, List, [], ◌∷◌, ◌++◌, codes, decimal}
 use Rattle.co_text.specs.Printed.{digits_text}
 use Rattle.co_value.specs.KeyTexts.{key_text}
 use Rattle.co_value.specs.Numbers.{low_bytes}
@@ -10,7 +10,7 @@ use Rattle.conode_text.specs.Filled.{filled}
 use Rattle.conode_compare_text.specs.declared.value.Said.{Said}
 use Rattle.conode_compare_text.specs.declared.value.Said.TheVariants.{Alone, One, Two, Three}
 use Rattle.conode_compare_text.specs.declared.value.Value.{Value}
-use Rattle.conode_compare_text.specs.declared.value.Value.TheVariants.{Words, Number, Millis, Byte, Short, Long, Hexadecimal, Key, Shown}
+use Rattle.conode_compare_text.specs.declared.value.Value.TheVariants.{Words, Number, Millis, Bytes, Byte, Short, Long, Hexadecimal, Key, Shown}
 
 -- microseconds, in ms with three digits after the point
 unfoldable pub millis_text : ℕ → List ℕ
@@ -34,10 +34,15 @@ unfoldable pub shown_value : ValueType → ℕ → List ℕ
 shown_value Real32 number = value_text Real32 32 (low_bytes 4 (number % 0x100000000))
 shown_value t number = hexadecimal number
 
+-- a number of bytes
+unfoldable pub bytes_text : ℕ → List ℕ
+bytes_text number = decimal number ++ (if number == 1 then codes " byte" else codes " bytes")
+
 abbrev pub printed : Value → List ℕ
 printed (Words words) = words.now
 printed (Number number) = decimal number
 printed (Millis micros) = millis_text micros
+printed (Bytes number) = bytes_text number
 printed (Byte byte) = digits_text 16 2 byte
 printed (Short number) = digits_text 16 4 number
 printed (Long number) = digits_text 16 8 number

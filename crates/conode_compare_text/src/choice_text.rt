@@ -5,6 +5,7 @@ ghost use Rattle.conode_compare_text.specs.ChoiceTexts.{
   choice_line,
   choice_text,
   choices_summary,
+  choices_words,
   missing_words,
   other_words,
 };
@@ -49,18 +50,18 @@ fn choice_said(choice: Choice) -> Said
 {
     match choice {
         Choice::Segments(key, bytes) => Said::Two(
-            "choice-segments: % has % bytes, and is uploaded in segments",
+            "choice-segments: % has %, and is uploaded in segments",
             Value::Key(key),
-            Value::Number(bytes),
+            Value::Bytes(bytes),
         ),
         Choice::NoSize(key) => Said::One(
             "choice-size: % is uploaded without its size",
             Value::Key(key),
         ),
         Choice::ShortSegment(key, bytes) => Said::Two(
-            "choice-short-segment: % is uploaded, a segment before the last has % bytes",
+            "choice-short-segment: % is uploaded, a segment before the last has %",
             Value::Key(key),
-            Value::Number(bytes as u64),
+            Value::Bytes(bytes as u64),
         ),
         Choice::NoCrc(key) => Said::One(
             "choice-crc: % is transferred in blocks without a CRC",
@@ -124,6 +125,17 @@ pub fn set_choice_line(
     set_line(text, recording, line, choice_said(choice))
 }
 
+// how many choices there are, in the last line
+fn choices_words(choices: u64) -> &'static str
+    ensures { result.now ≡ choices_words choices }
+{
+    if choices == 1 {
+        ", % choice\n"
+    } else {
+        ", % choices\n"
+    }
+}
+
 /// Sets a text to the line that ends a comparison with the number of choices, with its line feed.
 /// On an `Err` memory ran out, and a part of it may be there.
 #[tactic(auto, unfolding(crate::specs::ChoiceTexts::choices_summary))]
@@ -137,5 +149,5 @@ pub fn set_choices_summary(
 {
     text.clear();
     attempt!(push_tally(text, node, tally));
-    push_filled(text, ", % choices\n", &[Value::Number(choices)])
+    push_filled(text, choices_words(choices), &[Value::Number(choices)])
 }

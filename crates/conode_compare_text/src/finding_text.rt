@@ -43,9 +43,9 @@ fn pdo_said(number: u8, deviation: Deviation) -> Said
 {
     match deviation {
         Deviation::Length(length, mapped) => Said::Three(
-            "pdo-length: TPDO% has % bytes, its mapping %",
+            "pdo-length: TPDO% has %, its mapping %",
             Value::Number(number as u64),
-            Value::Number(length as u64),
+            Value::Bytes(length as u64),
             Value::Number(mapped as u64),
         ),
         Deviation::NotOperational => Said::One(
@@ -109,16 +109,16 @@ fn transfer_said(breach: Breach) -> Said
             Value::Key(key),
         ),
         Breach::Size(key, indicated, bytes) => Said::Three(
-            "answer-size: % has % bytes, its response to initiate has %",
+            "answer-size: % has %, its response to initiate has %",
             Value::Key(key),
-            Value::Number(bytes),
+            Value::Bytes(bytes),
             Value::Number(indicated as u64),
         ),
         Breach::Crc(key, came, computed) => Said::Three(
-            "answer-crc: % has the CRC %, that of its bytes is %",
+            "answer-crc: % has the CRC %h, that of its bytes is %h",
             Value::Key(key),
-            Value::Hexadecimal(came as u64),
-            Value::Hexadecimal(computed as u64),
+            Value::Short(came),
+            Value::Short(computed),
         ),
         Breach::Early(key, waited, time) => early_said(key, waited, time),
     }
@@ -131,9 +131,9 @@ fn mismatch_said(value_type: ValueType, mismatch: Mismatch) -> Said
 {
     match mismatch {
         Mismatch::ValueLength(key, length, width) => Said::Three(
-            "value-length: % has % bytes, its type %",
+            "value-length: % has %, its type %",
             Value::Key(key),
-            Value::Number(length),
+            Value::Bytes(length),
             Value::Number(width as u64),
         ),
         Mismatch::ValueConst(key, shown, held) => Said::Three(
@@ -164,9 +164,9 @@ fn mismatch_said(value_type: ValueType, mismatch: Mismatch) -> Said
             Value::Key(key),
         ),
         Mismatch::BeyondRoom(key, bytes, room) => Said::Three(
-            "access-limits: % was written, with % bytes, its room is %",
+            "access-limits: % was written, with %, its room is %",
             Value::Key(key),
-            Value::Number(bytes),
+            Value::Bytes(bytes),
             Value::Number(room),
         ),
     }
@@ -205,8 +205,8 @@ fn finding_said(value_type: ValueType, finding: Finding) -> Said
             Value::Number(period as u64),
         ),
         Finding::EmergencyLength(length) => Said::One(
-            "emcy-length: % bytes, not 8",
-            Value::Number(length as u64),
+            "emcy-length: %, not 8",
+            Value::Bytes(length as u64),
         ),
         Finding::EmergencyStopped => Said::Alone("emcy-state: an EMCY while stopped"),
         Finding::EmergencyRegister(code, register) => Said::Two(

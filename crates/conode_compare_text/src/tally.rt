@@ -6,6 +6,7 @@ ghost use Rattle.conode_compare_text.specs.Tallies.{
   summary,
   tally_text,
   tally_with,
+  tally_words,
   with_verdict,
 };
 
@@ -58,6 +59,16 @@ impl Tally {
     }
 }
 
+fn tally_words(prescribed: u64) -> &'static str
+    ensures { result.now ≡ tally_words prescribed }
+{
+    if prescribed == 1 {
+        "node %: % frame as prescribed, % with a difference, % unjudged"
+    } else {
+        "node %: % frames as prescribed, % with a difference, % unjudged"
+    }
+}
+
 /// How many frames have which verdict, in words.
 #[tactic(auto, unfolding(crate::specs::Tallies::tally_text))]
 pub(crate) fn push_tally(text: &mut String, node: u8, tally: Tally) -> Result<(), AllocError>
@@ -66,7 +77,7 @@ pub(crate) fn push_tally(text: &mut String, node: u8, tally: Tally) -> Result<()
 {
     push_filled(
         text,
-        "node %: % frames as prescribed, % with a difference, % unjudged",
+        tally_words(tally.prescribed),
         &[
             Value::Number(node as u64),
             Value::Number(tally.prescribed),

@@ -3,6 +3,7 @@
 ghost use Rattle.std.specs.Prelude.{◌≡◌, ◌++◌, OnOk, string_bytes};
 ghost use Rattle.co_text.specs.Printed.{digits_text};
 ghost use Rattle.conode_compare_text.specs.Values.{
+  bytes_text,
   eight_digits,
   hexadecimal,
   high_digits,
@@ -28,6 +29,8 @@ pub(crate) enum Value<'a> {
     Number(u64),
     /// Microseconds, in ms with three digits after the point.
     Millis(u64),
+    /// A number of bytes, as `2 bytes`.
+    Bytes(u64),
     /// A number in two hexadecimal digits.
     Byte(u8),
     /// A number in four hexadecimal digits.
@@ -61,6 +64,15 @@ fn push_millis(text: &mut String, micros: u64) -> Result<(), AllocError>
     attempt!(text.push('.'));
     attempt!(push_three_digits(text, micros % 1000));
     text.push_str(" ms")
+}
+
+// a number of bytes
+#[tactic(auto, unfolding(crate::specs::Values::bytes_text))]
+fn push_bytes(text: &mut String, number: u64) -> Result<(), AllocError>
+    ensures { OnOk result (string_bytes text.new ≡ string_bytes text.old ++ bytes_text number) }
+{
+    attempt!(push_decimal(text, number));
+    text.push_str(if number == 1 { " byte" } else { " bytes" })
 }
 
 // the low 32 bits of a number in eight hexadecimal digits
@@ -116,6 +128,7 @@ impl HasText for Value<'_> {
             Value::Words(words) => text.push_str(words),
             Value::Number(number) => push_decimal(text, number),
             Value::Millis(micros) => push_millis(text, micros),
+            Value::Bytes(number) => push_bytes(text, number),
             Value::Byte(byte) => push_byte(text, byte),
             Value::Short(number) => push_u16(text, number),
             Value::Long(number) => push_u32(text, number),

@@ -14,7 +14,7 @@ use Rattle.conode_explain_transfers.specs.declared.kinds.What.TheVariants.{Initi
 use Rattle.conode_compare_transfers.specs.declared.breach.Breach.{Breach}
 use Rattle.conode_compare_transfers.specs.declared.breach.Breach.TheVariants.{AbortKey, Crc, Form, Size, Toggle}
 use Rattle.conode_compare_transfers.specs.declared.newest.Newest.TheVariants.{Acknowledge, AllAcknowledged, Answer, Data, LastData, LaterAcknowledge, LaterData, Request}
-use Rattle.conode_compare_transfers.specs.Breaches.{breach_at, server_breach}
+use Rattle.conode_compare_transfers.specs.Breaches.{breach_at, ended_breach, server_breach}
 use Rattle.conode_compare_transfers.specs.NewestFrames.{newest_after, newest_with}
 
 abbrev key : Key
@@ -294,6 +294,30 @@ other_sub = refl
 no_key : aborted 0x05040001 (abort_of 9 0) ≡ None
 unfolding breach_at
 no_key = refl
+
+-- 0000:00 in answer to a frame without a multiplexer, whatever the code; not to the initiate request
+abbrev refused : ℕ → FrameContent → Option Breach
+refused frames frame = ended_breach frame (record {
+  key = key;
+  direction = Download;
+  protocol = Segmented;
+  bytes = 0;
+  first = record { items = [] };
+  frames = frames;
+  begun = 1;
+  newest = 1;
+  end = 2;
+  ending = Aborted Server (record { 0 = 0x08000000 });
+})
+
+abbrev abort_of_none : ℕ → ℕ → ℕ → FrameContent
+abort_of_none low high sub = record { id = 0x585; bytes = 0x80 ∷ low ∷ high ∷ sub ∷ 0 ∷ 0 ∷ 0 ∷ 8 ∷ [] }
+
+no_entry : map (λ frames. refused frames (abort_of_none 0 0 0)) (2 ∷ 3 ∷ []) ≡ Some (AbortKey key) ∷ None ∷ []
+no_entry = refl
+
+an_entry : refused 3 (abort_of_none 1 0 0) ∷ refused 3 (abort_of_none 0 1 0) ∷ refused 3 (abort_of_none 0 0 1) ∷ [] ≡ Some (AbortKey key) ∷ Some (AbortKey key) ∷ Some (AbortKey key) ∷ []
+an_entry = refl
 
 by_client : breach_at (Some Answer) Client (ended_by Download (Aborted Client (record { 0 = 0x08000000 }))) (abort_of 9 0) ≡ None
 unfolding breach_at

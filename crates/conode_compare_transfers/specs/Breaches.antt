@@ -1,5 +1,5 @@
 -- What a device does otherwise in an open transfer, by what both ends named (CiA 301, 7.2.4.3).
-use Rattle.std.specs.Prelude.{ℕ, ◌+◌, ◌*◌, ◌/◌, ◌%◌, ◌==◌, nat_le, Bool, true, false, ◌&&◌, ◌||◌, if◌then◌else◌, slice_index, Option, Some, None}
+use Rattle.std.specs.Prelude.{ℕ, ◌+◌, ◌*◌, ◌/◌, ◌%◌, ◌==◌, nat_le, nat_lt, Bool, true, false, ◌&&◌, ◌||◌, if◌then◌else◌, slice_index, Option, Some, None}
 use Rattle.co_frame.specs.AbortCodes.{unknown_command}
 use Rattle.co_frame.specs.FrameContent.{FrameContent}
 use Rattle.co_frame.specs.declared.abort_code.AbortCode.{AbortCode}
@@ -33,10 +33,17 @@ key_in frame = record { index = byte_at frame 1 + byte_at frame 2 * 256; sub = b
 
 -- ---- the end of a transfer
 
+-- 0000:00, once the transfer went on, of so many frames: a server may have given it up after its
+-- timeout without an abort, and the client's next frame has no multiplexer. The first of them, the
+-- initiate request, has one.
+abbrev pub names_none : Key → ℕ → Bool
+names_none named frames = same_key named (record { index = 0; sub = 0 }) && nat_lt 2 frames
+
 -- `abort-key`: an abort of another entry; a server that doesn't know a command may not know where
 -- its multiplexer is
-abbrev pub abort_breach : Key → Key → AbortCode → Option Breach
-abort_breach named key code = if same_key named key || (code.0 == unknown_command) then None else Some (AbortKey key)
+abbrev pub abort_breach : Key → Ended → AbortCode → Option Breach
+abort_breach named ended code =
+    if (same_key named ended.key || (code.0 == unknown_command)) || names_none named ended.frames then None else Some (AbortKey ended.key)
 
 abbrev pub is_segmented : Protocol → Bool
 is_segmented Segmented = true
@@ -53,7 +60,7 @@ size_breach frame ended indicated = if is_padded frame ended indicated then None
 
 -- `answer-size`, `answer-crc`: an upload whose bytes aren't those that the device named
 abbrev pub ending_breach : FrameContent → Ended → Direction → Ending → Option Breach
-ending_breach frame ended direction (Aborted Server code) = abort_breach (key_in frame) ended.key code
+ending_breach frame ended direction (Aborted Server code) = abort_breach (key_in frame) ended code
 ending_breach frame ended Upload (SizeDiffers indicated) = size_breach frame ended indicated
 ending_breach frame ended Upload (CrcDiffers came computed) = Some (Crc ended.key came computed)
 ending_breach frame ended direction ending = None

@@ -8,6 +8,7 @@ ghost use Rattle.conode_compare_transfers.specs.Breaches.{
   ended_breach,
   is_padded,
   key_in,
+  names_none,
   server_breach,
   size_breach,
 };
@@ -56,15 +57,23 @@ pub fn key_in(frame: &Frame) -> Key
     }
 }
 
+// Whether an abort names 0000:00, once a transfer went on: a server may have given it up after its
+// timeout without an abort, and the client's next frame has no multiplexer.
+fn names_none(named: Key, frames: u64) -> bool
+    ensures { result ≡ names_none named frames }
+{
+    named == Key { index: 0, sub: 0 } && frames > 2
+}
+
 // An abort of another entry; a server that doesn't know a command may not know where its
 // multiplexer is.
-fn abort_breach(named: Key, key: Key, code: AbortCode) -> Option<Breach>
-    ensures { result ≡ abort_breach named key code }
+fn abort_breach(named: Key, ended: &Ended, code: AbortCode) -> Option<Breach>
+    ensures { result ≡ abort_breach named ended.now code }
 {
-    if named == key || code == AbortCode::UNKNOWN_COMMAND {
+    if named == ended.key || code == AbortCode::UNKNOWN_COMMAND || names_none(named, ended.frames) {
         None
     } else {
-        Some(Breach::AbortKey(key))
+        Some(Breach::AbortKey(ended.key))
     }
 }
 
@@ -100,7 +109,7 @@ fn ended_breach(frame: &Frame, ended: &Ended) -> Option<Breach>
                 by: Side::Server,
                 code,
             },
-        ) => abort_breach(key_in(frame), ended.key, code),
+        ) => abort_breach(key_in(frame), ended, code),
         (Direction::Upload, Ending::SizeDiffers { indicated }) => {
             size_breach(frame, ended, indicated)
         }

@@ -113,6 +113,11 @@ revision : upload (row 0x1018 3 Unsigned8 Constant (number (pos 1))) true (2 ∷
 unfolding value_mismatch
 revision = refl
 
+-- the number of sub-indices of the identity, where it never changes
+identity_count : map (λ access. upload (row 0x1018 0 Unsigned8 access (number (pos 4))) true (3 ∷ [])) (Constant ∷ Ro ∷ []) ≡ Some (ValueConst (key 0x1018 0) 3 4) ∷ None ∷ []
+unfolding value_mismatch
+identity_count = refl
+
 -- ---- in segments and blocks
 
 abbrev long : Row
@@ -359,6 +364,25 @@ last_of_seven = refl
 all_count : write (given (Some 20) None) free_text Block 21 ∷ write (given (Some 21) None) free_text Segmented 22 ∷ [] ≡ beyond 21 20 ∷ beyond 22 21 ∷ []
 unfolding row_mismatch
 all_count = refl
+
+-- In one frame without a size as many bytes count as the type has: HighLimit is 100. Not of more than four;
+-- in segments all count.
+abbrev put : DataType → Protocol → List ℕ → Option Mismatch
+put type protocol bytes =
+    row_mismatch 5 false (given None None) (limited 0x2000 type None (Some (pos 100))) false
+    (record (transfer free_text Download protocol (length bytes) (Done false)) { key = key 0x2000 0; first = record { items = bytes } })
+
+without_size : map (put Unsigned8 Expedited) ((100 ∷ 0 ∷ 0 ∷ 0 ∷ []) ∷ (101 ∷ 0 ∷ 0 ∷ 0 ∷ []) ∷ (100 ∷ 1 ∷ 1 ∷ 1 ∷ []) ∷ []) ≡ None ∷ Some (AboveLimit (key 0x2000 0)) ∷ None ∷ []
+unfolding row_mismatch
+without_size = refl
+
+without_size_of_two : put Unsigned16 Expedited (0 ∷ 1 ∷ 0 ∷ 0 ∷ []) ≡ Some (AboveLimit (key 0x2000 0))
+unfolding row_mismatch
+without_size_of_two = refl
+
+all_four : put Unsigned40 Expedited (0 ∷ 1 ∷ 0 ∷ 0 ∷ []) ∷ put Unsigned8 Segmented (101 ∷ 0 ∷ 0 ∷ 0 ∷ []) ∷ put Unsigned8 Expedited (101 ∷ 0 ∷ 0 ∷ []) ∷ [] ≡ None ∷ None ∷ None ∷ []
+unfolding row_mismatch
+all_four = refl
 
 -- in one frame: of four bytes one counts at least
 in_a_frame : map (write (given (Some 2) None) free_text Expedited) (2 ∷ 3 ∷ 4 ∷ []) ≡ None ∷ beyond 3 2 ∷ None ∷ []

@@ -44,7 +44,8 @@ is_constant other = false
 -- what never changes. The revision and serial number of a device are its own.
 abbrev pub is_held : Row → Bool
 is_held row =
-    if row.key.index == identity then (row.key.sub == 1) || (row.key.sub == 2)
+    if row.key.index == identity
+    then (row.key.sub == 1) || ((row.key.sub == 2) || ((row.key.sub == 0) && is_constant row.access))
     else (row.key.index == device_type) || is_constant row.access
 
 abbrev pub held_number : ℕ → Row → Option ℕ
@@ -259,10 +260,19 @@ value_by node row exact ended None = text_mismatch row exact ended.first.items
 unfoldable pub value_mismatch : ℕ → Row → Bool → Ended → Option Mismatch
 value_mismatch node row exact ended = value_by node row exact ended (width_of row.data_type)
 
+-- The bytes of a number that was written: in one frame there are four where their number isn't
+-- indicated, and as many count as the type has.
+abbrev pub first_bytes : ℕ → List ℕ → List ℕ
+first_bytes width bytes = if (length bytes == 4) && nat_lt width 4 then take width bytes else bytes
+
+abbrev pub written_bytes : DataType → Protocol → List ℕ → List ℕ
+written_bytes type Expedited bytes = option_map_or (λ width. first_bytes width bytes) (width_of type) bytes
+written_bytes type other bytes = bytes
+
 -- of a download that is done: a number has no room that is given, and a string no limits
 abbrev pub download_mismatch : Rooms → Row → Ended → Option Mismatch
 download_mismatch rooms row ended =
-    option_or (written_mismatch row ended.first.items) (room_mismatch rooms row ended.protocol ended.bytes)
+    option_or (written_mismatch row (written_bytes row.data_type ended.protocol ended.first.items)) (room_mismatch rooms row ended.protocol ended.bytes)
 
 -- of a device with a node-ID; whether it is modular; the rooms that are given; whether the number of
 -- bytes of an upload is known exactly

@@ -12,6 +12,7 @@ ghost use Rattle.conode_compare_values.specs.SheetValues.{
   constant_mismatch,
   denies,
   download_mismatch,
+  first_bytes,
   has_limits,
   has_room,
   has_width,
@@ -42,6 +43,7 @@ ghost use Rattle.conode_compare_values.specs.SheetValues.{
   text_mismatch,
   value_mismatch,
   width_mismatch,
+  written_bytes,
   written_mismatch,
 };
 
@@ -80,10 +82,11 @@ pub fn is_readable(access: Access) -> bool
 pub fn is_held(row: &EntryRow<'_>) -> bool
     ensures { result ≡ is_held (row_view row.now) }
 {
+    let is_constant = matches!(row.access, Access::Constant);
     if row.key.index == IDENTITY {
-        return row.key.sub == 1 || row.key.sub == 2;
+        return row.key.sub == 1 || row.key.sub == 2 || (row.key.sub == 0 && is_constant);
     }
-    row.key.index == DEVICE_TYPE || matches!(row.access, Access::Constant)
+    row.key.index == DEVICE_TYPE || is_constant
 }
 
 // the number in the data sheet, if values are compared with it
@@ -412,11 +415,37 @@ fn written_mismatch(row: &EntryRow<'_>, bytes: &[u8]) -> Option<Mismatch>
     }
 }
 
+// the bytes of a number, as many as its type has: there are four in one frame where their number
+// isn't indicated
+fn first_bytes(width: usize, bytes: &[u8]) -> &[u8]
+    ensures { result.now ≡ first_bytes width bytes.now }
+{
+    if bytes.len() == 4 && width < 4 {
+        &bytes[..width]
+    } else {
+        bytes
+    }
+}
+
+// the bytes of a number that was written
+fn written_bytes(data_type: DataType, protocol: Protocol, bytes: &[u8]) -> &[u8]
+    ensures { result.now ≡ written_bytes data_type protocol bytes.now }
+{
+    match protocol {
+        Protocol::Expedited => match data_type.width() {
+            Some(width) => first_bytes(width, bytes),
+            None => bytes,
+        },
+        _ => bytes,
+    }
+}
+
 // the difference of a download that is done
 fn download_mismatch(rooms: Rooms, row: &EntryRow<'_>, ended: &Ended) -> Option<Mismatch>
     ensures { result ≡ download_mismatch rooms (row_view row.now) ended.now }
 {
-    written_mismatch(row, ended.first.as_slice()).or(rooms.mismatch(row, ended))
+    let bytes = written_bytes(row.data_type, ended.protocol, ended.first.as_slice());
+    written_mismatch(row, bytes).or(rooms.mismatch(row, ended))
 }
 
 // the difference of an upload that is done

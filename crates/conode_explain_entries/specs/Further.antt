@@ -1,11 +1,12 @@
 -- The SDO channels of a recording other than the default ones, each by its two identifiers; each is
--- followed as `followed` says.
+-- followed as `hearing` says.
 use Rattle.std.specs.Prelude.{ℕ, ◌==◌, ◌&&◌, nat_lt, Bool, if◌then◌else◌, List, [], ◌∷◌, ◌++◌, length, slice_set, map, position, Option, Some, None}
 use Rattle.std.specs.List.{slice_index_or}
 use Rattle.std.specs.Str.{bytes_eq}
 use Rattle.conode_explain_transfers.specs.declared.kinds.Side.TheVariants.{Client}
 use Rattle.conode_explain_transfers.specs.declared.told.Told.{Told}
-use Rattle.conode_explain_transfers.specs.Followed.{Following, after_boot, followed, nothing_heard}
+use Rattle.conode_explain_transfers.specs.Followed.{Following, after_boot, nothing_heard}
+use Rattle.conode_explain_transfers.specs.Hearings.{hearing}
 use Rattle.conode_explain_transfers.specs.Tracks.{told_by}
 use Rattle.conode_explain_entries.specs.declared.further.ChannelIds.{ChannelIds}
 use Rattle.conode_explain_entries.specs.declared.further.FurtherChannel.{FurtherChannel}
@@ -72,7 +73,7 @@ pub record FurtherTelling : Type 0 where
 abbrev pub telling_at : Option ℕ → List FurtherChannel → Place → ℕ → List ℕ → FurtherTelling
 telling_at None channels place micros bytes = record { told = None; channels = channels }
 telling_at (Some at) channels place micros bytes =
-    let f = followed (channel_at channels at).channel micros place.side bytes in
+    let f = hearing (channel_at channels at).channel micros place.side bytes in
     record { told = Some (told_by place.side place.node f.says); channels = with_channel channels at f.next }
 
 -- with its stamp on an interface; a channel that there is no room for isn't followed

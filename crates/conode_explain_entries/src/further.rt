@@ -1,7 +1,8 @@
 //! The SDO channels of a recording other than the default ones.
 
 ghost use Rattle.std.specs.Prelude.{◌≡◌, ◌<◌, ◌≤◌, [], length, OnOk, IfOk, IfSome};
-ghost use Rattle.conode_explain_transfers.specs.Followed.{after_boot, followed};
+ghost use Rattle.conode_explain_transfers.specs.Followed.{after_boot};
+ghost use Rattle.conode_explain_transfers.specs.Hearings.{hearing};
 ghost use Rattle.conode_explain_entries.specs.Further.{
   are_same,
   booted,
@@ -175,11 +176,11 @@ impl FurtherChannels {
     fn take_at(&mut self, at: usize, micros: u64, side: Side, frame: &Frame) -> Heard
         requires { at < length self.old }
         ensures says { result
-            ≡ (followed (channel_at self.old at).channel micros side frame.now.bytes).says }
+            ≡ (hearing (channel_at self.old at).channel micros side frame.now.bytes).says }
         ensures channels { self.new ≡ with_channel self.old at
-            (followed (channel_at self.old at).channel micros side frame.now.bytes).next }
+            (hearing (channel_at self.old at).channel micros side frame.now.bytes).next }
     {
-        self.channels[at].channel.take(micros, side, frame)
+        self.channels[at].channel.hear(micros, side, frame)
     }
 
     /// Takes a frame of a channel with its stamp in microseconds on an interface, whose name has at

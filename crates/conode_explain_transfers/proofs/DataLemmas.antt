@@ -70,7 +70,7 @@ turn_open : (heard : Bool) (before : Transfer) (turn : Turn) (micros : ℕ) (sid
     → StaysOpen (turns heard before turn micros side).next.transfer (data_with bytes turn.takes)
 turn_open heard before turn micros side bytes h = turn_at (confirmed_with turn.transfer.stage) heard before turn micros side bytes refl h
 
-frame_step : (heard : Bool) (current : Option Transfer) (reading : Reading) (micros : ℕ) (side : Side) (frame bytes : List ℕ)
+pub frame_step : (heard : Bool) (current : Option Transfer) (reading : Reading) (micros : ℕ) (side : Side) (frame bytes : List ℕ)
     → StaysOpen current bytes
     → StaysOpen (followed_by heard current reading micros side frame).next.transfer (data_by current reading frame bytes)
 frame_step heard None (Begin request) micros side frame bytes h = record { unconfirmed = refl; taken = refl }

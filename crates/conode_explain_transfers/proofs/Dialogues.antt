@@ -10,6 +10,7 @@ use Rattle.conode_explain_transfers.specs.declared.kinds.Side.{Side}
 use Rattle.conode_explain_transfers.specs.declared.kinds.Side.TheVariants.{Client, Server}
 use Rattle.conode_explain_transfers.specs.declared.kinds.What.{What}
 use Rattle.conode_explain_transfers.specs.Followed.{Following, nothing_heard, closed, followed}
+use Rattle.conode_explain_transfers.specs.Hearings.{hearing}
 use Rattle.conode_explain_transfers.specs.Tracks.{shown_end, shown_what}
 
 -- the digits of a frame
@@ -48,7 +49,7 @@ abbrev pub ends_with : Option Ended → List End → List End
 ends_with None ends = ends
 ends_with (Some e) ends = end_of e ∷ ends
 
--- what is said of frames
+-- what a channel says of frames
 pub record Told : Type 0 where
   pub whats : List What
   pub ends : List End
@@ -65,14 +66,14 @@ told_from following (sent ∷ later) =
 abbrev pub told : List Sent → Told
 told frames = told_from nothing_heard frames
 
--- what is shown of them
+-- what is heard of them in a recording, and shown
 abbrev pub shown_of : Heard → Heard
 shown_of heard = record { what = shown_what heard.what heard.ended; of = heard.of; ended = shown_end heard.ended }
 
 abbrev pub shown_from : Following → List Sent → Told
 shown_from following [] = record { whats = []; ends = [] }
 shown_from following (sent ∷ later) =
-    let step = followed following 0 sent.side sent.bytes in
+    let step = hearing following 0 sent.side sent.bytes in
     told_with (shown_of step.says) (shown_from step.next later)
 
 abbrev pub shown : List Sent → Told

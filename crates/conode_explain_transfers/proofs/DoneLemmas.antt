@@ -60,7 +60,7 @@ abort_not_done side None code fact = tt
 abort_not_done side (Some next) code fact = tt
 
 -- what is done with a frame that goes on with the open transfer
-abbrev DoneWith : Transfer → Reading → List ℕ → List ℕ → Bool → Type 0
+abbrev pub DoneWith : Transfer → Reading → List ℕ → List ℕ → Bool → Type 0
 DoneWith transfer reading frame bytes crc = IsDoneWith transfer reading (turn_of transfer reading frame) bytes crc
 
 turn_at : (x : Option (Option ℕ)) (heard : Bool) (transfer : Transfer) (reading : Reading) (frame : List ℕ) (micros : ℕ) (side : Side) (bytes : List ℕ)
@@ -99,11 +99,11 @@ turn_done heard transfer reading frame micros side bytes h =
     turn_at (confirmed_with (turn_of transfer reading frame).transfer.stage) heard transfer reading frame micros side bytes refl h
 
 -- what is done with any frame
-abbrev DoneBy : Option Transfer → Reading → List ℕ → List ℕ → Bool → Type 0
+abbrev pub DoneBy : Option Transfer → Reading → List ℕ → List ℕ → Bool → Type 0
 DoneBy current reading frame bytes crc =
     IfSome current (λ transfer. DoneWith transfer reading frame (data_by current reading frame bytes) crc)
 
-frame_done : (heard : Bool) (current : Option Transfer) (reading : Reading) (micros : ℕ) (side : Side) (frame bytes : List ℕ) → StaysOpen current bytes
+pub frame_done : (heard : Bool) (current : Option Transfer) (reading : Reading) (micros : ℕ) (side : Side) (frame bytes : List ℕ) → StaysOpen current bytes
     → IfSome (followed_by heard current reading micros side frame).says.ended (λ e. IfDone e.ending (DoneBy current reading frame bytes))
 frame_done heard None (Begin request) micros side frame bytes h = tt
 frame_done heard None (Segment segment) micros side frame bytes h = tt

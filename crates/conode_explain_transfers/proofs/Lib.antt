@@ -3,7 +3,9 @@ pub mod Confirmations
 pub mod DataLemmas
 pub mod Dialogues
 pub mod DoneLemmas
+pub mod HeardLemmas
 pub mod Kept
+mod HearingExamples
 mod SegmentedExamples
 pub mod Places
 mod UnansweredExamples

@@ -7,7 +7,7 @@ use Rattle.co_frame.specs.SdoResponses.{response_row_in}
 use Rattle.conode_explain_transfers.specs.declared.ended.Ending.TheVariants.{Done, Aborted, Unanswered, Repeated as AskedAgain, Interrupted, Unfinished, NotFollowed}
 use Rattle.conode_explain_transfers.specs.declared.kinds.Protocol.TheVariants.{Undecided, Expedited, Segmented, Block}
 use Rattle.conode_explain_transfers.specs.declared.kinds.Side.TheVariants.{Client, Server}
-use Rattle.conode_explain_transfers.specs.declared.kinds.What.TheVariants.{Initiate, Part, Segment, Unexpected, Stray, BegunBefore}
+use Rattle.conode_explain_transfers.specs.declared.kinds.What.TheVariants.{Initiate, Part, Segment, Overtaken, Unexpected, Stray, BegunBefore}
 use Rattle.conode_explain_transfers.specs.Crc.{shifted, crc_with}
 use Rattle.conode_explain_transfers.specs.Followed.{broken_off, followed, nothing_heard}
 use Rattle.conode_explain_transfers.specs.Tellings.{telling}
@@ -31,10 +31,10 @@ next_upload = c (codes "4000210000000000") ∷ s (codes "4F002100AA000000") ∷ 
 
 -- ---- recordings that begin within a sub-block of a download
 
--- at segment 5 of 20: none of these looks like an initiate request
+-- at segment 5 of 20: none of these looks like an initiate request, and 94h is the last segment
 at_5_of_20 : shown (map segment (5 ∷ 6 ∷ 7 ∷ 8 ∷ 9 ∷ 10 ∷ 11 ∷ 12 ∷ 13 ∷ 14 ∷ 15 ∷ 16 ∷ 17 ∷ 18 ∷ 19 ∷ 0x94 ∷ []) ++ s (codes "A2147F0000000000") ∷ block_end)
     ≡ record {
-      whats = replicate 19 BegunBefore;
+      whats = replicate 15 BegunBefore ++ Segment 20 ∷ replicate 3 BegunBefore;
       ends = [];
     }
 unfolding request_row_in response_row_in shifted crc_with
@@ -75,7 +75,7 @@ shown_at_94_of_98 = refl
 
 -- a sub-block of 32 segments, each time
 shown_at_32_of_32 : shown (segment 32 ∷ s (codes "A220200000000000") ∷ map segment (1 ∷ 2 ∷ 32 ∷ []) ++ s (codes "A220200000000000") ∷ segment 1 ∷ segment 32 ∷ [])
-    ≡ record { whats = Initiate ∷ Unexpected ∷ Unexpected ∷ Unexpected ∷ Initiate ∷ Unexpected ∷ Unexpected ∷ Initiate ∷ []; ends = [] }
+    ≡ record { whats = Initiate ∷ Overtaken ∷ Unexpected ∷ Unexpected ∷ Initiate ∷ Overtaken ∷ Unexpected ∷ Initiate ∷ []; ends = [] }
 unfolding request_row_in response_row_in shifted crc_with
 shown_at_32_of_32 = refl
 
@@ -100,15 +100,15 @@ last_of_64 = refl
 -- the last one alone: 20, 32, and 64
 last_segment : map (λ first. shown (segment first ∷ s (codes "A2147F0000000000") ∷ block_end ++ next_upload)) (0x94 ∷ 0xA0 ∷ 0xC0 ∷ [])
     ≡ record {
-      whats = BegunBefore ∷ BegunBefore ∷ BegunBefore ∷ BegunBefore ∷ Initiate ∷ Part ∷ [];
+      whats = Segment 20 ∷ BegunBefore ∷ BegunBefore ∷ BegunBefore ∷ Initiate ∷ Part ∷ [];
       ends = record { protocol = Expedited; bytes = 1; first = 0xAA ∷ []; frames = 2; ending = Done false } ∷ [];
     }
     ∷ record {
-      whats = Initiate ∷ Unexpected ∷ Unexpected ∷ Unexpected ∷ Initiate ∷ Part ∷ [];
+      whats = Initiate ∷ Overtaken ∷ Unexpected ∷ Unexpected ∷ Initiate ∷ Part ∷ [];
       ends = record { protocol = Expedited; bytes = 1; first = 0xAA ∷ []; frames = 2; ending = Done false } ∷ [];
     }
     ∷ record {
-      whats = Initiate ∷ Unexpected ∷ Unexpected ∷ Unexpected ∷ Initiate ∷ Part ∷ [];
+      whats = Initiate ∷ Overtaken ∷ Unexpected ∷ Unexpected ∷ Initiate ∷ Part ∷ [];
       ends = record { protocol = Expedited; bytes = 1; first = 0xAA ∷ []; frames = 2; ending = Done false } ∷ [];
     }
     ∷ []
@@ -124,7 +124,7 @@ request_lost = refl
 -- ---- and of an upload: no frame of it begins a transfer
 
 within_upload : shown (map uploaded (31 ∷ 32 ∷ 33 ∷ 64 ∷ 0xC1 ∷ []) ++ c (codes "A2417F0000000000") ∷ uploaded 1 ∷ uploaded 0x82 ∷ c (codes "A2027F0000000000") ∷ s (codes "C100000000000000") ∷ c (codes "A100000000000000") ∷ [])
-    ≡ record { whats = replicate 11 BegunBefore; ends = [] }
+    ≡ record { whats = replicate 7 BegunBefore ++ Segment 2 ∷ replicate 3 BegunBefore; ends = [] }
 unfolding request_row_in response_row_in shifted crc_with
 within_upload = refl
 
@@ -193,14 +193,19 @@ none_after_the_last : shown (c (codes "A000210004000000") ∷ c (codes "21002100
 unfolding request_row_in response_row_in shifted crc_with
 none_after_the_last = refl
 
--- nor after an answer, a wrong one too
-after_a_wrong_answer : shown (c (codes "22002100AABBCCDD") ∷ s (codes "3000000000000000") ∷ c (codes "23002100AABBCCDD") ∷ [])
+-- nor after an answer, a wrong one too; in a recording 30h answers an earlier request, and the client wasn't answered
+after_a_wrong_answer : told (c (codes "22002100AABBCCDD") ∷ s (codes "3000000000000000") ∷ c (codes "23002100AABBCCDD") ∷ [])
     ≡ record {
       whats = Initiate ∷ Unexpected ∷ Initiate ∷ [];
       ends = record { protocol = Expedited; bytes = 0; first = []; frames = 2; ending = Interrupted } ∷ [];
     }
 unfolding request_row_in response_row_in shifted crc_with
 after_a_wrong_answer = refl
+
+after_an_earlier_answer : shown (c (codes "22002100AABBCCDD") ∷ s (codes "3000000000000000") ∷ c (codes "23002100AABBCCDD") ∷ [])
+    ≡ record { whats = Initiate ∷ Overtaken ∷ Segment 35 ∷ []; ends = [] }
+unfolding request_row_in response_row_in shifted crc_with
+after_an_earlier_answer = refl
 
 -- the client awaits a segment: the response to initiate came
 within_a_transfer : shown (c (codes "4000210000000000") ∷ s (codes "4100210009000000") ∷ c (codes "6000000000000000") ∷ c (codes "4100210000000000") ∷ [])
@@ -304,7 +309,7 @@ after_another_abort : map (λ abort. shown (c (codes "4000210000000000") ∷ c (
 unfolding request_row_in response_row_in shifted crc_with
 after_another_abort = refl
 
--- ---- a block upload whose response isn't in the recording
+-- ---- a block upload whose response and start aren't in the recording
 
 -- its only segment, and its last one: numbers 1 and 31
 segment_uploaded : map (λ first. shown (c (codes "A00021007F000000") ∷ uploaded first ∷ [])) (0x81 ∷ 0x9F ∷ [])
@@ -328,16 +333,92 @@ upload_refused : map (λ frames. (shown (c (codes "A00021007F000000") ∷ frames
 unfolding request_row_in response_row_in shifted crc_with
 upload_refused = refl
 
--- where no segment of the server is awaited, 81h is read as an abort: of an upload that isn't in blocks, of a block download, and once the
--- response came
+-- so do 81h and 9Fh directly after the request that name the entry; another low or high byte of the index, or another sub-index, is data
+upload_refused_with : map (λ abort. shown (c (codes "A00021007F000000") ∷ s abort ∷ [])) (codes "8100210000000206" ∷ codes "9F00210000000206" ∷ codes "8101210000000206" ∷ codes "8100200000000206" ∷ codes "8100210100000206" ∷ [])
+    ≡ record {
+      whats = Initiate ∷ Part ∷ [];
+      ends = record { protocol = Block; bytes = 0; first = []; frames = 2; ending = Aborted Server (record { 0 = 0x06020000 }) } ∷ [];
+    }
+    ∷ record {
+      whats = Initiate ∷ Part ∷ [];
+      ends = record { protocol = Block; bytes = 0; first = []; frames = 2; ending = Aborted Server (record { 0 = 0x06020000 }) } ∷ [];
+    }
+    ∷ record { whats = Initiate ∷ Segment 1 ∷ []; ends = [] }
+    ∷ record { whats = Initiate ∷ Segment 1 ∷ []; ends = [] }
+    ∷ record { whats = Initiate ∷ Segment 1 ∷ []; ends = [] }
+    ∷ []
+unfolding request_row_in response_row_in shifted crc_with
+upload_refused_with = refl
+
+-- once another frame came, it is data that is the same as the entry: after the start, and after segment 1
+upload_data : map (λ before. shown (c (codes "A00021007F000000") ∷ before ∷ s (codes "8200210000000206") ∷ [])) (c (codes "A300000000000000") ∷ uploaded 1 ∷ [])
+    ≡ record { whats = Initiate ∷ Unexpected ∷ Segment 2 ∷ []; ends = [] }
+    ∷ record { whats = Initiate ∷ Unexpected ∷ Segment 2 ∷ []; ends = [] } ∷ []
+unfolding request_row_in response_row_in shifted crc_with
+upload_data = refl
+
+-- after such an abort no transfer is open
+after_a_refusal : shown (c (codes "A00021007F000000") ∷ s (codes "8100210000000206") ∷ c (codes "A100000000000000") ∷ [])
+    ≡ record {
+      whats = Initiate ∷ Part ∷ Stray ∷ [];
+      ends = record { protocol = Block; bytes = 0; first = []; frames = 2; ending = Aborted Server (record { 0 = 0x06020000 }) } ∷ [];
+    }
+unfolding request_row_in response_row_in shifted crc_with
+after_a_refusal = refl
+
+-- ---- a block upload of which the start alone isn't in the recording
+
+-- a channel doesn't follow its segments: its only one, the last of two, and of 31. In a recording they are followed (`HearingExamples`)
+start_lost : map (λ frames. told (c (codes "A00021007F000000") ∷ s (codes "C000210000000000") ∷ frames))
+    ((uploaded 0x81 ∷ c (codes "A2017F0000000000") ∷ []) ∷ (uploaded 1 ∷ uploaded 0x82 ∷ []) ∷ (uploaded 0x9F ∷ []) ∷ [])
+    ≡ record {
+      whats = Initiate ∷ Part ∷ Part ∷ BegunBefore ∷ [];
+      ends = record { protocol = Block; bytes = 0; first = []; frames = 3; ending = NotFollowed (Some 1) } ∷ [];
+    }
+    ∷ record {
+      whats = Initiate ∷ Part ∷ Unexpected ∷ Part ∷ [];
+      ends = record { protocol = Block; bytes = 0; first = []; frames = 4; ending = NotFollowed (Some 2) } ∷ [];
+    }
+    ∷ record {
+      whats = Initiate ∷ Part ∷ Part ∷ [];
+      ends = record { protocol = Block; bytes = 0; first = []; frames = 3; ending = NotFollowed (Some 31) } ∷ [];
+    }
+    ∷ []
+unfolding request_row_in response_row_in shifted crc_with
+start_lost = refl
+
+-- ---- where no segment of this end is awaited, 81h is read as an abort
+
+-- of the server: of an upload that isn't in blocks, before and after its response, of a block download, once a block upload was answered and it
+-- names the entry, and once all its segments are acknowledged
 refused_with : map (λ frames. ends_with (followed (after_all nothing_heard frames) 0 Server (s (codes "8100210000000206")).bytes).says.ended [])
-    ((c (codes "4000210000000000") ∷ []) ∷ (c (codes "C000210000000000") ∷ []) ∷ (c (codes "A00021007F000000") ∷ s (codes "C000210000000000") ∷ []) ∷ [])
+    ((c (codes "4000210000000000") ∷ []) ∷ (c (codes "4000210000000000") ∷ s (codes "4100210009000000") ∷ []) ∷ (c (codes "C000210000000000") ∷ []) ∷ (c (codes "A00021007F000000") ∷ s (codes "C000210000000000") ∷ [])
+    ∷ (c (codes "A00021007F000000") ∷ s (codes "C000210000000000") ∷ c (codes "A300000000000000") ∷ uploaded 0x81 ∷ c (codes "A2017F0000000000") ∷ []) ∷ [])
     ≡ (record { protocol = Undecided; bytes = 0; first = []; frames = 2; ending = Aborted Server (record { 0 = 0x06020000 }) } ∷ [])
+    ∷ (record { protocol = Segmented; bytes = 0; first = []; frames = 3; ending = Aborted Server (record { 0 = 0x06020000 }) } ∷ [])
     ∷ (record { protocol = Block; bytes = 0; first = []; frames = 2; ending = Aborted Server (record { 0 = 0x06020000 }) } ∷ [])
     ∷ (record { protocol = Block; bytes = 0; first = []; frames = 3; ending = Aborted Server (record { 0 = 0x06020000 }) } ∷ [])
+    ∷ (record { protocol = Block; bytes = 0; first = []; frames = 6; ending = Aborted Server (record { 0 = 0x06020000 }) } ∷ [])
     ∷ []
 unfolding request_row_in response_row_in shifted crc_with
 refused_with = refl
+
+-- with another multiplexer too, but before the start of a block upload
+refused_as_another : map (λ frames. ends_with (followed (after_all nothing_heard frames) 0 Server (s (codes "8101210000000206")).bytes).says.ended [])
+    ((c (codes "4000210000000000") ∷ []) ∷ (c (codes "C000210000000000") ∷ [])
+    ∷ (c (codes "A00021007F000000") ∷ s (codes "C000210000000000") ∷ c (codes "A300000000000000") ∷ uploaded 0x81 ∷ c (codes "A2017F0000000000") ∷ []) ∷ [])
+    ≡ (record { protocol = Undecided; bytes = 0; first = []; frames = 2; ending = Aborted Server (record { 0 = 0x06020000 }) } ∷ [])
+    ∷ (record { protocol = Block; bytes = 0; first = []; frames = 2; ending = Aborted Server (record { 0 = 0x06020000 }) } ∷ [])
+    ∷ (record { protocol = Block; bytes = 0; first = []; frames = 6; ending = Aborted Server (record { 0 = 0x06020000 }) } ∷ [])
+    ∷ []
+unfolding request_row_in response_row_in shifted crc_with
+refused_as_another = refl
+
+-- of the client, once a block upload was answered
+given_up_before_start : (shown (c (codes "A00021007F000000") ∷ s (codes "C000210000000000") ∷ c (codes "8101210000000405") ∷ [])).ends
+    ≡ record { protocol = Block; bytes = 0; first = []; frames = 3; ending = Aborted Client (record { 0 = 0x05040000 }) } ∷ []
+unfolding request_row_in response_row_in shifted crc_with
+given_up_before_start = refl
 
 -- ---- what begins with such a segment
 

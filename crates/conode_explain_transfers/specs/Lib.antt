@@ -4,6 +4,8 @@ pub mod Data
 pub mod Digests
 pub mod Endings
 pub mod Followed
+pub mod HeardData
+pub mod Hearings
 pub mod Initiates
 pub mod Readings
 pub mod SegmentedTurns

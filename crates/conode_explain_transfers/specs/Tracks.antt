@@ -1,5 +1,5 @@
 -- The SDO channels of a recording, one for each node on each interface; each is followed as
--- `followed` says.
+-- `hearing` says.
 use Rattle.std.specs.Prelude.{ℕ, ◌==◌, ◌&&◌, nat_lt, Bool, true, false, if◌then◌else◌, List, [], ◌∷◌, ◌++◌, length, slice_set, position, Option, Some, None}
 use Rattle.std.specs.List.{slice_index_or}
 use Rattle.std.specs.Str.{bytes_eq}
@@ -11,7 +11,8 @@ use Rattle.conode_explain_transfers.specs.declared.kinds.Side.{Side}
 use Rattle.conode_explain_transfers.specs.declared.kinds.What.{What}
 use Rattle.conode_explain_transfers.specs.declared.kinds.What.TheVariants.{Segment}
 use Rattle.conode_explain_transfers.specs.Endings.{is_followed}
-use Rattle.conode_explain_transfers.specs.Followed.{Following, nothing_heard, followed, broken_off, after_boot}
+use Rattle.conode_explain_transfers.specs.Followed.{Following, nothing_heard, broken_off, after_boot}
+use Rattle.conode_explain_transfers.specs.Hearings.{hearing}
 use Rattle.conode_explain_transfers.specs.declared.told.Told.{Told}
 use Rattle.conode_explain_transfers.specs.declared.track.Track.{Track}
 
@@ -88,7 +89,7 @@ told_by side node heard = record {
 abbrev pub telling_at : Option ℕ → List Track → ℕ → ℕ → Side → List ℕ → Telling
 telling_at None tracks node micros side bytes = record { told = None; tracks = tracks }
 telling_at (Some place) tracks node micros side bytes =
-    let f = followed (track_at tracks place).channel micros side bytes in
+    let f = hearing (track_at tracks place).channel micros side bytes in
     record { told = Some (told_by side node f.says); tracks = with_channel tracks place f.next }
 
 -- a frame of a node on an interface; a channel that there is no room for isn't followed

@@ -27,7 +27,7 @@ use co_frame::{BYTES_PER_SEGMENT, BlockSegment, Frame};
 use co_value::Key;
 
 /// How many segments a sub-block has at most.
-const MOST_SEGMENTS: u8 = 127;
+pub(crate) const MOST_SEGMENTS: u8 = 127;
 
 /// The CRC of end SDO block download or upload: bytes 1 and 2.
 pub(crate) fn crc_in(frame: &Frame) -> u16

@@ -62,7 +62,7 @@ pub struct Heard {
 #[derive(Drop)]
 pub struct Channel {
     heard: bool,
-    transfer: Option<Transfer>,
+    pub(crate) transfer: Option<Transfer>,
 }
 
 impl Model for Channel {
@@ -247,8 +247,8 @@ impl Channel {
         }
     }
 
-    // The open transfer ends.
-    fn close(&mut self, micros: u64, ending: Ending) -> Option<Ended>
+    /// The open transfer ends.
+    pub(crate) fn close(&mut self, micros: u64, ending: Ending) -> Option<Ended>
         ensures ended { result ≡ ends_as self.old.transfer micros ending }
         ensures next { self.new ≡ after_boot self.old }
     {

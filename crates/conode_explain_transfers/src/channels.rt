@@ -1,7 +1,8 @@
 //! The SDO channels of a recording.
 
 ghost use Rattle.std.specs.Prelude.{◌≡◌, ◌<◌, ◌≤◌, [], length, OnOk, IfOk, IfSome};
-ghost use Rattle.conode_explain_transfers.specs.Followed.{followed, broken_off, after_boot};
+ghost use Rattle.conode_explain_transfers.specs.Followed.{broken_off, after_boot};
+ghost use Rattle.conode_explain_transfers.specs.Hearings.{hearing};
 ghost use Rattle.conode_explain_transfers.specs.Tracks.{
   place_of,
   track_at,
@@ -97,11 +98,11 @@ impl Channels {
     fn take_at(&mut self, place: usize, micros: u64, side: Side, frame: &Frame) -> Heard
         requires { place < length self.old }
         ensures says { result
-            ≡ (followed (track_at self.old place).channel micros side frame.now.bytes).says }
+            ≡ (hearing (track_at self.old place).channel micros side frame.now.bytes).says }
         ensures tracks { self.new ≡ with_channel self.old place
-            (followed (track_at self.old place).channel micros side frame.now.bytes).next }
+            (hearing (track_at self.old place).channel micros side frame.now.bytes).next }
     {
-        self.tracks[place].channel.take(micros, side, frame)
+        self.tracks[place].channel.hear(micros, side, frame)
     }
 
     // The node of the channel at a place booted up.

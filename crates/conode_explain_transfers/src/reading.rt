@@ -63,7 +63,8 @@ fn response_reading(frame: &Frame) -> Reading
     }
 }
 
-fn plain_reading(side: Side, frame: &Frame) -> Reading
+/// What an end's frame is read as outside a sub-block.
+pub(crate) fn plain_reading(side: Side, frame: &Frame) -> Reading
     ensures reading { result ≡ plain_reading side frame.now.bytes }
     ensures spellable { IsReading result }
 {
@@ -110,7 +111,8 @@ impl Reading {
     }
 }
 
-fn answers_key(response: &SdoResponse) -> bool
+/// Whether a response is one to initiate, which has a key.
+pub(crate) fn answers_key(response: &SdoResponse) -> bool
     ensures { result ≡ answers_key response.now }
 {
     match response {

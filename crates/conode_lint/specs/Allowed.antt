@@ -1,6 +1,6 @@
 -- Which findings are allowed, and how many others are errors.
-use Rattle.std.specs.Prelude.{ℕ, Bool, true, false, nat_lt, ◌==◌, ◌||◌, if◌then◌else◌, List, [], ◌∷◌, length, take, drop, option_to_list, codes, Option, Some, None}
-use Rattle.std.specs.List.{flat_map, list_any}
+use Rattle.std.specs.Prelude.{ℕ, Bool, true, false, nat_lt, ◌==◌, ◌||◌, if◌then◌else◌, List, [], ◌∷◌, length, map, take, drop, codes}
+use Rattle.std.specs.List.{before_first, flat_map, list_any, slice_split}
 use Rattle.std.specs.Str.{bytes_eq}
 use Rattle.co_sheet_text.specs.Text.{trim}
 use Rattle.conode_lint_text.specs.declared.finding.Severity.{Severity}
@@ -8,28 +8,43 @@ use Rattle.conode_lint_text.specs.declared.finding.Severity.TheVariants.{Error, 
 use Rattle.conode_lint_marks.specs.declared.mark.Mark.{Mark}
 use Rattle.conode_lint.specs.Words as words
 
--- the beginning of a comment that allows findings of a name
+-- the beginning of a comment that allows findings of names
 abbrev pub allow_words : List ℕ
 allow_words = codes "lint: allow "
 
--- the name that a comment allows
-unfoldable pub name_allowed : List ℕ → Option (List ℕ)
-name_allowed comment =
-    if nat_lt (length comment) 12 then None
-    else (if bytes_eq (take 12 comment) allow_words then Some (trim (drop 12 comment)) else None)
+-- a text up to the first of a byte, and its first word between blanks
+abbrev pub until : ℕ → List ℕ → List ℕ
+until byte text =
+    if list_any (λ b. b == byte) text then before_first (λ b. b == byte) text else text
 
--- the name that a line without blanks at its ends allows: `;` begins a comment
-abbrev pub name_at : List ℕ → Option (List ℕ)
-name_at [] = None
-name_at (b ∷ text) = if b == 59 then name_allowed (trim text) else None
+abbrev pub first_word : List ℕ → List ℕ
+first_word text = until 9 (until 32 (trim text))
 
--- the name that a line allows
-unfoldable pub name_in : List ℕ → Option (List ℕ)
-name_in line = name_at (trim line)
+-- the first words between commas; the empty one is no finding's name
+abbrev pub is_comma : ℕ → Bool
+is_comma byte = byte == 44
+
+abbrev pub words_between : List ℕ → List (List ℕ)
+words_between text = map first_word (slice_split is_comma text)
+
+-- the names that a comment allows
+unfoldable pub names_allowed : List ℕ → List (List ℕ)
+names_allowed comment =
+    if nat_lt (length comment) 12 then []
+    else (if bytes_eq (take 12 comment) allow_words then words_between (drop 12 comment) else [])
+
+-- the names that a line without blanks at its ends allows: `;` begins a comment
+abbrev pub names_at : List ℕ → List (List ℕ)
+names_at [] = []
+names_at (b ∷ text) = if b == 59 then names_allowed (trim text) else []
+
+-- the names that a line allows
+unfoldable pub names_on : List ℕ → List (List ℕ)
+names_on line = names_at (trim line)
 
 -- the names that lines allow
 abbrev pub names_in : List (List ℕ) → List (List ℕ)
-names_in lines = flat_map (λ line. option_to_list (name_in line)) lines
+names_in lines = flat_map names_on lines
 
 -- a name is one of these
 abbrev pub is_among : List ℕ → List (List ℕ) → Bool

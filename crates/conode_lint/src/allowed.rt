@@ -1,62 +1,109 @@
 //! The names of findings that are allowed.
 
-ghost use Rattle.std.specs.Prelude.{◌≡◌, ◌++◌, [], map, option_to_list, OnOk};
-ghost use Rattle.std.specs.Option.{option_map};
+ghost use Rattle.std.specs.Prelude.{◌≡◌, ◌<◌, ◌++◌, [], ◌∷◌, length, map, IfNone, IfSome, OnOk};
+ghost use Rattle.std.specs.List.{slice_split};
 ghost use Rattle.conode_lint.specs.Allowed.{
+  first_word,
   is_among,
+  is_comma,
   kept,
   kept_of,
-  name_allowed,
-  name_in,
+  names_allowed,
   names_in,
+  names_on,
   passes_by,
+  until,
+  words_between,
 };
 
 use crate::words::name_of;
 use co_sheet_text::trim;
+use co_text::split_at_first;
 use conode_lint_marks::Mark;
 use std::alloc::AllocError;
 
-/// The beginning of a comment that allows findings of a name.
+/// The beginning of a comment that allows findings of names.
 const ALLOW: &[u8] = b"lint: allow ";
 
-// the name that a comment allows
-#[tactic(auto, unfolding(crate::specs::Allowed::name_allowed))]
-fn name_allowed(comment: &[u8]) -> Option<&[u8]>
-    ensures { option_map (λ name. name.now) result ≡ name_allowed comment.now }
+// what is before the first of a byte, or all
+fn until(byte: u8, text: &[u8]) -> &[u8]
+    ensures { result.now ≡ until byte text.now }
+{
+    match split_at_first(text, byte) {
+        Some((front, _)) => front,
+        None => text,
+    }
+}
+
+fn first_word(text: &[u8]) -> &[u8]
+    ensures { result.now ≡ first_word text.now }
+{
+    until(b'\t', until(b' ', trim(text)))
+}
+
+fn is_comma(byte: u8) -> bool
+    ensures { result ≡ is_comma byte }
+{
+    byte == b','
+}
+
+// what is before and after the first comma; `None` where there is none
+fn split_name(text: &[u8]) -> Option<(&[u8], &[u8])>
+    ensures none { IfNone result (slice_split is_comma text.now ≡ text.now ∷ []) }
+    ensures some { IfSome result (λ parts. slice_split is_comma text.now
+        ≡ parts.0.now ∷ slice_split is_comma parts.1.now) }
+    ensures shorter { IfSome result (λ parts. length parts.1.now < length text.now) }
+{
+    for (place, byte) in text.iter().enumerate() {
+        if is_comma(*byte) {
+            return Some((&text[..place], &text[place + 1..]));
+        }
+    }
+    None
+}
+
+// adds the first words between commas
+fn add_words<'a>(names: &mut Vec<&'a [u8]>, text: &'a [u8]) -> Result<(), AllocError>
+    ensures { OnOk result (map (λ name. name.now) names.new.items
+        ≡ map (λ name. name.now) names.old.items ++ words_between text.now) }
+{
+    let mut rest = text;
+    while let Some((part, after)) = split_name(rest) {
+        attempt_in_memory!(names.push(first_word(part)));
+        rest = after;
+    }
+    attempt_in_memory!(names.push(first_word(rest)));
+    Ok(())
+}
+
+// adds the names that a comment allows
+#[tactic(auto, unfolding(crate::specs::Allowed::names_allowed))]
+fn add_allowed<'a>(names: &mut Vec<&'a [u8]>, comment: &'a [u8]) -> Result<(), AllocError>
+    ensures { OnOk result (map (λ name. name.now) names.new.items
+        ≡ map (λ name. name.now) names.old.items ++ names_allowed comment.now) }
 {
     if comment.len() < 12 {
-        return None;
+        return Ok(());
     }
-    let (words, name) = comment.split_at(12);
+    let (words, list) = comment.split_at(12);
     if words == ALLOW {
-        Some(trim(name))
+        add_words(names, list)
     } else {
-        None
+        Ok(())
     }
 }
 
-/// The name that a line allows, as `; lint: allow Unlisted`; blanks after `;` may be left out.
-#[tactic(auto, unfolding(crate::specs::Allowed::name_in))]
-fn name_in(line: &[u8]) -> Option<&[u8]>
-    ensures { option_map (λ name. name.now) result ≡ name_in line.now }
+// adds the names that a line allows, as `; lint: allow Unlisted, BadList`; blanks after `;` may be
+// left out
+#[tactic(auto, unfolding(crate::specs::Allowed::names_on))]
+fn add_names_on<'a>(names: &mut Vec<&'a [u8]>, line: &'a [u8]) -> Result<(), AllocError>
+    ensures { OnOk result (map (λ name. name.now) names.new.items
+        ≡ map (λ name. name.now) names.old.items ++ names_on line.now) }
 {
     match trim(line) {
-        [b';', comment @ ..] => name_allowed(trim(comment)),
-        _ => None,
+        [b';', comment @ ..] => add_allowed(names, trim(comment)),
+        _ => Ok(()),
     }
-}
-
-// adds the name that a line allows, if it allows one
-fn add_name<'a>(names: &mut Vec<&'a [u8]>, line: &'a [u8]) -> Result<(), AllocError>
-    ensures { OnOk result (map (λ name. name.now) names.new.items
-        ≡ map (λ name. name.now) names.old.items ++ option_to_list (name_in line.now)) }
-{
-    let Some(name) = name_in(line) else {
-        return Ok(());
-    };
-    attempt_in_memory!(names.push(name));
-    Ok(())
 }
 
 /// Adds the names that the lines of a sheet allow to none. `Err`: out of memory.
@@ -66,7 +113,7 @@ pub(crate) fn add_names<'a>(names: &mut Vec<&'a [u8]>, lines: &[&'a [u8]]) -> Re
         ≡ names_in (map (λ line. line.now) lines.now)) }
 {
     for line in lines {
-        attempt!(add_name(names, line));
+        attempt!(add_names_on(names, line));
     }
     Ok(())
 }

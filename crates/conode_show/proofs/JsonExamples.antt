@@ -21,7 +21,7 @@ use Rattle.conode_show_text.specs.CobIds.{cob_id_text, identifier_text, pdo_cob_
 use Rattle.conode_show_text.specs.Meanings.{mapped_text, millis_text, said, time_text, word_text}
 use Rattle.conode_show_text.specs.Entries.{entry_type, type_name, type_text}
 use Rattle.conode_show_text.specs.Services.{service_name}
-use Rattle.conode_show.specs.JsonForm.{chapter_member, document_tokens, entry_begin, entry_tokens, json_document, limit_member, mapped_members, mapped_tokens, object_tokens, property_member, quantity_member, said_at_member, said_member, said_members, section_tokens, service_of_section, service_tokens, value_member}
+use Rattle.conode_show.specs.JsonForm.{chapter_member, document_tokens, entry_begin, entry_tokens, json_document, limit_member, mapped_members, mapped_tokens, multiplexed_tokens, object_tokens, property_member, quantity_member, said_at_member, said_member, said_members, section_tokens, service_of_section, service_tokens, value_member}
 
 abbrev key_at : ℕ → ℕ → Key
 key_at index sub = record { index = index; sub = sub }
@@ -79,7 +79,7 @@ whole_entry = refl
 
 object_of_records : section_tokens None [] (section (Object 0x1018) (property (codes "ObjectType") (codes "9") ∷ []))
     ≡ begin_object ∷ key (codes "index") ∷ number (codes "4120") ∷ key (codes "type") ∷ string (codes "RECORD") ∷ end_object ∷ []
-unfolding object_tokens property_member text_member number_member type_text digits
+unfolding object_tokens property_member text_member number_member digits
 object_of_records = refl
 
 -- without ObjectType it is a VAR, whatever sections there are
@@ -92,13 +92,14 @@ object_of_variable = refl
 -- an object without a type: its ObjectType is there and empty
 object_without_type : section_tokens None (section (SubIndex (key_at 0x1018 0)) [] ∷ []) (section (Object 0x1018) (property (codes "ObjectType") [] ∷ []))
     ≡ begin_object ∷ key (codes "index") ∷ number (codes "4120") ∷ end_object ∷ []
-unfolding object_tokens property_member number_member type_text entry_type property_text plain_text shown_character characters_of is_utf8 chars encode digits
+unfolding object_tokens property_member number_member property_text plain_text shown_character characters_of is_utf8 chars encode digits
 object_without_type = refl
 
--- an ObjectType that is no number: the sections of sub-indices tell that it is an object
-unread_object : section_tokens None (section (SubIndex (key_at 0x1018 0)) [] ∷ []) (section (Object 0x1018) (property (codes "ObjectType") (codes "RECORD") ∷ []))
-    ≡ begin_object ∷ key (codes "index") ∷ number (codes "4120") ∷ key (codes "type") ∷ string (codes "RECORD") ∷ end_object ∷ []
-unfolding object_tokens property_member text_member number_member type_text entry_type property_text plain_text shown_character characters_of is_utf8 chars encode digits
+-- an ObjectType that is no number: the sections of sub-indices tell that it is an object, and DataType
+-- isn't its type
+unread_object : section_tokens None (section (SubIndex (key_at 0x2000 0)) [] ∷ []) (section (Object 0x2000) (property (codes "ObjectType") (codes "ARRAY") ∷ property (codes "DataType") (codes "5") ∷ []))
+    ≡ begin_object ∷ key (codes "index") ∷ number (codes "8192") ∷ key (codes "type") ∷ string (codes "ARRAY") ∷ end_object ∷ []
+unfolding object_tokens property_member text_member number_member property_text plain_text shown_character characters_of is_utf8 chars encode digits
 unread_object = refl
 
 bare_entry : section_tokens None [] (section (Object 0x1001) [])
@@ -154,6 +155,19 @@ mapped : mapped_tokens None (section (SubIndex (key_at 0x6000 1)) (property (cod
     ∷ key (codes "name") ∷ string (codes "a") ∷ key (codes "words") ∷ string (codes "6000:01, 8 bits") ∷ end_object ∷ []
 unfolding mapped_tokens mapped_members property_member text_member number_member characters_of said word_text mapped_text is_utf8 chars encode digits digits_text
 mapped = refl
+
+-- a sum with the node-ID, which isn't known
+mapped_without_node : mapped_tokens None [] (mapped_word (codes "$NODEID+0x60000103"))
+    ≡ begin_object ∷ key (codes "words") ∷ string (codes "$NODEID+60000103h") ∷ end_object ∷ []
+unfolding mapped_tokens text_member said word_text hex_text digits
+mapped_without_node = refl
+
+multiplexed : multiplexed_tokens (codes "m") ≡ begin_object ∷ key (codes "words") ∷ string (codes "m") ∷ end_object ∷ []
+unfolding text_member
+multiplexed = refl
+
+not_multiplexed : multiplexed_tokens [] ≡ []
+not_multiplexed = refl
 
 mapped_unread : mapped_tokens None [] (mapped_word (codes "x"))
     ≡ begin_object ∷ key (codes "words") ∷ string (codes "x") ∷ end_object ∷ []

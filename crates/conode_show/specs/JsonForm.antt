@@ -18,9 +18,9 @@ use Rattle.conode_show_text.specs.declared.meaning.Meaning.{Meaning}
 use Rattle.conode_show_text.specs.declared.meaning.Meaning.TheVariants.{PdoCobId, PdoInhibit, EventTimer, Mapped}
 use Rattle.conode_show_text.specs.declared.service.Service.{Service}
 use Rattle.conode_show_text.specs.declared.values.Word.{Word}
-use Rattle.conode_show_text.specs.Entries.{has_sub_indices, is_mappable, type_text}
+use Rattle.conode_show_text.specs.Entries.{compound_type, has_sub_indices, is_mappable, type_text}
 use Rattle.conode_show_text.specs.Meanings.{mapped_key, said}
-use Rattle.conode_show_text.specs.Pdos.{entry_section, has_inhibit_time, is_counted, is_pdo_cob_id, mapping_count, mapping_index, pdo_name, section_word, type_meaning}
+use Rattle.conode_show_text.specs.Pdos.{entry_section, has_inhibit_time, is_counted, is_pdo_cob_id, known_word, mapping_count, mapping_index, multiplexed_words, pdo_name, section_word, type_meaning}
 use Rattle.conode_show_text.specs.Services.{key_of, service_meaning, service_name, service_of}
 use Rattle.conode_show_text.specs.Values.{limit_number, type_of, value_number}
 
@@ -54,10 +54,10 @@ abbrev pub text_if : List ℕ → List ℕ → List Token
 text_if name text = if is_empty text then [] else text_member name text
 
 -- name and type, each left out if there is none
-abbrev pub named_members : TextSection → List Token
-named_members section =
+abbrev pub named_members : List ℕ → TextSection → List Token
+named_members type_words section =
     property_member (codes "name") (codes "ParameterName") section
-    ++ text_if (codes "type") (type_text section)
+    ++ text_if (codes "type") type_words
 
 -- the default, the value of a device configuration file, and the limits
 abbrev pub value_members : Option ℕ → TextSection → List Token
@@ -74,7 +74,7 @@ key_members k = number_member (codes "index") (pos k.index) ++ number_member (co
 unfoldable pub entry_begin : Key → TextSection → List Token
 entry_begin k section =
     begin_object
-    ∷ (key_members k ++ named_members section
+    ∷ (key_members k ++ named_members (type_text section) section
     ++ property_member (codes "access") (codes "AccessType") section)
 
 unfoldable pub entry_tokens : Option ℕ → Key → TextSection → List Token
@@ -86,7 +86,8 @@ entry_tokens node k section =
 unfoldable pub object_tokens : ℕ → TextSection → List Token
 object_tokens index section =
     begin_object
-    ∷ (number_member (codes "index") (pos index) ++ named_members section ++ end_object ∷ [])
+    ∷ (number_member (codes "index") (pos index) ++ named_members (compound_type section) section
+    ++ end_object ∷ [])
 
 abbrev pub described_tokens : Option ℕ → List TextSection → TextSection → SectionKind → List Token
 described_tokens given sections section (Object index) =
@@ -134,11 +135,11 @@ mapped_members sections word =
     key_members (mapped_key word.number) ++ number_member (codes "bits") (pos (word.number % 0x100))
     ++ name_at sections (mapped_key word.number)
 
--- a word of a mapping: what it names, left out if it is no number, and its meaning
+-- a word of a mapping: what it names, left out if that isn't known, and its meaning
 unfoldable pub mapped_tokens : Option ℕ → List TextSection → TextSection → List Token
 mapped_tokens node sections section =
     begin_object
-    ∷ (option_map_or (mapped_members sections) (section_word node section) []
+    ∷ (option_map_or (mapped_members sections) (known_word node section) []
     ++ (text_member (codes "words") (said Mapped node section) ++ end_object ∷ []))
 
 abbrev pub counted_tokens : Option ℕ → List TextSection → ℕ → ℕ → TextSection → List Token
@@ -149,6 +150,11 @@ counted_tokens node sections index count section =
 unfoldable pub mapping_tokens : Option ℕ → List TextSection → ℕ → List Token
 mapping_tokens node sections index =
     flat_map (counted_tokens node sections index (mapping_count node sections index)) sections
+
+-- what a multiplexed PDO has in place of these: its words alone; nothing if there are none
+abbrev pub multiplexed_tokens : List ℕ → List Token
+multiplexed_tokens words =
+    if is_empty words then [] else begin_object ∷ (text_member (codes "words") words ++ end_object ∷ [])
 
 -- a PDO before its timers: its COB-ID and transmission type
 unfoldable pub pdo_begin : Option ℕ → List TextSection → ℕ → TextSection → List Token
@@ -174,8 +180,9 @@ timer_members node sections index =
 unfoldable pub pdo_tokens : Option ℕ → List TextSection → ℕ → TextSection → List Token
 pdo_tokens node sections index section =
     pdo_begin node sections index section ++ inhibit_member node sections index
-    ++ timer_members node sections index ++ mapping_tokens node sections (mapping_index index)
-    ++ (end_array ∷ end_object ∷ [])
+    ++ timer_members node sections index
+    ++ multiplexed_tokens (multiplexed_words node sections (mapping_index index))
+    ++ mapping_tokens node sections (mapping_index index) ++ (end_array ∷ end_object ∷ [])
 
 abbrev pub pdo_with : Option ℕ → List TextSection → TextSection → SectionKind → List Token
 pdo_with given sections section (SubIndex k) =

@@ -15,7 +15,7 @@ use crate::parts::Part;
 use co_sheet_text::{SectionKind, TextSection};
 use co_value::Key;
 use conode_json::Document;
-use conode_show_text::{Content, has_sub_indices, is_mappable};
+use conode_show_text::{Content, compound_type, has_sub_indices, is_mappable};
 
 // an entry before its values: its key, name, type and access
 #[tactic(auto, unfolding(crate::specs::JsonForm::entry_begin))]
@@ -63,7 +63,7 @@ fn put_object<'p>(document: &mut Document, index: u16, section: &'p TextSection<
         Part::BeginObject,
         Part::Number(Member::Index, Some(index as i128)),
         Part::Property(Member::Name, b"ParameterName", section),
-        Part::ShownIf(Member::Type, Content::TypeOf(section)),
+        Part::ShownIf(Member::Type, compound_type(section)),
         Part::EndObject,
     ]);
 }

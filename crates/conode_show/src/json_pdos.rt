@@ -10,6 +10,7 @@ ghost use Rattle.conode_show.specs.JsonForm.{
   mapped_members,
   mapped_tokens,
   mapping_tokens,
+  multiplexed_tokens,
   pdo_begin,
   pdo_of,
   pdo_tokens,
@@ -23,8 +24,8 @@ use co_sheet_text::{SectionKind, TextSection};
 use co_value::Key;
 use conode_json::Document;
 use conode_show_text::{
-    Content, Meaning, Word, has_inhibit_time, is_counted, is_pdo_cob_id, mapped_key, mapping_count,
-    section_word, type_meaning,
+    Content, Meaning, Word, has_inhibit_time, is_counted, is_pdo_cob_id, known_word, mapped_key,
+    mapping_count, multiplexed_words, type_meaning,
 };
 
 fn begin_object(document: &mut Document)
@@ -33,7 +34,7 @@ fn begin_object(document: &mut Document)
     document.put(&[Part::BeginObject]);
 }
 
-// begins a word of a mapping, with what it names, if it is a number
+// begins a word of a mapping, with what it names, if that is known
 #[tactic(auto, unfolding(crate::specs::JsonForm::mapped_members))]
 fn begin_mapped<'p>(
     document: &mut Document,
@@ -69,7 +70,7 @@ fn put_mapped<'p>(
         (mapped_tokens node (map section_view sections.entry.now) (section_view section.entry.now))
         document.new }
 {
-    begin_mapped(document, sections, section_word(node, section));
+    begin_mapped(document, sections, known_word(node, section));
     document.put(&[
         Part::Shown(Member::Words, node, Content::Said(Meaning::Mapped, section)),
         Part::EndObject,
@@ -109,6 +110,21 @@ fn put_mapping<'p>(
     for section in sections {
         put_if_counted(document, node, sections, index, count, section);
     }
+}
+
+// the words of a multiplexed PDO, nothing if there are none
+#[tactic(auto, using(conode_text::proofs::Appending::nothing))]
+fn put_multiplexed(document: &mut Document, words: &str)
+    ensures { Appended document.old (multiplexed_tokens words.now) document.new }
+{
+    if words.is_empty() {
+        return;
+    }
+    document.put(&[
+        Part::BeginObject,
+        Part::Text(Member::Words, words),
+        Part::EndObject,
+    ]);
 }
 
 // a PDO before its timers: its COB-ID and transmission type
@@ -203,7 +219,9 @@ fn put_pdo_tokens<'p>(
     put_pdo_begin(document, node, sections, index, section);
     put_inhibit(document, node, sections, index);
     put_timer(document, node, sections, index);
-    put_mapping(document, node, sections, index + 0x200);
+    let mapping = index + 0x200;
+    put_multiplexed(document, multiplexed_words(node, sections, mapping));
+    put_mapping(document, node, sections, mapping);
     document.put(&[Part::EndArray, Part::EndObject]);
 }
 

@@ -1,6 +1,6 @@
 -- What is shown, evaluated: each text once, and both sides of each edge.
 use Rattle.std.proofs.Common.{◌≡◌, ℕ, [], ◌∷◌, ◌++◌, List, Some, None, true, false, refl, pos, negsuc}
-use Rattle.std.specs.Prelude.{codes}
+use Rattle.std.specs.Prelude.{codes, map, replicate}
 use Rattle.std.specs.Fmt.{digits}
 use Rattle.std.specs.Str.{is_utf8, chars}
 use lib.Utf8.{encode}
@@ -81,9 +81,9 @@ with_control : plain_text (codes "a\tb") ≡ codes "a\\x09b"
 unfolding plain_text shown_character characters_of is_utf8 chars encode digits_text
 with_control = refl
 
--- the first and the last control character, and what is beside them: U+001F, U+0020; U+007E, U+007F,
--- U+0080, U+009F, U+00A0
-edges : plain_text (31 ∷ 32 ∷ 126 ∷ 127 ∷ 0xC2 ∷ 0x80 ∷ 0xC2 ∷ 0x9F ∷ 0xC2 ∷ 0xA0 ∷ []) ≡ codes "\\x1F ~\\x7F\\x80\\x9F" ++ 0xC2 ∷ 0xA0 ∷ []
+-- the first and the last control character, the no-break space, and what is beside them: U+001F, U+0020;
+-- U+007E, U+007F, U+0080, U+009F, U+00A0, U+00A1
+edges : plain_text (31 ∷ 32 ∷ 126 ∷ 127 ∷ 0xC2 ∷ 0x80 ∷ 0xC2 ∷ 0x9F ∷ 0xC2 ∷ 0xA0 ∷ 0xC2 ∷ 0xA1 ∷ []) ≡ codes "\\x1F ~\\x7F\\x80\\x9F\\xA0" ++ 0xC2 ∷ 0xA1 ∷ []
 unfolding plain_text shown_character characters_of is_utf8 chars encode digits_text
 edges = refl
 
@@ -188,6 +188,29 @@ pdo_one = refl
 pdo_node_alone : word_text PdoCobId (relative 0) ≡ codes "$NODEID+0h, enabled"
 unfolding word_text pdo_cob_id_text cob_id_text identifier_text hex_text digits
 pdo_node_alone = refl
+
+-- ---- a sum with a node-ID that isn't known: of a COB-ID with its words, any other alone
+
+emcy_relative : word_text CobId (relative 0x80) ≡ codes "$NODEID+80h, enabled"
+unfolding word_text cob_id_text identifier_text hex_text digits
+emcy_relative = refl
+
+sync_relative : word_text SyncCobId (relative 0x40000080) ≡ codes "$NODEID+80h, produced"
+unfolding word_text sync_text identifier_text hex_text digits
+sync_relative = refl
+
+time_relative : word_text TimeCobId (relative 0x80000100) ≡ codes "$NODEID+100h, consumed"
+unfolding word_text time_cob_id_text identifier_text hex_text digits
+time_relative = refl
+
+others_relative : map (λ meaning. word_text meaning (relative 0x5005F)) (SyncPeriod ∷ SyncWindow ∷ SyncOverflow ∷ Transmission ∷ Reception ∷ PdoInhibit ∷ EventTimer ∷ EmcyInhibit ∷ Consumer ∷ Producer ∷ Mapped ∷ [])
+    ≡ replicate 11 (codes "$NODEID+5005Fh")
+unfolding word_text hex_text digits
+others_relative = refl
+
+producer_relative : word_text Producer (relative 0) ≡ codes "$NODEID"
+unfolding word_text
+producer_relative = refl
 
 -- ---- COB-IDs of EMCY and SDO channels
 

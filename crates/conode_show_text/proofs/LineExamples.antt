@@ -1,5 +1,5 @@
 -- What sections give, evaluated: each kind of line, and both sides of each edge.
-use Rattle.std.proofs.Common.{◌≡◌, ℕ, [], ◌∷◌, List, Some, None, refl, false, true}
+use Rattle.std.proofs.Common.{◌≡◌, ℕ, [], ◌∷◌, List, Option, Some, None, refl, false, true}
 use Rattle.std.specs.Prelude.{codes, nat_lt, replicate}
 use Rattle.std.specs.Fmt.{digits}
 use Rattle.std.specs.Str.{is_utf8, chars}
@@ -17,11 +17,11 @@ use Rattle.conode_show_text.specs.Texts.{plain_text, property_text, shown_charac
 use Rattle.conode_show_text.specs.Layout.{placed}
 use Rattle.conode_show_text.specs.Values.{default_text, known_text, limit_text, limits_text, property_value, sum_text, value_text}
 use Rattle.conode_show_text.specs.CobIds.{cob_id_text, identifier_text, pdo_cob_id_text}
-use Rattle.conode_show_text.specs.Meanings.{millis_text, said, time_text, word_text}
-use Rattle.conode_show_text.specs.declared.meaning.Meaning.TheVariants.{PdoCobId}
+use Rattle.conode_show_text.specs.Meanings.{consumer_text, millis_text, said, time_text, word_text}
+use Rattle.conode_show_text.specs.declared.meaning.Meaning.TheVariants.{Consumer, PdoCobId}
 use Rattle.conode_show_text.specs.Entries.{entry_line, entry_type, has_sub_indices, is_split, mappable_text, object_heading, object_line, one_line, section_text, two_lines, type_name, type_text}
 use Rattle.conode_show_text.specs.Services.{channel_name, service_name, service_of}
-use Rattle.conode_show_text.specs.Pdos.{inhibit_text, is_counted, is_pdo_cob_id, mapping_count, pdo_name, said_at}
+use Rattle.conode_show_text.specs.Pdos.{inhibit_text, is_counted, is_pdo_cob_id, mapped_lines, mapped_name, mapping_count, multiplexed_line, multiplexed_words, pdo_line, pdo_lines, pdo_name, pdo_text, said_at}
 use Rattle.conode_show_text.specs.Document.{rank}
 
 abbrev key : ℕ → ℕ → Key
@@ -74,6 +74,22 @@ unread_object = refl
 unread_entry : section_text Text None (sub_index_of 0x1019) (section (Object 0x1018) unread) ≡ codes "1018:00 Identity                      RECORD\n"
 unfolding entry_line one_line object_heading placed property_text plain_text shown_character characters_of is_utf8 chars encode type_text entry_type mappable_text default_text property_value limits_text limit_text digits_text
 unread_entry = refl
+
+-- the same with a data type, which is that of its entries
+abbrev unread_array : List Property
+unread_array = property (codes "ObjectType") (codes "ARRAY") ∷ property (codes "DataType") (codes "5") ∷ []
+
+unread_array_object : section_text Text None (sub_index_of 0x2000) (section (Object 0x2000) unread_array) ≡ codes "2000                                  ARRAY\n"
+unfolding object_heading object_line placed property_text plain_text shown_character characters_of is_utf8 chars encode digits_text
+unread_array_object = refl
+
+unread_array_entry : section_text Text None [] (section (Object 0x2000) unread_array) ≡ codes "2000:00                               UNSIGNED8\n"
+unfolding entry_line one_line object_heading placed property_text plain_text shown_character characters_of is_utf8 chars encode type_text entry_type type_name mappable_text default_text property_value limits_text limit_text digits digits_text
+unread_array_entry = refl
+
+array_object : section_text Text None [] (section (Object 0x2000) (property (codes "ObjectType") (codes "8") ∷ property (codes "DataType") (codes "5") ∷ [])) ≡ codes "2000                                  ARRAY\n"
+unfolding object_heading object_line placed property_text digits_text
+array_object = refl
 
 -- without ObjectType it is a VAR, whatever sections there are: its type, its access and its default stay
 without_object_type : section_text Text None (sub_index_of 0x2000) (section (Object 0x2000) (property (codes "DataType") (codes "5") ∷ property (codes "AccessType") (codes "rw") ∷ property (codes "DefaultValue") (codes "7") ∷ property (codes "HighLimit") (codes "9") ∷ []))
@@ -297,8 +313,39 @@ no_cob_id : said PdoCobId None (section (SubIndex (key 0x1800 1)) (property (cod
 unfolding said plain_text shown_character characters_of is_utf8 chars encode
 no_cob_id = refl
 
+abbrev consumer_said : Option ℕ → List ℕ
+consumer_said node = said Consumer node (section (SubIndex (key 0x1016 1)) (property (codes "DefaultValue") (codes "$NODEID+0x10000") ∷ []))
+
+consumer_without_node : consumer_said None ≡ codes "$NODEID+10000h"
+unfolding said word_text hex_text digits
+consumer_without_node = refl
+
+consumer_of_node : consumer_said (Some 5) ≡ codes "node 1, within 5 ms"
+unfolding said word_text consumer_text digits
+consumer_of_node = refl
+
+-- the name of a mapped entry, which a sum names only with a node-ID
+abbrev name_with : Option ℕ → List ℕ → List ℕ
+name_with node value =
+    mapped_name node (section (Object 0x2000) (property (codes "ParameterName") (codes "a") ∷ []) ∷ []) (section (SubIndex (key 0x1A00 1)) (property (codes "DefaultValue") value ∷ []))
+
+name_of_number : name_with None (codes "0x20000008") ≡ codes "a"
+unfolding mapped_name property_text plain_text shown_character characters_of is_utf8 chars encode
+name_of_number = refl
+
+name_without_node : name_with None (codes "$NODEID+0x20000003") ≡ []
+unfolding mapped_name
+name_without_node = refl
+
+name_of_node : name_with (Some 5) (codes "$NODEID+0x20000003") ≡ codes "a"
+unfolding mapped_name property_text plain_text shown_character characters_of is_utf8 chars encode
+name_of_node = refl
+
+abbrev size_is : List ℕ → List TextSection
+size_is text = section (SubIndex (key 0x1A00 0)) (property (codes "DefaultValue") text ∷ []) ∷ []
+
 abbrev count_is : List ℕ → ℕ
-count_is text = mapping_count None (section (SubIndex (key 0x1A00 0)) (property (codes "DefaultValue") text ∷ []) ∷ []) 0x1A00
+count_is text = mapping_count None (size_is text) 0x1A00
 
 count_64 : count_is (codes "64") ≡ 64
 count_64 = refl
@@ -308,6 +355,47 @@ count_65 = refl
 
 count_missing : mapping_count None [] 0x1A00 ≡ 0
 count_missing = refl
+
+count_without_node : count_is (codes "$NODEID+2") ≡ 0
+count_without_node = refl
+
+count_of_node : mapping_count (Some 5) (size_is (codes "$NODEID+2")) 0x1A00 ≡ 7
+count_of_node = refl
+
+-- a multiplexed PDO: FEh and FFh in place of a count, and what is beside them
+abbrev multiplexed_is : List ℕ → List ℕ
+multiplexed_is text = multiplexed_words None (size_is text) 0x1A00
+
+source_mode : multiplexed_is (codes "0xFE") ≡ codes "multiplexed PDO, source address mode"
+source_mode = refl
+
+destination_mode : multiplexed_is (codes "255") ≡ codes "multiplexed PDO, destination address mode"
+destination_mode = refl
+
+before_multiplexed : multiplexed_is (codes "0xFD") ≡ []
+before_multiplexed = refl
+
+past_multiplexed : multiplexed_is (codes "0x100") ≡ []
+past_multiplexed = refl
+
+multiplexed_without_node : multiplexed_is (codes "$NODEID+0xFE") ≡ []
+multiplexed_without_node = refl
+
+multiplexed_missing : multiplexed_words None [] 0x1A00 ≡ []
+multiplexed_missing = refl
+
+multiplexed_count : count_is (codes "0xFE") ≡ 0
+multiplexed_count = refl
+
+-- its line, and the row of a table
+multiplexed_pdo : pdo_text Text None (size_is (codes "0xFE")) (section (SubIndex (key 0x1800 1)) (property (codes "DefaultValue") (codes "0x180") ∷ []))
+    ≡ codes "TPDO 1  180h, enabled\n        multiplexed PDO, source address mode\n"
+unfolding pdo_lines pdo_line mapped_lines pdo_name said_at said word_text pdo_cob_id_text cob_id_text identifier_text hex_text placed digits
+multiplexed_pdo = refl
+
+multiplexed_row : multiplexed_line Markdown (codes "a") ≡ codes "|  | a |  |  |  |\n"
+unfolding placed
+multiplexed_row = refl
 
 number_itself : is_counted 0x1A00 2 (SubIndex (key 0x1A00 0)) ≡ false
 number_itself = refl

@@ -54,11 +54,17 @@ entry_type section =
     option_map_or (λ k. option_map_or type_name (property_number k) (plain_text k.value))
     (property_at (codes "DataType") section) (object_type_text (object_code section) section)
 
--- the type of an object with sub-indices, or of an entry
+-- the type of an entry, also of one whose object code is that of an ARRAY or a RECORD
 unfoldable pub type_text : TextSection → List ℕ
 type_text section =
     if is_array section then codes "ARRAY"
     else if is_record section then codes "RECORD" else entry_type section
+
+-- the type of an object with sub-indices: an ObjectType that is no number, as `RECORD`, as it is
+abbrev pub compound_type : TextSection → List ℕ
+compound_type section =
+    if is_array section then codes "ARRAY"
+    else if is_record section then codes "RECORD" else property_text (codes "ObjectType") section
 
 -- whether one of the sections is that of a sub-index of an object
 abbrev pub is_sub_index : ℕ → SectionKind → Bool
@@ -123,7 +129,7 @@ abbrev pub object_parts : ℕ → TextSection → List Part
 object_parts index section =
     record { column = 0; text = digits_text 16 4 index }
     ∷ record { column = 8; text = property_text (codes "ParameterName") section }
-    ∷ record { column = 38; text = type_text section }
+    ∷ record { column = 38; text = compound_type section }
     ∷ record { column = 53; text = [] } ∷ record { column = 60; text = [] }
     ∷ record { column = 64; text = [] } ∷ record { column = 87; text = [] } ∷ []
 

@@ -11,7 +11,7 @@ use Rattle.conode_show_text.specs.Names.{name_among}
 use Rattle.conode_show_text.specs.CobIds.{pdo_cob_id_text, cob_id_text, sync_text, time_cob_id_text}
 use Rattle.conode_show_text.specs.Texts.{plain_text}
 use Rattle.conode_show_text.specs.declared.values.Word.{Word}
-use Rattle.conode_show_text.specs.Values.{word_of, value_of}
+use Rattle.conode_show_text.specs.Values.{addend_text, word_of, value_of}
 
 -- the transmission types of TPDOs that have words of their own (CiA 301, 7.5.2.37)
 abbrev pub transmission_names : List (ℕ × List ℕ)
@@ -109,8 +109,21 @@ meaning_text Consumer word = consumer_text word.number
 meaning_text Producer word = time_text (codes "off") (codes "every ") false word.number
 meaning_text Mapped word = mapped_text word.number
 
+-- whether it is a COB-ID, whose bits say something without the node-ID too
+abbrev pub is_cob_id : Meaning → Bool
+is_cob_id PdoCobId = true
+is_cob_id CobId = true
+is_cob_id SyncCobId = true
+is_cob_id TimeCobId = true
+is_cob_id other = false
+
+-- a sum with a node-ID that isn't known: of a COB-ID with its words, any other alone
+abbrev pub relative_text : Meaning → Word → List ℕ
+relative_text meaning word =
+    if is_cob_id meaning then codes "$NODEID+" ++ meaning_text meaning word else addend_text word.number
+
 unfoldable pub word_text : Meaning → Word → List ℕ
-word_text meaning word = (if word.relative then codes "$NODEID+" else []) ++ meaning_text meaning word
+word_text meaning word = if word.relative then relative_text meaning word else meaning_text meaning word
 
 -- the value of an entry in words; a text that is no number is printed as it is
 unfoldable pub said : Meaning → Option ℕ → TextSection → List ℕ

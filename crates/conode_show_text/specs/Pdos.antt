@@ -1,5 +1,5 @@
 -- PDOs in words: COB-ID, transmission type, timers, what they map (CiA 301, 7.5.2.35 to 7.5.2.38).
-use Rattle.std.specs.Prelude.{ℕ, ◌+◌, ◌-◌, ◌==◌, nat_le, Bool, ◌&&◌, ◌||◌, if◌then◌else◌, List, [], ◌∷◌, ◌++◌, codes, decimal, Option, None, false, option_and_then}
+use Rattle.std.specs.Prelude.{ℕ, ◌+◌, ◌-◌, ◌==◌, nat_le, Bool, ◌&&◌, ◌||◌, if◌then◌else◌, List, [], ◌∷◌, ◌++◌, codes, decimal, Option, Some, None, false, option_and_then}
 use Rattle.std.specs.List.{flat_map}
 use Rattle.std.specs.Option.{option_map_or, option_or}
 use Rattle.co_value.specs.declared.key.Key.{Key}
@@ -7,6 +7,7 @@ use Rattle.co_profile.specs.Indices.{is_within, rpdo_communication, tpdo_communi
 use Rattle.co_sheet_text.specs.declared.section_kind.SectionKind.{SectionKind}
 use Rattle.co_sheet_text.specs.declared.section_kind.SectionKind.TheVariants.{Object, SubIndex}
 use Rattle.co_sheet_text.specs.Sections.{TextSection, section_at}
+use Rattle.co_sheet_text.specs.Text.{is_empty}
 use Rattle.conode_show_text.specs.declared.format.Format.{Format}
 use Rattle.conode_show_text.specs.declared.meaning.Meaning.{Meaning}
 use Rattle.conode_show_text.specs.declared.meaning.Meaning.TheVariants.{PdoCobId, Transmission, Reception, PdoInhibit, EventTimer, Mapped}
@@ -67,11 +68,18 @@ pdo_line format node sections index section = line_of format (pdo_parts node sec
 abbrev pub section_word : Option ℕ → TextSection → Option Word
 section_word node section = option_and_then (λ k. word_of node k.value) (value_of section)
 
+-- such a word that is no sum with a node-ID that isn't known
+abbrev pub if_known : Word → Option Word
+if_known word = if word.relative then None else Some word
+
+abbrev pub known_word : Option ℕ → TextSection → Option Word
+known_word node section = option_and_then if_known (section_word node section)
+
 -- the name of the entry that a word of a mapping names
 unfoldable pub mapped_name : Option ℕ → List TextSection → TextSection → List ℕ
 mapped_name node sections section =
     option_map_or (property_text (codes "ParameterName"))
-    (option_and_then (λ word. entry_section sections (mapped_key word.number)) (section_word node section)) []
+    (option_and_then (λ word. entry_section sections (mapped_key word.number)) (known_word node section)) []
 
 -- what is mapped, and its name
 abbrev pub mapped_parts : Option ℕ → List TextSection → TextSection → List Part
@@ -88,11 +96,36 @@ mapped_line format node sections section = line_of format (mapped_parts node sec
 abbrev pub mapping_index : ℕ → ℕ
 mapping_index index = index + 0x200
 
--- how many words of a mapping count; none, if there are more than 64 (CiA 301, 7.5.2.36)
+-- the number in sub-index 0 of a mapping, if it is known (CiA 301, 7.5.2.36 and 7.5.2.38)
+abbrev pub mapping_size : Option ℕ → List TextSection → ℕ → Option Word
+mapping_size node sections index =
+    option_and_then (known_word node) (section_at (SubIndex (record { index = index; sub = 0 })) sections)
+
+-- how many words of a mapping count; none, if there are more than 64
 abbrev pub mapping_count : Option ℕ → List TextSection → ℕ → ℕ
 mapping_count node sections index =
-    option_map_or (λ word. if nat_le word.number 64 then word.number else 0)
-    (option_and_then (section_word node) (section_at (SubIndex (record { index = index; sub = 0 })) sections)) 0
+    option_map_or (λ word. if nat_le word.number 64 then word.number else 0) (mapping_size node sections index) 0
+
+-- a multiplexed PDO (CiA 301, 7.2.2.5) has no count but FEh or FFh: its message has the address of the
+-- source of its data, or that of the destination
+abbrev pub multiplexed_name : ℕ → List ℕ
+multiplexed_name n =
+    if n == 0xFE then codes "multiplexed PDO, source address mode"
+    else if n == 0xFF then codes "multiplexed PDO, destination address mode" else []
+
+-- what the mapping of a multiplexed PDO says, nothing of any other
+abbrev pub multiplexed_words : Option ℕ → List TextSection → ℕ → List ℕ
+multiplexed_words node sections index =
+    option_map_or (λ word. multiplexed_name word.number) (mapping_size node sections index) []
+
+-- its line, beside those of what other PDOs map
+abbrev pub multiplexed_parts : List ℕ → List Part
+multiplexed_parts words =
+    record { column = 0; text = [] } ∷ record { column = 8; text = words } ∷ record { column = 38; text = [] }
+    ∷ record { column = 72; text = [] } ∷ record { column = 83; text = [] } ∷ []
+
+abbrev pub multiplexed_line : Format → List ℕ → List ℕ
+multiplexed_line format words = if is_empty words then [] else line_of format (multiplexed_parts words)
 
 -- whether a section is one of the words that count in the mapping of this index
 abbrev pub is_counted : ℕ → ℕ → SectionKind → Bool
@@ -112,6 +145,7 @@ mapped_lines format node sections index count =
 unfoldable pub pdo_lines : Format → Option ℕ → List TextSection → ℕ → TextSection → List ℕ
 pdo_lines format node sections index section =
     pdo_line format node sections index section
+    ++ multiplexed_line format (multiplexed_words node sections (mapping_index index))
     ++ mapped_lines format node sections (mapping_index index) (mapping_count node sections (mapping_index index))
 
 abbrev pub pdo_of_kind : Format → Option ℕ → List TextSection → TextSection → SectionKind → List ℕ

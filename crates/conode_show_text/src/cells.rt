@@ -26,7 +26,7 @@ pub enum Content<'p> {
     Index(u16),
     /// A text of the sheet, nothing if the section has none.
     Property(&'static [u8], &'p TextSection<'p, 'p>),
-    /// The type of an object or an entry.
+    /// The type of an entry.
     TypeOf(&'p TextSection<'p, 'p>),
     /// Words, and the value at a name of a section, nothing after them if it has none.
     Value(&'static str, &'static [u8], &'p TextSection<'p, 'p>),

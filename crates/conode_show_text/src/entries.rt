@@ -1,8 +1,9 @@
 //! The lines of entries and objects (CiA 306, object description).
 
-ghost use Rattle.std.specs.Prelude.{◌≡◌, ◌++◌, OnOk, flat_map, map, string_bytes};
+ghost use Rattle.std.specs.Prelude.{◌≡◌, ◌++◌, ℕ, Option, OnOk, flat_map, map, string_bytes};
 ghost use Rattle.co_sheet_text.specs.Views.{section_view};
 ghost use Rattle.conode_show_text.specs.Entries.{
+  compound_type,
   entries_head,
   entry_line,
   entry_parts,
@@ -87,8 +88,8 @@ fn push_entry_type(text: &mut String, section: &TextSection<'_, '_>) -> Result<(
     }
 }
 
-/// Appends the type of an object with sub-indices, or of an entry. `Err`: out of memory; a part of
-/// the text may be there.
+/// Appends the type of an entry, also of one whose object code is that of an ARRAY or a RECORD. `Err`:
+/// out of memory; a part of the text may be there.
 #[tactic(auto, unfolding(crate::specs::Entries::type_text))]
 pub(crate) fn push_type(text: &mut String, section: &TextSection<'_, '_>) -> Result<(), AllocError>
     ensures { OnOk result (string_bytes text.new
@@ -98,6 +99,18 @@ pub(crate) fn push_type(text: &mut String, section: &TextSection<'_, '_>) -> Res
         Some(8) => push_words(text, "ARRAY"),
         Some(9) => push_words(text, "RECORD"),
         _ => push_entry_type(text, section),
+    }
+}
+
+/// The type of an object with sub-indices: an ObjectType that is no number, as `RECORD`, as it is.
+pub fn compound_type<'p>(section: &'p TextSection<'p, 'p>) -> Content<'p>
+    ensures { (node : Option ℕ) → cell_text node result
+        ≡ compound_type (section_view section.entry.now) }
+{
+    match object_code(section) {
+        Some(8) => Content::Words("ARRAY"),
+        Some(9) => Content::Words("RECORD"),
+        _ => Content::Property(b"ObjectType", section),
     }
 }
 
@@ -263,7 +276,7 @@ fn push_object_line<'p>(
         &[
             Cell(0, Content::Index(index)),
             Cell(8, Content::Property(b"ParameterName", section)),
-            Cell(38, Content::TypeOf(section)),
+            Cell(38, compound_type(section)),
             Cell(53, Content::Words("")),
             Cell(60, Content::Words("")),
             Cell(64, Content::Words("")),

@@ -41,13 +41,13 @@ mod values;
 
 pub use cells::{Content, push_content};
 pub use chapters::{Chapter, document};
-pub use entries::{has_sub_indices, is_mappable};
+pub use entries::{compound_type, has_sub_indices, is_mappable};
 pub use format::Format;
 pub use meaning::{Meaning, mapped_key};
 pub use ordering::order;
 pub use pdos::{
-    entry_section, has_inhibit_time, is_counted, is_pdo_cob_id, mapping_count, section_word,
-    type_meaning,
+    entry_section, has_inhibit_time, is_counted, is_pdo_cob_id, known_word, mapping_count,
+    multiplexed_words, section_word, type_meaning,
 };
 pub use sections::node_for;
 pub use service::{Service, key_of};

@@ -8,6 +8,7 @@ ghost use Rattle.conode_show_text.specs.Meanings.{
   bits_name,
   consumer_reserved,
   consumer_text,
+  is_cob_id,
   is_consumer_used,
   mapped_key,
   mapped_text,
@@ -15,6 +16,7 @@ ghost use Rattle.conode_show_text.specs.Meanings.{
   micros_text,
   overflow_text,
   reception_text,
+  relative_text,
   said,
   time_text,
   transmission_name,
@@ -24,9 +26,9 @@ ghost use Rattle.conode_show_text.specs.Meanings.{
 
 use crate::cob_ids::{push_identifier, push_pdo_cob_id, sync_name, time_name, use_name};
 use crate::names::name_among;
-use crate::numbers::{push_between, push_words, words_if};
+use crate::numbers::{push_between, push_words};
 use crate::texts::push_plain;
-use crate::values::{Word, value_of, word_of};
+use crate::values::{Word, push_addend, value_of, word_of};
 use co_sheet_text::TextSection;
 use co_value::Key;
 use std::alloc::AllocError;
@@ -248,15 +250,40 @@ fn push_meaning(text: &mut String, meaning: Meaning, word: Word) -> Result<(), A
     }
 }
 
+// whether it is a COB-ID
+fn is_cob_id(meaning: Meaning) -> bool
+    ensures { result ≡ is_cob_id meaning }
+{
+    matches!(
+        meaning,
+        Meaning::PdoCobId | Meaning::CobId | Meaning::SyncCobId | Meaning::TimeCobId
+    )
+}
+
+// a sum with a node-ID that isn't known: only a COB-ID has words
+fn push_relative(text: &mut String, meaning: Meaning, word: Word) -> Result<(), AllocError>
+    ensures { OnOk result
+        (string_bytes text.new ≡ string_bytes text.old ++ relative_text meaning word) }
+{
+    if !is_cob_id(meaning) {
+        return push_addend(text, word.number);
+    }
+    match push_words(text, "$NODEID+") {
+        Ok(()) => push_meaning(text, meaning, word),
+        Err(fault) => Err(fault),
+    }
+}
+
 // a number of the communication profile in words
 #[tactic(auto, unfolding(crate::specs::Meanings::word_text))]
 fn push_word(text: &mut String, meaning: Meaning, word: Word) -> Result<(), AllocError>
     ensures { OnOk result
         (string_bytes text.new ≡ string_bytes text.old ++ word_text meaning word) }
 {
-    match push_words(text, words_if(word.relative, "$NODEID+")) {
-        Ok(()) => push_meaning(text, meaning, word),
-        Err(fault) => Err(fault),
+    if word.relative {
+        push_relative(text, meaning, word)
+    } else {
+        push_meaning(text, meaning, word)
     }
 }
 

@@ -11,9 +11,13 @@ ghost use Rattle.conode_show_text.specs.Pdos.{
   inhibit_text,
   is_counted,
   is_pdo_cob_id,
+  known_word,
   mapped_lines,
   mapped_name,
   mapping_count,
+  mapping_size,
+  multiplexed_line,
+  multiplexed_words,
   pdo_lines,
   pdo_name,
   pdo_text,
@@ -124,6 +128,16 @@ pub fn section_word(node: Option<u8>, section: &TextSection<'_, '_>) -> Option<W
     }
 }
 
+/// The value of an entry as a word, if it is one and no sum with a node-ID that isn't known.
+pub fn known_word(node: Option<u8>, section: &TextSection<'_, '_>) -> Option<Word>
+    ensures { result ≡ known_word node (section_view section.now) }
+{
+    match section_word(node, section) {
+        Some(word) if !word.relative => Some(word),
+        _ => None,
+    }
+}
+
 // the name of the entry that a word of a mapping names
 #[tactic(auto, unfolding(crate::specs::Pdos::mapped_name))]
 fn mapped_name<'p>(
@@ -134,7 +148,7 @@ fn mapped_name<'p>(
     ensures { cell_text node result ≡ mapped_name node (map section_view sections.entry.now)
         (section_view section.now) }
 {
-    let Some(word) = section_word(node, section) else {
+    let Some(word) = known_word(node, section) else {
         return Content::Words("");
     };
     match entry_section(sections, mapped_key(word.number)) {
@@ -143,18 +157,77 @@ fn mapped_name<'p>(
     }
 }
 
-/// How many words of a mapping count: the value of its sub-index 0, or 0 if that is above 64 or no
-/// number.
+// the number in sub-index 0 of a mapping, if it is known
+fn mapping_size(node: Option<u8>, sections: &[TextSection], index: u16) -> Option<Word>
+    ensures { result ≡ mapping_size node (map section_view sections.now) index }
+{
+    match section_at(sections, SectionKind::SubIndex(Key { index, sub: 0 })) {
+        Some(section) => known_word(node, section),
+        None => None,
+    }
+}
+
+/// How many words of a mapping count: the value of its sub-index 0, or 0 if that is above 64 or isn't
+/// known.
 pub fn mapping_count(node: Option<u8>, sections: &[TextSection], index: u16) -> u64
     ensures { result ≡ mapping_count node (map section_view sections.now) index }
 {
-    let Some(section) = section_at(sections, SectionKind::SubIndex(Key { index, sub: 0 })) else {
-        return 0;
-    };
-    match section_word(node, section) {
+    match mapping_size(node, sections, index) {
         Some(word) if word.number <= 64 => word.number,
         _ => 0,
     }
+}
+
+/// What sub-index 0 of the mapping of a multiplexed PDO has in place of a count: its messages have
+/// the address of the source of their data.
+const SOURCE_ADDRESS_MODE: u64 = 0xFE;
+
+/// The same: they have the address of the destination.
+const DESTINATION_ADDRESS_MODE: u64 = 0xFF;
+
+/// What the mapping of a multiplexed PDO says, in words (CiA 301, 7.2.2.5); no words of any other.
+pub fn multiplexed_words(node: Option<u8>, sections: &[TextSection], index: u16) -> &'static str
+    ensures { result.now ≡ multiplexed_words node (map section_view sections.now) index }
+{
+    match mapping_size(node, sections, index) {
+        Some(word) if word.number == SOURCE_ADDRESS_MODE => {
+            "multiplexed PDO, source address mode"
+        }
+        Some(word) if word.number == DESTINATION_ADDRESS_MODE => {
+            "multiplexed PDO, destination address mode"
+        }
+        _ => "",
+    }
+}
+
+// the line of a multiplexed PDO's mapping; nothing if there are no words
+fn push_multiplexed(
+    text: &mut Vec<u8>,
+    line: &mut Vec<u8>,
+    part: &mut String,
+    format: Format,
+    words: &'static str,
+) -> Result<(), AllocError>
+    ensures { OnOk result
+        (text.new.items ≡ text.old.items ++ multiplexed_line format words.now) }
+{
+    if words.is_empty() {
+        return Ok(());
+    }
+    push_line(
+        text,
+        line,
+        part,
+        format,
+        None,
+        &[
+            Cell(0, Content::Words("")),
+            Cell(8, Content::Words(words)),
+            Cell(38, Content::Words("")),
+            Cell(72, Content::Words("")),
+            Cell(83, Content::Words("")),
+        ],
+    )
 }
 
 /// Whether a section is one of the words that count in the mapping of this index.
@@ -254,6 +327,8 @@ fn push_pdo_lines<'p>(
     ];
     attempt!(push_line(text, line, part, format, node, &cells));
     let mapping = index + 0x200;
+    let words = multiplexed_words(node, sections, mapping);
+    attempt!(push_multiplexed(text, line, part, format, words));
     let count = mapping_count(node, sections, mapping);
     push_mapped_lines(text, line, part, format, node, sections, mapping, count)
 }

@@ -4,6 +4,7 @@
 ghost use Rattle.std.specs.Prelude.{◌≡◌, ◌++◌, OnOk, string_bytes};
 ghost use Rattle.co_sheet_text.specs.Views.{section_view};
 ghost use Rattle.conode_show_text.specs.Texts.{
+  is_escaped,
   plain_text,
   property_text,
   shown_character,
@@ -15,12 +16,19 @@ use co_text::push_byte;
 use conode_json::characters_of;
 use std::alloc::AllocError;
 
+// whether a character is a control character or a no-break space
+fn is_escaped(character: char) -> bool
+    ensures { result ≡ is_escaped character }
+{
+    character.is_control() || character == '\u{A0}'
+}
+
 #[tactic(auto, unfolding(crate::specs::Texts::shown_character))]
 fn push_character(text: &mut String, character: char) -> Result<(), AllocError>
     ensures { OnOk result
         (string_bytes text.new ≡ string_bytes text.old ++ shown_character character) }
 {
-    if character.is_control() {
+    if is_escaped(character) {
         attempt!(text.push_str("\\x"));
         push_byte(text, character as u8)
     } else {
@@ -39,7 +47,7 @@ fn push_characters(text: &mut String, characters: &[char]) -> Result<(), AllocEr
 }
 
 /// Appends a text of the sheet: read as UTF-8 if it is valid, else as Windows-1252, with control
-/// characters escaped.
+/// characters and no-break spaces escaped.
 #[tactic(auto, unfolding(crate::specs::Texts::plain_text))]
 pub(crate) fn push_plain(text: &mut String, bytes: &[u8]) -> Result<(), AllocError>
     ensures { OnOk result (string_bytes text.new ≡ string_bytes text.old ++ plain_text bytes.now) }

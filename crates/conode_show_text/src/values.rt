@@ -73,8 +73,8 @@ fn sum_of(node: Option<u8>, addend: u64) -> Option<u64>
     }
 }
 
-// a sum with the node-ID as it is written
-fn push_addend(text: &mut String, addend: u64) -> Result<(), AllocError>
+/// Appends a sum with the node-ID as it is written.
+pub(crate) fn push_addend(text: &mut String, addend: u64) -> Result<(), AllocError>
     ensures { OnOk result (string_bytes text.new ≡ string_bytes text.old ++ addend_text addend) }
 {
     if addend == 0 {

@@ -96,7 +96,7 @@ const LINT: [Word; 9] = [
     Word(
         "allow",
         Repeated("NAME"),
-        "Suppress findings of this name; may be repeated",
+        "Suppress findings of this name; may be given again",
     ),
     Word(
         "color",
@@ -178,7 +178,7 @@ const ADAPT: [Word; 3] = [
     Word(
         "leading-zeros",
         Valued("BASE"),
-        "Read 010 as octal or as decimal; else it stays",
+        "How to read 010: octal or decimal",
     ),
     Word(
         "force",
@@ -259,7 +259,7 @@ const STATS: [Word; 5] = [
     Word(
         "sheet",
         Repeated("SHEET"),
-        "A data sheet; 5=SHEET: of node 5, can1:SHEET: of can1",
+        "A data sheet; 5=SHEET: of node 5; may be given again",
     ),
     Word(
         "bitrate",
@@ -401,7 +401,7 @@ fn only_conode<'a>(alloc: Global) -> Command<'a>
     new_command(
         alloc,
         "conode",
-        "Checks data sheets of CANopen devices, decodes and answers CAN traces",
+        "Checks CANopen data sheets, explains and compares recordings, acts as a device",
         help::TRACES,
     )
     .version(help::VERSION)

@@ -1,14 +1,14 @@
 //! The longer texts of help, in lines of at most 80 columns.
 
 /// What `--version` prints after the program's name: its version, and the kit that proves it.
-pub const VERSION: &str = "0.25.0, proved with rattle-kit-13f logic dac8208d650f15bf";
+pub const VERSION: &str = "0.26.0, proved with rattle-kit-13f logic dac8208d650f15bf";
 
 /// What the program does without a command.
 pub const TRACES: &str = "\
 Without a command, standard input is read as a CAN trace, as `candump -L` writes
 it, and played to node 5 of a small stored sheet: 1000:00, 1001:00 and 1018h.
-What the node sends is printed as lines of a trace, and at last the numbers of
-frames received and sent and of ms:
+What the node sends is printed as lines of a trace, and finally the numbers of
+frames received, of frames sent and of ticks of 1 ms:
 
   conode < trace.log
 
@@ -21,11 +21,13 @@ Prints `ok: 3 objects, 4 entries, 0 notes` and a line for each note, or the
 sheet's first fault: its number, its name and its line (0 where no line is to
 blame). With --node the last line is the sheet's build fault for that node-ID,
 if it has one. Without it the node-ID of a device configuration file (DCF)
-counts, and is printed after the notes, as `node 5`.
+counts, and is printed after the notes, as `node 5`. Standard input is
+/dev/stdin.
 
   conode check sensor.eds --node 5
 
-Status: 0 if there is no fault, 1 if there is one, 2 if the words are wrong.
+Status: 0 if there is no fault, 1 if there is one, if the sheet can't be read
+or if the output can't be written, 2 if the command line is wrong.
 
 Faults, and what to do:
    1 TooLarge           more than 1,048,576 bytes, or a line of more than 512:
@@ -96,8 +98,8 @@ Build faults, each with an index or an index and a sub-index:
 pub const LINTED: &str = "\
 Prints every fault of each sheet (`check` prints only the first), and warnings
 about what is legal but suspicious: file, line and column (in characters), what
-is wrong, the line itself, and how to fix it; at most 1,000 a file. A folder
-stands for its *.eds and *.dcf, `-` for standard input.
+is wrong, the line itself, and how to fix it; at most 1,000 a file. Of a folder
+its *.eds and *.dcf are read. `-` is standard input.
 
   conode lint motor.eds io/ --node 5
 
@@ -123,8 +125,9 @@ Makes the device of the sheet, plays the trace to it, and prints each frame that
 it sends as a line of a trace: first its boot-up. A frame of the trace is one
 that the device receives; event lines (`!write 2001:00 05`, `!tick 1000`, ..)
 are what its application does, and time. An event that is refused is printed as
-`; line 7 refused 06090030`. The last line has the numbers of frames received
-and sent and of ms: `; in 1, out 3, ticks 1000`. `-` as TRACE is standard input:
+`; line 7 refused 06090030`. The last line has the numbers of frames received,
+of frames sent and of ticks of 1 ms: `; in 1, out 3, ticks 1000`. `-` as TRACE
+is standard input:
 
   candump -L can0 | conode replay sensor.eds - --node 5 | canplayer -t
 
@@ -133,7 +136,7 @@ file (DCF); where that has none, standard error has `no node-ID`.
 
 Status: 0 if all of the trace was played, 1 if not; then the last line says why,
 as `stopped: BadLine 3`, `fault 9 BadList line 1` or `build fault 3 BadCobId
-1800:01`; 2 if the words are wrong, or there is no node-ID.";
+1800:01`; 2 if the command line is wrong, or there is no node-ID.";
 
 /// What `loop` prints, and which node-ID its device has.
 pub const LOOPED: &str = "\
@@ -147,8 +150,8 @@ a sub-index, HEX pairs of digits, or `-` for no bytes.
 Without --node the device has the node-ID of the sheet, a device configuration
 file (DCF); where that has none, standard error has `no node-ID`.
 
-Status: 0 if it is done, 1 if it isn't or the sheet has a fault, 2 if the words
-are wrong, or there is no node-ID.";
+Status: 0 if it is done, 1 if it isn't or the sheet has a fault, 2 if the
+command line is wrong, or there is no node-ID.";
 
 /// The message about an unknown mode of `loop`.
 pub const MODES: &str = "invalid value for '--mode <MODE>': plain, segmented or block";
@@ -186,8 +189,8 @@ standard error, as `NAME:LINE: what changed: old -> new`; all other lines stay.
 
   conode adapt vendor.eds > adapted.eds
 
-CompactPDO gets the sections that it stands for: PDOs that aren't valid, with
-mappings of 0 entries, since the sheet doesn't say more.
+Standard input is /dev/stdin. CompactPDO is written out as sections: PDOs that
+aren't valid, with mappings of 0 entries, since the sheet doesn't say more.
 
 --leading-zeros octal reads 010 as 8, --leading-zeros decimal as 10; without the
 option it stays, and is reported with both readings. --force also makes changes
@@ -196,9 +199,9 @@ faulty mappings, such as those of single bits, get 0 entries, and bit 30 of
 1005h is cleared.
 
 If faults remain that no rule fixes, no sheet is printed, only the faults, on
-standard error, as `lint` prints them. A sheet that is accepted already stays as
-it is. The first line says what the sheet was made from: it is for this program,
-not for configuration tools.
+standard error; `lint` says more of each. A sheet that is accepted already stays
+as it is. The first line says what the sheet was made from: it is for this
+program, not for configuration tools.
 
 Status: 0 if a sheet is printed, 1 if not or if memory ran out, 2 if the file
 can't be read or the command line is wrong.";
@@ -215,7 +218,7 @@ Empty lines, comments (`;`), event lines (`!`) and other frames print nothing.
 
 Status: 0 if all of the trace was decoded, 1 if not; then the last line says
 why, as `stopped: BadLine 3`, or `fault 9 BadList line 1` for the sheet; 2 if
-the words are wrong.";
+the command line is wrong.";
 
 /// The message about an unknown base of leading zeros.
 pub const LEADING_ZEROS: &str = "invalid value for '--leading-zeros <BASE>': octal or decimal";
@@ -268,10 +271,10 @@ the interface, then the first that is given.
 Empty lines, comments (`;`) and event lines (`!`) print nothing. A bad line is
 named on standard error, with its number and what is wrong, and reading
 continues; with --stop it ends there. On a terminal lines of a failure are red,
-and those of a transfer that is done green, unless NO_COLOR is set. `-` as TRACE
-is standard input; output is flushed before each read that could wait. --stamps
-also takes candump's letters z, a, d and A. Logs of other recorders are read as
-`convert` reads them: see `conode convert --help` for --log.
+and those of a transfer that is done green, unless NO_COLOR is set or TERM is
+dumb. `-` as TRACE is standard input; output is flushed before each read that
+could wait. --stamps also takes candump's letters z, a, d and A. Logs of other
+recorders are read as `convert` reads them: `conode convert --help` has --log.
 
 A sheet with faults is read as `adapt` rewrites it, or without what is at fault,
 which is said on standard error.

@@ -5,4 +5,4 @@ use Rattle.conode_show.proofs.json_pdos.put_mapped.Goals as goal
 
 pub returns : goal.returns
 unfolding mapped_tokens
-returns c = both (rw c.section_word.ensures at c.begin_mapped.ensures) c.put.ensures
+returns c = both (rw c.known_word.ensures at c.begin_mapped.ensures) c.put.ensures

@@ -1,0 +1,296 @@
+-- What is heard of transfers in a recording: answers to earlier requests, and frames that are missing (CiA 301, 7.2.4.3).
+use Rattle.std.proofs.Common.{◌≡◌, ℕ, true, false, List, [], ◌∷◌, ◌++◌, Some, None, refl, codes}
+use Rattle.std.specs.Prelude.{map}
+use Rattle.co_frame.specs.SdoRequests.{request_row_in}
+use Rattle.co_frame.specs.SdoResponses.{response_row_in}
+use Rattle.conode_explain_transfers.specs.declared.ended.Ending.TheVariants.{Done, Aborted, Unanswered, Interrupted, Irregular}
+use Rattle.conode_explain_transfers.specs.declared.kinds.Protocol.TheVariants.{Undecided, Expedited, Segmented, Block}
+use Rattle.conode_explain_transfers.specs.declared.kinds.Side.TheVariants.{Client, Server}
+use Rattle.conode_explain_transfers.specs.declared.kinds.What.TheVariants.{Initiate, Part, Segment, OutOfSequence, Overtaken, Unexpected, Stray, BegunBefore}
+use Rattle.conode_explain_transfers.specs.Crc.{shifted, crc_with}
+use Rattle.conode_explain_transfers.specs.Hearings.{is_low_segment, is_low_last}
+use Rattle.conode_explain_transfers.proofs.Dialogues.{End, Sent, Told, c, hex, s, shown}
+
+-- a segment of a block download, of a block upload
+abbrev segment : ℕ → Sent
+segment first = record { side = Client; bytes = first ∷ 0x41 ∷ 0x42 ∷ 0x43 ∷ 0x44 ∷ 0x45 ∷ 0x46 ∷ 0x47 ∷ [] }
+
+abbrev uploaded : ℕ → Sent
+uploaded first = record { side = Server; bytes = first ∷ 0x41 ∷ 0x42 ∷ 0x43 ∷ 0x44 ∷ 0x45 ∷ 0x46 ∷ 0x47 ∷ [] }
+
+-- ---- an abort of the server that answers an earlier request
+
+-- 1A00:01 is written; the abort is of 1018:04
+late_abort : shown (c (codes "23001A0108001620") ∷ s (codes "8018100411000906") ∷ s (codes "60001A0100000000") ∷ [])
+    ≡ record {
+      whats = Initiate ∷ Overtaken ∷ Part ∷ [];
+      ends = record { protocol = Expedited; bytes = 4; first = 0x08 ∷ 0x00 ∷ 0x16 ∷ 0x20 ∷ []; frames = 2; ending = Done false } ∷ [];
+    }
+unfolding request_row_in response_row_in shifted crc_with
+late_abort = refl
+
+-- another low byte of the index, another high byte, another sub-index; 0000:01, 0001:00 and 0100:00
+other_entries : map (λ abort. (shown (c (codes "4000210000000000") ∷ s abort ∷ [])).ends)
+    (codes "8001210000000206" ∷ codes "8000200000000206" ∷ codes "8000210100000206" ∷ codes "8000000100000206" ∷ codes "8001000000000206" ∷ codes "8000010000000206" ∷ [])
+    ≡ [] ∷ [] ∷ [] ∷ [] ∷ [] ∷ [] ∷ []
+unfolding request_row_in response_row_in shifted crc_with
+other_entries = refl
+
+-- that of the entry, and 0000:00, which many devices send; so of 81h, which isn't as CiA 301 has it
+own_aborts : map (λ abort. (shown (c (codes "4000210000000000") ∷ s abort ∷ [])).ends) (codes "8000210000000206" ∷ codes "8000000000000206" ∷ codes "8100210000000206" ∷ codes "8100000000000206" ∷ [])
+    ≡ (record { protocol = Undecided; bytes = 0; first = []; frames = 2; ending = Aborted Server (record { 0 = 0x06020000 }) } ∷ [])
+    ∷ (record { protocol = Undecided; bytes = 0; first = []; frames = 2; ending = Aborted Server (record { 0 = 0x06020000 }) } ∷ [])
+    ∷ (record { protocol = Undecided; bytes = 0; first = []; frames = 2; ending = Aborted Server (record { 0 = 0x06020000 }) } ∷ [])
+    ∷ (record { protocol = Undecided; bytes = 0; first = []; frames = 2; ending = Aborted Server (record { 0 = 0x06020000 }) } ∷ [])
+    ∷ []
+unfolding request_row_in response_row_in shifted crc_with
+own_aborts = refl
+
+-- once the client went on, and once the response came, it ends the transfer, as the client's own abort does at once
+not_late : map (λ frames. (shown (c (codes "4000210000000000") ∷ frames)).ends)
+    ((c (codes "6000000000000000") ∷ s (codes "8001210000000206") ∷ []) ∷ (s (codes "4100210009000000") ∷ s (codes "8001210000000206") ∷ []) ∷ (c (codes "8001210000000206") ∷ []) ∷ [])
+    ≡ (record { protocol = Undecided; bytes = 0; first = []; frames = 3; ending = Aborted Server (record { 0 = 0x06020000 }) } ∷ [])
+    ∷ (record { protocol = Segmented; bytes = 0; first = []; frames = 3; ending = Aborted Server (record { 0 = 0x06020000 }) } ∷ [])
+    ∷ (record { protocol = Undecided; bytes = 0; first = []; frames = 2; ending = Aborted Client (record { 0 = 0x06020000 }) } ∷ [])
+    ∷ []
+unfolding request_row_in response_row_in shifted crc_with
+not_late = refl
+
+-- and where the request may be a segment: 41h after 40h
+not_late_after_segment : (shown (c (codes "4000210000000000") ∷ c (codes "4101210000000000") ∷ s (codes "8000210000000206") ∷ [])).ends
+    ≡ record { protocol = Undecided; bytes = 0; first = []; frames = 2; ending = Aborted Server (record { 0 = 0x06020000 }) } ∷ []
+unfolding request_row_in response_row_in shifted crc_with
+not_late_after_segment = refl
+
+-- the device may have meant this request: where it is left then, it isn't said that it had no answer. After another late answer it is
+abort_or_answer : map (λ answer. (shown (c (codes "4005210000000000") ∷ s answer ∷ c (codes "4000100000000000") ∷ [])).ends) (codes "8000210011000906" ∷ codes "A100000000000000" ∷ [])
+    ≡ (record { protocol = Undecided; bytes = 0; first = []; frames = 1; ending = Interrupted } ∷ [])
+    ∷ (record { protocol = Undecided; bytes = 0; first = []; frames = 1; ending = Unanswered } ∷ [])
+    ∷ []
+unfolding request_row_in response_row_in shifted crc_with
+abort_or_answer = refl
+
+-- the last segment of a block upload that was given up, while 2100:00 is read, and written in blocks
+late_last : map (λ request. (shown (c request ∷ uploaded 0x84 ∷ [])).whats) (codes "4000210000000000" ∷ codes "C000210000000000" ∷ []) ≡ (Initiate ∷ Segment 4 ∷ []) ∷ (Initiate ∷ Segment 4 ∷ []) ∷ []
+unfolding request_row_in response_row_in shifted crc_with
+late_last = refl
+
+late_last_done : shown (c (codes "4000210000000000") ∷ uploaded 0x84 ∷ s (codes "4F002100AA000000") ∷ [])
+    ≡ record {
+      whats = Initiate ∷ Segment 4 ∷ Part ∷ [];
+      ends = record { protocol = Expedited; bytes = 1; first = 0xAA ∷ []; frames = 2; ending = Done false } ∷ [];
+    }
+unfolding request_row_in response_row_in shifted crc_with
+late_last_done = refl
+
+-- ---- other answers to an earlier request
+
+-- 2100:00 is read: they aren't counted, and the transfer is done
+abbrev answered_late : Told
+answered_late = record {
+  whats = Initiate ∷ Overtaken ∷ Part ∷ [];
+  ends = record { protocol = Expedited; bytes = 1; first = 0xAA ∷ []; frames = 2; ending = Done false } ∷ [];
+}
+
+late_answers : map (λ answer. shown (c (codes "4000210000000000") ∷ s answer ∷ s (codes "4F002100AA000000") ∷ []))
+    (codes "A100000000000000" ∷ codes "A2047F0000000000" ∷ codes "C500000000000000" ∷ codes "2000000000000000" ∷ codes "0031323334353637" ∷ [])
+    ≡ answered_late ∷ answered_late ∷ answered_late ∷ answered_late ∷ answered_late ∷ []
+unfolding request_row_in response_row_in shifted crc_with
+late_answers = refl
+
+-- one that is no response, and one after the client went on
+odd_answers : map (λ frames. (shown (c (codes "4000210000000000") ∷ frames)).whats) ((s (codes "E000000000000000") ∷ []) ∷ (c (codes "6000000000000000") ∷ s (codes "A100000000000000") ∷ []) ∷ [])
+    ≡ (Initiate ∷ Unexpected ∷ []) ∷ (Initiate ∷ Unexpected ∷ Unexpected ∷ []) ∷ []
+unfolding request_row_in response_row_in shifted crc_with
+odd_answers = refl
+
+-- a segment may be of a block upload; of a block download it isn't. A1h is of neither
+late_segments : map (λ frames. (shown frames).whats)
+    ((c (codes "A00021007F000000") ∷ s (codes "0031323334353637") ∷ []) ∷ (c (codes "C000210000000000") ∷ s (codes "0031323334353637") ∷ [])
+    ∷ (c (codes "A00021007F000000") ∷ s (codes "A100000000000000") ∷ []) ∷ (c (codes "C000210000000000") ∷ s (codes "A100000000000000") ∷ []) ∷ [])
+    ≡ (Initiate ∷ Unexpected ∷ []) ∷ (Initiate ∷ Overtaken ∷ []) ∷ (Initiate ∷ Overtaken ∷ []) ∷ (Initiate ∷ Overtaken ∷ []) ∷ []
+unfolding request_row_in response_row_in shifted crc_with
+late_segments = refl
+
+-- ---- an answer to another request in a sub-block of a download
+
+abbrev one_segment : List Sent
+one_segment = c (codes "C000210000000000") ∷ s (codes "A00021007F000000") ∷ segment 1 ∷ []
+
+-- the client gave the download up, and reads 1000:00: 40h is segment 64 until it is answered
+left_download : shown (one_segment ++ c (codes "4000100000000000") ∷ s (codes "4300100094010200") ∷ c (codes "4000210000000000") ∷ s (codes "4F002100AA000000") ∷ [])
+    ≡ record {
+      whats = Initiate ∷ Part ∷ Segment 1 ∷ OutOfSequence 64 2 ∷ Unexpected ∷ Initiate ∷ Part ∷ [];
+      ends = record { protocol = Block; bytes = 0; first = []; frames = 4; ending = Interrupted }
+          ∷ record { protocol = Expedited; bytes = 1; first = 0xAA ∷ []; frames = 2; ending = Done false } ∷ [];
+    }
+unfolding request_row_in response_row_in shifted crc_with
+left_download = refl
+
+abbrev left : List End
+left = record { protocol = Block; bytes = 0; first = []; frames = 3; ending = Interrupted } ∷ []
+
+-- each response to initiate, and each part of the entry
+over : map (λ answer. (shown (one_segment ++ s answer ∷ [])).ends)
+    (codes "6000100000000000" ∷ codes "4300100094010200" ∷ codes "4100100009000000" ∷ codes "A00010007F000000" ∷ codes "C000100000000000" ∷ codes "6001210000000000" ∷ codes "6000200000000000" ∷ codes "6000210100000000" ∷ [])
+    ≡ left ∷ left ∷ left ∷ left ∷ left ∷ left ∷ left ∷ left ∷ []
+unfolding request_row_in response_row_in shifted crc_with
+over = refl
+
+-- one of the entry, which may be in the recording twice, and other responses
+not_over : map (λ answer. (shown (one_segment ++ s answer ∷ [])).ends)
+    (codes "6000210000000000" ∷ codes "A00021007F000000" ∷ codes "A2017F0000000000" ∷ codes "2000000000000000" ∷ codes "0031323334353637" ∷ [])
+    ≡ [] ∷ [] ∷ [] ∷ [] ∷ [] ∷ []
+unfolding request_row_in response_row_in shifted crc_with
+not_over = refl
+
+-- in a sub-block of an upload it is a segment, and after the last acknowledge of a download it is of none
+elsewhere : map (λ frames. (shown frames).whats)
+    ((c (codes "A00021007F000000") ∷ s (codes "C000210000000000") ∷ c (codes "A300000000000000") ∷ s (codes "4300100094010200") ∷ [])
+    ∷ (c (codes "C000210000000000") ∷ s (codes "A00021007F000000") ∷ segment 0x81 ∷ s (codes "A2017F0000000000") ∷ s (codes "4300100094010200") ∷ c (codes "C100000000000000") ∷ []) ∷ [])
+    ≡ (Initiate ∷ Part ∷ Part ∷ OutOfSequence 67 1 ∷ []) ∷ (Initiate ∷ Part ∷ Segment 1 ∷ Part ∷ Unexpected ∷ Part ∷ []) ∷ []
+unfolding request_row_in response_row_in shifted crc_with
+elsewhere = refl
+
+-- ---- segments by their first byte
+
+low_segments : map (λ first. is_low_segment (uploaded first).bytes) (0 ∷ 1 ∷ 31 ∷ 32 ∷ 127 ∷ 0x80 ∷ 0x81 ∷ 0x9F ∷ 0xA0 ∷ 0xFF ∷ [])
+    ≡ false ∷ true ∷ true ∷ false ∷ false ∷ false ∷ true ∷ true ∷ false ∷ false ∷ []
+low_segments = refl
+
+low_last : map (λ first. is_low_last (uploaded first).bytes) (0 ∷ 1 ∷ 31 ∷ 32 ∷ 127 ∷ 0x80 ∷ 0x81 ∷ 0x9F ∷ 0xA0 ∷ 0xFF ∷ [])
+    ≡ false ∷ false ∷ false ∷ false ∷ false ∷ false ∷ true ∷ true ∷ false ∷ false ∷ []
+low_last = refl
+
+short_segment : map is_low_segment (hex (codes "81414243444546") ∷ hex (codes "814142434445464748") ∷ []) ≡ false ∷ false ∷ []
+short_segment = refl
+
+-- ---- where no transfer is open, 81h to 9Fh is no abort
+
+alone : map (λ frame. (shown (frame ∷ [])).whats) (uploaded 0x84 ∷ segment 0x84 ∷ uploaded 0x80 ∷ segment 0x80 ∷ uploaded 4 ∷ [])
+    ≡ (Segment 4 ∷ []) ∷ (Segment 4 ∷ []) ∷ (BegunBefore ∷ []) ∷ (BegunBefore ∷ []) ∷ (BegunBefore ∷ []) ∷ []
+unfolding request_row_in response_row_in shifted crc_with
+alone = refl
+
+-- of a block upload whose request is missing, after another transfer
+request_missing : shown (c (codes "4000210000000000") ∷ s (codes "4F002100AA000000") ∷ s (codes "C600210009000000") ∷ c (codes "A300000000000000") ∷ uploaded 1 ∷ uploaded 0x82 ∷ c (codes "A2027F0000000000") ∷ [])
+    ≡ record {
+      whats = Initiate ∷ Part ∷ Stray ∷ Stray ∷ Stray ∷ Segment 2 ∷ Stray ∷ [];
+      ends = record { protocol = Expedited; bytes = 1; first = 0xAA ∷ []; frames = 2; ending = Done false } ∷ [];
+    }
+unfolding request_row_in response_row_in shifted crc_with
+request_missing = refl
+
+-- ---- the start of a block upload is missing
+
+-- two segments, nine bytes
+start_missing : shown (c (codes "A00021007F000000") ∷ s (codes "C200210009000000") ∷ uploaded 1 ∷ uploaded 0x82 ∷ c (codes "A2027F0000000000") ∷ s (codes "D500000000000000") ∷ c (codes "A100000000000000") ∷ [])
+    ≡ record {
+      whats = Initiate ∷ Part ∷ Segment 1 ∷ Segment 2 ∷ Part ∷ Part ∷ Part ∷ [];
+      ends = record {
+        protocol = Block;
+        bytes = 9;
+        first = 0x41 ∷ 0x42 ∷ 0x43 ∷ 0x44 ∷ 0x45 ∷ 0x46 ∷ 0x47 ∷ 0x41 ∷ 0x42 ∷ [];
+        frames = 7;
+        ending = Irregular;
+      }
+          ∷ [];
+    }
+unfolding request_row_in response_row_in shifted crc_with
+start_missing = refl
+
+-- the only segment; the first ones are missing too; 0 and 32 are none, and a client sends none
+first_segments : map (λ frame. (shown (c (codes "A00021001F000000") ∷ s (codes "C000210000000000") ∷ frame ∷ [])).whats)
+    (uploaded 0x81 ∷ uploaded 31 ∷ uploaded 0 ∷ uploaded 32 ∷ segment 1 ∷ [])
+    ≡ (Initiate ∷ Part ∷ Segment 1 ∷ []) ∷ (Initiate ∷ Part ∷ OutOfSequence 31 1 ∷ []) ∷ (Initiate ∷ Part ∷ Unexpected ∷ []) ∷ (Initiate ∷ Part ∷ Unexpected ∷ [])
+    ∷ (Initiate ∷ Part ∷ Unexpected ∷ []) ∷ []
+unfolding request_row_in response_row_in shifted crc_with
+first_segments = refl
+
+-- 80h is an abort, and so is 81h that names the entry, directly after the response
+upload_given_up : map (λ abort. (shown (c (codes "A00021007F000000") ∷ s (codes "C000210000000000") ∷ s abort ∷ [])).ends) (codes "8001210000000206" ∷ codes "8100210000000206" ∷ [])
+    ≡ (record { protocol = Block; bytes = 0; first = []; frames = 3; ending = Aborted Server (record { 0 = 0x06020000 }) } ∷ [])
+    ∷ (record { protocol = Block; bytes = 0; first = []; frames = 3; ending = Aborted Server (record { 0 = 0x06020000 }) } ∷ [])
+    ∷ []
+unfolding request_row_in response_row_in shifted crc_with
+upload_given_up = refl
+
+-- ---- an acknowledge with a larger block size is missing
+
+-- a sub-block of two segments; after the missing acknowledge one of four, whose last has one byte
+abbrev sub_block_of_two : List Sent
+sub_block_of_two = c (codes "C000210000000000") ∷ s (codes "A000210002000000") ∷ segment 1 ∷ segment 2 ∷ []
+
+acknowledge_missing : shown (sub_block_of_two ++ map segment (1 ∷ 2 ∷ 3 ∷ 0x84 ∷ []) ++ s (codes "A2047F0000000000") ∷ c (codes "D900000000000000") ∷ s (codes "A100000000000000") ∷ [])
+    ≡ record {
+      whats = Initiate ∷ Part ∷ Segment 1 ∷ Segment 2 ∷ OutOfSequence 1 3 ∷ OutOfSequence 2 3 ∷ Segment 3 ∷ Segment 4 ∷ Part ∷ Part ∷ Part ∷ [];
+      ends = record {
+        protocol = Block;
+        bytes = 22;
+        first = 0x41 ∷ 0x42 ∷ 0x43 ∷ 0x44 ∷ 0x45 ∷ 0x46 ∷ 0x47 ∷ 0x41 ∷ 0x42 ∷ 0x43 ∷ 0x44 ∷ 0x45 ∷ 0x46 ∷ 0x47 ∷ 0x41 ∷ 0x42 ∷ 0x43 ∷ 0x44 ∷ 0x45 ∷ 0x46 ∷ 0x47 ∷ 0x41 ∷ [];
+        frames = 11;
+        ending = Irregular;
+      }
+          ∷ [];
+    }
+unfolding request_row_in response_row_in shifted crc_with
+acknowledge_missing = refl
+
+-- the next one, where the sender doesn't begin again; one that isn't the next, and one of the server
+no_segments : map (λ frames. (shown (sub_block_of_two ++ frames)).whats) ((segment 3 ∷ []) ∷ (segment 1 ∷ segment 4 ∷ []) ∷ (segment 1 ∷ uploaded 3 ∷ []) ∷ [])
+    ≡ (Initiate ∷ Part ∷ Segment 1 ∷ Segment 2 ∷ Unexpected ∷ []) ∷ (Initiate ∷ Part ∷ Segment 1 ∷ Segment 2 ∷ OutOfSequence 1 3 ∷ Unexpected ∷ [])
+    ∷ (Initiate ∷ Part ∷ Segment 1 ∷ Segment 2 ∷ OutOfSequence 1 3 ∷ Unexpected ∷ []) ∷ []
+unfolding request_row_in response_row_in shifted crc_with
+no_segments = refl
+
+-- nor one after the last segment
+after_the_last : (shown (c (codes "C000210000000000") ∷ s (codes "A000210002000000") ∷ segment 1 ∷ segment 0x82 ∷ segment 3 ∷ [])).whats
+    ≡ Initiate ∷ Part ∷ Segment 1 ∷ Segment 2 ∷ Unexpected ∷ []
+unfolding request_row_in response_row_in shifted crc_with
+after_the_last = refl
+
+-- of an upload too, where the client's acknowledge is missing
+upload_acknowledge_missing : (shown (c (codes "A000210001000000") ∷ s (codes "C000210000000000") ∷ c (codes "A300000000000000") ∷ map uploaded (1 ∷ 1 ∷ 2 ∷ 0x83 ∷ []))).whats
+    ≡ Initiate ∷ Part ∷ Part ∷ Segment 1 ∷ OutOfSequence 1 2 ∷ Segment 2 ∷ Segment 3 ∷ []
+unfolding request_row_in response_row_in shifted crc_with
+upload_acknowledge_missing = refl
+
+-- a request isn't taken for a segment: 20h, after 31 of 31
+request_after_31 : (shown (c (codes "C000210000000000") ∷ s (codes "A00021001F000000") ∷ map segment (29 ∷ 30 ∷ 31 ∷ []) ++ c (codes "2001210000000000") ∷ [])).whats
+    ≡ Initiate ∷ Part ∷ OutOfSequence 29 1 ∷ Segment 30 ∷ Segment 31 ∷ Initiate ∷ []
+unfolding request_row_in response_row_in shifted crc_with
+request_after_31 = refl
+
+-- ---- after the last segment of a download
+
+-- its acknowledge doesn't come, and the client reads 1000:00
+left_after_last : shown (c (codes "C000210000000000") ∷ s (codes "A00021007F000000") ∷ segment 0x81 ∷ c (codes "4000100000000000") ∷ s (codes "4300100094010200") ∷ [])
+    ≡ record {
+      whats = Initiate ∷ Part ∷ Segment 1 ∷ Initiate ∷ Part ∷ [];
+      ends = record { protocol = Block; bytes = 0; first = []; frames = 3; ending = Unanswered }
+          ∷ record { protocol = Expedited; bytes = 4; first = 0x94 ∷ 0x01 ∷ 0x02 ∷ 0x00 ∷ []; frames = 2; ending = Done false } ∷ [];
+    }
+unfolding request_row_in response_row_in shifted crc_with
+left_after_last = refl
+
+-- a frame that is no request; and a request where a segment came twice, and before the last one
+within_last : map (λ frames. (shown frames).whats)
+    ((c (codes "C000210000000000") ∷ s (codes "A00021007F000000") ∷ segment 0x81 ∷ c (codes "C100000000000000") ∷ [])
+    ∷ (c (codes "C000210000000000") ∷ s (codes "A00021007F000000") ∷ segment 1 ∷ segment 1 ∷ segment 0x82 ∷ c (codes "4000100000000000") ∷ [])
+    ∷ (c (codes "C000210000000000") ∷ s (codes "A00021007F000000") ∷ segment 1 ∷ c (codes "4000100000000000") ∷ []) ∷ [])
+    ≡ (Initiate ∷ Part ∷ Segment 1 ∷ Unexpected ∷ [])
+    ∷ (Initiate ∷ Part ∷ Segment 1 ∷ OutOfSequence 1 2 ∷ Segment 2 ∷ Unexpected ∷ [])
+    ∷ (Initiate ∷ Part ∷ Segment 1 ∷ OutOfSequence 64 2 ∷ []) ∷ []
+unfolding request_row_in response_row_in shifted crc_with
+within_last = refl
+
+-- ---- no answer
+
+-- the client awaits one when it begins another transfer: where a frame came twice, it isn't said that there was none
+no_answer : map (λ asks. (shown (c (codes "4000210000000000") ∷ s (codes "4100210009000000") ∷ asks ++ c (codes "4001210000000000") ∷ [])).ends)
+    ((c (codes "6000000000000000") ∷ []) ∷ (c (codes "6000000000000000") ∷ c (codes "6000000000000000") ∷ []) ∷ [])
+    ≡ (record { protocol = Segmented; bytes = 0; first = []; frames = 3; ending = Unanswered } ∷ [])
+    ∷ (record { protocol = Segmented; bytes = 0; first = []; frames = 4; ending = Interrupted } ∷ [])
+    ∷ []
+unfolding request_row_in response_row_in shifted crc_with
+no_answer = refl

@@ -1,0 +1,203 @@
+-- What is heard on a channel of a recording. Not each frame is of the transfer that is open, and some
+-- of its frames may be missing in the recording.
+use Rattle.std.specs.Prelude.{ℕ, ◌==◌, ◌&&◌, ◌||◌, nat_lt, not, Bool, true, false, if◌then◌else◌, List, length, slice_index, Option, Some, None}
+use Rattle.co_frame.specs.SdoResponses.{response_in}
+use Rattle.co_frame.specs.declared.sdo_response.SdoResponse.{SdoResponse}
+use Rattle.co_frame.specs.declared.sdo_response.SdoResponse.TheVariants.{Abort, UploadSegment}
+use Rattle.co_value.specs.Keys.{same_key}
+use Rattle.co_value.specs.declared.key.Key.{Key}
+use Rattle.conode_explain_transfers.specs.declared.ended.Ended.{Ended}
+use Rattle.conode_explain_transfers.specs.declared.ended.Ending.{Ending}
+use Rattle.conode_explain_transfers.specs.declared.ended.Ending.TheVariants.{Unanswered, Interrupted}
+use Rattle.conode_explain_transfers.specs.declared.kinds.Side.{Side}
+use Rattle.conode_explain_transfers.specs.declared.kinds.Side.TheVariants.{Client, Server}
+use Rattle.conode_explain_transfers.specs.declared.kinds.What.{What}
+use Rattle.conode_explain_transfers.specs.declared.kinds.What.TheVariants.{Segment, Overtaken, Unexpected}
+use Rattle.conode_explain_transfers.specs.declared.reading.Reading.{Reading}
+use Rattle.conode_explain_transfers.specs.declared.reading.Reading.TheVariants.{Begin}
+use Rattle.conode_explain_transfers.specs.declared.stage.Stage.{Stage}
+use Rattle.conode_explain_transfers.specs.declared.stage.Stage.TheVariants.{BlockInitiated, SubBlock, AllAcknowledged}
+use Rattle.conode_explain_transfers.specs.declared.transfer.Transfer.{Transfer}
+use Rattle.conode_explain_transfers.specs.BlockTurns.{is_block, most_segments}
+use Rattle.conode_explain_transfers.specs.Followed.{Following, Followed, after_boot, ends_as, followed}
+use Rattle.conode_explain_transfers.specs.Readings.{answers_key, is_in_sub_block, is_sender, plain_reading}
+use Rattle.conode_explain_transfers.specs.Stages.{is_initiated}
+use Rattle.conode_explain_transfers.specs.Transfers.{is_download}
+use Rattle.conode_explain_transfers.specs.Unanswered.{multiplexer_of, number_of, refuses_with}
+
+-- ---- segments by their first byte
+
+-- 01h to 1Fh and 81h to 9Fh: a segment of a sub-block with a number of 1 to 31 (CiA 301, 7.2.4.3.10 and
+-- 7.2.4.3.14). No initiate request and no response to one begins so, nor does an abort, which has 80h
+-- (7.2.4.3.17)
+abbrev pub is_low_segment : List ℕ → Bool
+is_low_segment bytes = (length bytes == 8) && (nat_lt 0 (number_of bytes) && nat_lt (number_of bytes) 32)
+
+-- 81h to 9Fh: the last one of its transfer
+abbrev pub is_low_last : List ℕ → Bool
+is_low_last bytes = is_low_segment bytes && nat_lt 128 (slice_index bytes 0)
+
+-- ---- answers to earlier requests
+
+-- the response to initiate is awaited, and nothing came since a request that is one
+abbrev pub awaits_first : Transfer → Bool
+awaits_first transfer = is_initiated transfer.stage && not (transfer.irregular || transfer.went_on)
+
+-- an entry that isn't this one; many devices send 0000:00 in each abort
+abbrev pub names_other : Key → Key → Bool
+names_other named key = not (same_key named key) && not (same_key named (record { index = 0; sub = 0 }))
+
+abbrev pub is_block_upload : Transfer → Bool
+is_block_upload transfer = is_block transfer.protocol && not (is_download transfer.direction)
+
+abbrev pub overtaken_if : Bool → Option What
+overtaken_if earlier = if earlier then Some Overtaken else None
+
+-- what reads as an abort of another entry: 80h is one, and 81h to 9Fh the last segment of an upload that
+-- the client has given up
+abbrev pub earlier_abort : Transfer → List ℕ → Option What
+earlier_abort transfer bytes =
+    if slice_index bytes 0 == 128 then Some Overtaken
+    else (if is_block_upload transfer then None else Some (Segment (number_of bytes)))
+
+-- A server answers in turn, so what can't answer this request answers an earlier one: an abort of
+-- another entry, or a response that isn't one to initiate. A segment may be of the sub-block of a block
+-- upload. A response to initiate of another entry is `overtaken` in `turn_of` too.
+abbrev pub earlier : Transfer → Option SdoResponse → List ℕ → Option What
+earlier transfer None bytes = None
+earlier transfer (Some (Abort key code)) bytes = if names_other (multiplexer_of bytes) transfer.key then earlier_abort transfer bytes else None
+earlier transfer (Some (UploadSegment toggle segment last)) bytes = overtaken_if (not (is_block_upload transfer))
+earlier transfer (Some response) bytes = overtaken_if (not (answers_key response))
+
+-- A frame that is of no transfer which is followed, and what it is then: where none is open, a segment
+-- of one whose begin isn't in the recording.
+abbrev pub aside : Option Transfer → Side → List ℕ → Option What
+aside None side bytes = if is_low_last bytes then Some (Segment (number_of bytes)) else None
+aside (Some transfer) Client bytes = None
+aside (Some transfer) Server bytes = if awaits_first transfer then earlier transfer (response_in bytes) bytes else None
+
+-- After such an abort the server sent the newest frame: it may have meant this request, and named it
+-- wrongly.
+abbrev pub with_abort : List ℕ → Transfer → Transfer
+with_abort bytes transfer = if slice_index bytes 0 == 128 then record transfer { by = Server } else transfer
+
+abbrev pub after_aside : Option Transfer → List ℕ → Option Transfer
+after_aside None bytes = None
+after_aside (Some transfer) bytes = Some (with_abort bytes transfer)
+
+-- ---- sub-blocks that are over
+
+-- a response to initiate, of another entry
+abbrev pub answers_other : Key → Option SdoResponse → List ℕ → Bool
+answers_other key None bytes = false
+answers_other key (Some response) bytes = answers_key response && not (same_key (multiplexer_of bytes) key)
+
+-- A server that awaits segments answers no request (7.2.4.3.10): where it answers one of another entry in
+-- a sub-block of a download, the client has left that, and a request was taken for a segment.
+abbrev pub is_over : Option Transfer → Side → List ℕ → Bool
+is_over (Some transfer) Server bytes =
+    (is_in_sub_block transfer.stage && is_download transfer.direction) && answers_other transfer.key (response_in bytes) bytes
+is_over current side bytes = false
+
+-- ---- frames that are missing
+
+abbrev pub is_block_initiated : Stage → Bool
+is_block_initiated BlockInitiated = true
+is_block_initiated _ = false
+
+abbrev pub is_within_sub_block : Stage → Bool
+is_within_sub_block (SubBlock last) = not last
+is_within_sub_block _ = false
+
+abbrev pub is_after_last : Stage → Bool
+is_after_last (SubBlock last) = last
+is_after_last _ = false
+
+abbrev pub begins_any : Reading → Bool
+begins_any (Begin initiate) = true
+begins_any _ = false
+
+-- the client's start of a block upload (7.2.4.3.13): a segment of the server comes, after its response
+abbrev pub lacks_start : Transfer → Side → List ℕ → Bool
+lacks_start transfer side bytes =
+    (is_block_initiated transfer.stage && is_sender transfer.direction side) && (is_low_segment bytes && not (refuses_with side transfer bytes))
+
+-- The acknowledge of a sub-block, which has a larger size for the next one: the sender began with
+-- segment 1 again, so that the transfer is irregular. Now the segment after the newest one comes, and
+-- its number is above the size.
+abbrev pub lacks_acknowledge : Transfer → Side → List ℕ → Bool
+lacks_acknowledge transfer side bytes =
+    (transfer.irregular && (is_within_sub_block transfer.stage && is_sender transfer.direction side))
+    && (is_low_segment bytes && (nat_lt transfer.block_size (number_of bytes) && (number_of bytes == transfer.next_number)))
+
+-- none of its segments is missing, and the last one came
+abbrev pub awaits_last_acknowledge : Transfer → Bool
+awaits_last_acknowledge transfer = not transfer.irregular && is_after_last transfer.stage
+
+-- no segment comes after the last one, so what looks like an initiate request then is one
+abbrev pub leaves_after_last : Transfer → Side → List ℕ → Bool
+leaves_after_last transfer side bytes =
+    (awaits_last_acknowledge transfer && is_sender transfer.direction side) && begins_any (plain_reading side bytes)
+
+-- The transfer before a frame: with a missing one, which makes it irregular (how many segments the
+-- sub-block has isn't known without its acknowledge); and where no more segments are read.
+abbrev pub with_missing : Side → List ℕ → Transfer → Transfer
+with_missing side bytes transfer =
+    if lacks_start transfer side bytes then record transfer { irregular = true; stage = SubBlock false }
+    else (if lacks_acknowledge transfer side bytes then record transfer { block_size = most_segments }
+    else (if leaves_after_last transfer side bytes then record transfer { stage = AllAcknowledged } else transfer))
+
+abbrev pub made_up : Option Transfer → Side → List ℕ → Option Transfer
+made_up None side bytes = None
+made_up (Some transfer) side bytes = Some (with_missing side bytes transfer)
+
+-- ---- ends
+
+-- frames of it are missing, maybe the answer too: it isn't said that there was none
+abbrev pub sure_ending : Bool → Ending → Ending
+sure_ending true Unanswered = Interrupted
+sure_ending irregular ending = ending
+
+abbrev pub is_irregular : Option Transfer → Bool
+is_irregular None = false
+is_irregular (Some transfer) = transfer.irregular
+
+abbrev pub sure_end : Bool → Option Ended → Option Ended
+sure_end irregular None = None
+sure_end irregular (Some e) = Some (record e { ending = sure_ending irregular e.ending })
+
+-- ---- a frame
+
+-- it isn't of the open transfer, and has a key of its own or none
+abbrev pub passed : Following → What → List ℕ → Followed
+passed following what bytes = record {
+  says = record { what = what; of = None; ended = None };
+  next = record following { transfer = after_aside following.transfer bytes };
+}
+
+-- the transfer is left; of the one that is answered the request isn't known
+abbrev pub cut : Following → ℕ → Followed
+cut following micros = record {
+  says = record { what = Unexpected; of = None; ended = ends_as following.transfer micros Interrupted };
+  next = after_boot following;
+}
+
+abbrev pub with_end : Bool → Followed → Followed
+with_end irregular f = record { says = record f.says { ended = sure_end irregular f.says.ended }; next = f.next }
+
+-- the channel takes it
+abbrev pub heard_next : Following → ℕ → Side → List ℕ → Followed
+heard_next following micros side bytes =
+    with_end (is_irregular following.transfer) (followed (record following { transfer = made_up following.transfer side bytes }) micros side bytes)
+
+abbrev pub hearing_by : Option What → Following → ℕ → Side → List ℕ → Followed
+hearing_by (Some what) following micros side bytes = passed following what bytes
+hearing_by None following micros side bytes = heard_next following micros side bytes
+
+abbrev pub hearing_where : Bool → Following → ℕ → Side → List ℕ → Followed
+hearing_where true following micros side bytes = cut following micros
+hearing_where false following micros side bytes = hearing_by (aside following.transfer side bytes) following micros side bytes
+
+-- a frame with its stamp, by an end, with these bytes
+abbrev pub hearing : Following → ℕ → Side → List ℕ → Followed
+hearing following micros side bytes = hearing_where (is_over following.transfer side bytes) following micros side bytes

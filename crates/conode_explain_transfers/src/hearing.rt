@@ -1,0 +1,401 @@
+//! What is heard on a channel of a recording.
+
+ghost use Rattle.std.specs.Prelude.{◌≡◌, ◌∷◌, ◌&&◌, List};
+ghost use Rattle.co_frame.specs.SdoResponses.{response_in};
+ghost use Rattle.conode_explain_transfers.specs.Followed.{Event, Framed};
+ghost use Rattle.conode_explain_transfers.specs.HeardData.{heard_after, heard_of};
+ghost use Rattle.conode_explain_transfers.specs.Hearings.{
+  answers_other,
+  aside,
+  awaits_first,
+  awaits_last_acknowledge,
+  begins_any,
+  cut,
+  earlier,
+  earlier_abort,
+  heard_next,
+  hearing,
+  is_after_last,
+  is_block_initiated,
+  is_block_upload,
+  is_irregular,
+  is_low_last,
+  is_low_segment,
+  is_over,
+  is_within_sub_block,
+  lacks_acknowledge,
+  lacks_start,
+  leaves_after_last,
+  made_up,
+  names_other,
+  overtaken_if,
+  passed,
+  sure_end,
+  sure_ending,
+  with_abort,
+  with_missing,
+};
+ghost use Rattle.conode_explain_transfers.specs.Readings.{is_in_sub_block, plain_reading};
+ghost use Rattle.conode_explain_transfers.specs.Transfers.{is_download};
+
+use crate::block::MOST_SEGMENTS;
+use crate::channel::{Channel, Heard};
+use crate::ended::{Ended, Ending};
+use crate::kinds::{Side, What};
+use crate::reading::{Reading, answers_key, plain_reading};
+use crate::stage::Stage;
+use crate::transfer::Transfer;
+use crate::unanswered::{ABORT, byte_at, multiplexer_of, number_of};
+use co_frame::{Frame, SdoResponse};
+use co_value::Key;
+
+/// No segment with a number below it begins as a response to initiate does.
+const FIRST_SERVICE: u8 = 32;
+
+// Whether it begins as a segment of a sub-block with a number of 1 to 31 does.
+fn is_low_segment(frame: &Frame) -> bool
+    ensures { result ≡ is_low_segment frame.now.bytes }
+{
+    let number = number_of(frame);
+    frame.bytes().len() == 8 && (0 < number && number < FIRST_SERVICE)
+}
+
+// Whether it begins as the last one of its transfer does.
+fn is_low_last(frame: &Frame) -> bool
+    ensures { result ≡ is_low_last frame.now.bytes }
+{
+    is_low_segment(frame) && ABORT < byte_at(frame.bytes(), 0)
+}
+
+// Whether an abort names another entry; 0000:00 is none.
+fn names_other(named: Key, key: Key) -> bool
+    ensures { result ≡ names_other named key }
+{
+    let none = Key { index: 0, sub: 0 };
+    !named.comparisons(key).0 && !named.comparisons(none).0
+}
+
+fn overtaken_if(earlier: bool) -> Option<What>
+    ensures { result ≡ overtaken_if earlier }
+{
+    if earlier { Some(What::Overtaken) } else { None }
+}
+
+// Whether a frame is an initiate request, where it isn't a segment.
+fn begins_any(side: Side, frame: &Frame) -> bool
+    ensures { result ≡ begins_any (plain_reading side frame.now.bytes) }
+{
+    match plain_reading(side, frame) {
+        Reading::Begin(_) => true,
+        _ => false,
+    }
+}
+
+fn sure_ending(irregular: bool, ending: Ending) -> Ending
+    ensures { result ≡ sure_ending irregular ending }
+{
+    match ending {
+        Ending::Unanswered if irregular => Ending::Interrupted,
+        _ => ending,
+    }
+}
+
+fn sure_end(irregular: bool, ended: Option<Ended>) -> Option<Ended>
+    ensures { result ≡ sure_end irregular ended }
+{
+    match ended {
+        Some(ended) => {
+            let ending = sure_ending(irregular, ended.ending);
+            Some(Ended { ending, ..ended })
+        }
+        None => None,
+    }
+}
+
+impl Stage {
+    // Whether the start of a block upload is awaited.
+    fn is_block_initiated(self) -> bool
+        ensures { result ≡ is_block_initiated self }
+    {
+        match self {
+            Stage::BlockInitiated => true,
+            _ => false,
+        }
+    }
+
+    // Whether the last segment came.
+    fn is_after_last(self) -> bool
+        ensures { result ≡ is_after_last self }
+    {
+        match self {
+            Stage::SubBlock { last } => last,
+            _ => false,
+        }
+    }
+
+    // Whether segments of a sub-block are awaited.
+    fn is_within_sub_block(self) -> bool
+        ensures { result ≡ is_within_sub_block self }
+    {
+        match self {
+            Stage::SubBlock { last } => !last,
+            _ => false,
+        }
+    }
+}
+
+impl Transfer {
+    // Whether the response to initiate is awaited, and nothing came since the request.
+    fn awaits_first(&self) -> bool
+        ensures { result ≡ awaits_first self.now }
+    {
+        self.stage.is_initiated() && !(self.irregular || self.went_on)
+    }
+
+    fn is_block_upload(&self) -> bool
+        ensures { result ≡ is_block_upload self.now }
+    {
+        self.is_block() && !self.is_download()
+    }
+
+    // What a frame is that reads as an abort of another entry.
+    fn earlier_abort(&self, frame: &Frame) -> Option<What>
+        ensures { result ≡ earlier_abort self.now frame.now.bytes }
+    {
+        if byte_at(frame.bytes(), 0) == ABORT {
+            return Some(What::Overtaken);
+        }
+        if self.is_block_upload() {
+            None
+        } else {
+            Some(What::Segment {
+                number: number_of(frame),
+            })
+        }
+    }
+
+    // What a response is that can't answer its initiate request, and so answers an earlier one.
+    fn earlier(&self, response: &Option<SdoResponse>, frame: &Frame) -> Option<What>
+        ensures { result ≡ earlier self.now response.now frame.now.bytes }
+    {
+        match response {
+            None => None,
+            Some(SdoResponse::Abort { key: _, code: _ }) => {
+                if names_other(multiplexer_of(frame.bytes()), self.key) {
+                    self.earlier_abort(frame)
+                } else {
+                    None
+                }
+            }
+            Some(
+                SdoResponse::UploadSegment {
+                    toggle: _,
+                    data: _,
+                    last: _,
+                },
+            ) => overtaken_if(!self.is_block_upload()),
+            Some(response) => overtaken_if(!answers_key(response)),
+        }
+    }
+
+    // Whether it is in a sub-block of a download.
+    fn is_within_download(&self) -> bool
+        ensures { result ≡ (is_in_sub_block self.now.stage && is_download self.now.direction) }
+    {
+        match self.stage {
+            Stage::SubBlock { last: _ } => self.is_download(),
+            _ => false,
+        }
+    }
+
+    // Whether a frame of the server answers an initiate request of another entry.
+    fn answers_other(&self, frame: &Frame) -> bool
+        ensures { result ≡ answers_other self.now.key (response_in frame.now.bytes) frame.now.bytes }
+    {
+        match SdoResponse::read(frame) {
+            None => false,
+            Some(response) => {
+                answers_key(&response) && !self.has_key(multiplexer_of(frame.bytes()))
+            }
+        }
+    }
+
+    // Whether the client's start of a block upload is missing in the recording.
+    fn lacks_start(&self, side: Side, frame: &Frame) -> bool
+        ensures { result ≡ lacks_start self.now side frame.now.bytes }
+    {
+        (self.stage.is_block_initiated() && self.is_sender(side))
+            && (is_low_segment(frame) && !self.refuses_with(side, frame))
+    }
+
+    // Whether the acknowledge of a sub-block is, with a larger size for the next one.
+    fn lacks_acknowledge(&self, side: Side, frame: &Frame) -> bool
+        ensures { result ≡ lacks_acknowledge self.now side frame.now.bytes }
+    {
+        let number = number_of(frame);
+        (self.irregular && (self.stage.is_within_sub_block() && self.is_sender(side)))
+            && (is_low_segment(frame) && (self.block_size < number && number == self.next_number))
+    }
+
+    // Whether none of its segments is missing, and the last one came.
+    fn awaits_last_acknowledge(&self) -> bool
+        ensures { result ≡ awaits_last_acknowledge self.now }
+    {
+        !self.irregular && self.stage.is_after_last()
+    }
+
+    // Whether the client begins another transfer after the last segment.
+    fn leaves_after_last(&self, side: Side, frame: &Frame) -> bool
+        ensures { result ≡ leaves_after_last self.now side frame.now.bytes }
+    {
+        (self.awaits_last_acknowledge() && self.is_sender(side)) && begins_any(side, frame)
+    }
+
+    // Notes that the server sent an abort which isn't of this transfer.
+    fn note_abort(&mut self, frame: &Frame)
+        ensures { self.new ≡ with_abort frame.now.bytes self.old }
+    {
+        if byte_at(frame.bytes(), 0) == ABORT {
+            self.by = Side::Server;
+        }
+    }
+
+    // Goes on where a frame before this one is missing in the recording, or none more is a segment.
+    fn make_up(&mut self, side: Side, frame: &Frame)
+        ensures { self.new ≡ with_missing side frame.now.bytes self.old }
+    {
+        if self.lacks_start(side, frame) {
+            self.irregular = true;
+            self.stage = Stage::SubBlock { last: false };
+        } else if self.lacks_acknowledge(side, frame) {
+            self.block_size = MOST_SEGMENTS;
+        } else if self.leaves_after_last(side, frame) {
+            self.stage = Stage::AllAcknowledged;
+        }
+    }
+}
+
+impl Channel {
+    // What a frame is that is of no transfer which is followed.
+    fn aside(&self, side: Side, frame: &Frame) -> Option<What>
+        ensures { result ≡ aside self.now.transfer side frame.now.bytes }
+    {
+        match (&self.transfer, side) {
+            (None, _) => {
+                if is_low_last(frame) {
+                    Some(What::Segment {
+                        number: number_of(frame),
+                    })
+                } else {
+                    None
+                }
+            }
+            (Some(_), Side::Client) => None,
+            (Some(transfer), Side::Server) => {
+                if transfer.awaits_first() {
+                    transfer.earlier(&SdoResponse::read(frame), frame)
+                } else {
+                    None
+                }
+            }
+        }
+    }
+
+    // Goes on where a frame before this one is missing in the recording.
+    fn make_up(&mut self, side: Side, frame: &Frame)
+        ensures { self.new ≡ record self.old { transfer = made_up self.old.transfer side frame.now.bytes } }
+    {
+        if let Some(transfer) = &mut self.transfer {
+            transfer.make_up(side, frame);
+        }
+    }
+
+    // Whether a frame of the open transfer didn't go on with the others.
+    fn is_irregular(&self) -> bool
+        ensures { result ≡ is_irregular self.now.transfer }
+    {
+        match &self.transfer {
+            Some(transfer) => transfer.irregular,
+            None => false,
+        }
+    }
+
+    // Whether the server answers another request within a sub-block of a download: the client has left
+    // that.
+    fn is_over(&self, side: Side, frame: &Frame) -> bool
+        ensures { result ≡ is_over self.now.transfer side frame.now.bytes }
+    {
+        match (&self.transfer, side) {
+            (Some(transfer), Side::Server) => {
+                transfer.is_within_download() && transfer.answers_other(frame)
+            }
+            _ => false,
+        }
+    }
+
+    // The transfer is left; of the one that is answered the request isn't known.
+    fn cut(&mut self, micros: u64) -> Heard
+        ensures says { result ≡ (cut self.old micros).says }
+        ensures next { self.new ≡ (cut self.old micros).next }
+    {
+        let ended = self.close(micros, Ending::Interrupted);
+        Heard {
+            what: What::Unexpected,
+            of: None,
+            ended,
+        }
+    }
+
+    // A frame that isn't of the open transfer.
+    fn pass(&mut self, what: What, frame: &Frame) -> Heard
+        ensures says { result ≡ (passed self.old what frame.now.bytes).says }
+        ensures next { self.new ≡ (passed self.old what frame.now.bytes).next }
+    {
+        if let Some(transfer) = &mut self.transfer {
+            transfer.note_abort(frame);
+        }
+        Heard {
+            what,
+            of: None,
+            ended: None,
+        }
+    }
+
+    // A frame that the channel takes.
+    fn hear_next(&mut self, micros: u64, side: Side, frame: &Frame) -> Heard
+        ensures says { result ≡ (heard_next self.old micros side frame.now.bytes).says }
+        ensures next { self.new ≡ (heard_next self.old micros side frame.now.bytes).next }
+    {
+        let irregular = self.is_irregular();
+        self.make_up(side, frame);
+        let heard = self.take(micros, side, frame);
+        Heard {
+            what: heard.what,
+            of: heard.of,
+            ended: sure_end(irregular, heard.ended),
+        }
+    }
+
+    /// Hears a frame of a recording as `take` does, but for this: an answer to an earlier request is
+    /// `Overtaken`, and changes nothing; one of another entry in a sub-block of a download ends that;
+    /// where no transfer is open, 81h to 9Fh is a segment; of a
+    /// transfer that lacks the start of a block upload, or an acknowledge with a larger block size,
+    /// the segments are followed; and none of which frames are missing is `Unanswered`.
+    pub fn hear(&mut self, micros: u64, side: Side, frame: &Frame) -> Heard
+        ensures heard { result ≡ (hearing self.old micros side frame.now.bytes).says }
+        ensures next { self.new ≡ (hearing self.old micros side frame.now.bytes).next }
+        // Holds after every log of the recording.
+        ensures said { (log : List Event) → self.old ≡ heard_after log →
+            result ≡ heard_of log micros side frame.now.bytes }
+        ensures stands { (log : List Event) → self.old ≡ heard_after log →
+            self.new ≡ heard_after (Framed micros side frame.now.bytes ∷ log) }
+    {
+        if self.is_over(side, frame) {
+            return self.cut(micros);
+        }
+        if let Some(what) = self.aside(side, frame) {
+            return self.pass(what, frame);
+        }
+        self.hear_next(micros, side, frame)
+    }
+}

@@ -1,0 +1,9 @@
+use Rattle.std.proofs.Common.{◌≡◌, drop, map}
+use Rattle.co_sheet_text.specs.Views.{property_view}
+use Rattle.conode_lint_text.specs.Facts.{listed_in}
+use Rattle.conode_lint_text.proofs.lists.listed_in.Given as goal
+
+-- what is found in the rest is found in all
+abbrev pub invariant-loop-property : goal.invariant-loop-property
+invariant-loop-property l =
+    listed_in l.index l.counted (map property_view (drop l.property-index l.properties)) ≡ listed_in l.index l.counted (map property_view l.properties)
