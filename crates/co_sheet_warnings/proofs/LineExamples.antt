@@ -43,6 +43,11 @@ first_other_byte : places NotAscii (codes "a" ∷ (0x7F ∷ 0x80 ∷ []) ∷ (0x
 unfolding places_of few_places place_in_text places_in chars is_utf8 lib.Utf8.encode
 first_other_byte = refl
 
+-- not the line in UTF-8 before it
+not_the_first : places NotAscii ((0xC3 ∷ 0xA4 ∷ []) ∷ codes "a" ∷ (0xE4 ∷ []) ∷ (0xE4 ∷ []) ∷ []) ≡ 3 ∷ []
+unfolding places_of few_places place_in_text places_in chars is_utf8 lib.Utf8.encode
+not_the_first = refl
+
 in_utf8 : places Utf8 (codes "a" ∷ (0xC3 ∷ 0xA4 ∷ []) ∷ []) ≡ 2 ∷ []
 unfolding places_of few_places place_in_text places_in chars is_utf8 lib.Utf8.encode
 in_utf8 = refl

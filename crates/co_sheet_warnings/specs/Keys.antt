@@ -13,6 +13,7 @@ use Rattle.co_sheet_warnings.specs.declared.keys.Topic.TheVariants.{
   DeviceInfo,
   DeviceCommissioning,
   ObjectLists,
+  Dummies,
   Objects,
   Other,
 }
@@ -22,6 +23,7 @@ abbrev pub topic_of_kind : SectionKind → Topic
 topic_of_kind kind.MandatoryObjects = ObjectLists
 topic_of_kind kind.OptionalObjects = ObjectLists
 topic_of_kind kind.ManufacturerObjects = ObjectLists
+topic_of_kind kind.DummyUsage = Dummies
 topic_of_kind kind.DeviceInfo = DeviceInfo
 topic_of_kind kind.DeviceCommissioning = DeviceCommissioning
 topic_of_kind (kind.Object index) = Objects

@@ -21,7 +21,9 @@ use Rattle.std.specs.Prelude.{
   Option,
   Some,
   None,
+  is_some,
   option_map,
+  option_to_list,
 }
 use Rattle.std.specs.List.{list_any, enumerate_from}
 use Rattle.std.specs.Option.{option_map_or, option_or}
@@ -62,14 +64,20 @@ has_other_byte bytes = list_any (nat_lt 0x7F) bytes
 abbrev pub first_other : List Line → Option ℕ
 first_other lines = option_map (λ line. line.number) (find (λ line. has_other_byte line.bytes) lines)
 
--- of a text in UTF-8, and of any other
+-- the first line that isn't UTF-8
+abbrev pub first_unreadable : List Line → Option ℕ
+first_unreadable lines =
+    option_map (λ line. line.number) (find (λ line. not (is_utf8 line.bytes)) lines)
+
+-- of a text with a byte above 7Fh: the first line with one, if all lines are UTF-8, else the first
+-- that isn't
 abbrev pub utf8 : ReadText → List ℕ
 utf8 t =
-    option_map_or (λ line. if is_utf8 t.text then line ∷ [] else []) (first_other t.lines) []
+    option_map_or (λ line. if is_some (first_unreadable t.lines) then [] else line ∷ [])
+    (first_other t.lines) []
 
 abbrev pub not_ascii : ReadText → List ℕ
-not_ascii t =
-    option_map_or (λ line. if is_utf8 t.text then [] else line ∷ []) (first_other t.lines) []
+not_ascii t = option_map_or (λ line. option_to_list (first_unreadable t.lines)) (first_other t.lines) []
 
 -- whether a line's end isn't that of line 1: with CR before LF, or without
 abbrev pub is_other_end : Option Bool → Bool → Bool

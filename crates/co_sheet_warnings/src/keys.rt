@@ -26,9 +26,10 @@ pub(crate) enum Topic {
     DeviceInfo,
     DeviceCommissioning,
     ObjectLists,
+    Dummies,
     /// Objects and sub-indices.
     Objects,
-    /// Dummy objects, and what only the manufacturer knows.
+    /// What only the manufacturer knows.
     Other,
 }
 
@@ -56,7 +57,8 @@ pub(crate) fn topic_of(name: &[u8]) -> Topic
         SectionKind::DeviceInfo => Topic::DeviceInfo,
         SectionKind::DeviceCommissioning => Topic::DeviceCommissioning,
         SectionKind::Object(_) | SectionKind::SubIndex(_) => Topic::Objects,
-        SectionKind::DummyUsage | SectionKind::PassedOver => Topic::Other,
+        SectionKind::DummyUsage => Topic::Dummies,
+        SectionKind::PassedOver => Topic::Other,
     }
 }
 

@@ -5,6 +5,7 @@ ghost use Rattle.std.specs.Str.{chars, is_utf8};
 ghost use Rattle.co_sheet_warnings.specs.Lines.{
   character_count,
   first_other,
+  first_unreadable,
   has_other_byte,
   is_other_end,
   long_line,
@@ -121,13 +122,32 @@ fn is_utf8(text: &[u8]) -> bool
     }
 }
 
-/// The first line with a byte above 7Fh, of a text that is in UTF-8, or isn't.
+// the first line that isn't UTF-8
+fn first_unreadable(lines: &[&[u8]]) -> Option<usize>
+    ensures { result ≡ first_unreadable (numbered 1 (map (λ line. line.now) lines.now)) }
+{
+    let mut number = 1;
+    for line in lines {
+        if !is_utf8(line) {
+            return Some(number);
+        }
+        number += 1;
+    }
+    None
+}
+
+/// Of a text with a byte above 7Fh: the first line with one, if all lines are UTF-8 and that is
+/// asked for; or the first line that isn't UTF-8, if that is asked for.
 pub(crate) fn other_bytes(text: &ReadText, in_utf8: bool) -> Option<usize>
     ensures utf8 { in_utf8 ≡ true → option_to_list result ≡ utf8 text.now }
     ensures other { in_utf8 ≡ false → option_to_list result ≡ not_ascii text.now }
 {
-    match text.other {
-        Some(line) if is_utf8(text.bytes) == in_utf8 => Some(line),
+    let Some(line) = text.other else {
+        return None;
+    };
+    match first_unreadable(text.lines) {
+        Some(unreadable) if !in_utf8 => Some(unreadable),
+        None if in_utf8 => Some(line),
         _ => None,
     }
 }
