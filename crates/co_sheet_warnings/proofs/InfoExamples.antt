@@ -74,7 +74,8 @@ compact_pdos : places PdoCount (pdo_numbers (codes "CompactPDO=1") (codes "[1800
 unfolding places_of few_places place_in_text places_in
 compact_pdos = refl
 
-no_count_of_pdos : places PdoCount (codes "[DeviceInfo]" ∷ codes "NrOfRXPDO=one" ∷ codes "[1400]" ∷ []) ≡ []
+-- a number that can't be read isn't theirs
+no_count_of_pdos : places PdoCount (codes "[DeviceInfo]" ∷ codes "NrOfRXPDO=one" ∷ codes "[1400]" ∷ []) ≡ 2 ∷ []
 unfolding places_of few_places place_in_text places_in
 no_count_of_pdos = refl
 
@@ -96,7 +97,7 @@ other_numbers : other_numbers_of (identity (codes "VendorNumber=2") (codes "Prod
 unfolding places_of few_places place_in_text places_in
 other_numbers = refl
 
-no_numbers : other_numbers_of (identity (codes "VendorNumber=one") (codes "ProductNumber=") (codes "VendorName=3")) ≡ [] ∷ [] ∷ [] ∷ []
+no_numbers : other_numbers_of (identity (codes "VendorNumber=one") (codes "ProductNumber=") (codes "VendorName=3")) ≡ (2 ∷ []) ∷ [] ∷ [] ∷ []
 unfolding places_of few_places place_in_text places_in
 no_numbers = refl
 

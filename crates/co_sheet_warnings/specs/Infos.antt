@@ -95,12 +95,13 @@ missing_keys info keys sections required =
 
 -- ---- numbers of DeviceInfo
 
--- a key whose number isn't this one
+-- a key that isn't this number; one that can't be read isn't
 abbrev pub key_number : WrittenKey → Option ℕ
 key_number k = result_ok (unsigned_number k.value)
 
 abbrev pub other_than : ℕ → WrittenKey → List ℕ
-other_than n k = option_map_or (λ m. if m == n then [] else k.line ∷ []) (key_number k) []
+other_than n k =
+    option_map_or (λ m. if m == n then [] else k.line ∷ []) (key_number k) (k.line ∷ [])
 
 abbrev pub other_number_at : List WrittenKey → KnownKey → ℕ → List ℕ
 other_number_at keys known n = option_map_or (other_than n) (key_at DeviceInfo keys known) []

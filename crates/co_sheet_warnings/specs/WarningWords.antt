@@ -94,8 +94,8 @@ meaning_of LineEnds = codes "the line ends otherwise than line 1: CR and LF, or 
 
 -- how it is fixed
 abbrev pub fix_of : WarningKind → List ℕ
-fix_of SubNumber = codes "count the sections, or leave the key out"
-fix_of SubIndex0 = codes "give it the highest sub-index that the object has"
+fix_of SubNumber = codes "count the sections; one may be missing, or its name misspelt"
+fix_of SubIndex0 = codes "give it the highest sub-index, or describe the one that is missing"
 fix_of (FileInfoKeys missing) = codes "add the missing section or keys"
 fix_of (DeviceInfoKeys missing) = codes "add the missing section or keys"
 fix_of PdoCount =

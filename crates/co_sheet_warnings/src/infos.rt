@@ -171,7 +171,7 @@ pub(crate) fn missing_keys(
     Some(0)
 }
 
-// the line of a key whose number isn't this one
+// the line of a key that isn't this number
 fn other_than(key: &WrittenKey, number: u64) -> Option<usize>
     ensures { option_to_list result ≡ other_than number (key_view key.now) }
 {
@@ -183,11 +183,11 @@ fn other_than(key: &WrittenKey, number: u64) -> Option<usize>
                 Some(key.line)
             }
         }
-        Err(_) => None,
+        Err(_) => Some(key.line),
     }
 }
 
-// the line of a key of DeviceInfo whose number isn't this one
+// the line of a key of DeviceInfo that isn't this number
 fn other_number_at(keys: &[WrittenKey], known: KnownKey, number: u64) -> Option<usize>
     ensures { option_to_list result ≡ other_number_at (map key_view keys.now) known number }
 {

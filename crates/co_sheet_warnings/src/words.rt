@@ -129,8 +129,8 @@ pub fn meaning_of(kind: WarningKind) -> &'static str
 
 /// How a warning of each kind is fixed, by row.
 const FIXES: [&str; 26] = [
-    "count the sections, or leave the key out",
-    "give it the highest sub-index that the object has",
+    "count the sections; one may be missing, or its name misspelt",
+    "give it the highest sub-index, or describe the one that is missing",
     "add the missing section or keys",
     "add the missing section or keys",
     "count the objects 1400h to 15FFh for NrOfRXPDO, 1800h to 19FFh for NrOfTXPDO",
