@@ -8,7 +8,6 @@ use Rattle.conode_text.specs.Filled.{filled}
 use Rattle.co_sheet_text.specs.declared.section_kind.SectionKind.{SectionKind}
 use Rattle.co_sheet_text.specs.declared.section_kind.SectionKind.TheVariants.{MandatoryObjects, OptionalObjects, ManufacturerObjects, Object, SubIndex}
 use Rattle.co_sheet_text.specs.Sections.{Property, TextSection}
-use Rattle.conode_lint_text.specs.declared.finding.About.{About}
 use Rattle.conode_lint_text.specs.declared.finding.About.TheVariants.{Line, FirstAt, Misspelt, Fact}
 use Rattle.conode_lint_text.specs.declared.fact.Fact.TheVariants as fact
 use Rattle.conode_lint_text.specs.FactTexts.{count_text, fact_text, hexadecimal, identity_text, missing_text}
@@ -85,8 +84,8 @@ device : fact_text (fact.RpdoCount 1 0) ∷ fact_text (fact.TpdoCount 2 4) ∷ f
 unfolding fact_text count_text identity_text hexadecimal filled digits
 device = refl
 
-bounds : fact_text (fact.BelowLow 7) ∷ fact_text (fact.AboveHigh 8) ∷ fact_text (fact.LimitsCrossed 9) ∷ []
-    ≡ codes "the value is below the LowLimit of line 7" ∷ codes "the value is above the HighLimit of line 8" ∷ codes "HighLimit is below the LowLimit of line 9" ∷ []
+bounds : fact_text (fact.BelowLow 7) ∷ fact_text (fact.AboveHigh 8) ∷ fact_text (fact.LimitsCrossed 9) ∷ fact_text (fact.AboveNegative 10) ∷ fact_text (fact.NegativeHigh 11) ∷ []
+    ≡ codes "the value is below the LowLimit of line 7" ∷ codes "the value is above the HighLimit of line 8" ∷ codes "HighLimit is below the LowLimit of line 9" ∷ codes "the value is above the HighLimit of line 10, which is a negative number" ∷ codes "HighLimit is a negative number, below the LowLimit of line 11" ∷ []
 unfolding fact_text count_text filled digits
 bounds = refl
 
@@ -247,3 +246,14 @@ other_defaults = refl
 limits : bad_limits 4 limited (codes "HighLimit=9") ∷ bad_limits 4 limited (codes "HighLimit=10") ∷ bad_limits 3 limited (codes "LowLimit=10") ∷ bad_limits 24 limited (codes "HighLimit=0") ∷ bad_limits 1 limited (codes "HighLimit=0") ∷ []
     ≡ Fact (fact.LimitsCrossed 3) ∷ Line ∷ Line ∷ Line ∷ Line ∷ []
 limits = refl
+
+-- a HighLimit of an INTEGER8 that is negative in two's complement, beside one that is 0
+abbrev negative : List TextSection
+negative = map (λ value. section 1 (Object 0x2000) (property 2 (codes "DataType") (codes "2") ∷ property 3 (codes "LowLimit") (codes "-9") ∷ property 4 (codes "HighLimit") value ∷ [])) (codes "0xFF" ∷ codes "0" ∷ [])
+
+negative_defaults : map (λ s. bad_default 5 (s ∷ []) (codes "DefaultValue=5")) negative ≡ Fact (fact.AboveNegative 4) ∷ Fact (fact.AboveHigh 4) ∷ []
+negative_defaults = refl
+
+negative_limits : bad_limits 14 limited (codes "HighLimit=0xFF") ∷ bad_limits 14 limited (codes "HighLimit=0xFD") ∷ bad_limits 4 limited (codes "HighLimit=0") ∷ []
+    ≡ Line ∷ Fact (fact.NegativeHigh 13) ∷ Fact (fact.LimitsCrossed 3) ∷ []
+negative_limits = refl

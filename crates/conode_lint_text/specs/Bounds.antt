@@ -1,5 +1,5 @@
 -- Which bound of its entry a value or a limit exceeds (CiA 306-1, object description).
-use Rattle.std.specs.Prelude.{ℕ, ℤ, if◌then◌else◌, List, [], codes, Option, Some, None, option_and_then}
+use Rattle.std.specs.Prelude.{ℕ, ℤ, pos, Bool, true, false, not, if◌then◌else◌, List, [], codes, Option, Some, None, option_and_then}
 use Rattle.std.specs.List.{list_any, after_first}
 use Rattle.std.specs.Option.{option_map_or}
 use Rattle.std.specs.Result.{result_ok}
@@ -43,14 +43,30 @@ below_low t n s = option_and_then (line_if_below t n) (property_at (codes "LowLi
 abbrev pub above_high : DataType → Option ℤ → TextSection → Option ℕ
 above_high t n s = option_and_then (line_if_above t n) (property_at (codes "HighLimit") s)
 
--- of a value, and of a HighLimit
-abbrev pub value_fact : Option ℕ → Option ℕ → About
-value_fact (Some line) high = Fact (fact.BelowLow line)
-value_fact None (Some line) = Fact (fact.AboveHigh line)
-value_fact None None = Line
+-- a number below 0, as 0xFFFF is at INTEGER16, and a HighLimit that is one
+abbrev pub is_negative : Option ℤ → Bool
+is_negative n = not (at_most (Some (pos 0)) n)
 
-abbrev pub limit_fact : Option ℕ → About
-limit_fact low = option_map_or (λ line. Fact (fact.LimitsCrossed line)) low Line
+abbrev pub is_high_negative : DataType → TextSection → Bool
+is_high_negative t s =
+    option_map_or (λ k. is_negative (number_of t k.value)) (property_at (codes "HighLimit") s) false
+
+-- of a value, and of a HighLimit, by whether HighLimit is negative
+abbrev pub high_fact : Bool → ℕ → About
+high_fact true line = Fact (fact.AboveNegative line)
+high_fact false line = Fact (fact.AboveHigh line)
+
+abbrev pub value_fact : Bool → Option ℕ → Option ℕ → About
+value_fact negative (Some line) high = Fact (fact.BelowLow line)
+value_fact negative None (Some line) = high_fact negative line
+value_fact negative None None = Line
+
+abbrev pub crossed_fact : Bool → ℕ → About
+crossed_fact true line = Fact (fact.NegativeHigh line)
+crossed_fact false line = Fact (fact.LimitsCrossed line)
+
+abbrev pub limit_fact : Bool → Option ℕ → About
+limit_fact negative low = option_map_or (crossed_fact negative) low Line
 
 -- the value of the key on a line
 abbrev pub key_value : List ℕ → List ℕ
@@ -59,7 +75,7 @@ key_value text = if list_any is_equals text then trim (after_first is_equals tex
 -- of the BadDefault of a line: LowLimit comes first, since a HighLimit below it is itself at fault;
 -- of a value outside the type no limit is named
 abbrev pub limit_passed : DataType → Option ℤ → TextSection → About
-limit_passed t n s = value_fact (below_low t n s) (above_high t n s)
+limit_passed t n s = value_fact (is_high_negative t s) (below_low t n s) (above_high t n s)
 
 abbrev pub value_of : TextSection → DataType → Option ℤ → About
 value_of s t (Some n) = if is_in_type t n then limit_passed t (Some n) s else Line
@@ -76,7 +92,8 @@ bad_default line sections text = option_map_or (value_in text) (section_before l
 
 -- of the BadLimits of a line
 abbrev pub limit_at_type : List ℕ → TextSection → DataType → About
-limit_at_type text s t = limit_fact (below_low t (number_of t (key_value text)) s)
+limit_at_type text s t =
+    let n = number_of t (key_value text) in limit_fact (is_negative n) (below_low t n s)
 
 abbrev pub limit_in : List ℕ → TextSection → About
 limit_in text s = option_map_or (limit_at_type text s) (numeric_type s) Line

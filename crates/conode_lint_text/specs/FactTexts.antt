@@ -7,7 +7,7 @@ use Rattle.co_sheet_warnings.specs.KnownKeys.{key_text}
 use Rattle.co_text.specs.Printed.{digits_text}
 use Rattle.conode_text.specs.Filled.{filled}
 use Rattle.conode_lint_text.specs.declared.fact.Fact.{Fact}
-use Rattle.conode_lint_text.specs.declared.fact.Fact.TheVariants.{NoCount, ListCount, ListGap, HighIndex, NoMandatoryList, NotListed, LargeText, NoValue, FixedType, NoType, NoAccess, NoTypeOrAccess, NoFileInfo, FileInfoLacks, NoDeviceInfo, DeviceInfoLacks, NoSubNumber, SubNumber, SubIndex0, RpdoCount, TpdoCount, Identity, BelowLow, AboveHigh, LimitsCrossed}
+use Rattle.conode_lint_text.specs.declared.fact.Fact.TheVariants.{NoCount, ListCount, ListGap, HighIndex, NoMandatoryList, NotListed, LargeText, NoValue, FixedType, NoType, NoAccess, NoTypeOrAccess, NoFileInfo, FileInfoLacks, NoDeviceInfo, DeviceInfoLacks, NoSubNumber, SubNumber, SubIndex0, RpdoCount, TpdoCount, Identity, BelowLow, AboveHigh, AboveNegative, LimitsCrossed, NegativeHigh}
 
 -- words with numbers in their places; those past the last place aren't written
 abbrev pub with_numbers : List ℕ → ℕ → ℕ → ℕ → List ℕ
@@ -64,12 +64,17 @@ count_text (BelowLow line) =
     with_numbers (codes "the value is below the LowLimit of line %") line 0 0
 count_text (AboveHigh line) =
     with_numbers (codes "the value is above the HighLimit of line %") line 0 0
+count_text (AboveNegative line) =
+    with_numbers (codes "the value is above the HighLimit of line %, which is a negative number")
+    line 0 0
 count_text (FixedType code) =
     filled (codes "CiA 301 has DataType=0x% here") (digits_text 16 4 code ∷ [])
 count_text (HighIndex line) =
     with_numbers (codes "the index of line % is above 0xFFFF") line 0 0
 count_text (LimitsCrossed line) =
     with_numbers (codes "HighLimit is below the LowLimit of line %") line 0 0
+count_text (NegativeHigh line) =
+    with_numbers (codes "HighLimit is a negative number, below the LowLimit of line %") line 0 0
 count_text other = []
 
 -- of any fact

@@ -17,7 +17,6 @@ use Rattle.co_sheet_text.specs.Sections.{Property, TextSection, is_bracket, is_e
 use Rattle.co_sheet_text.specs.Text.{same_name, trim}
 use Rattle.co_sheet_warnings.specs.Infos.{object_count}
 use Rattle.co_sheet_warnings.specs.Repeats.{value_in}
-use Rattle.conode_lint_text.specs.declared.fact.Fact.{Fact as SheetFact}
 use Rattle.conode_lint_text.specs.declared.fact.Fact.TheVariants as fact
 use Rattle.conode_lint_text.specs.declared.finding.About.{About}
 use Rattle.conode_lint_text.specs.declared.finding.About.TheVariants.{Line, FirstAt, Fact}

@@ -7,6 +7,10 @@ ghost use Rattle.conode_lint_text.specs.Bounds.{
   bad_default,
   bad_limits,
   below_low,
+  crossed_fact,
+  high_fact,
+  is_high_negative,
+  is_negative,
   key_value,
   limit_in,
   limit_passed,
@@ -74,6 +78,42 @@ fn above_high(
     }
 }
 
+// whether a number is below 0, as 0xFFFF is at INTEGER16
+fn is_negative(number: Option<i128>) -> bool
+    ensures { result ≡ is_negative number }
+{
+    !at_most(Some(0), number)
+}
+
+fn is_high_negative(data_type: DataType, section: &TextSection<'_, '_>) -> bool
+    ensures { result ≡ is_high_negative data_type (section_view section.now) }
+{
+    match section.property(b"HighLimit") {
+        Some(limit) => is_negative(number_of(data_type, limit.value)),
+        None => false,
+    }
+}
+
+fn high_fact(negative: bool, line: usize) -> About
+    ensures { result ≡ high_fact negative line }
+{
+    if negative {
+        About::Fact(Fact::AboveNegative(line))
+    } else {
+        About::Fact(Fact::AboveHigh(line))
+    }
+}
+
+fn crossed_fact(negative: bool, line: usize) -> About
+    ensures { result ≡ crossed_fact negative line }
+{
+    if negative {
+        About::Fact(Fact::NegativeHigh(line))
+    } else {
+        About::Fact(Fact::LimitsCrossed(line))
+    }
+}
+
 // the value of the key on a line
 fn key_value(text: &[u8]) -> &[u8]
     ensures { result.now ≡ key_value text.now }
@@ -91,7 +131,7 @@ fn limit_passed(data_type: DataType, number: Option<i128>, section: &TextSection
     match below_low(data_type, number, section) {
         Some(line) => About::Fact(Fact::BelowLow(line)),
         None => match above_high(data_type, number, section) {
-            Some(line) => About::Fact(Fact::AboveHigh(line)),
+            Some(line) => high_fact(is_high_negative(data_type, section), line),
             None => About::Line,
         },
     }
@@ -128,8 +168,9 @@ fn limit_in(section: &TextSection<'_, '_>, text: &[u8]) -> About
         return About::Line;
     };
     let number = number_of(data_type, key_value(text));
+    let negative = is_negative(number);
     match below_low(data_type, number, section) {
-        Some(line) => About::Fact(Fact::LimitsCrossed(line)),
+        Some(line) => crossed_fact(negative, line),
         None => About::Line,
     }
 }

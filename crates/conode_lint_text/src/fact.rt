@@ -67,8 +67,12 @@ pub enum Fact {
     BelowLow(usize),
     /// A value above its HighLimit, by the line of the limit.
     AboveHigh(usize),
+    /// The same, where that limit is below 0.
+    AboveNegative(usize),
     /// A HighLimit below its LowLimit, by the line of LowLimit.
     LimitsCrossed(usize),
+    /// The same, where HighLimit is below 0.
+    NegativeHigh(usize),
 }
 
 // words with numbers in their places
@@ -189,10 +193,28 @@ fn push_count(text: &mut String, fact: Fact) -> Result<(), AllocError>
                 0,
             )
         }
+        Fact::AboveNegative(line) => {
+            push_numbers(
+                text,
+                "the value is above the HighLimit of line %, which is a negative number",
+                line as u64,
+                0,
+                0,
+            )
+        }
         Fact::LimitsCrossed(line) => {
             push_numbers(
                 text,
                 "HighLimit is below the LowLimit of line %",
+                line as u64,
+                0,
+                0,
+            )
+        }
+        Fact::NegativeHigh(line) => {
+            push_numbers(
+                text,
+                "HighLimit is a negative number, below the LowLimit of line %",
                 line as u64,
                 0,
                 0,

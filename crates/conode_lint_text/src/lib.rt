@@ -18,6 +18,7 @@ mod fact;
 mod facts;
 mod finding;
 mod json_form;
+mod lists;
 mod member;
 mod parts;
 mod pieces;
@@ -29,11 +30,11 @@ pub use bounds::{bad_default, bad_limits};
 pub use characters::push_all_shown;
 pub use fact::Fact;
 pub use facts::{
-    bad_list, bad_number, bad_type, device_info, duplicate_key, duplicate_section, file_info,
-    first_at, identity_number, listed_twice, missing_key, missing_mandatory, missing_section,
-    pdo_count, sub_index_0, sub_number, too_large,
+    bad_number, bad_type, device_info, duplicate_key, duplicate_section, file_info, first_at,
+    identity_number, missing_key, missing_section, pdo_count, sub_index_0, sub_number, too_large,
 };
 pub use finding::{About, Finding, Place, Rule, Severity};
 pub use json_form::{put_document_end, put_document_head, put_file};
+pub use lists::{bad_list, listed_twice, missing_mandatory};
 pub use sarif_form::{put_log_end, put_log_head, put_results};
 pub use text_form::{push_finding, push_more, push_summary};

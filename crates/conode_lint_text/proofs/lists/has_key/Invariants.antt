@@ -1,7 +1,7 @@
 use Rattle.std.proofs.Common.{◌≡◌, drop, map}
 use Rattle.co_sheet_text.specs.Views.{property_view}
 use Rattle.conode_lint_text.specs.Facts.{has_key}
-use Rattle.conode_lint_text.proofs.facts.has_key.Given as goal
+use Rattle.conode_lint_text.proofs.lists.has_key.Given as goal
 
 -- what the rest has is what all have
 abbrev pub invariant-loop-property : goal.invariant-loop-property

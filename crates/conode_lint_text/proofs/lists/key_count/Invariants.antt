@@ -1,7 +1,7 @@
 use Rattle.std.proofs.Common.{◌≡◌, ◌+◌, ◌≤◌, drop, map}
 use Rattle.co_sheet_text.specs.Views.{property_view}
 use Rattle.conode_lint_text.specs.Facts.{key_count}
-use Rattle.conode_lint_text.proofs.facts.key_count.Given as goal
+use Rattle.conode_lint_text.proofs.lists.key_count.Given as goal
 
 -- those so far and those of the rest are all
 abbrev pub invariant-loop-property : goal.invariant-loop-property

@@ -1,7 +1,7 @@
 use Rattle.std.proofs.Common.{◌≡◌, ◌+◌, ◌≤◌, drop, map}
 use Rattle.co_sheet_text.specs.Views.{property_view}
 use Rattle.conode_lint_text.specs.Facts.{next_from, next_key}
-use Rattle.conode_lint_text.proofs.facts.next_key.Given as goal
+use Rattle.conode_lint_text.proofs.lists.next_key.Given as goal
 
 -- the rest goes on from what is next
 abbrev pub invariant-loop-property : goal.invariant-loop-property
