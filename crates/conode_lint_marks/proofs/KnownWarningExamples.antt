@@ -1,5 +1,6 @@
 -- Warnings that rest on a value at fault, on both sides of each edge.
 use Rattle.std.proofs.Common.{◌≡◌, ℕ, ◌+◌, true, false, List, None, [], ◌∷◌, codes, drop, map, refl}
+use Rattle.co_dict_build.specs.declared.build_fault.BuildFault.TheVariants.{BadCobId, PdoPair}
 use Rattle.co_sheet_rows.specs.declared.fault.FaultKind.{FaultKind}
 use Rattle.co_sheet_rows.specs.declared.fault.FaultKind.TheVariants.{BadAccess, BadDefault, BadLine, BadNumber, DuplicateKey, DuplicateSection, MissingSection, TooLarge}
 use Rattle.co_sheet_rows.specs.declared.fault.SheetFault.{SheetFault}
@@ -9,11 +10,12 @@ use Rattle.co_sheet_text.specs.Sections.{TextSection, form_of}
 use Rattle.co_sheet_warnings.specs.declared.warning.Warning.{Warning}
 use Rattle.co_sheet_warnings.specs.declared.warning.WarningKind.{WarningKind}
 use Rattle.co_sheet_warnings.specs.declared.warning.WarningKind.TheVariants.{SubNumber, SubIndex0, FileInfoKeys, DeviceInfoKeys, PdoCount, Unlisted, IdentityNumber, FixedCobId, NodeIdPlace, SharedCobId, InhibitTime, OwnHeartbeat, HeartbeatTwice, NoErrorControl, LongLine}
+use Rattle.conode_lint_marks.specs.declared.mark.Subject.TheVariants as mark
 use Rattle.conode_lint_marks.specs.AtFault.{is_complete, kinds_at_fault}
 use Rattle.conode_lint_marks.specs.BuildLines.{value_line}
 use Rattle.conode_lint_marks.specs.Doubts.{doubts_of, may_state}
 use Rattle.conode_lint_marks.specs.Lines.{whole_line}
-use Rattle.conode_lint_marks.specs.KnownWarnings.{known_warnings, unknown_of}
+use Rattle.conode_lint_marks.specs.KnownWarnings.{bad_lines, known_warnings, unknown_of}
 
 abbrev section : SectionKind → ℕ → TextSection
 section kind line = record { kind = kind; name = []; line = line; properties = [] }
@@ -31,7 +33,7 @@ warning kind line = record { kind = kind; line = line }
 
 -- by lines that state nothing
 abbrev left_by : List SheetFault → List Warning → List Warning
-left_by faults warnings = known_warnings [] sections faults warnings
+left_by faults warnings = known_warnings [] sections [] faults warnings
 
 abbrev many : List Warning
 many =
@@ -59,7 +61,7 @@ unfolding known_warnings unknown_of is_complete kinds_at_fault doubts_of whole_l
 section_line = refl
 
 -- a key of DeviceInfo, as CompactPDO
-device_info : known_warnings [] (section DeviceInfo 1 ∷ section (Object 0x2000) 60 ∷ []) (fault BadNumber 2 ∷ []) (warning PdoCount 4 ∷ warning SubNumber 61 ∷ []) ≡ warning SubNumber 61 ∷ []
+device_info : known_warnings [] (section DeviceInfo 1 ∷ section (Object 0x2000) 60 ∷ []) [] (fault BadNumber 2 ∷ []) (warning PdoCount 4 ∷ warning SubNumber 61 ∷ []) ≡ warning SubNumber 61 ∷ []
 unfolding known_warnings unknown_of is_complete kinds_at_fault doubts_of whole_line value_line
 device_info = refl
 
@@ -72,7 +74,7 @@ missing_infos : left_by (fault BadLine 30 ∷ []) (infos 0) ∷ left_by (fault B
 unfolding known_warnings unknown_of is_complete kinds_at_fault doubts_of whole_line value_line
 missing_infos = refl
 
-device_keys : map (λ line. known_warnings (codes "[DeviceInfo]" ∷ codes "VendorName V" ∷ codes "CompactPDO=x" ∷ []) (section DeviceInfo 1 ∷ []) (fault BadLine line ∷ []) (infos 1)) (2 ∷ 3 ∷ []) ≡ (warning (FileInfoKeys []) 1 ∷ []) ∷ infos 1 ∷ []
+device_keys : map (λ line. known_warnings (codes "[DeviceInfo]" ∷ codes "VendorName V" ∷ codes "CompactPDO=x" ∷ []) (section DeviceInfo 1 ∷ []) [] (fault BadLine line ∷ []) (infos 1)) (2 ∷ 3 ∷ []) ≡ (warning (FileInfoKeys []) 1 ∷ []) ∷ infos 1 ∷ []
 unfolding known_warnings unknown_of is_complete kinds_at_fault doubts_of whole_line value_line
 device_keys = refl
 
@@ -87,15 +89,32 @@ compact number =
 abbrev counted : List Warning
 counted = warning SubNumber 2 ∷ warning SubIndex0 5 ∷ warning SubNumber 7 ∷ warning SubIndex0 9 ∷ []
 
-compact_forms : map (λ number. known_warnings [] (compact number) [] counted) (codes "9" ∷ codes "x" ∷ codes "0" ∷ []) ≡ drop 2 counted ∷ drop 2 counted ∷ counted ∷ []
+compact_forms : map (λ number. known_warnings [] (compact number) [] [] counted) (codes "9" ∷ codes "x" ∷ codes "0" ∷ []) ≡ drop 2 counted ∷ drop 2 counted ∷ counted ∷ []
 unfolding known_warnings unknown_of is_complete kinds_at_fault doubts_of whole_line value_line
 compact_forms = refl
+
+-- the object may come after its sub-indices; before the first section, and after many
+compact_later : known_warnings [] (section (SubIndex (record { index = 0x2000; sub = 0 })) 3 ∷ section PassedOver 6 ∷ section PassedOver 8 ∷ record { kind = Object 0x2000; name = []; line = 10; properties = record { name = codes "CompactSubObj"; value = codes "9"; line = 11 } ∷ [] } ∷ []) [] []
+    (warning SubNumber 1 ∷ warning SubNumber 3 ∷ warning SubIndex0 4 ∷ warning SubNumber 6 ∷ warning SubNumber 7 ∷ warning SubNumber 12 ∷ [])
+    ≡ warning SubNumber 1 ∷ warning SubNumber 3 ∷ warning SubNumber 7 ∷ []
+unfolding known_warnings unknown_of is_complete kinds_at_fault doubts_of whole_line value_line
+compact_later = refl
 
 -- a COB-ID: nothing is said of its own value
 cob_id : left_by (fault BadDefault 12 ∷ []) (warning FixedCobId 11 ∷ warning FixedCobId 12 ∷ warning NodeIdPlace 12 ∷ warning LongLine 12 ∷ warning FixedCobId 13 ∷ [])
     ≡ warning FixedCobId 11 ∷ warning LongLine 12 ∷ warning FixedCobId 13 ∷ []
 unfolding known_warnings unknown_of is_complete kinds_at_fault doubts_of whole_line value_line
 cob_id = refl
+
+-- a bad COB-ID has neither of the two warnings of COB-IDs, and any other
+bad_cob_ids : known_warnings [] sections (12 ∷ 45 ∷ []) [] (warning FixedCobId 11 ∷ warning FixedCobId 12 ∷ warning NodeIdPlace 12 ∷ warning (HeartbeatTwice None) 12 ∷ warning (SharedCobId 5) 44 ∷ warning (SharedCobId 5) 45 ∷ warning FixedCobId 45 ∷ warning FixedCobId 46 ∷ [])
+    ≡ warning FixedCobId 11 ∷ warning NodeIdPlace 12 ∷ warning (HeartbeatTwice None) 12 ∷ warning (SharedCobId 5) 44 ∷ warning FixedCobId 46 ∷ []
+unfolding known_warnings unknown_of is_complete kinds_at_fault doubts_of whole_line value_line
+bad_cob_ids = refl
+
+bad_marks : bad_lines (record { line = 3; subject = mark.Build (BadCobId (record { index = 0x1014; sub = 0 })) } ∷ record { line = 4; subject = mark.Build (PdoPair 0x1800) } ∷ record { line = 5; subject = mark.Fault BadDefault } ∷ record { line = 6; subject = mark.Build (BadCobId (record { index = 0x1800; sub = 1 })) } ∷ [])
+    ≡ 3 ∷ 6 ∷ []
+bad_marks = refl
 
 -- two faults, and a warning at the line of each and between them
 two_faults : left_by (fault BadDefault 22 ∷ fault BadDefault 24 ∷ []) (warning OwnHeartbeat 21 ∷ warning OwnHeartbeat 22 ∷ warning OwnHeartbeat 23 ∷ warning OwnHeartbeat 24 ∷ [])
@@ -166,7 +185,7 @@ unfolding doubts_of whole_line
 second_section = refl
 
 abbrev left_at : List Warning → ℕ → List Warning
-left_at warnings line = known_warnings lines described (fault BadNumber line ∷ []) warnings
+left_at warnings line = known_warnings lines described [] (fault BadNumber line ∷ []) warnings
 
 -- an inhibit time: the access of the transmission type, that type, a limit of the time, the time, the other type, the other time, a COB-ID
 inhibited : map (left_at (warning InhibitTime 9 ∷ warning InhibitTime 13 ∷ [])) (5 ∷ 6 ∷ 8 ∷ 9 ∷ 11 ∷ 13 ∷ 3 ∷ [])
@@ -181,7 +200,7 @@ abbrev with_value : SectionKind → ℕ → List ℕ → TextSection
 with_value kind line value = record { kind = kind; name = []; line = line; properties = record { name = codes "DefaultValue"; value = value; line = line + 1 } ∷ [] }
 
 abbrev left_with : List (List ℕ) → List TextSection → List Warning → List SheetFault → List Warning
-left_with texts sections warnings faults = known_warnings texts sections faults warnings
+left_with texts sections warnings faults = known_warnings texts sections [] faults warnings
 
 -- three with one COB-ID, the third by its ParameterValue, and one with another; the first comes a second time
 abbrev cob_id_lines : List (List ℕ)

@@ -1,5 +1,6 @@
 pub mod CutLemmas
 pub mod LoopLemmas
+mod CompactLemmas
 mod PlanLemmas
 mod BuildLineExamples
 mod KnownExamples

@@ -1,12 +1,13 @@
 -- The warnings of a text that rest on nothing at fault.
-use Rattle.std.specs.Prelude.{ℕ, Bool, false, not, ◌&&◌, ◌||◌, ◌==◌, nat_lt, if◌then◌else◌, List, [], ◌∷◌, ◌++◌, drop, codes, fold, Option, Some, None}
-use Rattle.std.specs.List.{list_any, prefix_len}
+use Rattle.std.specs.Prelude.{ℕ, Bool, false, not, ◌&&◌, ◌||◌, ◌==◌, nat_lt, if◌then◌else◌, List, [], ◌∷◌, ◌++◌, drop, codes, Option, Some, None}
+use Rattle.std.specs.List.{flat_map, list_any, prefix_len}
 use Rattle.std.specs.Option.{option_map_or}
+use Rattle.co_dict_build.specs.declared.build_fault.BuildFault.TheVariants.{BadCobId}
 use Rattle.co_sheet_rows.specs.declared.fault.SheetFault.{SheetFault}
 use Rattle.co_sheet_text.specs.declared.section_kind.SectionKind.{SectionKind}
 use Rattle.co_sheet_text.specs.declared.section_kind.SectionKind.TheVariants.{Object, SubIndex}
 use Rattle.co_sheet_text.specs.Properties.{property_number}
-use Rattle.co_sheet_text.specs.Sections.{TextSection, property_at, section_at}
+use Rattle.co_sheet_text.specs.Sections.{TextSection, property_at}
 use Rattle.co_sheet_warnings.specs.Repeats.{compared}
 use Rattle.co_sheet_warnings.specs.declared.repeats.ComparedNumber.{ComparedNumber}
 use Rattle.co_sheet_warnings.specs.declared.warning.Warning.{Warning}
@@ -15,6 +16,7 @@ use Rattle.co_sheet_warnings.specs.declared.warning.WarningKind.TheVariants.{Sub
 use Rattle.conode_lint_marks.specs.declared.concerns.Concern.TheVariants.{CompactPdo, Same, SectionLine, SubsOf}
 use Rattle.conode_lint_marks.specs.declared.known_warnings.Unknown.{Unknown}
 use Rattle.conode_lint_marks.specs.declared.mark.Mark.{Mark}
+use Rattle.conode_lint_marks.specs.declared.mark.Subject.{Subject}
 use Rattle.conode_lint_marks.specs.declared.mark.Subject.TheVariants as mark
 use Rattle.conode_lint_marks.specs.AtFault.{is_complete, kinds_at_fault}
 use Rattle.conode_lint_marks.specs.BuildLines.{value_line}
@@ -29,37 +31,47 @@ is_compact s =
     option_map_or (λ k. not (option_map_or (λ n. n == 0) (property_number k) false))
     (property_at (codes "CompactSubObj") s) false
 
--- what may be wrong: which sections there are, CompactPDO, what is listed; and whether an object is in
--- compact form
+-- what may be wrong: which sections there are, CompactPDO, what is listed
 unfoldable pub unknown_of : List TextSection → List SectionKind → Unknown
 unknown_of sections kinds = record {
   sections = is_any SectionLine kinds;
   info = is_any CompactPdo kinds;
   lists = not (is_complete sections kinds);
-  compact = list_any is_compact sections;
 }
 
--- a line is in a section of an object in compact form, which is the last that begins before it
-abbrev pub is_object_compact : List TextSection → ℕ → Bool
-is_object_compact sections index =
-    option_map_or is_compact (section_at (Object index) sections) false
+-- the index of an object in compact form, and whether an object is in it
+abbrev pub compact_index : TextSection → SectionKind → Option ℕ
+compact_index s (Object index) = if is_compact s then Some index else None
+compact_index s kind = None
 
+abbrev pub is_compact_object : ℕ → TextSection → Bool
+is_compact_object index s =
+    option_map_or (λ own. own == index) (compact_index s s.kind) false
+
+abbrev pub is_object_compact : List TextSection → ℕ → Bool
+is_object_compact sections index = list_any (is_compact_object index) sections
+
+-- a section is that of an object in compact form, or of a sub-index of one
 abbrev pub is_of_compact : List TextSection → SectionKind → Bool
 is_of_compact sections (Object index) = is_object_compact sections index
 is_of_compact sections (SubIndex key) = is_object_compact sections key.index
 is_of_compact sections kind = false
 
-abbrev pub last_before : ℕ → Option TextSection → List TextSection → Option TextSection
-last_before line last sections =
-    fold (λ found s. if nat_lt s.line line then Some s else found) last sections
+-- sections are in the order of their lines: those from the last on that begins before a line, which
+-- the line is in
+abbrev pub begins_before : ℕ → List TextSection → Bool
+begins_before line [] = false
+begins_before line (s ∷ more) = nat_lt s.line line
 
-abbrev pub section_before : ℕ → List TextSection → Option TextSection
-section_before line sections = last_before line None sections
+abbrev pub sections_from : ℕ → List TextSection → List TextSection
+sections_from line [] = []
+sections_from line (s ∷ more) =
+    if begins_before line more then sections_from line more else s ∷ more
 
-abbrev pub is_in_compact : Unknown → List TextSection → ℕ → Bool
-is_in_compact u sections line =
-    u.compact
-    && option_map_or (λ s. is_of_compact sections s.kind) (section_before line sections) false
+-- the line is in a section of an object in compact form, where these are the sections from it on
+abbrev pub is_in_compact : List TextSection → ℕ → List TextSection → Bool
+is_in_compact sections line [] = false
+is_in_compact sections line (s ∷ more) = nat_lt s.line line && is_of_compact sections s.kind
 
 -- ---- values that may be wrong
 
@@ -121,56 +133,71 @@ abbrev pub begins_at : ℕ → List SheetFault → Bool
 begins_at line [] = false
 begins_at line (f ∷ faults) = f.line == line
 
+-- a line is one of these: those of COB-IDs with a build fault
+abbrev pub is_one_of : List ℕ → ℕ → Bool
+is_one_of lines line = list_any (λ own. own == line) lines
+
 -- a warning of a kind at a line rests on what isn't known, or on the value at its line, which has
--- one of these faults
-abbrev pub rests_on_fault : Unknown → List TextSection → List SectionKind → List SheetFault
-    → ℕ → WarningKind → Bool
-rests_on_fault u sections doubts faults line SubNumber =
-    u.sections || is_in_compact u sections line
-rests_on_fault u sections doubts faults line SubIndex0 =
-    u.sections || begins_at line faults || is_in_compact u sections line
-rests_on_fault u sections doubts faults line (FileInfoKeys missing) = (line == 0) && u.sections
-rests_on_fault u sections doubts faults line (DeviceInfoKeys missing) =
+-- one of these faults, or is one of these bad COB-IDs; `here` are the sections from that of the line on
+abbrev pub rests_on_fault : Unknown → List TextSection → List SectionKind → List ℕ
+    → List TextSection → List SheetFault → ℕ → WarningKind → Bool
+rests_on_fault u sections doubts bad here faults line SubNumber =
+    u.sections || is_in_compact sections line here
+rests_on_fault u sections doubts bad here faults line SubIndex0 =
+    u.sections || begins_at line faults || is_in_compact sections line here
+rests_on_fault u sections doubts bad here faults line (FileInfoKeys missing) =
+    (line == 0) && u.sections
+rests_on_fault u sections doubts bad here faults line (DeviceInfoKeys missing) =
     ((line == 0) && u.sections) || is_any CompactPdo doubts
-rests_on_fault u sections doubts faults line PdoCount = u.sections || u.info
-rests_on_fault u sections doubts faults line Unlisted = u.lists
-rests_on_fault u sections doubts faults line NoErrorControl = u.lists
-rests_on_fault u sections doubts faults line (SharedCobId node) =
-    is_either_in_doubt (SharedCobId node) sections doubts line
-rests_on_fault u sections doubts faults line (HeartbeatTwice given) =
+rests_on_fault u sections doubts bad here faults line PdoCount = u.sections || u.info
+rests_on_fault u sections doubts bad here faults line Unlisted = u.lists
+rests_on_fault u sections doubts bad here faults line NoErrorControl = u.lists
+rests_on_fault u sections doubts bad here faults line (SharedCobId node) =
+    is_one_of bad line || is_either_in_doubt (SharedCobId node) sections doubts line
+rests_on_fault u sections doubts bad here faults line (HeartbeatTwice given) =
     is_either_in_doubt (HeartbeatTwice given) sections doubts line
-rests_on_fault u sections doubts faults line (IdentityNumber sub) =
+rests_on_fault u sections doubts bad here faults line (IdentityNumber sub) =
     is_any (SubsOf 0x1018 sub sub) doubts
-rests_on_fault u sections doubts faults line InhibitTime = is_time_in_doubt sections doubts line
-rests_on_fault u sections doubts faults line FixedCobId = begins_at line faults
-rests_on_fault u sections doubts faults line NodeIdPlace = begins_at line faults
-rests_on_fault u sections doubts faults line OwnHeartbeat = begins_at line faults
-rests_on_fault u sections doubts faults line kind = false
+rests_on_fault u sections doubts bad here faults line InhibitTime =
+    is_time_in_doubt sections doubts line
+rests_on_fault u sections doubts bad here faults line FixedCobId =
+    is_one_of bad line || begins_at line faults
+rests_on_fault u sections doubts bad here faults line NodeIdPlace = begins_at line faults
+rests_on_fault u sections doubts bad here faults line OwnHeartbeat = begins_at line faults
+rests_on_fault u sections doubts bad here faults line kind = false
 
-abbrev pub unless_at_fault : Unknown → List TextSection → List SectionKind → List SheetFault
-    → Warning → List Warning
-unless_at_fault u sections doubts faults w =
-    if rests_on_fault u sections doubts faults w.line w.kind then [] else w ∷ []
+abbrev pub unless_at_fault : Unknown → List TextSection → List SectionKind → List ℕ
+    → List TextSection → List SheetFault → Warning → List Warning
+unless_at_fault u sections doubts bad here faults w =
+    if rests_on_fault u sections doubts bad here faults w.line w.kind then [] else w ∷ []
 
-abbrev pub known_in : Unknown → List TextSection → List SectionKind → List SheetFault
-    → List Warning → List Warning
-known_in u sections doubts faults [] = []
-known_in u sections doubts faults (w ∷ ws) =
-    unless_at_fault u sections doubts (faults_from w.line faults) w
-    ++ known_in u sections doubts (faults_from w.line faults) ws
+abbrev pub known_in : Unknown → List TextSection → List SectionKind → List ℕ → List TextSection
+    → List SheetFault → List Warning → List Warning
+known_in u sections doubts bad here faults [] = []
+known_in u sections doubts bad here faults (w ∷ ws) =
+    unless_at_fault u sections doubts bad (sections_from w.line here) (faults_from w.line faults) w
+    ++ known_in u sections doubts bad (sections_from w.line here) (faults_from w.line faults) ws
 
 -- with what the sections at fault are about, and those whose value may be wrong
-abbrev pub known_by : List TextSection → List SectionKind → List SectionKind → List SheetFault
-    → List Warning → List Warning
-known_by sections kinds doubts faults ws =
-    known_in (unknown_of sections kinds) sections doubts faults ws
+abbrev pub known_by : List TextSection → List SectionKind → List SectionKind → List ℕ
+    → List SheetFault → List Warning → List Warning
+known_by sections kinds doubts bad faults ws =
+    known_in (unknown_of sections kinds) sections doubts bad sections faults ws
 
--- those of a text with these lines, sections and faults
-unfoldable pub known_warnings : List (List ℕ) → List TextSection → List SheetFault
+-- those of a text with these lines, sections and faults, whose bad COB-IDs are at these lines
+unfoldable pub known_warnings : List (List ℕ) → List TextSection → List ℕ → List SheetFault
     → List Warning → List Warning
-known_warnings lines sections faults ws =
-    known_by sections (kinds_at_fault faults sections) (doubts_of lines faults sections) faults ws
+known_warnings lines sections bad faults ws =
+    known_by sections (kinds_at_fault faults sections) (doubts_of lines faults sections) bad faults ws
 
 -- the mark of a warning
 abbrev pub warning_mark : Warning → Mark
 warning_mark warning = record { line = warning.line; subject = mark.Warning warning.kind }
+
+-- the lines of bad COB-IDs among marks
+abbrev pub bad_line : ℕ → Subject → List ℕ
+bad_line line (mark.Build (BadCobId key)) = line ∷ []
+bad_line line subject = []
+
+abbrev pub bad_lines : List Mark → List ℕ
+bad_lines marks = flat_map (λ m. bad_line m.line m.subject) marks

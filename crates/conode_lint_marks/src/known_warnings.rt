@@ -1,20 +1,20 @@
 //! The warnings of a text that rest on nothing at fault.
 
-ghost use Rattle.std.specs.Prelude.{◌≡◌, ◌++◌, false, map, option_map, OnOk};
-ghost use Rattle.std.specs.Option.{option_copied, option_map_or};
+ghost use Rattle.std.specs.Prelude.{◌≡◌, ◌++◌, map, IfOk, OnOk};
 ghost use Rattle.std.specs.List.{list_any};
 ghost use Rattle.co_sheet_text.specs.Views.{section_view};
 ghost use Rattle.conode_lint_marks.specs.KnownWarnings.{
+  bad_line,
+  bad_lines,
   begins_at,
+  begins_before,
   comes_before,
   faults_from,
   has_number,
-  is_compact,
   is_either_in_doubt,
   is_first,
   is_in_compact,
-  is_object_compact,
-  is_of_compact,
+  is_one_of,
   is_second,
   is_sound,
   is_time_in_doubt,
@@ -22,7 +22,7 @@ ghost use Rattle.conode_lint_marks.specs.KnownWarnings.{
   known_by,
   known_in,
   rests_on_fault,
-  section_before,
+  sections_from,
   sub_of,
   unknown_of,
   unless_at_fault,
@@ -31,12 +31,14 @@ ghost use Rattle.conode_lint_marks.specs.KnownWarnings.{
 
 use crate::at_fault::{AtFault, faults_before, is_complete};
 use crate::build_lines::value_line;
+use crate::compact::CompactForms;
 use crate::concerns::{Concern, is_any};
 use crate::mark::{Mark, Subject};
-use co_sheet::{SheetFault, section_at};
+use co_dict_build::BuildFault;
+use co_sheet::SheetFault;
 use co_sheet_text::{SectionKind, TextSection};
 use co_sheet_warnings::{Warning, WarningKind, compared};
-use std::alloc::AllocError;
+use std::alloc::{AllocError, Global};
 
 /// What may be wrong in a text, since sections are at fault.
 #[derive(Clone, Copy)]
@@ -47,29 +49,6 @@ pub(crate) struct Unknown {
     info: bool,
     /// What is listed.
     lists: bool,
-    /// How many sub-indices an object has, since one is in compact form.
-    compact: bool,
-}
-
-// whether CompactSubObj isn't 0, so that sub-indices have no sections
-fn is_compact(section: &TextSection<'_, '_>) -> bool
-    ensures { result ≡ is_compact (section_view section.now) }
-{
-    match section.property(b"CompactSubObj") {
-        Some(property) => !matches!(property.number(), Some(0)),
-        None => false,
-    }
-}
-
-fn is_any_compact(sections: &[TextSection<'_, '_>]) -> bool
-    ensures { result ≡ list_any is_compact (map section_view sections.now) }
-{
-    for section in sections {
-        if is_compact(section) {
-            return true;
-        }
-    }
-    false
 }
 
 #[tactic(auto, unfolding(crate::specs::KnownWarnings::unknown_of))]
@@ -80,61 +59,44 @@ fn unknown_of(sections: &[TextSection<'_, '_>], kinds: &[SectionKind]) -> Unknow
         sections: is_any(Concern::SectionLine, kinds),
         info: is_any(Concern::CompactPdo, kinds),
         lists: !is_complete(sections, kinds),
-        compact: is_any_compact(sections),
     }
 }
 
-// whether a section is that of an object in compact form, or of a sub-index of one
-fn is_object_compact(sections: &[TextSection<'_, '_>], index: u16) -> bool
-    ensures { result ≡ is_object_compact (map section_view sections.now) index }
+fn begins_before(sections: &[TextSection<'_, '_>], line: usize) -> bool
+    ensures { result ≡ begins_before line (map section_view sections.now) }
 {
-    match section_at(sections, SectionKind::Object(index)) {
-        Some(section) => is_compact(section),
-        None => false,
+    match sections {
+        [first, ..] => first.line < line,
+        [] => false,
     }
 }
 
-fn is_of_compact(sections: &[TextSection<'_, '_>], kind: SectionKind) -> bool
-    ensures { result ≡ is_of_compact (map section_view sections.now) kind }
-{
-    match kind {
-        SectionKind::Object(index) => is_object_compact(sections, index),
-        SectionKind::SubIndex(key) => is_object_compact(sections, key.index),
-        _ => false,
-    }
-}
-
-// the section that a line is in: the last that begins before it
-fn section_before<'s, 'a>(
-    sections: &'s [TextSection<'s, 'a>],
+// the sections from the one on that a line is in
+fn sections_from<'t, 's, 'a>(
     line: usize,
-) -> Option<&'s TextSection<'s, 'a>>
-    ensures { option_map section_view (option_copied result)
-        ≡ section_before line (map section_view sections.now) }
+    sections: &'t [TextSection<'s, 'a>],
+) -> &'t [TextSection<'s, 'a>]
+    ensures { map section_view result.now ≡ sections_from line (map section_view sections.now) }
 {
-    let mut found = None;
-    for section in sections {
-        if section.line < line {
-            found = Some(section);
+    let mut rest = sections;
+    while let [_, more @ ..] = rest {
+        if !begins_before(more, line) {
+            return rest;
         }
+        rest = more;
     }
-    found
+    rest
 }
 
-fn is_line_of_compact(sections: &[TextSection<'_, '_>], line: usize) -> bool
-    ensures { result ≡ option_map_or (λ s. is_of_compact (map section_view sections.now) s.kind)
-        (section_before line (map section_view sections.now)) false }
+// whether a line is in a section of an object in compact form, where these are the sections from it
+// on
+fn is_in_compact(forms: &CompactForms<'_, '_>, line: usize, here: &[TextSection<'_, '_>]) -> bool
+    ensures { result ≡ is_in_compact forms.now line (map section_view here.now) }
 {
-    match section_before(sections, line) {
-        Some(section) => is_of_compact(sections, section.kind),
-        None => false,
+    match here {
+        [first, ..] => first.line < line && forms.has_section(first.kind),
+        [] => false,
     }
-}
-
-fn is_in_compact(unknown: Unknown, sections: &[TextSection<'_, '_>], line: usize) -> bool
-    ensures { result ≡ is_in_compact unknown (map section_view sections.now) line }
-{
-    unknown.compact && is_line_of_compact(sections, line)
 }
 
 // whether a section has the inhibit time at a line, and one of the two numbers of its TPDO may be
@@ -295,22 +257,36 @@ fn begins_at(line: usize, faults: &[SheetFault]) -> bool
     }
 }
 
-// whether a warning rests on what isn't known, or on a value with one of these faults
+fn is_one_of(lines: &[usize], line: usize) -> bool
+    ensures { result ≡ is_one_of lines.now line }
+{
+    for own in lines {
+        if *own == line {
+            return true;
+        }
+    }
+    false
+}
+
+// whether a warning rests on what isn't known, or on a value with one of these faults or with a bad
+// COB-ID; `here` are the sections from that of the line on
 fn rests_on_fault(
     unknown: Unknown,
-    sections: &[TextSection<'_, '_>],
+    forms: &CompactForms<'_, '_>,
     doubts: &[SectionKind],
+    bad: &[usize],
+    here: &[TextSection<'_, '_>],
     faults: &[SheetFault],
     line: usize,
     kind: WarningKind,
 ) -> bool
-    ensures { result ≡ rests_on_fault unknown
-        (map section_view sections.now) doubts.now faults.now line kind }
+    ensures { result ≡ rests_on_fault unknown forms.now doubts.now bad.now
+        (map section_view here.now) faults.now line kind }
 {
     match kind {
-        WarningKind::SubNumber => unknown.sections || is_in_compact(unknown, sections, line),
+        WarningKind::SubNumber => unknown.sections || is_in_compact(forms, line, here),
         WarningKind::SubIndex0 => {
-            unknown.sections || begins_at(line, faults) || is_in_compact(unknown, sections, line)
+            unknown.sections || begins_at(line, faults) || is_in_compact(forms, line, here)
         }
         WarningKind::FileInfoKeys(_) => line == 0 && unknown.sections,
         WarningKind::DeviceInfoKeys(_) => {
@@ -318,16 +294,18 @@ fn rests_on_fault(
         }
         WarningKind::PdoCount => unknown.sections || unknown.info,
         WarningKind::Unlisted | WarningKind::NoErrorControl => unknown.lists,
-        WarningKind::SharedCobId(_) | WarningKind::HeartbeatTwice(_) => {
-            is_either_in_doubt(kind, sections, doubts, line)
+        WarningKind::SharedCobId(_) => {
+            is_one_of(bad, line) || is_either_in_doubt(kind, forms.sections(), doubts, line)
+        }
+        WarningKind::HeartbeatTwice(_) => {
+            is_either_in_doubt(kind, forms.sections(), doubts, line)
         }
         WarningKind::IdentityNumber(sub) => {
             is_any(Concern::SubsOf(0x1018, sub as u16, sub as u16), doubts)
         }
-        WarningKind::InhibitTime => is_time_in_doubt(sections, doubts, line),
-        WarningKind::FixedCobId | WarningKind::NodeIdPlace | WarningKind::OwnHeartbeat => {
-            begins_at(line, faults)
-        }
+        WarningKind::InhibitTime => is_time_in_doubt(forms.sections(), doubts, line),
+        WarningKind::FixedCobId => is_one_of(bad, line) || begins_at(line, faults),
+        WarningKind::NodeIdPlace | WarningKind::OwnHeartbeat => begins_at(line, faults),
         _ => false,
     }
 }
@@ -340,23 +318,26 @@ fn faults_from(line: usize, faults: &[SheetFault]) -> &[SheetFault]
     later
 }
 
-// adds the mark of a warning, unless it rests on what isn't known or on a value with one of these
-// faults
+// adds the mark of a warning, unless it rests on what isn't known or on a value at fault
 fn add_unless_at_fault(
     marks: &mut Vec<Mark>,
     unknown: Unknown,
-    sections: &[TextSection<'_, '_>],
+    forms: &CompactForms<'_, '_>,
     doubts: &[SectionKind],
+    bad: &[usize],
+    here: &[TextSection<'_, '_>],
     faults: &[SheetFault],
     warning: &Warning,
 ) -> Result<(), AllocError>
     ensures { OnOk result (marks.new.items ≡ marks.old.items ++ map warning_mark (unless_at_fault
-        unknown (map section_view sections.now) doubts.now faults.now warning.now)) }
+        unknown forms.now doubts.now bad.now (map section_view here.now) faults.now warning.now)) }
 {
     if !rests_on_fault(
         unknown,
-        sections,
+        forms,
         doubts,
+        bad,
+        here,
         faults,
         warning.line,
         warning.kind,
@@ -372,29 +353,58 @@ fn add_unless_at_fault(
 fn add_known_in(
     marks: &mut Vec<Mark>,
     unknown: Unknown,
-    sections: &[TextSection<'_, '_>],
+    forms: &CompactForms<'_, '_>,
     doubts: &[SectionKind],
+    bad: &[usize],
+    sections: &[TextSection<'_, '_>],
     faults: &[SheetFault],
     warnings: &[Warning],
 ) -> Result<(), AllocError>
     ensures { OnOk result (marks.new.items ≡ marks.old.items ++ map warning_mark
-        (known_in unknown (map section_view sections.now) doubts.now faults.now warnings.now)) }
+        (known_in unknown forms.now doubts.now bad.now (map section_view sections.now) faults.now
+        warnings.now)) }
 {
     let mut rest = warnings;
+    let mut here = sections;
     let mut left = faults;
     while let [warning, more @ ..] = rest {
+        let own = sections_from(warning.line, here);
         let from = faults_from(warning.line, left);
-        attempt!(add_unless_at_fault(marks, unknown, sections, doubts, from, warning));
+        attempt!(add_unless_at_fault(marks, unknown, forms, doubts, bad, own, from, warning));
         rest = more;
+        here = own;
         left = from;
     }
     Ok(())
 }
 
+// adds the line of a bad COB-ID
+fn add_if_bad(lines: &mut Vec<usize>, mark: &Mark) -> Result<(), AllocError>
+    ensures { OnOk result
+        (lines.new.items ≡ lines.old.items ++ bad_line mark.now.line mark.now.subject) }
+{
+    if let Subject::Build(BuildFault::BadCobId(_)) = mark.subject {
+        attempt_in_memory!(lines.push(mark.line));
+    }
+    Ok(())
+}
+
+// the lines of bad COB-IDs among marks
+fn bad_lines(alloc: Global, marks: &[Mark]) -> Result<Vec<usize>, AllocError>
+    ensures { IfOk result (λ lines. lines.items ≡ bad_lines marks.now) }
+{
+    let mut lines = Vec::new(alloc);
+    for mark in marks {
+        attempt!(add_if_bad(&mut lines, mark));
+    }
+    Ok(lines)
+}
+
 /// Adds the marks of those of the warnings that rest on nothing at fault, in a text with these
-/// sections and faults, by the sections at fault; all are in the order of their lines. `Err`: out
-/// of memory.
+/// sections and faults, by the sections at fault and the bad COB-IDs that are marked; all are in the
+/// order of their lines. `Err`: out of memory.
 pub fn add_known_warnings(
+    alloc: Global,
     marks: &mut Vec<Mark>,
     sections: &[TextSection<'_, '_>],
     at_fault: &AtFault,
@@ -403,9 +413,19 @@ pub fn add_known_warnings(
 ) -> Result<(), AllocError>
     ensures { OnOk result (marks.new.items ≡ marks.old.items ++ map warning_mark (known_by
         (map section_view sections.now) at_fault.now.kinds.items at_fault.now.doubts.items
-        faults.now warnings.now)) }
+        (bad_lines marks.old.items) faults.now warnings.now)) }
 {
-    let doubts = at_fault.doubts.as_slice();
     let unknown = unknown_of(sections, at_fault.kinds.as_slice());
-    add_known_in(marks, unknown, sections, doubts, faults, warnings)
+    let bad = attempt!(bad_lines(alloc, marks.as_slice()));
+    let forms = attempt!(CompactForms::new(alloc, sections));
+    add_known_in(
+        marks,
+        unknown,
+        &forms,
+        at_fault.doubts.as_slice(),
+        bad.as_slice(),
+        sections,
+        faults,
+        warnings,
+    )
 }

@@ -26,6 +26,7 @@ mod at_fault;
 mod beside;
 mod build_lines;
 mod build_marks;
+mod compact;
 mod concerns;
 mod doubts;
 mod known_faults;
