@@ -1,8 +1,8 @@
 -- Formats, the node-ID and names that pass, evaluated.
-use Rattle.std.proofs.Common.{◌≡◌, true, false, [], ◌∷◌, codes, Some, None, refl}
+use Rattle.std.proofs.Common.{◌≡◌, true, false, [], ◌∷◌, ◌++◌, codes, Some, None, refl}
 use Rattle.co_sheet.specs.Content.{SheetContent}
 use Rattle.conode_lint_marks.specs.declared.mark.OtherFormat.TheVariants.{Xml, EtherNetIp, Utf16}
-use Rattle.conode_lint.specs.Allowed.{name_allowed, name_in, names_in, passes_by}
+use Rattle.conode_lint.specs.Allowed.{names_allowed, names_in, names_on, passes_by}
 use Rattle.conode_lint.specs.Formats.{begins_with, has_line, other_format}
 use Rattle.conode_lint.specs.Marks.{format_of, node_for}
 
@@ -47,13 +47,18 @@ sheet = record { objects = []; rows = []; sections = []; notes = []; dummies = [
 nodes : node_for (Some 5) (Some sheet) ∷ node_for None (Some sheet) ∷ node_for (Some 5) None ∷ node_for None None ∷ [] ≡ Some 5 ∷ Some 7 ∷ Some 5 ∷ None ∷ []
 nodes = refl
 
--- ---- names that a sheet allows: with blanks around `;`, or without; no name, no comment, other words
+-- ---- names that a sheet allows: with blanks around `;`, or without; no name, no comment, other words; several
 
 allowed : names_in (codes "; lint: allow Unlisted" ∷ codes ";lint: allow BadList" ∷ codes " ;  lint: allow  SubNumber " ∷ codes ";lint: allow " ∷ codes "lint: allow LongLine" ∷ codes ";lint:allow LongLine"
     ∷ codes ";; lint: allow LongLine" ∷ codes "; Lint: allow LongLine" ∷ codes "" ∷ codes ";" ∷ codes "DefaultValue=1 ; lint: allow LongLine" ∷ [])
-    ≡ codes "Unlisted" ∷ codes "BadList" ∷ codes "SubNumber" ∷ []
-unfolding name_in name_allowed
+    ≡ codes "Unlisted" ∷ codes "BadList" ∷ [] ∷ codes "SubNumber" ∷ []
+unfolding names_on names_allowed
 allowed = refl
+
+several : names_in (codes ";lint: allow Unlisted,BadList" ∷ codes "; lint: allow A, B" ∷ (codes "; lint: allow C" ++ 9 ∷ codes "D;E") ∷ [])
+    ≡ codes "Unlisted" ∷ codes "BadList" ∷ codes "A" ∷ [] ∷ codes "B" ∷ codes "C" ∷ codes "D;E" ∷ []
+unfolding names_on names_allowed
+several = refl
 
 -- ---- names that pass: by the words, by the sheet; in this case of letters alone
 

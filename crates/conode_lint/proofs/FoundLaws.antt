@@ -25,7 +25,7 @@ use Rattle.conode_lint_marks.specs.BuildLines.{built_marks}
 use Rattle.conode_lint.specs.Formats.{other_format}
 use Rattle.co_sheet_warnings.specs.Lines.{text_lines}
 use Rattle.conode_lint.specs.Linted.{first_build_fault, has_error, is_good}
-use Rattle.conode_lint.specs.Marks.{IsAllFound, IsFaultList, IsFound, IsFoundIn, fault_mark, left_of, format_of, node_for, sheet_marks, text_marks}
+use Rattle.conode_lint.specs.Marks.{IsAllFound, IsFaultList, IsFound, IsFoundIn, errors_of, fault_mark, left_of, format_of, node_for, sheet_marks, text_marks}
 use Rattle.conode_lint_marks.specs.Beside.{beside_marks, sheet_of}
 use Rattle.conode_lint_marks.specs.KnownWarnings.{warning_mark}
 use Rattle.conode_lint.proofs.BuildLaws.{has_any}
@@ -111,7 +111,7 @@ module _
     read_error faults found are all =
         sym (list_any-IsPermutation _ all.marks found all.by_line.moved)
         ∙ ap has_error all.are.are
-        ∙ parts_error (map fault_mark faults) (text_marks text checks.node (limits_view checks.limits)) (beside_marks text checks.node (limits_view checks.limits) faults) (map warning_mark (left_of text faults all.are.warnings)) (has_any faults) (faults_error faults) (warnings_error (left_of text faults all.are.warnings))
+        ∙ parts_error (map fault_mark faults) (text_marks text checks.node (limits_view checks.limits)) (beside_marks text checks.node (limits_view checks.limits) faults) (map warning_mark (left_of text (errors_of text checks faults) faults all.are.warnings)) (has_any faults) (faults_error faults) (warnings_error (left_of text (errors_of text checks faults) faults all.are.warnings))
         ∙ with_beside text checks.node (limits_view checks.limits) faults (has_error (text_marks text checks.node (limits_view checks.limits)))
         ∙ marks_error built (limits_view checks.limits) checks.node faults are
 

@@ -21,7 +21,7 @@ use Rattle.co_sheet_warnings.specs.Lines.{text_lines}
 use Rattle.conode_lint_marks.specs.AtFault.{kinds_at_fault}
 use Rattle.conode_lint_marks.specs.KnownWarnings.{known_warnings, warning_mark}
 use Rattle.conode_lint.specs.Linted.{IsLinted, IsMadeOf, left}
-use Rattle.conode_lint.specs.Marks.{IsFound, IsMarked, fault_mark, node_for, sheet_marks, text_marks, text_sections, left_of}
+use Rattle.conode_lint.specs.Marks.{IsFound, IsMarked, errors_of, fault_mark, node_for, sheet_marks, text_marks, text_sections, left_of}
 use Rattle.conode_lint_marks.specs.Beside.{beside_for, beside_in, beside_marks, sheet_of}
 
 text_marks_with : (text : List ℕ) (checks : Checks) (sheet : Option SheetContent) (node : Option ℕ) → sheet ≡ sheet_of text → node ≡ node_for checks.node sheet
@@ -37,20 +37,22 @@ pub marked_from : (text : List ℕ) (checks : Checks) (faults : List SheetFault)
     → with_faults ≡ map fault_mark faults
     → with_build ≡ with_faults ++ sheet_marks (limits_view checks.limits) (sections_read (lines_of text)) sheet node
     → with_beside ≡ with_build ++ beside_marks text checks.node (limits_view checks.limits) faults
-    → all ≡ with_beside ++ map warning_mark (left_of text faults warnings)
+    → all ≡ with_beside ++ map warning_mark (left_of text with_beside faults warnings)
     → IsMarked text checks faults all
 marked_from text checks faults sheet node warnings with_faults with_build with_beside all is_sheet is_node by_line is_faults is_build is_beside is_all =
-    let last = map warning_mark (left_of text faults warnings) in
+    let last_by : List Mark → List Mark = λ errors. map warning_mark (left_of text errors faults warnings) in
+    let last = last_by (errors_of text checks faults) in
     let limits = limits_view checks.limits in
     let first = map fault_mark faults in
     let build = text_marks text checks.node limits in
     let beside = beside_marks text checks.node limits faults in
     let of_build : with_build ≡ first ++ build =
     is_build ∙ ap (λ (l : List Mark). l ++ sheet_marks limits (sections_read (lines_of text)) sheet node) is_faults ∙ ap (λ (l : List Mark). first ++ l) (text_marks_with text checks sheet node is_sheet is_node) in
+    let of_beside : with_beside ≡ (first ++ build) ++ beside = is_beside ∙ ap (λ (l : List Mark). l ++ beside) of_build in
     record {
       warnings = warnings;
       by_line = by_line;
-      are = is_all ∙ ap (λ (l : List Mark). l ++ last) (is_beside ∙ ap (λ (l : List Mark). l ++ beside) of_build)
+      are = is_all ∙ ap (λ (l : List Mark). with_beside ++ last_by l) (of_beside ∙ append_assoc first build beside) ∙ ap (λ (l : List Mark). l ++ last) of_beside
           ∙ append_assoc (first ++ build) beside last ∙ append_assoc first build (beside ++ last);
     }
 

@@ -1,35 +1,41 @@
 -- Which findings are allowed, and how many others are errors.
-use Rattle.std.specs.Prelude.{ℕ, Bool, true, false, nat_lt, ◌==◌, ◌||◌, if◌then◌else◌, List, [], ◌∷◌, length, take, drop, option_to_list, codes, Option, Some, None}
-use Rattle.std.specs.List.{flat_map, list_any}
+use Rattle.std.specs.Prelude.{ℕ, Bool, true, false, nat_lt, ◌==◌, ◌||◌, if◌then◌else◌, List, [], ◌∷◌, length, take, drop, codes}
+use Rattle.std.specs.List.{flat_map, list_any, slice_split}
 use Rattle.std.specs.Str.{bytes_eq}
+use Rattle.co_text.specs.Texts.{is_blank}
 use Rattle.co_sheet_text.specs.Text.{trim}
 use Rattle.conode_lint_text.specs.declared.finding.Severity.{Severity}
 use Rattle.conode_lint_text.specs.declared.finding.Severity.TheVariants.{Error, Warning}
 use Rattle.conode_lint_marks.specs.declared.mark.Mark.{Mark}
 use Rattle.conode_lint.specs.Words as words
 
--- the beginning of a comment that allows findings of a name
+-- the beginning of a comment that allows findings of names
 abbrev pub allow_words : List ℕ
 allow_words = codes "lint: allow "
 
--- the name that a comment allows
-unfoldable pub name_allowed : List ℕ → Option (List ℕ)
-name_allowed comment =
-    if nat_lt (length comment) 12 then None
-    else (if bytes_eq (take 12 comment) allow_words then Some (trim (drop 12 comment)) else None)
+-- commas and blanks are between names; the empty text between two of them is no finding's name
+abbrev pub is_separator : ℕ → Bool
+is_separator byte = (byte == 44) || is_blank byte
 
--- the name that a line without blanks at its ends allows: `;` begins a comment
-abbrev pub name_at : List ℕ → Option (List ℕ)
-name_at [] = None
-name_at (b ∷ text) = if b == 59 then name_allowed (trim text) else None
+-- the names that a comment allows
+unfoldable pub names_allowed : List ℕ → List (List ℕ)
+names_allowed comment =
+    if nat_lt (length comment) 12 then []
+    else (if bytes_eq (take 12 comment) allow_words then slice_split is_separator (drop 12 comment)
+    else [])
 
--- the name that a line allows
-unfoldable pub name_in : List ℕ → Option (List ℕ)
-name_in line = name_at (trim line)
+-- the names that a line without blanks at its ends allows: `;` begins a comment
+abbrev pub names_at : List ℕ → List (List ℕ)
+names_at [] = []
+names_at (b ∷ text) = if b == 59 then names_allowed (trim text) else []
+
+-- the names that a line allows
+unfoldable pub names_on : List ℕ → List (List ℕ)
+names_on line = names_at (trim line)
 
 -- the names that lines allow
 abbrev pub names_in : List (List ℕ) → List (List ℕ)
-names_in lines = flat_map (λ line. option_to_list (name_in line)) lines
+names_in lines = flat_map names_on lines
 
 -- a name is one of these
 abbrev pub is_among : List ℕ → List (List ℕ) → Bool

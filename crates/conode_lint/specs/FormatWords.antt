@@ -6,7 +6,7 @@ use Rattle.conode_lint_marks.specs.declared.mark.OtherFormat.TheVariants.{Xml, E
 -- what it is
 abbrev pub format_meaning : OtherFormat → List ℕ
 format_meaning Xml = codes "this is XML, as an XDD (CiA 311) is, and no EDS"
-format_meaning EtherNetIp = codes "this is an EDS of EtherNet/IP, and none of CANopen"
+format_meaning EtherNetIp = codes "this is an EDS of EtherNet/IP or DeviceNet, and none of CANopen"
 format_meaning Utf16 = codes "this is in UTF-16, and an EDS is in ASCII"
 
 -- what to do

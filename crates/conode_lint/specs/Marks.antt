@@ -22,7 +22,7 @@ use Rattle.conode_lint_marks.specs.declared.mark.Subject.TheVariants.{Fault, For
 use Rattle.conode_lint.specs.declared.marks.Checks.{Checks}
 use Rattle.conode_lint_marks.specs.BuildLines.{built_marks}
 use Rattle.conode_lint_marks.specs.Beside.{beside_marks, sheet_of}
-use Rattle.conode_lint_marks.specs.KnownWarnings.{known_warnings, warning_mark}
+use Rattle.conode_lint_marks.specs.KnownWarnings.{bad_lines, known_warnings, warning_mark}
 use Rattle.conode_lint.specs.Formats.{other_format}
 use Rattle.co_sheet_warnings.specs.Lines.{text_lines}
 
@@ -70,17 +70,24 @@ pub record IsFaultList (text : List ℕ) (faults : List SheetFault) : Type 0 whe
   pub only : (fault : SheetFault) → Contains faults fault → Contains (faults_of text) fault
   pub increase : IsStrictlySortedBy fault_cmp faults
 
--- the warnings of a text that rest on nothing at fault
-abbrev pub left_of : List ℕ → List SheetFault → List Warning → List Warning
-left_of text faults warnings =
-    known_warnings (text_lines text) (sections_read (lines_of text)) faults warnings
+-- the warnings of a text that rest on nothing at fault, by its faults and the errors that are marked
+abbrev pub left_of : List ℕ → List Mark → List SheetFault → List Warning → List Warning
+left_of text errors faults warnings =
+    known_warnings (text_lines text) (sections_read (lines_of text)) (bad_lines errors) faults warnings
 
 -- marks, and after them those of a text's warnings
 pub record AddsWarnings (text : List ℕ) (checks : Checks) (faults : List SheetFault)
     (before after : List Mark) : Type 0 where
   pub warnings : List Warning
   pub by_line : IsWarningsByLine (warnings_of text checks.node checks.all) warnings
-  pub are : after ≡ before ++ map warning_mark (left_of text faults warnings)
+  pub are : after ≡ before ++ map warning_mark (left_of text before faults warnings)
+
+-- the errors of a text: its faults and its build, also beside faults
+abbrev pub errors_of : List ℕ → Checks → List SheetFault → List Mark
+errors_of text checks faults =
+    map fault_mark faults
+    ++ (text_marks text checks.node (limits_view checks.limits)
+    ++ beside_marks text checks.node (limits_view checks.limits) faults)
 
 -- the marks of a text: its faults, its build and its warnings
 pub record IsMarked (text : List ℕ) (checks : Checks) (faults : List SheetFault) (marks : List Mark)
@@ -90,7 +97,7 @@ pub record IsMarked (text : List ℕ) (checks : Checks) (faults : List SheetFaul
   pub are : marks ≡ map fault_mark faults
       ++ (text_marks text checks.node (limits_view checks.limits)
       ++ (beside_marks text checks.node (limits_view checks.limits) faults
-      ++ map warning_mark (left_of text faults warnings)))
+      ++ map warning_mark (left_of text (errors_of text checks faults) faults warnings)))
 
 -- these marks by line: the line numbers don't decrease, and marks of one line keep their order
 pub record IsByLine (marks sorted : List Mark) : Type 0 where

@@ -101,9 +101,9 @@ about_of sections line text (Format format) = about.Line
 -- how to fix it: what `conode adapt` mends, by that
 abbrev pub fault_fix : FaultKind → List ℕ
 fault_fix fault.LeftOutType =
-    codes "run conode adapt, which gives it a supported type; or take the object out of its list"
+    codes "try conode adapt, which may give it a supported type; or take the object out of its list"
 fault_fix fault.CompactForm =
-    codes "run conode adapt, or have the sheet's editor write each sub-index as a section of its own"
+    codes "try conode adapt, or have the sheet's editor write each sub-index as a section of its own"
 fault_fix kind = faults.fix_of kind
 
 abbrev pub fix_of : Subject → List ℕ

@@ -1,62 +1,90 @@
 //! The names of findings that are allowed.
 
-ghost use Rattle.std.specs.Prelude.{◌≡◌, ◌++◌, [], map, option_to_list, OnOk};
-ghost use Rattle.std.specs.Option.{option_map};
+ghost use Rattle.std.specs.Prelude.{◌≡◌, ◌<◌, ◌++◌, [], ◌∷◌, length, map, IfNone, IfSome, OnOk};
+ghost use Rattle.std.specs.List.{slice_split};
 ghost use Rattle.conode_lint.specs.Allowed.{
   is_among,
+  is_separator,
   kept,
   kept_of,
-  name_allowed,
-  name_in,
+  names_allowed,
   names_in,
+  names_on,
   passes_by,
 };
 
 use crate::words::name_of;
 use co_sheet_text::trim;
+use co_text::is_blank;
 use conode_lint_marks::Mark;
 use std::alloc::AllocError;
 
-/// The beginning of a comment that allows findings of a name.
+/// The beginning of a comment that allows findings of names.
 const ALLOW: &[u8] = b"lint: allow ";
 
-// the name that a comment allows
-#[tactic(auto, unfolding(crate::specs::Allowed::name_allowed))]
-fn name_allowed(comment: &[u8]) -> Option<&[u8]>
-    ensures { option_map (λ name. name.now) result ≡ name_allowed comment.now }
+fn is_separator(byte: u8) -> bool
+    ensures { result ≡ is_separator byte }
+{
+    byte == b',' || is_blank(byte)
+}
+
+// what is before and after the first comma or blank; `None` where there is none
+fn split_name(text: &[u8]) -> Option<(&[u8], &[u8])>
+    ensures none { IfNone result (slice_split is_separator text.now ≡ text.now ∷ []) }
+    ensures some { IfSome result (λ parts. slice_split is_separator text.now
+        ≡ parts.0.now ∷ slice_split is_separator parts.1.now) }
+    ensures shorter { IfSome result (λ parts. length parts.1.now < length text.now) }
+{
+    for (place, byte) in text.iter().enumerate() {
+        if is_separator(*byte) {
+            return Some((&text[..place], &text[place + 1..]));
+        }
+    }
+    None
+}
+
+// adds what is between commas and blanks
+fn add_parts<'a>(names: &mut Vec<&'a [u8]>, text: &'a [u8]) -> Result<(), AllocError>
+    ensures { OnOk result (map (λ name. name.now) names.new.items
+        ≡ map (λ name. name.now) names.old.items ++ slice_split is_separator text.now) }
+{
+    let mut rest = text;
+    while let Some((name, after)) = split_name(rest) {
+        attempt_in_memory!(names.push(name));
+        rest = after;
+    }
+    attempt_in_memory!(names.push(rest));
+    Ok(())
+}
+
+// adds the names that a comment allows
+#[tactic(auto, unfolding(crate::specs::Allowed::names_allowed))]
+fn add_allowed<'a>(names: &mut Vec<&'a [u8]>, comment: &'a [u8]) -> Result<(), AllocError>
+    ensures { OnOk result (map (λ name. name.now) names.new.items
+        ≡ map (λ name. name.now) names.old.items ++ names_allowed comment.now) }
 {
     if comment.len() < 12 {
-        return None;
+        return Ok(());
     }
-    let (words, name) = comment.split_at(12);
+    let (words, list) = comment.split_at(12);
     if words == ALLOW {
-        Some(trim(name))
+        add_parts(names, list)
     } else {
-        None
+        Ok(())
     }
 }
 
-/// The name that a line allows, as `; lint: allow Unlisted`; blanks after `;` may be left out.
-#[tactic(auto, unfolding(crate::specs::Allowed::name_in))]
-fn name_in(line: &[u8]) -> Option<&[u8]>
-    ensures { option_map (λ name. name.now) result ≡ name_in line.now }
+// adds the names that a line allows, as `; lint: allow Unlisted, BadList`; blanks after `;` may be
+// left out
+#[tactic(auto, unfolding(crate::specs::Allowed::names_on))]
+fn add_names_on<'a>(names: &mut Vec<&'a [u8]>, line: &'a [u8]) -> Result<(), AllocError>
+    ensures { OnOk result (map (λ name. name.now) names.new.items
+        ≡ map (λ name. name.now) names.old.items ++ names_on line.now) }
 {
     match trim(line) {
-        [b';', comment @ ..] => name_allowed(trim(comment)),
-        _ => None,
+        [b';', comment @ ..] => add_allowed(names, trim(comment)),
+        _ => Ok(()),
     }
-}
-
-// adds the name that a line allows, if it allows one
-fn add_name<'a>(names: &mut Vec<&'a [u8]>, line: &'a [u8]) -> Result<(), AllocError>
-    ensures { OnOk result (map (λ name. name.now) names.new.items
-        ≡ map (λ name. name.now) names.old.items ++ option_to_list (name_in line.now)) }
-{
-    let Some(name) = name_in(line) else {
-        return Ok(());
-    };
-    attempt_in_memory!(names.push(name));
-    Ok(())
 }
 
 /// Adds the names that the lines of a sheet allow to none. `Err`: out of memory.
@@ -66,7 +94,7 @@ pub(crate) fn add_names<'a>(names: &mut Vec<&'a [u8]>, lines: &[&'a [u8]]) -> Re
         ≡ names_in (map (λ line. line.now) lines.now)) }
 {
     for line in lines {
-        attempt!(add_name(names, line));
+        attempt!(add_names_on(names, line));
     }
     Ok(())
 }

@@ -11,7 +11,8 @@ pub fn format_meaning(format: OtherFormat) -> &'static str
 {
     match format {
         OtherFormat::Xml => "this is XML, as an XDD (CiA 311) is, and no EDS",
-        OtherFormat::EtherNetIp => "this is an EDS of EtherNet/IP, and none of CANopen",
+        OtherFormat::EtherNetIp =>
+            "this is an EDS of EtherNet/IP or DeviceNet, and none of CANopen",
         OtherFormat::Utf16 => "this is in UTF-16, and an EDS is in ASCII",
     }
 }

@@ -131,7 +131,14 @@ fn add_suspicious<'s, 'a>(
 {
     match find_warnings(alloc, text, lines, sections, checks.node, checks.all) {
         Ok(warnings) => {
-            add_known_warnings(marks, sections, at_fault, faults, warnings.as_slice())
+            add_known_warnings(
+                alloc,
+                marks,
+                sections,
+                at_fault,
+                faults,
+                warnings.as_slice(),
+            )
         }
         Err(fault) => Err(fault),
     }

@@ -165,10 +165,10 @@ fn fault_fix(kind: FaultKind) -> &'static str
 {
     match kind {
         FaultKind::LeftOutType => {
-            "run conode adapt, which gives it a supported type; or take the object out of its list"
+            "try conode adapt, which may give it a supported type; or take the object out of its list"
         }
         FaultKind::CompactForm => {
-            "run conode adapt, or have the sheet's editor write each sub-index as a section of its \
+            "try conode adapt, or have the sheet's editor write each sub-index as a section of its \
             own"
         }
         _ => co_sheet_faults::fix_of(kind),

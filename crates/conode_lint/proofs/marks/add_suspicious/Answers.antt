@@ -7,7 +7,7 @@ use Rattle.co_sheet_warnings.specs.declared.warning.Warning.{Warning}
 use Rattle.co_sheet_warnings.specs.Lines.{text_lines}
 use Rattle.conode_lint_marks.specs.declared.mark.Mark.{Mark}
 use Rattle.conode_lint_marks.specs.AtFault.{kinds_at_fault}
-use Rattle.conode_lint_marks.specs.KnownWarnings.{known_by, known_warnings, warning_mark}
+use Rattle.conode_lint_marks.specs.KnownWarnings.{bad_lines, known_by, known_warnings, warning_mark}
 use Rattle.conode_lint.proofs.marks.add_suspicious.Goals as goal
 
 pub returns-in-Ok : goal.returns-in-Ok
@@ -19,8 +19,8 @@ returns-in-Ok c =
     let lines = map (λ line. line.now) c.args.lines.now in
     let sections = map section_view c.args.sections.now in
     let found = c.in-Ok.warnings.items in
-    let by : List SectionKind → List SectionKind → List Warning → List Mark = λ kinds doubts ws. marks ++ map warning_mark (known_by sections kinds doubts faults ws) in
-    let added : List (List ℕ) → List TextSection → List Mark = λ ls ss. marks ++ map warning_mark (known_warnings ls ss faults found) in
+    let by : List SectionKind → List SectionKind → List Warning → List Mark = λ kinds doubts ws. marks ++ map warning_mark (known_by sections kinds doubts (bad_lines marks) faults ws) in
+    let added : List (List ℕ) → List TextSection → List Mark = λ ls ss. marks ++ map warning_mark (known_warnings ls ss (bad_lines marks) faults found) in
     on_ok_weaker c.add_known_warnings.result
     (λ h. record {
       warnings = found;
