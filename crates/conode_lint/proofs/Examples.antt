@@ -51,12 +51,13 @@ nodes = refl
 
 allowed : names_in (codes "; lint: allow Unlisted" ∷ codes ";lint: allow BadList" ∷ codes " ;  lint: allow  SubNumber " ∷ codes ";lint: allow " ∷ codes "lint: allow LongLine" ∷ codes ";lint:allow LongLine"
     ∷ codes ";; lint: allow LongLine" ∷ codes "; Lint: allow LongLine" ∷ codes "" ∷ codes ";" ∷ codes "DefaultValue=1 ; lint: allow LongLine" ∷ [])
-    ≡ codes "Unlisted" ∷ codes "BadList" ∷ [] ∷ codes "SubNumber" ∷ []
+    ≡ codes "Unlisted" ∷ codes "BadList" ∷ codes "SubNumber" ∷ []
 unfolding names_on names_allowed
 allowed = refl
 
-several : names_in (codes ";lint: allow Unlisted,BadList" ∷ codes "; lint: allow A, B" ∷ (codes "; lint: allow C" ++ 9 ∷ codes "D;E") ∷ [])
-    ≡ codes "Unlisted" ∷ codes "BadList" ∷ codes "A" ∷ [] ∷ codes "B" ∷ codes "C" ∷ codes "D;E" ∷ []
+-- commas are between names, and what follows a name after a blank is a remark
+several : names_in (codes ";lint: allow Unlisted,BadList" ∷ codes "; lint: allow A, B ,, C" ∷ (codes "; lint: allow D" ++ 9 ∷ codes "E") ∷ codes "; lint: allow Unlisted but not BadList" ∷ codes "; lint: allow A; B" ∷ [])
+    ≡ codes "Unlisted" ∷ codes "BadList" ∷ codes "A" ∷ codes "B" ∷ [] ∷ codes "C" ∷ codes "D" ∷ codes "Unlisted" ∷ codes "A;" ∷ []
 unfolding names_on names_allowed
 several = refl
 

@@ -1,8 +1,7 @@
 -- Which findings are allowed, and how many others are errors.
-use Rattle.std.specs.Prelude.{ℕ, Bool, true, false, nat_lt, ◌==◌, ◌||◌, if◌then◌else◌, List, [], ◌∷◌, length, take, drop, codes}
-use Rattle.std.specs.List.{flat_map, list_any, slice_split}
+use Rattle.std.specs.Prelude.{ℕ, Bool, true, false, nat_lt, ◌==◌, ◌||◌, if◌then◌else◌, List, [], ◌∷◌, length, map, take, drop, codes}
+use Rattle.std.specs.List.{before_first, flat_map, list_any, slice_split}
 use Rattle.std.specs.Str.{bytes_eq}
-use Rattle.co_text.specs.Texts.{is_blank}
 use Rattle.co_sheet_text.specs.Text.{trim}
 use Rattle.conode_lint_text.specs.declared.finding.Severity.{Severity}
 use Rattle.conode_lint_text.specs.declared.finding.Severity.TheVariants.{Error, Warning}
@@ -13,16 +12,26 @@ use Rattle.conode_lint.specs.Words as words
 abbrev pub allow_words : List ℕ
 allow_words = codes "lint: allow "
 
--- commas and blanks are between names; the empty text between two of them is no finding's name
-abbrev pub is_separator : ℕ → Bool
-is_separator byte = (byte == 44) || is_blank byte
+-- a text up to the first of a byte, and its first word between blanks
+abbrev pub until : ℕ → List ℕ → List ℕ
+until byte text =
+    if list_any (λ b. b == byte) text then before_first (λ b. b == byte) text else text
+
+abbrev pub first_word : List ℕ → List ℕ
+first_word text = until 9 (until 32 (trim text))
+
+-- the first words between commas; the empty one is no finding's name
+abbrev pub is_comma : ℕ → Bool
+is_comma byte = byte == 44
+
+abbrev pub words_between : List ℕ → List (List ℕ)
+words_between text = map first_word (slice_split is_comma text)
 
 -- the names that a comment allows
 unfoldable pub names_allowed : List ℕ → List (List ℕ)
 names_allowed comment =
     if nat_lt (length comment) 12 then []
-    else (if bytes_eq (take 12 comment) allow_words then slice_split is_separator (drop 12 comment)
-    else [])
+    else (if bytes_eq (take 12 comment) allow_words then words_between (drop 12 comment) else [])
 
 -- the names that a line without blanks at its ends allows: `;` begins a comment
 abbrev pub names_at : List ℕ → List (List ℕ)

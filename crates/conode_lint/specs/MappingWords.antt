@@ -32,13 +32,13 @@ mapping_meaning WrongLength = codes "its length isn't that of the entry"
 -- how to fix it
 abbrev pub mapping_fix : MappingReason → List ℕ
 mapping_fix CountsMore =
-    codes "lower the count, or describe the sub-indices that are missing; MPDOs (254, 255) aren't supported"
+    codes "lower the count, or describe the sub-indices that are missing; multiplexed PDOs (254, 255) aren't supported"
 mapping_fix (TooLong bits) = codes "lower the count, or map some of them in another PDO"
 mapping_fix Missing = codes "describe this sub-index"
 mapping_fix Zero = codes "give an entry to map, or lower the count"
 mapping_fix NoEntry =
     codes
-    "list and describe that entry, or map another; an RPDO's dummy needs DummyUsage, as Dummy0005=1"
+    "list and describe that entry, or map another; an RPDO may map dummies 0002h to 0007h, sub-index 0, by DummyUsage, as Dummy0005=1"
 mapping_fix NotMappable = codes "set PDOMapping=1 for that entry, or map another"
 mapping_fix NoNumber = codes "map an entry of a numeric type"
 mapping_fix BelowProfile = codes "map an entry from 2000h on"

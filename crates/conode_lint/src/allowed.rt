@@ -3,57 +3,76 @@
 ghost use Rattle.std.specs.Prelude.{◌≡◌, ◌<◌, ◌++◌, [], ◌∷◌, length, map, IfNone, IfSome, OnOk};
 ghost use Rattle.std.specs.List.{slice_split};
 ghost use Rattle.conode_lint.specs.Allowed.{
+  first_word,
   is_among,
-  is_separator,
+  is_comma,
   kept,
   kept_of,
   names_allowed,
   names_in,
   names_on,
   passes_by,
+  until,
+  words_between,
 };
 
 use crate::words::name_of;
 use co_sheet_text::trim;
-use co_text::is_blank;
+use co_text::split_at_first;
 use conode_lint_marks::Mark;
 use std::alloc::AllocError;
 
 /// The beginning of a comment that allows findings of names.
 const ALLOW: &[u8] = b"lint: allow ";
 
-fn is_separator(byte: u8) -> bool
-    ensures { result ≡ is_separator byte }
+// what is before the first of a byte, or all
+fn until(byte: u8, text: &[u8]) -> &[u8]
+    ensures { result.now ≡ until byte text.now }
 {
-    byte == b',' || is_blank(byte)
+    match split_at_first(text, byte) {
+        Some((front, _)) => front,
+        None => text,
+    }
 }
 
-// what is before and after the first comma or blank; `None` where there is none
+fn first_word(text: &[u8]) -> &[u8]
+    ensures { result.now ≡ first_word text.now }
+{
+    until(b'\t', until(b' ', trim(text)))
+}
+
+fn is_comma(byte: u8) -> bool
+    ensures { result ≡ is_comma byte }
+{
+    byte == b','
+}
+
+// what is before and after the first comma; `None` where there is none
 fn split_name(text: &[u8]) -> Option<(&[u8], &[u8])>
-    ensures none { IfNone result (slice_split is_separator text.now ≡ text.now ∷ []) }
-    ensures some { IfSome result (λ parts. slice_split is_separator text.now
-        ≡ parts.0.now ∷ slice_split is_separator parts.1.now) }
+    ensures none { IfNone result (slice_split is_comma text.now ≡ text.now ∷ []) }
+    ensures some { IfSome result (λ parts. slice_split is_comma text.now
+        ≡ parts.0.now ∷ slice_split is_comma parts.1.now) }
     ensures shorter { IfSome result (λ parts. length parts.1.now < length text.now) }
 {
     for (place, byte) in text.iter().enumerate() {
-        if is_separator(*byte) {
+        if is_comma(*byte) {
             return Some((&text[..place], &text[place + 1..]));
         }
     }
     None
 }
 
-// adds what is between commas and blanks
-fn add_parts<'a>(names: &mut Vec<&'a [u8]>, text: &'a [u8]) -> Result<(), AllocError>
+// adds the first words between commas
+fn add_words<'a>(names: &mut Vec<&'a [u8]>, text: &'a [u8]) -> Result<(), AllocError>
     ensures { OnOk result (map (λ name. name.now) names.new.items
-        ≡ map (λ name. name.now) names.old.items ++ slice_split is_separator text.now) }
+        ≡ map (λ name. name.now) names.old.items ++ words_between text.now) }
 {
     let mut rest = text;
-    while let Some((name, after)) = split_name(rest) {
-        attempt_in_memory!(names.push(name));
+    while let Some((part, after)) = split_name(rest) {
+        attempt_in_memory!(names.push(first_word(part)));
         rest = after;
     }
-    attempt_in_memory!(names.push(rest));
+    attempt_in_memory!(names.push(first_word(rest)));
     Ok(())
 }
 
@@ -68,7 +87,7 @@ fn add_allowed<'a>(names: &mut Vec<&'a [u8]>, comment: &'a [u8]) -> Result<(), A
     }
     let (words, list) = comment.split_at(12);
     if words == ALLOW {
-        add_parts(names, list)
+        add_words(names, list)
     } else {
         Ok(())
     }

@@ -65,11 +65,11 @@ pub(crate) fn mapping_meaning(reason: MappingReason) -> &'static str
 
 /// How each is fixed, likewise.
 const FIXES: [&str; 11] = [
-    "lower the count, or describe the sub-indices that are missing; MPDOs (254, 255) aren't supported",
+    "lower the count, or describe the sub-indices that are missing; multiplexed PDOs (254, 255) aren't supported",
     "lower the count, or map some of them in another PDO",
     "describe this sub-index",
     "give an entry to map, or lower the count",
-    "list and describe that entry, or map another; an RPDO's dummy needs DummyUsage, as Dummy0005=1",
+    "list and describe that entry, or map another; an RPDO may map dummies 0002h to 0007h, sub-index 0, by DummyUsage, as Dummy0005=1",
     "set PDOMapping=1 for that entry, or map another",
     "map an entry of a numeric type",
     "map an entry from 2000h on",
