@@ -7,7 +7,7 @@ use Rattle.co_sheet_warnings.specs.KnownKeys.{key_text}
 use Rattle.co_text.specs.Printed.{digits_text}
 use Rattle.conode_text.specs.Filled.{filled}
 use Rattle.conode_lint_text.specs.declared.fact.Fact.{Fact}
-use Rattle.conode_lint_text.specs.declared.fact.Fact.TheVariants.{NoCount, ListCount, ListGap, HighIndex, NoMandatoryList, NotListed, LargeText, NoValue, FixedType, NoType, NoAccess, NoTypeOrAccess, NoFileInfo, FileInfoLacks, NoDeviceInfo, DeviceInfoLacks, NoSubNumber, SubNumber, SubIndex0, RpdoCount, TpdoCount, Identity, BelowLow, AboveHigh, AboveNegative, LimitsCrossed, NegativeHigh}
+use Rattle.conode_lint_text.specs.declared.fact.Fact.TheVariants.{NoCount, ListCount, ListGap, HighIndex, NoMandatoryList, NotListed, LargeText, NoValue, FixedType, NoType, NoAccess, NoTypeOrAccess, NoFileInfo, FileInfoLacks, NoDeviceInfo, DeviceInfoLacks, NoSubNumber, SubNumber, SubIndex0, RpdoCount, TpdoCount, NoRpdoCount, NoTpdoCount, Identity, NoIdentity, BelowLow, AboveHigh, AboveNegative, LimitsCrossed, NegativeHigh}
 
 -- words with numbers in their places; those past the last place aren't written
 abbrev pub with_numbers : List ℕ → ℕ → ℕ → ℕ → List ℕ
@@ -41,6 +41,21 @@ not_listed true false false = codes "no object list names 1000h"
 not_listed false true false = codes "no object list names 1001h"
 not_listed false false identity = codes "no object list names 1018h"
 
+-- of a limit
+unfoldable pub limit_text : Fact → List ℕ
+limit_text (BelowLow line) =
+    with_numbers (codes "the value is below the LowLimit of line %") line 0 0
+limit_text (AboveHigh line) =
+    with_numbers (codes "the value is above the HighLimit of line %") line 0 0
+limit_text (AboveNegative line) =
+    with_numbers (codes "the value is above the HighLimit of line %, which is a negative number")
+    line 0 0
+limit_text (LimitsCrossed line) =
+    with_numbers (codes "HighLimit is below the LowLimit of line %") line 0 0
+limit_text (NegativeHigh line) =
+    with_numbers (codes "HighLimit is a negative number, below the LowLimit of line %") line 0 0
+limit_text other = []
+
 -- of a fact with numbers
 unfoldable pub count_text : Fact → List ℕ
 count_text (ListCount counted has) =
@@ -59,23 +74,18 @@ count_text (RpdoCount number has) =
     with_numbers (codes "NrOfRXPDO is %, and the number of the sheet's RPDOs is %") number has 0
 count_text (TpdoCount number has) =
     with_numbers (codes "NrOfTXPDO is %, and the number of the sheet's TPDOs is %") number has 0
+count_text (NoRpdoCount has) =
+    with_numbers (codes "NrOfRXPDO is no number, and the number of the sheet's RPDOs is %") has 0 0
+count_text (NoTpdoCount has) =
+    with_numbers (codes "NrOfTXPDO is no number, and the number of the sheet's TPDOs is %") has 0 0
 count_text (Identity number other) = identity_text number other
-count_text (BelowLow line) =
-    with_numbers (codes "the value is below the LowLimit of line %") line 0 0
-count_text (AboveHigh line) =
-    with_numbers (codes "the value is above the HighLimit of line %") line 0 0
-count_text (AboveNegative line) =
-    with_numbers (codes "the value is above the HighLimit of line %, which is a negative number")
-    line 0 0
+count_text (NoIdentity other) =
+    codes "the number can't be read, and that of the identity object is " ++ hexadecimal other
 count_text (FixedType code) =
     filled (codes "CiA 301 has DataType=0x% here") (digits_text 16 4 code ∷ [])
 count_text (HighIndex line) =
     with_numbers (codes "the index of line % is above 0xFFFF") line 0 0
-count_text (LimitsCrossed line) =
-    with_numbers (codes "HighLimit is below the LowLimit of line %") line 0 0
-count_text (NegativeHigh line) =
-    with_numbers (codes "HighLimit is a negative number, below the LowLimit of line %") line 0 0
-count_text other = []
+count_text fact = limit_text fact
 
 -- of any fact
 unfoldable pub fact_text : Fact → List ℕ

@@ -7,6 +7,7 @@ ghost use Rattle.conode_lint_text.specs.FactTexts.{
   fact_text,
   hexadecimal,
   identity_text,
+  limit_text,
   missing_text,
   not_listed,
 };
@@ -61,8 +62,14 @@ pub enum Fact {
     RpdoCount(u64, usize),
     /// NrOfTXPDO, and the number of TPDOs.
     TpdoCount(u64, usize),
+    /// NrOfRXPDO that is no number, and the number of RPDOs.
+    NoRpdoCount(usize),
+    /// NrOfTXPDO that is no number, and the number of TPDOs.
+    NoTpdoCount(usize),
     /// A number of DeviceInfo, and that of the identity object.
     Identity(u64, u64),
+    /// The number of the identity object, where that of DeviceInfo can't be read.
+    NoIdentity(u64),
     /// A value below its LowLimit, by the line of the limit.
     BelowLow(usize),
     /// A value above its HighLimit, by the line of the limit.
@@ -115,6 +122,61 @@ fn push_identity(text: &mut String, number: u64, other: u64) -> Result<(), Alloc
     push_hexadecimal(text, ", and that of the identity object is ", other)
 }
 
+// of a limit
+#[tactic(auto, unfolding(crate::specs::FactTexts::limit_text))]
+fn push_limit(text: &mut String, fact: Fact) -> Result<(), AllocError>
+    ensures { OnOk result (string_bytes text.new ≡ string_bytes text.old ++ limit_text fact) }
+{
+    match fact {
+        Fact::BelowLow(line) => {
+            push_numbers(
+                text,
+                "the value is below the LowLimit of line %",
+                line as u64,
+                0,
+                0,
+            )
+        }
+        Fact::AboveHigh(line) => {
+            push_numbers(
+                text,
+                "the value is above the HighLimit of line %",
+                line as u64,
+                0,
+                0,
+            )
+        }
+        Fact::AboveNegative(line) => {
+            push_numbers(
+                text,
+                "the value is above the HighLimit of line %, which is a negative number",
+                line as u64,
+                0,
+                0,
+            )
+        }
+        Fact::LimitsCrossed(line) => {
+            push_numbers(
+                text,
+                "HighLimit is below the LowLimit of line %",
+                line as u64,
+                0,
+                0,
+            )
+        }
+        Fact::NegativeHigh(line) => {
+            push_numbers(
+                text,
+                "HighLimit is a negative number, below the LowLimit of line %",
+                line as u64,
+                0,
+                0,
+            )
+        }
+        _ => Ok(()),
+    }
+}
+
 #[tactic(auto, unfolding(crate::specs::FactTexts::count_text))]
 fn push_count(text: &mut String, fact: Fact) -> Result<(), AllocError>
     ensures { OnOk result (string_bytes text.new ≡ string_bytes text.old ++ count_text fact) }
@@ -162,25 +224,26 @@ fn push_count(text: &mut String, fact: Fact) -> Result<(), AllocError>
             has as u64,
             0,
         ),
+        Fact::NoRpdoCount(has) => push_numbers(
+            text,
+            "NrOfRXPDO is no number, and the number of the sheet's RPDOs is %",
+            has as u64,
+            0,
+            0,
+        ),
+        Fact::NoTpdoCount(has) => push_numbers(
+            text,
+            "NrOfTXPDO is no number, and the number of the sheet's TPDOs is %",
+            has as u64,
+            0,
+            0,
+        ),
         Fact::Identity(number, other) => push_identity(text, number, other),
-        Fact::BelowLow(line) => {
-            push_numbers(
-                text,
-                "the value is below the LowLimit of line %",
-                line as u64,
-                0,
-                0,
-            )
-        }
-        Fact::AboveHigh(line) => {
-            push_numbers(
-                text,
-                "the value is above the HighLimit of line %",
-                line as u64,
-                0,
-                0,
-            )
-        }
+        Fact::NoIdentity(other) => push_hexadecimal(
+            text,
+            "the number can't be read, and that of the identity object is ",
+            other,
+        ),
         Fact::FixedType(code) => {
             push_filled(text, "CiA 301 has DataType=0x% here", &[Value::Short(code)])
         }
@@ -193,34 +256,7 @@ fn push_count(text: &mut String, fact: Fact) -> Result<(), AllocError>
                 0,
             )
         }
-        Fact::AboveNegative(line) => {
-            push_numbers(
-                text,
-                "the value is above the HighLimit of line %, which is a negative number",
-                line as u64,
-                0,
-                0,
-            )
-        }
-        Fact::LimitsCrossed(line) => {
-            push_numbers(
-                text,
-                "HighLimit is below the LowLimit of line %",
-                line as u64,
-                0,
-                0,
-            )
-        }
-        Fact::NegativeHigh(line) => {
-            push_numbers(
-                text,
-                "HighLimit is a negative number, below the LowLimit of line %",
-                line as u64,
-                0,
-                0,
-            )
-        }
-        _ => Ok(()),
+        _ => push_limit(text, fact),
     }
 }
 
