@@ -304,7 +304,7 @@ after_another_abort : map (λ abort. shown (c (codes "4000210000000000") ∷ c (
 unfolding request_row_in response_row_in shifted crc_with
 after_another_abort = refl
 
--- ---- a block upload whose response isn't in the recording
+-- ---- a block upload whose response and start aren't in the recording
 
 -- its only segment, and its last one: numbers 1 and 31
 segment_uploaded : map (λ first. shown (c (codes "A00021007F000000") ∷ uploaded first ∷ [])) (0x81 ∷ 0x9F ∷ [])
@@ -328,16 +328,83 @@ upload_refused : map (λ frames. (shown (c (codes "A00021007F000000") ∷ frames
 unfolding request_row_in response_row_in shifted crc_with
 upload_refused = refl
 
--- where no segment of the server is awaited, 81h is read as an abort: of an upload that isn't in blocks, of a block download, and once the
--- response came
+-- so do 81h and 9Fh directly after the request that name the entry; another low or high byte of the index, or another sub-index, is data
+upload_refused_with : map (λ abort. shown (c (codes "A00021007F000000") ∷ s abort ∷ [])) (codes "8100210000000206" ∷ codes "9F00210000000206" ∷ codes "8101210000000206" ∷ codes "8100200000000206" ∷ codes "8100210100000206" ∷ [])
+    ≡ record {
+      whats = Initiate ∷ Part ∷ [];
+      ends = record { protocol = Block; bytes = 0; first = []; frames = 2; ending = Aborted Server (record { 0 = 0x06020000 }) } ∷ [];
+    }
+    ∷ record {
+      whats = Initiate ∷ Part ∷ [];
+      ends = record { protocol = Block; bytes = 0; first = []; frames = 2; ending = Aborted Server (record { 0 = 0x06020000 }) } ∷ [];
+    }
+    ∷ record { whats = Initiate ∷ Segment 1 ∷ []; ends = [] }
+    ∷ record { whats = Initiate ∷ Segment 1 ∷ []; ends = [] }
+    ∷ record { whats = Initiate ∷ Segment 1 ∷ []; ends = [] }
+    ∷ []
+unfolding request_row_in response_row_in shifted crc_with
+upload_refused_with = refl
+
+-- once another frame came, it is data that is the same as the entry: after the start, and after segment 1
+upload_data : map (λ before. shown (c (codes "A00021007F000000") ∷ before ∷ s (codes "8200210000000206") ∷ [])) (c (codes "A300000000000000") ∷ uploaded 1 ∷ [])
+    ≡ record { whats = Initiate ∷ Unexpected ∷ Segment 2 ∷ []; ends = [] }
+    ∷ record { whats = Initiate ∷ Unexpected ∷ Segment 2 ∷ []; ends = [] } ∷ []
+unfolding request_row_in response_row_in shifted crc_with
+upload_data = refl
+
+-- after such an abort no transfer is open
+after_a_refusal : shown (c (codes "A00021007F000000") ∷ s (codes "8100210000000206") ∷ c (codes "A100000000000000") ∷ [])
+    ≡ record {
+      whats = Initiate ∷ Part ∷ Stray ∷ [];
+      ends = record { protocol = Block; bytes = 0; first = []; frames = 2; ending = Aborted Server (record { 0 = 0x06020000 }) } ∷ [];
+    }
+unfolding request_row_in response_row_in shifted crc_with
+after_a_refusal = refl
+
+-- ---- a block upload of which the start alone isn't in the recording
+
+-- its only segment, the last of two, and of 31
+start_lost : map (λ frames. shown (c (codes "A00021007F000000") ∷ s (codes "C000210000000000") ∷ frames))
+    ((uploaded 0x81 ∷ c (codes "A2017F0000000000") ∷ []) ∷ (uploaded 1 ∷ uploaded 0x82 ∷ []) ∷ (uploaded 0x9F ∷ []) ∷ [])
+    ≡ record { whats = Initiate ∷ Part ∷ Segment 1 ∷ BegunBefore ∷ []; ends = [] }
+    ∷ record { whats = Initiate ∷ Part ∷ Unexpected ∷ Segment 2 ∷ []; ends = [] }
+    ∷ record { whats = Initiate ∷ Part ∷ Segment 31 ∷ []; ends = [] }
+    ∷ []
+unfolding request_row_in response_row_in shifted crc_with
+start_lost = refl
+
+-- ---- where no segment of this end is awaited, 81h is read as an abort
+
+-- of the server: of an upload that isn't in blocks, before and after its response, of a block download, once a block upload was answered and it
+-- names the entry, and once all its segments are acknowledged
 refused_with : map (λ frames. ends_with (followed (after_all nothing_heard frames) 0 Server (s (codes "8100210000000206")).bytes).says.ended [])
-    ((c (codes "4000210000000000") ∷ []) ∷ (c (codes "C000210000000000") ∷ []) ∷ (c (codes "A00021007F000000") ∷ s (codes "C000210000000000") ∷ []) ∷ [])
+    ((c (codes "4000210000000000") ∷ []) ∷ (c (codes "4000210000000000") ∷ s (codes "4100210009000000") ∷ []) ∷ (c (codes "C000210000000000") ∷ []) ∷ (c (codes "A00021007F000000") ∷ s (codes "C000210000000000") ∷ [])
+    ∷ (c (codes "A00021007F000000") ∷ s (codes "C000210000000000") ∷ c (codes "A300000000000000") ∷ uploaded 0x81 ∷ c (codes "A2017F0000000000") ∷ []) ∷ [])
     ≡ (record { protocol = Undecided; bytes = 0; first = []; frames = 2; ending = Aborted Server (record { 0 = 0x06020000 }) } ∷ [])
+    ∷ (record { protocol = Segmented; bytes = 0; first = []; frames = 3; ending = Aborted Server (record { 0 = 0x06020000 }) } ∷ [])
     ∷ (record { protocol = Block; bytes = 0; first = []; frames = 2; ending = Aborted Server (record { 0 = 0x06020000 }) } ∷ [])
     ∷ (record { protocol = Block; bytes = 0; first = []; frames = 3; ending = Aborted Server (record { 0 = 0x06020000 }) } ∷ [])
+    ∷ (record { protocol = Block; bytes = 0; first = []; frames = 6; ending = Aborted Server (record { 0 = 0x06020000 }) } ∷ [])
     ∷ []
 unfolding request_row_in response_row_in shifted crc_with
 refused_with = refl
+
+-- with another multiplexer too, but before the start of a block upload
+refused_as_another : map (λ frames. ends_with (followed (after_all nothing_heard frames) 0 Server (s (codes "8101210000000206")).bytes).says.ended [])
+    ((c (codes "4000210000000000") ∷ []) ∷ (c (codes "C000210000000000") ∷ [])
+    ∷ (c (codes "A00021007F000000") ∷ s (codes "C000210000000000") ∷ c (codes "A300000000000000") ∷ uploaded 0x81 ∷ c (codes "A2017F0000000000") ∷ []) ∷ [])
+    ≡ (record { protocol = Undecided; bytes = 0; first = []; frames = 2; ending = Aborted Server (record { 0 = 0x06020000 }) } ∷ [])
+    ∷ (record { protocol = Block; bytes = 0; first = []; frames = 2; ending = Aborted Server (record { 0 = 0x06020000 }) } ∷ [])
+    ∷ (record { protocol = Block; bytes = 0; first = []; frames = 6; ending = Aborted Server (record { 0 = 0x06020000 }) } ∷ [])
+    ∷ []
+unfolding request_row_in response_row_in shifted crc_with
+refused_as_another = refl
+
+-- of the client, once a block upload was answered
+given_up_before_start : (shown (c (codes "A00021007F000000") ∷ s (codes "C000210000000000") ∷ c (codes "8101210000000405") ∷ [])).ends
+    ≡ record { protocol = Block; bytes = 0; first = []; frames = 3; ending = Aborted Client (record { 0 = 0x05040000 }) } ∷ []
+unfolding request_row_in response_row_in shifted crc_with
+given_up_before_start = refl
 
 -- ---- what begins with such a segment
 

@@ -10,6 +10,7 @@ use Rattle.co_value.specs.declared.key.Key.{Key}
 use Rattle.conode_explain_transfers.specs.declared.kinds.Side.{Side}
 use Rattle.conode_explain_transfers.specs.declared.kinds.Side.TheVariants.{Client, Server}
 use Rattle.conode_explain_transfers.specs.declared.stage.Stage.{Stage}
+use Rattle.conode_explain_transfers.specs.declared.stage.Stage.TheVariants.{Initiated, BlockInitiated}
 use Rattle.conode_explain_transfers.specs.declared.transfer.Transfer.{Transfer}
 use Rattle.conode_explain_transfers.specs.BlockTurns.{is_block}
 use Rattle.conode_explain_transfers.specs.Stages.{is_initiated}
@@ -52,19 +53,34 @@ is_lost transfer = is_initiated transfer.stage && transfer.went_on
 abbrev pub multiplexer_of : List ℕ → Key
 multiplexer_of bytes = record { index = slice_index bytes 1 + slice_index bytes 2 * 256; sub = slice_index bytes 3 }
 
--- A segment of a sub-block may come of this end, whose begin or whose response isn't in the
--- recording: of a client always, since what looked like its request may be a segment too; of a server
--- where a block upload is awaited.
+-- The server of a block upload sends nothing between its response and the client's start (7.2.4.3.13),
+-- and no segment before both: where one comes, they aren't in the recording.
+abbrev pub awaits_start : Stage → Bool
+awaits_start Initiated = true
+awaits_start BlockInitiated = true
+awaits_start _ = false
+
+-- A segment of a sub-block may come of this end, whose begin, response or start isn't in the recording:
+-- of a client before the response, since what looked like its request may be a segment too; of a server
+-- where a block upload hasn't started. What a client sends after the request of a block download is
+-- read as a segment of that (`awaits_segment`), and not as an abort.
 abbrev pub may_send_segment : Side → Transfer → Bool
-may_send_segment Client transfer = true
-may_send_segment Server transfer = is_block transfer.protocol && not (is_download transfer.direction)
+may_send_segment Client transfer = is_initiated transfer.stage
+may_send_segment Server transfer =
+    is_block transfer.protocol && not (is_download transfer.direction) && awaits_start transfer.stage
+
+-- A server that refuses the upload directly after the request, or gives it up after its response, names
+-- the entry in bytes 1 to 3. Data that are the same there are taken for it too: of 2^24 segments one.
+abbrev pub refuses_with : Side → Transfer → List ℕ → Bool
+refuses_with Client transfer bytes = false
+refuses_with Server transfer bytes = not transfer.irregular && same_key (multiplexer_of bytes) transfer.key
 
 -- A frame that is read as an abort, and may be the last segment of a sub-block, with a number of 1 to
 -- 31. An abort has cs = 4, and its bits 4 to 0 are 0 (7.2.4.3.17): 80h, which is no segment, as
 -- segments are numbered from 1 (7.2.4.3.10, 7.2.4.3.14).
 abbrev pub may_be_segment : Side → Transfer → List ℕ → Bool
 may_be_segment side transfer bytes =
-    not (slice_index bytes 0 == 128) && (is_initiated transfer.stage && may_send_segment side transfer)
+    not (slice_index bytes 0 == 128) && (may_send_segment side transfer && not (refuses_with side transfer bytes))
 
 -- An abort of the client with another multiplexer, once it went on: of the transfer that the recording
 -- doesn't have the begin of, or of this one, as many clients send 0000:00.

@@ -29,6 +29,7 @@ pub(crate) enum Stage {
 impl Stage {
     ghost use Rattle.std.specs.Prelude.{◌≡◌};
     ghost use Rattle.conode_explain_transfers.specs.Stages.{is_initiated, confirmed_with};
+    ghost use Rattle.conode_explain_transfers.specs.Unanswered.{awaits_start};
 
     /// Whether the response to initiate is awaited.
     pub(crate) fn is_initiated(self) -> bool
@@ -36,6 +37,16 @@ impl Stage {
     {
         match self {
             Stage::Initiated => true,
+            _ => false,
+        }
+    }
+
+    /// Whether the response to initiate or the start of a block upload is awaited.
+    pub(crate) fn awaits_start(self) -> bool
+        ensures { result ≡ awaits_start self }
+    {
+        match self {
+            Stage::Initiated | Stage::BlockInitiated => true,
             _ => false,
         }
     }

@@ -11,6 +11,7 @@ ghost use Rattle.conode_explain_transfers.specs.Unanswered.{
   multiplexer_of,
   not_followed_by,
   number_of,
+  refuses_with,
   segment_follows,
   went_on_with,
 };
@@ -95,24 +96,35 @@ impl Transfer {
         self.is_unanswered() && number + 1 == number_of(frame) as u16
     }
 
-    // Whether a segment of a sub-block may come of this end, whose begin or whose response isn't in the
+    // Whether a segment of a sub-block may come of this end, whose begin, response or start isn't in the
     // recording.
     fn may_send_segment(&self, side: Side) -> bool
         ensures { result ≡ may_send_segment side self.now }
     {
         match side {
-            Side::Client => true,
-            Side::Server => self.is_block() && !self.is_download(),
+            Side::Client => self.stage.is_initiated(),
+            Side::Server => (self.is_block() && !self.is_download()) && self.stage.awaits_start(),
+        }
+    }
+
+    // Whether a server refuses the upload: it names the entry.
+    fn refuses_with(&self, side: Side, frame: &Frame) -> bool
+        ensures { result ≡ refuses_with side self.now frame.now.bytes }
+    {
+        match side {
+            Side::Client => false,
+            Side::Server => !self.irregular && self.has_key(multiplexer_of(frame.bytes())),
         }
     }
 
     /// Whether a frame that is read as an abort may be the last segment of a sub-block: the response
-    /// to initiate is awaited, and it has 81h to 9Fh (an abort has 80h, CiA 301, 7.2.4.3.17).
+    /// to initiate or the start of a block upload is awaited, and it has 81h to 9Fh (an abort has 80h,
+    /// CiA 301, 7.2.4.3.17); but for that of a server which names the entry, and so refuses the upload.
     pub(crate) fn may_be_segment(&self, side: Side, frame: &Frame) -> bool
         ensures { result ≡ may_be_segment side self.now frame.now.bytes }
     {
         byte_at(frame.bytes(), 0) != ABORT
-            && (self.stage.is_initiated() && self.may_send_segment(side))
+            && (self.may_send_segment(side) && !self.refuses_with(side, frame))
     }
 
     // Whether an abort may be of another transfer: once the client went on, the begin of that may not be
