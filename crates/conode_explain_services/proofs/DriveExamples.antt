@@ -71,11 +71,13 @@ error_code = refl
 
 -- ---- the codes of CiA 402, each by its number
 codes_of_currents : map drive_code_words
-    (0x2110 ∷ 0x2120 ∷ 0x2130 ∷ 0x2213 ∷ 0x2214 ∷ 0x2220 ∷ 0x2230 ∷ 0x2240 ∷ 0x2250 ∷ 0x2310 ∷ 0x2320 ∷ 0x2330 ∷ 0x2340 ∷ [])
-    ≡ codes "short circuit or earth leakage" ∷ codes "earth leakage" ∷ codes "short circuit" ∷ codes "overcurrent in the ramp"
+    (0x2110 ∷ 0x2120 ∷ 0x2130 ∷ 0x2211 ∷ 0x2212 ∷ 0x2213 ∷ 0x2214 ∷ 0x2220 ∷ 0x2230 ∷ 0x2240 ∷ 0x2250 ∷ 0x2310 ∷ 0x2320 ∷ 0x2330 ∷ 0x2340 ∷ 0x2350 ∷ 0x2351 ∷ [])
+    ≡ codes "short circuit or earth leakage" ∷ codes "earth leakage" ∷ codes "short circuit" ∷ codes "number 1" ∷ codes "number 2"
+    ∷ codes "overcurrent in the ramp function"
     ∷ codes "overcurrent in the sequence" ∷ codes "continuous overcurrent" ∷ codes "short circuit or earth leakage"
     ∷ codes "earth leakage" ∷ codes "short circuit" ∷ codes "continuous overcurrent" ∷ codes "short circuit or earth leakage"
-    ∷ codes "earth leakage" ∷ codes "short circuit" ∷ []
+    ∷ codes "earth leakage" ∷ codes "short circuit" ∷ codes "load level fault, by I2t or thermal state"
+    ∷ codes "load level warning, by I2t or thermal state" ∷ []
 unfolding drive_code_words
 codes_of_currents = refl
 

@@ -139,11 +139,13 @@ fn drive_class_words(class: u8) -> &'static str
 }
 
 /// The codes of CiA 402.
-const DRIVE_CODES: [Row; 86] = [
+const DRIVE_CODES: [Row; 90] = [
     Row(0x2110, "short circuit or earth leakage"),
     Row(0x2120, "earth leakage"),
     Row(0x2130, "short circuit"),
-    Row(0x2213, "overcurrent in the ramp"),
+    Row(0x2211, "number 1"),
+    Row(0x2212, "number 2"),
+    Row(0x2213, "overcurrent in the ramp function"),
     Row(0x2214, "overcurrent in the sequence"),
     Row(0x2220, "continuous overcurrent"),
     Row(0x2230, "short circuit or earth leakage"),
@@ -153,6 +155,8 @@ const DRIVE_CODES: [Row; 86] = [
     Row(0x2320, "short circuit or earth leakage"),
     Row(0x2330, "earth leakage"),
     Row(0x2340, "short circuit"),
+    Row(0x2350, "load level fault, by I2t or thermal state"),
+    Row(0x2351, "load level warning, by I2t or thermal state"),
     Row(0x3110, "overvoltage"),
     Row(0x3120, "undervoltage"),
     Row(0x3130, "phase failure"),
