@@ -119,9 +119,11 @@ alone : value_text UnicodeString 48 (0x00 ∷ 0xDE ∷ 0x3D ∷ 0xD8 ∷ 0x22 �
 unfolding value_text characters_text pair_text unit_text digits_text encode
 alone = refl
 
-left_over : value_text UnicodeString 24 (0x41 ∷ 0x00 ∷ 0x41 ∷ []) ≡ codes "\"A\""
+-- of an odd number of bytes the last one
+odd_bytes : value_text UnicodeString 24 (0x41 ∷ 0x00 ∷ 0x4F ∷ []) ∷ value_text UnicodeString 8 (0x41 ∷ []) ∷ value_text UnicodeString 0 [] ∷ []
+    ≡ codes "\"A\\x4F\"" ∷ codes "\"\\x41\"" ∷ codes "\"\"" ∷ []
 unfolding value_text characters_text pair_text unit_text digits_text encode
-left_over = refl
+odd_bytes = refl
 
 -- ---- times
 

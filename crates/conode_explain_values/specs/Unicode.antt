@@ -1,6 +1,6 @@
 -- The text of a UNICODE_STRING: UTF-16, the low byte of each unit first (CiA 301, 7.1.6).
-use Rattle.std.specs.Prelude.{ℕ, ◌+◌, ◌-◌, ◌*◌, ◌==◌, nat_le, nat_lt, Bool, ◌&&◌, ◌||◌, if◌then◌else◌, List, [], ◌∷◌, ◌++◌, codes, encode_utf8}
-use Rattle.co_text.specs.Printed.{digits_text}
+use Rattle.std.specs.Prelude.{ℕ, ◌+◌, ◌-◌, ◌*◌, ◌%◌, ◌==◌, nat_le, nat_lt, Bool, ◌&&◌, ◌||◌, if◌then◌else◌, List, [], ◌∷◌, ◌++◌, codes, encode_utf8, length, slice_index}
+use Rattle.co_text.specs.Printed.{byte_text, digits_text}
 
 -- a unit, of its two bytes
 abbrev pub unit_of : ℕ → ℕ → ℕ
@@ -27,7 +27,7 @@ unit_text unit = if is_escaped unit then codes "\\u" ++ digits_text 16 4 unit el
 unfoldable pub pair_text : ℕ → ℕ → List ℕ
 pair_text first second = encode_utf8 (0x10000 + 0x400 * (first - 0xD800) + (second - 0xDC00))
 
--- the characters; a byte that is left over is none
+-- the characters; a byte that is left over is none of them
 unfoldable pub characters_text : List ℕ → List ℕ
 characters_text [] = []
 characters_text (low ∷ []) = []
@@ -38,6 +38,10 @@ characters_text (low ∷ high ∷ next ∷ after ∷ more) =
     then pair_text (unit_of low high) (unit_of next after) ++ characters_text more
     else unit_text (unit_of low high) ++ characters_text (next ∷ after ∷ more)
 
+-- the last byte of an odd number of them
+abbrev pub left_over : List ℕ → List ℕ
+left_over bytes = if length bytes % 2 == 0 then [] else codes "\\x" ++ byte_text (slice_index bytes (length bytes - 1))
+
 -- in double quotes
 abbrev pub unicode_text : List ℕ → List ℕ
-unicode_text bytes = 0x22 ∷ [] ++ characters_text bytes ++ 0x22 ∷ []
+unicode_text bytes = 0x22 ∷ [] ++ characters_text bytes ++ left_over bytes ++ 0x22 ∷ []

@@ -8,6 +8,7 @@ ghost use Rattle.conode_explain_values.specs.Unicode.{
   is_escaped,
   is_first,
   is_second,
+  left_over,
   pair_text,
   unicode_text,
   unit_of,
@@ -96,12 +97,24 @@ fn push_characters(text: &mut String, bytes: &[u8]) -> Result<(), AllocError>
     Ok(())
 }
 
-/// Appends a UNICODE_STRING in double quotes, its control characters as `\u0007`.
+#[tactic(auto, unfolding(conode_text::specs::Filled::filled))]
+fn push_left_over(text: &mut String, bytes: &[u8]) -> Result<(), AllocError>
+    ensures { OnOk result (string_bytes text.new ≡ string_bytes text.old ++ left_over bytes.now) }
+{
+    if bytes.len() % 2 == 0 {
+        return Ok(());
+    }
+    push_filled(text, "\\x%", &[Value::Byte(bytes[bytes.len() - 1])])
+}
+
+/// Appends a UNICODE_STRING in double quotes, its control characters as `\u0007`, and the last byte
+/// of an odd number of them as `\x41`.
 pub(crate) fn push_unicode(text: &mut String, bytes: &[u8]) -> Result<(), AllocError>
     ensures { OnOk result
         (string_bytes text.new ≡ string_bytes text.old ++ unicode_text bytes.now) }
 {
     attempt!(text.push_str("\""));
     attempt!(push_characters(text, bytes));
+    attempt!(push_left_over(text, bytes));
     text.push_str("\"")
 }
