@@ -1,5 +1,5 @@
 -- Numbers for people.
-use Rattle.std.specs.Prelude.{ℕ, ◌-◌, ◌/◌, ◌%◌, ◌==◌, nat_lt, if◌then◌else◌, List, [], ◌++◌, codes, decimal}
+use Rattle.std.specs.Prelude.{ℕ, ◌-◌, ◌/◌, ◌%◌, ◌==◌, nat_lt, Bool, not, ◌&&◌, if◌then◌else◌, List, [], ◌++◌, codes, decimal}
 use Rattle.co_text.specs.Printed.{digits_text}
 
 -- the last three digits
@@ -25,7 +25,15 @@ grouped number = if nat_lt number 1000 then decimal number else thousands (numbe
 abbrev pub plural : ℕ → List ℕ
 plural number = if number == 1 then [] else codes "s"
 
--- the time from one stamp in microseconds to another, in seconds; 0 where the other is earlier
-unfoldable pub seconds_text : ℕ → ℕ → List ℕ
-seconds_text from to =
+-- the time between two stamps isn't known where the later one is before the other, and where both are 0, as
+-- in a recording without stamps
+abbrev pub is_time : ℕ → ℕ → Bool
+is_time from to = not (nat_lt to from) && not ((from == 0) && (to == 0))
+
+-- the time from one stamp in microseconds to another, in seconds
+unfoldable pub known_seconds : ℕ → ℕ → List ℕ
+known_seconds from to =
     decimal ((to - from) / 1000 / 1000) ++ codes "." ++ three_digits ((to - from) / 1000 % 1000) ++ codes " s"
+
+abbrev pub seconds_text : ℕ → ℕ → List ℕ
+seconds_text from to = if is_time from to then known_seconds from to else codes "? s"

@@ -5,6 +5,8 @@ ghost use Rattle.std.specs.Prelude.{◌≡◌, ◌<◌, ◌++◌, OnOk, codes, s
 ghost use Rattle.co_text.specs.Printed.{printed_digit};
 ghost use Rattle.conode_explain_entries.specs.Numbers.{
   grouped,
+  is_time,
+  known_seconds,
   millions,
   plural,
   seconds_text,
@@ -85,15 +87,33 @@ pub(crate) fn plural(number: u64) -> &'static str
     if number == 1 { "" } else { "s" }
 }
 
-/// Appends the time from one stamp to another in seconds, with three digits after the point; 0
-/// where the other is earlier.
-#[tactic(auto, unfolding(crate::specs::Numbers::seconds_text))]
-pub(crate) fn push_seconds(text: &mut String, from: u64, to: u64) -> Result<(), AllocError>
-    ensures { OnOk result (string_bytes text.new ≡ string_bytes text.old ++ seconds_text from to) }
+// whether the time between two stamps is known
+fn is_time(from: u64, to: u64) -> bool
+    ensures { result ≡ is_time from to }
+{
+    !(to < from) && !(from == 0 && to == 0)
+}
+
+#[tactic(auto, unfolding(crate::specs::Numbers::known_seconds))]
+fn push_known_seconds(text: &mut String, from: u64, to: u64) -> Result<(), AllocError>
+    ensures { OnOk result
+        (string_bytes text.new ≡ string_bytes text.old ++ known_seconds from to) }
 {
     let millis = to.saturating_sub(from) / 1000;
     attempt!(push_decimal(text, millis / 1000));
     attempt!(text.push_str("."));
     attempt!(text.push_str(three_digits(millis % 1000).as_str()));
     text.push_str(" s")
+}
+
+/// Appends the time from one stamp to another in seconds, with three digits after the point; `? s`
+/// where the other is earlier, and where both are 0, as in a recording without stamps.
+pub(crate) fn push_seconds(text: &mut String, from: u64, to: u64) -> Result<(), AllocError>
+    ensures { OnOk result (string_bytes text.new ≡ string_bytes text.old ++ seconds_text from to) }
+{
+    if is_time(from, to) {
+        push_known_seconds(text, from, to)
+    } else {
+        text.push_str("? s")
+    }
 }
