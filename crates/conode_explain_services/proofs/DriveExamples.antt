@@ -19,14 +19,17 @@ means index bytes = drive_words (record { index = index; sub = 0 }) bytes
 
 -- ---- the controlword: with other bits on both sides
 controls : map (λ low. means 0x6040 (low ∷ 0x00 ∷ []))
-    (0x06 ∷ 0x0E ∷ 0x07 ∷ 0x0F ∷ 0x1F ∷ 0x00 ∷ 0x0D ∷ 0x02 ∷ 0x0B ∷ 0x80 ∷ 0x8F ∷ [])
+    (0x06 ∷ 0x0E ∷ 0x07 ∷ 0x0F ∷ 0x1F ∷ 0x00 ∷ 0x0D ∷ 0x02 ∷ 0x0B ∷ 0x80 ∷ 0xF0 ∷ 0x81 ∷ 0x82 ∷ 0x86 ∷ 0x88 ∷ 0x8F ∷ [])
     ≡ codes " (0006, shutdown)" ∷ codes " (000E, shutdown)" ∷ codes " (0007, switch on)" ∷ codes " (000F, enable operation)"
     ∷ codes " (001F, enable operation)" ∷ codes " (0000, disable voltage)" ∷ codes " (000D, disable voltage)"
-    ∷ codes " (0002, quick stop)" ∷ codes " (000B, quick stop)" ∷ codes " (0080, fault reset)" ∷ codes " (008F, fault reset)" ∷ []
+    ∷ codes " (0002, quick stop)" ∷ codes " (000B, quick stop)" ∷ codes " (0080, fault reset)" ∷ codes " (00F0, fault reset)"
+    ∷ codes " (0081, disable voltage, fault reset)" ∷ codes " (0082, quick stop, fault reset)" ∷ codes " (0086, shutdown, fault reset)"
+    ∷ codes " (0088, disable voltage, fault reset)" ∷ codes " (008F, enable operation, fault reset)" ∷ []
 unfolding drive_words meaning_at word_text controlword_words command_words digits_text
 controls = refl
 
-halted : means 0x6040 (0x0F ∷ 0x01 ∷ []) ≡ codes " (010F, enable operation, halt)"
+halted : map (λ low. means 0x6040 (low ∷ 0x01 ∷ [])) (0x0F ∷ 0x80 ∷ 0x8F ∷ [])
+    ≡ codes " (010F, enable operation, halt)" ∷ codes " (0180, fault reset, halt)" ∷ codes " (018F, enable operation, fault reset, halt)" ∷ []
 unfolding drive_words meaning_at word_text controlword_words command_words digits_text
 halted = refl
 
@@ -104,6 +107,14 @@ codes_of_hardware : map drive_code_words
     ∷ codes "contacts" ∷ codes "fuses" ∷ codes "working memory" ∷ codes "program memory" ∷ codes "non-volatile memory" ∷ []
 unfolding drive_code_words
 codes_of_hardware = refl
+
+codes_of_data_records : map drive_code_words
+    (0x6300 ∷ 0x6301 ∷ 0x6302 ∷ 0x6303 ∷ 0x6304 ∷ 0x6305 ∷ 0x6306 ∷ 0x6307 ∷ 0x6308 ∷ 0x6309 ∷ 0x630A ∷ 0x630B ∷ 0x630C ∷ 0x630D ∷ 0x630E ∷ 0x630F ∷ [])
+    ≡ [] ∷ codes "number 1" ∷ codes "number 2" ∷ codes "number 3" ∷ codes "number 4" ∷ codes "number 5" ∷ codes "number 6"
+    ∷ codes "number 7" ∷ codes "number 8" ∷ codes "number 9" ∷ codes "number 10" ∷ codes "number 11" ∷ codes "number 12"
+    ∷ codes "number 13" ∷ codes "number 14" ∷ codes "number 15" ∷ []
+unfolding drive_code_words
+codes_of_data_records = refl
 
 codes_of_software_and_modules : map drive_code_words
     (0x6010 ∷ 0x6310 ∷ 0x6320 ∷ 0x7110 ∷ 0x7111 ∷ 0x7112 ∷ 0x7113 ∷ 0x7120 ∷ 0x7121 ∷ 0x7122 ∷ 0x7123 ∷ [])

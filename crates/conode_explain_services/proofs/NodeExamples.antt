@@ -24,6 +24,10 @@ had register guarding = record { register = Some register; guarding = guarding; 
 abbrev showed : Guarding → KnownState → Last
 showed guarding state = record { register = Some 1; guarding = guarding; state = state }
 
+-- after a boot-up no error register is known
+abbrev began : Guarding → Last
+began guarding = record { register = None; guarding = guarding; state = Seen PreOperational }
+
 -- two emergencies of one node: its register is the second's; another node and another interface have theirs
 abbrev three : List Node
 three = after (after (after (after [] (codes "a") 0x085 (emergency_of 0x11)) (codes "a") 0x086 (emergency_of 0x22)) (codes "b") 0x085 (emergency_of 0x33)) (codes "a") 0x085 (emergency_of 0x44)
@@ -80,6 +84,7 @@ unfolding nodes_after last_of last_in noted
 after_emergencies = refl
 
 -- a request, its answer, another request, its answer; a boot-up, and a request after it; a heartbeat ends it; the register stays
+-- until the boot-up
 abbrev asked : List Node
 asked = nodes_asked (after [] (codes "a") 0x085 (emergency_of 1)) (codes "a") 0x705
 
@@ -113,15 +118,15 @@ heartbeat_instead = refl
 abbrev booted_up : List Node
 booted_up = after answered (codes "a") 0x705 (0x00 ∷ [])
 
-of_booted_up : booted_up ≡ new_node (codes "a") 5 (showed BootedUp (Seen PreOperational)) ∷ []
+of_booted_up : booted_up ≡ new_node (codes "a") 5 (began BootedUp) ∷ []
 unfolding nodes_after nodes_asked last_of last_in noted state_at
 of_booted_up = refl
 
-asked_after_it : nodes_asked booted_up (codes "a") 0x705 ≡ new_node (codes "a") 5 (showed (Requested (Some false)) (Seen PreOperational)) ∷ []
+asked_after_it : nodes_asked booted_up (codes "a") 0x705 ≡ new_node (codes "a") 5 (began (Requested (Some false))) ∷ []
 unfolding nodes_after nodes_asked last_of last_in noted state_at
 asked_after_it = refl
 
-heartbeat_after_it : after booted_up (codes "a") 0x705 (0x7F ∷ []) ≡ new_node (codes "a") 5 (showed NotSeen (Seen PreOperational)) ∷ []
+heartbeat_after_it : after booted_up (codes "a") 0x705 (0x7F ∷ []) ≡ new_node (codes "a") 5 (began NotSeen) ∷ []
 unfolding nodes_after nodes_asked last_of last_in noted state_at
 heartbeat_after_it = refl
 

@@ -49,18 +49,25 @@ has_bit word place = bit_and word place == place
 abbrev pub where_set : ℕ → ℕ → List ℕ → List ℕ
 where_set word place text = if has_bit word place then text else []
 
--- the commands of a controlword: bit 7 resets a fault; else by bits 0 to 3 (switch on, enable
--- voltage, quick stop where 0, enable operation)
+-- the commands of a controlword, by bits 0 to 3 (switch on, enable voltage, quick stop where 0, enable
+-- operation)
 unfoldable pub command_words : ℕ → List ℕ
 command_words word =
-    if has_bit word 0x80 then codes "fault reset"
-    else (if bit_and word 0x02 == 0 then codes "disable voltage"
+    if bit_and word 0x02 == 0 then codes "disable voltage"
     else (if bit_and word 0x04 == 0 then codes "quick stop"
     else (if bit_and word 0x01 == 0 then codes "shutdown"
-    else (if bit_and word 0x08 == 0 then codes "switch on" else codes "enable operation"))))
+    else (if bit_and word 0x08 == 0 then codes "switch on" else codes "enable operation")))
+
+-- Bit 7 resets a fault where it was 0 before. While it stays 1, bits 0 to 3 count as ever; without them
+-- it is that command alone.
+abbrev pub first_words : ℕ → List ℕ
+first_words word = if bit_and word 0x8F == 0x80 then codes "fault reset" else command_words word
+
+abbrev pub also_reset : ℕ → List ℕ
+also_reset word = if bit_and word 0x8F == 0x80 then [] else where_set word 0x80 (codes ", fault reset")
 
 unfoldable pub controlword_words : ℕ → List ℕ
-controlword_words word = command_words word ++ where_set word 0x100 (codes ", halt")
+controlword_words word = first_words word ++ also_reset word ++ where_set word 0x100 (codes ", halt")
 
 -- the states of a statusword: by bits 0 to 3 and 6, and of two of them by bit 5 (quick stop where
 -- 0)

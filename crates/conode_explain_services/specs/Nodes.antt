@@ -41,10 +41,18 @@ last_at (Some place) nodes = (node_at nodes place).last
 unfoldable pub last_in : List Node → List ℕ → ℕ → Last
 last_in nodes interface id = last_at (place_of nodes interface id) nodes
 
+-- with a boot-up, which is byte 0, the error register begins anew
+abbrev pub register_after : Option ℕ → ℕ → Option ℕ
+register_after register byte = if byte == 0 then None else register
+
 -- what they have after a frame that shows this
 abbrev pub last_with : Last → Shown → Last
 last_with last (Register register) = record last { register = Some register }
-last_with last (State byte) = record last { guarding = guarding_after last.guarding byte; state = state_after last.state byte }
+last_with last (State byte) = record last {
+  register = register_after last.register byte;
+  guarding = guarding_after last.guarding byte;
+  state = state_after last.state byte;
+}
 last_with last Request = record last { guarding = guarding_asked last.guarding }
 last_with last (Command command) = record last { state = state_commanded last.state command }
 

@@ -139,7 +139,7 @@ fn drive_class_words(class: u8) -> &'static str
 }
 
 /// The codes of CiA 402.
-const DRIVE_CODES: [Row; 90] = [
+const DRIVE_CODES: [Row; 105] = [
     Row(0x2110, "short circuit or earth leakage"),
     Row(0x2120, "earth leakage"),
     Row(0x2130, "short circuit"),
@@ -198,6 +198,21 @@ const DRIVE_CODES: [Row; 90] = [
     Row(0x5520, "program memory"),
     Row(0x5530, "non-volatile memory"),
     Row(0x6010, "software reset by the watchdog"),
+    Row(0x6301, "number 1"),
+    Row(0x6302, "number 2"),
+    Row(0x6303, "number 3"),
+    Row(0x6304, "number 4"),
+    Row(0x6305, "number 5"),
+    Row(0x6306, "number 6"),
+    Row(0x6307, "number 7"),
+    Row(0x6308, "number 8"),
+    Row(0x6309, "number 9"),
+    Row(0x630A, "number 10"),
+    Row(0x630B, "number 11"),
+    Row(0x630C, "number 12"),
+    Row(0x630D, "number 13"),
+    Row(0x630E, "number 14"),
+    Row(0x630F, "number 15"),
     Row(0x6310, "loss of parameters"),
     Row(0x6320, "parameter error"),
     Row(0x7110, "brake chopper"),

@@ -3,11 +3,13 @@
 ghost use Rattle.std.specs.Prelude.{◌≡◌, ◌++◌, OnOk, string_bytes};
 ghost use Rattle.conode_explain_services.specs.Drives.{
   after_digits,
+  also_reset,
   axis_index,
   bracketed,
   command_words,
   controlword_words,
   drive_words,
+  first_words,
   has_meaning,
   is_drive,
   is_mode,
@@ -69,9 +71,7 @@ fn where_set(word: u16, place: u16, text: &'static str) -> &'static str
 fn command_words(word: u16) -> &'static str
     ensures { result.now ≡ command_words word }
 {
-    if word & 0x80 == 0x80 {
-        "fault reset"
-    } else if word & 0x02 == 0 {
+    if word & 0x02 == 0 {
         "disable voltage"
     } else if word & 0x04 == 0 {
         "quick stop"
@@ -84,6 +84,26 @@ fn command_words(word: u16) -> &'static str
     }
 }
 
+fn first_words(word: u16) -> &'static str
+    ensures { result.now ≡ first_words word }
+{
+    if word & 0x8F == 0x80 {
+        "fault reset"
+    } else {
+        command_words(word)
+    }
+}
+
+fn also_reset(word: u16) -> &'static str
+    ensures { result.now ≡ also_reset word }
+{
+    if word & 0x8F == 0x80 {
+        ""
+    } else {
+        where_set(word, 0x80, ", fault reset")
+    }
+}
+
 #[tactic(auto, unfolding(crate::specs::Drives::controlword_words, conode_text::specs::Filled::filled))]
 fn push_controlword(text: &mut String, word: u16) -> Result<(), AllocError>
     ensures { OnOk result (string_bytes text.new
@@ -92,10 +112,11 @@ fn push_controlword(text: &mut String, word: u16) -> Result<(), AllocError>
     let halt = where_set(word, 0x100, ", halt");
     push_filled(
         text,
-        " (%, %%)",
+        " (%, %%%)",
         &[
             Value::Short(word),
-            Value::Words(command_words(word)),
+            Value::Words(first_words(word)),
+            Value::Words(also_reset(word)),
             Value::Words(halt),
         ],
     )

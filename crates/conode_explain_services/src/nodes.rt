@@ -16,6 +16,7 @@ ghost use Rattle.conode_explain_services.specs.Nodes.{
   noted,
   nothing_seen,
   place_of,
+  register_after,
 };
 
 use crate::guarding::Guarding;
@@ -76,6 +77,13 @@ pub(crate) fn is_error_control(frame: &Frame) -> bool
     is_error_control_id(frame.id()) && frame.bytes().len() == 1
 }
 
+// with a boot-up the error register begins anew
+fn register_after(register: Option<u8>, byte: u8) -> Option<u8>
+    ensures { result ≡ register_after register byte }
+{
+    if byte == 0 { None } else { register }
+}
+
 impl Last {
     /// Nothing came.
     pub fn new() -> Last
@@ -99,7 +107,7 @@ impl Last {
                 state: self.state,
             },
             Shown::State(byte) => Last {
-                register: self.register,
+                register: register_after(self.register, byte),
                 guarding: guarding_after(self.guarding, byte),
                 state: state_after(self.state, byte),
             },
