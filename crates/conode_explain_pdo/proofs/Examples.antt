@@ -20,7 +20,7 @@ use Rattle.conode_explain_pdo.specs.EntryBits.{entry_bits, place_from, shown_bit
 use Rattle.conode_explain_services.specs.Drives.{drive_words, meaning_at, mode_words, state_words, statusword_words, word_text}
 use Rattle.conode_explain_pdo.specs.KnownEntries.{Device, is_node_drive, known_text}
 use Rattle.conode_text.specs.Filled.{filled}
-use Rattle.conode_explain_pdo.specs.Mappings.{addressed_text, addressing_word, bits_at, data_text, mapped_text, missing_text, more_parts, more_text, multiplexed_data, multiplexed_text, part_bytes, part_text, parts_text, short_text}
+use Rattle.conode_explain_pdo.specs.Mappings.{addressed_text, addressing_word, bits_at, data_text, mapped_text, missing_text, more_parts, more_text, multiplexed_data, multiplexed_text, part_bytes, part_text, parts_text, short_text, with_bits}
 use Rattle.co_value.specs.declared.key.Key.{Key}
 use Rattle.conode_explain_pdo.specs.CobIdWords.{cob_id_words, has_cob_id}
 use Rattle.conode_explain_pdo.specs.CobIds.{has_identifier, is_of, may_be_pdo, node_with}
@@ -29,7 +29,7 @@ use Rattle.conode_explain_entries.specs.declared.state.Value.{Value}
 use Rattle.conode_explain_entries.specs.declared.state.Value.TheVariants.{Assumed, Seen, Saved, Unknown}
 use Rattle.conode_explain_entries.specs.Histories.{assumed_values}
 use Rattle.conode_explain_pdo.specs.Buses.{Bus}
-use Rattle.conode_explain_pdo.specs.InForce.{data_in_force, device_at, mapping_in_force, raw_text, shown_text, words_in_force}
+use Rattle.conode_explain_pdo.specs.InForce.{assumed_text, data_in_force, device_at, is_count, mapping_in_force, raw_text, shown_text, words_in_force}
 use Rattle.conode_explain_pdo.specs.Claims.{claims_with, sheet_claim, sheets_claims, shown_claim}
 use Rattle.conode_explain_pdo.specs.Known.{KnownSheet, known_sheet, names_for}
 use Rattle.conode_explain_pdo.specs.Pdos.{more_pdos, pdo_front, pdo_text, pdos_text}
@@ -106,13 +106,18 @@ bits_and_gap : data_of (0x20020001 ∷ 0x00050007 ∷ 0x20010108 ∷ []) (0x01 �
 unfolding mapped_text parts_text more_parts part_text part_bytes short_text more_text filled entry_of known_text meaning_at entry_text value_text number_text digits digits_text is_utf8 chars encode
 bits_and_gap = refl
 
-not_there : data_of (0x23450108 ∷ 0x20020008 ∷ []) (0x01 ∷ 0x00 ∷ []) ≡ codes "2345:01 (not in sheet); B 2002:00 = false"
-unfolding mapped_text parts_text more_parts part_text missing_text part_bytes short_text more_text filled entry_of known_text meaning_at entry_text value_text number_text digits digits_text is_utf8 chars encode
+not_there : data_of (0x23450108 ∷ 0x20020008 ∷ []) (0x01 ∷ 0x00 ∷ []) ≡ codes "2345:01 = 01 (not in sheet); B 2002:00 = false"
+unfolding mapped_text parts_text more_parts part_text missing_text with_bits part_bytes short_text more_text filled entry_of known_text meaning_at entry_text value_text number_text digits digits_text is_utf8 chars encode
 not_there = refl
 
+-- over the bounds of bytes, in as many as it needs; and no bits
+bits_not_there : data_of (0x2345010C ∷ 0x23450204 ∷ 0x23450300 ∷ []) (0xE8 ∷ 0xA3 ∷ []) ≡ codes "2345:01 = E803 (not in sheet); 2345:02 = 0A (not in sheet); 2345:03 (not in sheet)"
+unfolding mapped_text parts_text more_parts part_text missing_text with_bits part_bytes short_text more_text filled entry_of digits digits_text
+bits_not_there = refl
+
 -- the first index that is no gap, and a gap with a sub-index
-no_gaps : data_of (0x00200008 ∷ 0x00050108 ∷ []) (0x01 ∷ 0x00 ∷ []) ≡ codes "0020:00 (not in sheet); 0005:01 (not in sheet)"
-unfolding mapped_text parts_text more_parts part_text missing_text part_bytes short_text more_text filled entry_of known_text meaning_at entry_text value_text number_text digits digits_text is_utf8 chars encode
+no_gaps : data_of (0x00200008 ∷ 0x00050108 ∷ []) (0x01 ∷ 0x00 ∷ []) ≡ codes "0020:00 = 01 (not in sheet); 0005:01 = 00 (not in sheet)"
+unfolding mapped_text parts_text more_parts part_text missing_text with_bits part_bytes short_text more_text filled entry_of known_text meaning_at entry_text value_text number_text digits digits_text is_utf8 chars encode
 no_gaps = refl
 
 too_short : data_of (0x20010110 ∷ 0x20010220 ∷ []) (1 ∷ 2 ∷ 3 ∷ 4 ∷ []) ≡ codes "4 bytes, mapping has 6"
@@ -475,8 +480,8 @@ word_missing = refl
 -- a sheet that isn't there, or is for another node: what the recording shows is all that is known
 no_sheet : said_with (record { sheet = None; only = None; originals = λ line. None })
     (shown 0x1801 (Seen 0x285) (Seen 1 ∷ Seen 0x20010110 ∷ []) false ∷ []) 0x285 (0xE8 ∷ 0x03 ∷ [])
-    ≡ codes "TPDO2 node 5 (mapping seen): 2001:01 (not in sheet)"
-unfolding claims_with sheets_claims sheet_claim shown_claim names_for pdos_text more_pdos pdo_text pdo_front data_in_force shown_text raw_text mapping_in_force words_in_force sheet_pdos data_text mapped_text parts_text more_parts part_text missing_text part_bytes short_text more_text filled entry_of known_text meaning_at entry_text value_text number_text digits digits_text is_utf8 chars encode
+    ≡ codes "TPDO2 node 5 (mapping seen): 2001:01 = E803 (not in sheet)"
+unfolding claims_with sheets_claims sheet_claim shown_claim names_for pdos_text more_pdos pdo_text pdo_front data_in_force shown_text raw_text mapping_in_force words_in_force sheet_pdos data_text mapped_text parts_text more_parts part_text missing_text with_bits part_bytes short_text more_text filled entry_of known_text meaning_at entry_text value_text number_text digits digits_text is_utf8 chars encode
 no_sheet = refl
 
 no_data : said_with (record { sheet = None; only = None; originals = λ line. None }) (shown 0x1401 (Seen 0x305) [] false ∷ []) 0x305 []
@@ -571,3 +576,19 @@ changed_bits = refl
 unknown_bits : bits_by_these (Seen 1 ∷ Assumed ∷ []) false ≡ None
 unfolding mapping_in_force words_in_force
 unknown_bits = refl
+
+-- a count that means nothing, and the counts of multiplexed PDOs
+no_counts : map (λ count. mapping_in_force (Seen count ∷ []) None) (0 ∷ 65 ∷ 0xFD ∷ 0xFE ∷ 0xFF ∷ [])
+    ≡ Some (record { count = 0; words = [] }) ∷ None ∷ None ∷ Some (record { count = 0xFE; words = [] }) ∷ Some (record { count = 0xFF; words = [] }) ∷ []
+unfolding mapping_in_force words_in_force
+no_counts = refl
+
+greatest_count : is_count 64 ≡ true
+greatest_count = refl
+
+-- of the recording and of the sheet: the data are raw
+raw_counts : shown_text (of_sheet names) 5 (0xE8 ∷ 0x03 ∷ []) None (shown 0x1800 Assumed (Seen 65 ∷ []) false).state
+    ∷ assumed_text (of_sheet names) 5 (0xE8 ∷ 0x03 ∷ []) (Some (record { count = 65; words = [] })) ∷ []
+    ≡ codes ": E803 (mapping is unknown)" ∷ codes ": E803 (mapping is unknown)" ∷ []
+unfolding shown_text mapping_in_force words_in_force raw_text filled digits digits_text
+raw_counts = refl

@@ -1,5 +1,5 @@
 -- The mapping of a PDO that is in force, by the data sheet and by what the recording shows.
-use Rattle.std.specs.Prelude.{ℕ, zero, suc, ◌+◌, ◌%◌, ◌==◌, nat_le, Bool, true, false, if◌then◌else◌, List, [], ◌∷◌, ◌++◌, slice_index, slice_index_or, take, codes, find, Option, Some, None, option_map, option_and_then}
+use Rattle.std.specs.Prelude.{ℕ, zero, suc, ◌+◌, ◌%◌, ◌==◌, nat_le, Bool, ◌||◌, true, false, if◌then◌else◌, List, [], ◌∷◌, ◌++◌, slice_index, slice_index_or, take, codes, find, Option, Some, None, option_map, option_and_then}
 use Rattle.std.specs.List.{flat_map, list_all}
 use Rattle.std.specs.Option.{option_map_or}
 use Rattle.co_text.specs.Printed.{byte_text}
@@ -92,9 +92,14 @@ words_in_force values sheet (suc count) =
 abbrev pub word_count : ℕ → ℕ
 word_count count = if nat_le count 64 then count else 0
 
+-- a count of 65 to 253 means nothing
+abbrev pub is_count : ℕ → Bool
+is_count count = nat_le count 64 || nat_le 0xFE count
+
 abbrev pub mapping_with : List Value → Option Mapping → ℕ → Option Mapping
 mapping_with values sheet count =
-    option_map (λ words. record { count = count; words = words }) (words_in_force values sheet (word_count count))
+    if is_count count then option_map (λ words. record { count = count; words = words }) (words_in_force values sheet (word_count count))
+    else None
 
 -- the mapping, if all of it is known
 unfoldable pub mapping_in_force : List Value → Option Mapping → Option Mapping
@@ -136,9 +141,13 @@ shown_text device node bytes sheet state =
     (raw_text bytes (codes "mapping is unknown"))
 
 -- it shows none: the mapping is the sheet's
+abbrev pub sheet_text : Device → ℕ → List ℕ → Mapping → List ℕ
+sheet_text device node bytes mapping =
+    if is_count mapping.count then data_text device node mapping bytes else raw_text bytes (codes "mapping is unknown")
+
 abbrev pub assumed_text : Device → ℕ → List ℕ → Option Mapping → List ℕ
 assumed_text device node bytes sheet =
-    option_map_or (λ mapping. data_text device node mapping bytes) sheet (raw_text bytes (codes "mapping is unknown"))
+    option_map_or (sheet_text device node bytes) sheet (raw_text bytes (codes "mapping is unknown"))
 
 -- the data of a node's PDO
 unfoldable pub data_in_force : Bus → ℕ → ℕ → List ℕ → List ℕ

@@ -47,16 +47,23 @@ is_gap key = (nat_lt 0 key.index && nat_lt key.index 0x20) && (key.sub == 0)
 abbrev pub value_part : Device → ℕ → Key → List ℕ → ℕ → ℕ → Row → List ℕ
 value_part device node key bytes offset bits row = known_text device node key row bits (part_bytes bytes offset bits)
 
--- an entry that the sheet lacks
-unfoldable pub missing_text : Key → List ℕ
-missing_text key = filled (codes "% (not in sheet)") (key_text key ∷ [])
+-- an entry that the sheet lacks, with its bits
+abbrev pub bits_text : List ℕ → List ℕ
+bits_text [] = []
+bits_text (byte ∷ bytes) = codes " = " ++ flat_map byte_text (byte ∷ bytes)
+
+unfoldable pub with_bits : Key → List ℕ → List ℕ
+with_bits key bytes = key_text key ++ bits_text bytes
+
+unfoldable pub missing_text : Key → List ℕ → List ℕ
+missing_text key bytes = with_bits key bytes ++ codes " (not in sheet)"
 
 -- what a word says of the data from an offset on
 unfoldable pub part_text : Device → ℕ → List ℕ → ℕ → ℕ → List ℕ
 part_text device node bytes offset word =
     if is_gap (word_key word) then codes "-"
     else option_map_or (value_part device node (word_key word) bytes offset (word_bits word))
-    (entry_of device.names node (word_key word)) (missing_text (word_key word))
+    (entry_of device.names node (word_key word)) (missing_text (word_key word) (part_bytes bytes offset (word_bits word)))
 
 -- the parts one after another from an offset on, each after a semicolon
 unfoldable pub more_parts : Device → ℕ → List ℕ → ℕ → List ℕ → List ℕ

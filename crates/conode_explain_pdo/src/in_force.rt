@@ -12,6 +12,7 @@ ghost use Rattle.conode_explain_pdo.specs.InForce.{
   device_at,
   digits_of,
   if_there,
+  is_count,
   is_drive_at,
   is_from,
   known_text,
@@ -23,6 +24,7 @@ ghost use Rattle.conode_explain_pdo.specs.InForce.{
   origin_words,
   raw_text,
   sheet_mapping,
+  sheet_text,
   sheet_word,
   shown_text,
   state_at,
@@ -227,9 +229,19 @@ pub(crate) fn word_count(count: u8) -> u8
     if count <= 64 { count } else { 0 }
 }
 
+// whether a count means something
+fn is_count(count: u8) -> bool
+    ensures { result ≡ is_count count }
+{
+    count <= 64 || 0xFE <= count
+}
+
 fn mapping_with(values: &[Value], sheet: Option<&Mapping>, count: u8) -> Option<Mapping>
     ensures { result ≡ mapping_with values.now (option_copied sheet.entry) count }
 {
+    if !is_count(count) {
+        return None;
+    }
     match words_in_force(values, sheet, word_count(count)) {
         Some(words) => Some(Mapping { count, words }),
         None => None,
@@ -304,6 +316,24 @@ fn push_raw(text: &mut String, bytes: &[u8], why: &str) -> Result<(), AllocError
     push_filled(text, " (%)", &[Filling::Words(why)])
 }
 
+fn push_of_sheet(
+    text: &mut String,
+    device: Device<'_, '_>,
+    node: u8,
+    mapping: &Mapping,
+    bytes: &[u8],
+) -> Result<(), AllocError>
+    requires { length bytes.now ≤ 8 }
+    ensures { OnOk result (string_bytes text.new ≡ string_bytes text.old
+        ++ sheet_text (device_view device.entry) node bytes.now mapping.now) }
+{
+    if is_count(mapping.count) {
+        push_data(text, device, node, mapping, bytes)
+    } else {
+        push_raw(text, bytes, "mapping is unknown")
+    }
+}
+
 // by the sheet's mapping: the recording shows nothing of it
 fn push_assumed(
     text: &mut String,
@@ -317,7 +347,7 @@ fn push_assumed(
         ++ assumed_text (device_view device.entry) node bytes.now (option_copied sheet.entry)) }
 {
     match sheet {
-        Some(mapping) => push_data(text, device, node, mapping, bytes),
+        Some(mapping) => push_of_sheet(text, device, node, mapping, bytes),
         None => push_raw(text, bytes, "mapping is unknown"),
     }
 }

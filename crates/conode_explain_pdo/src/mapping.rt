@@ -8,6 +8,7 @@ ghost use Rattle.conode_explain_values.specs.Values.{HasBits};
 ghost use Rattle.conode_explain_pdo.specs.Mappings.{
   addressed_text,
   addressing_word,
+  bits_text,
   data_text,
   is_gap,
   mapped_text,
@@ -23,6 +24,7 @@ ghost use Rattle.conode_explain_pdo.specs.Mappings.{
   short_text,
   total_bits,
   unit_of,
+  with_bits,
   word_bits,
   word_key,
 };
@@ -123,12 +125,33 @@ pub(crate) fn part_bytes(bytes: &[u8], offset: usize, bits: usize) -> ArrayVec<u
     low_bytes(bits_from(unsigned_of(bytes), offset, bits), (bits + 7) / 8)
 }
 
-// an entry that the sheet lacks
-#[tactic(auto, unfolding(crate::specs::Mappings::missing_text))]
-fn push_missing(text: &mut String, key: Key) -> Result<(), AllocError>
-    ensures { OnOk result (string_bytes text.new ≡ string_bytes text.old ++ missing_text key) }
+fn push_bits(text: &mut String, bytes: &[u8]) -> Result<(), AllocError>
+    ensures { OnOk result (string_bytes text.new ≡ string_bytes text.old ++ bits_text bytes.now) }
 {
-    push_filled(text, "% (not in sheet)", &[Value::Key(key)])
+    if bytes.is_empty() {
+        return Ok(());
+    }
+    attempt!(text.push_str(" = "));
+    push_bytes(text, bytes)
+}
+
+#[tactic(auto, unfolding(crate::specs::Mappings::with_bits))]
+fn push_with_bits(text: &mut String, key: Key, bytes: &[u8]) -> Result<(), AllocError>
+    ensures { OnOk result
+        (string_bytes text.new ≡ string_bytes text.old ++ with_bits key bytes.now) }
+{
+    attempt!(text.push_str(key.text().as_str()));
+    push_bits(text, bytes)
+}
+
+// an entry that the sheet lacks, with its bits
+#[tactic(auto, unfolding(crate::specs::Mappings::missing_text))]
+fn push_missing(text: &mut String, key: Key, bytes: &[u8]) -> Result<(), AllocError>
+    ensures { OnOk result
+        (string_bytes text.new ≡ string_bytes text.old ++ missing_text key bytes.now) }
+{
+    attempt!(push_with_bits(text, key, bytes));
+    text.push_str(" (not in sheet)")
 }
 
 // what a word says of the data from an offset on
@@ -150,13 +173,11 @@ fn push_part(
     if is_gap(key) {
         return text.push_str("-");
     }
+    let bits = word_bits(word);
+    let part = part_bytes(bytes, offset, bits);
     match device.names.entry(node, key) {
-        Some(row) => {
-            let bits = word_bits(word);
-            let part = part_bytes(bytes, offset, bits);
-            push_known(text, device, node, key, row, bits, part.as_slice())
-        }
-        None => push_missing(text, key),
+        Some(row) => push_known(text, device, node, key, row, bits, part.as_slice()),
+        None => push_missing(text, key, part.as_slice()),
     }
 }
 
