@@ -1,6 +1,7 @@
 mod AbortExamples
 pub mod AbortLemmas
 pub mod AssumedLemmas
+mod ErrorExamples
 pub mod Explaining
 mod FilterExamples
 pub mod LogLemmas

@@ -8,6 +8,7 @@ use Rattle.conode_record.specs.declared.fields.Identifier.{Identifier}
 use Rattle.conode_record.specs.declared.fields.Identifier.TheVariants.{Base, Extended, Error}
 use Rattle.co_frame.specs.FrameContent.{FrameContent}
 use Rattle.conode_explain.specs.AbortWords.{abort_words}
+use Rattle.conode_explain.specs.ErrorWords.{error_words}
 use Rattle.conode_explain.specs.Transfers.{transfer_words}
 use Rattle.conode_explain_pdo.specs.declared.claim.Claim.{Claim}
 use Rattle.conode_explain_pdo.specs.Buses.{Bus, names_at}
@@ -71,7 +72,7 @@ assumed_words id = assumed_front (id / 128) ++ decimal (id % 128)
 abbrev pub data_words : Bus → List Claim → Bool → Last → Identifier → List ℕ → List ℕ
 data_words bus claims named last (Base id) bytes = frame_words bus claims named last (record { id = id; bytes = bytes })
 data_words bus claims named last (Extended id) bytes = codes "frame with an identifier of 29 bits"
-data_words bus claims named last (Error class) bytes = codes "error frame"
+data_words bus claims named last (Error class) bytes = error_words class
 
 -- what a remote frame says, by the identifier
 abbrev pub remote_content : Identifier → List ℕ

@@ -1,10 +1,12 @@
 pub mod AbortWords
 pub mod BadWords
+pub mod ErrorWords
 pub mod Explained
 pub mod Filtered
 pub mod FrameWords
 pub mod LogLines
 pub mod Nodes
+pub mod SegmentWords
 pub mod Sheets
 pub mod Taking
 pub mod ToldWords

@@ -12,15 +12,15 @@ use Rattle.conode_explain_services.specs.declared.last.Last.{Last}
 use Rattle.conode_explain_transfers.specs.declared.ended.Ended.{Ended}
 use Rattle.conode_explain_transfers.specs.declared.ended.Ending.{Ending}
 use Rattle.conode_explain_transfers.specs.declared.ended.Ending.TheVariants.{Aborted}
-use Rattle.conode_explain_transfers.specs.declared.kinds.Side.{Side}
 use Rattle.conode_explain_pdo.specs.declared.claim.Claim.{Claim}
 use Rattle.conode_explain_pdo.specs.Buses.{Bus, names_at}
 use Rattle.conode_explain_entries.specs.Ends.{end_text, transfer_text}
-use Rattle.conode_explain_entries.specs.Frames.{after_text, segment_number, segment_text}
+use Rattle.conode_explain_entries.specs.Frames.{after_text, segment_text}
 use Rattle.conode_explain_forms.specs.EndedValues.{end_value}
 use Rattle.conode_explain_forms.specs.Refusals.{refusal_note}
 use Rattle.conode_explain.specs.AbortWords.{words_of}
 use Rattle.conode_explain.specs.FrameWords.{words_of_content}
+use Rattle.conode_explain.specs.SegmentWords.{or_segment, shown_number}
 
 -- the name of a node's entry; empty where it has none
 unfoldable pub name_bytes : Names → ℕ → Key → List ℕ
@@ -33,13 +33,13 @@ name_in names node None = []
 name_in names node (Some key) = name_bytes names node key
 
 -- a segment of a sub-block has its number, every other frame its own text
-abbrev pub part_front : Bus → List Claim → Bool → Last → Identifier → Content → ℕ → Side → Option ℕ → List ℕ
-part_front bus claims named last id content node side None = words_of_content bus claims named last id content
-part_front bus claims named last id content node side (Some number) = segment_text side node number
+abbrev pub part_front : Bus → List Claim → Bool → Last → Identifier → Content → ℕ → Part → Option ℕ → List ℕ
+part_front bus claims named last id content node part None = words_of_content bus claims named last id content ++ or_segment part.what content
+part_front bus claims named last id content node part (Some number) = segment_text part.side node number
 
 unfoldable pub part_words : Bus → List Claim → Bool → Last → Identifier → Content → ℕ → Part → List ℕ
 part_words bus claims named last id content node part =
-    part_front bus claims named last id content node part.side (segment_number part.what) ++ after_text part.what part.of (name_in (names_at bus node) node part.of)
+    part_front bus claims named last id content node part (shown_number part.what content) ++ after_text part.what part.of (name_in (names_at bus node) node part.of)
 
 abbrev pub words_in : Bus → List Claim → Bool → Last → Identifier → Content → ℕ → Option Part → List ℕ
 words_in bus claims named last id content node None = words_of_content bus claims named last id content

@@ -18,7 +18,7 @@ use co_words::abort_text;
 use std::alloc::AllocError;
 
 /// The first byte of an abort.
-const ABORT: u8 = 0x80;
+pub(crate) const ABORT: u8 = 0x80;
 
 fn is_sdo(id: u16) -> bool
     ensures { result ≡ is_sdo id }
@@ -26,7 +26,8 @@ fn is_sdo(id: u16) -> bool
     (0x581..0x600).contains(&id) || (0x601..0x680).contains(&id)
 }
 
-fn has_abort(bytes: &[u8]) -> bool
+/// Whether eight bytes have cs = 4.
+pub(crate) fn has_abort(bytes: &[u8]) -> bool
     ensures { result ≡ has_abort bytes.now }
 {
     bytes.len() == 8 && (0x7F < bytes[0] && bytes[0] < 0xA0)

@@ -21,6 +21,7 @@ ghost use Rattle.conode_explain.specs.FrameWords.{
 };
 
 use crate::abort_words::push_abort_words;
+use crate::error_words::push_error_words;
 use crate::progress::last_of;
 use crate::transfer::{push_transfer, transfer_in};
 use co_frame::Frame;
@@ -219,7 +220,7 @@ pub(crate) fn set_words(
         (Content::Data(_), Identifier::Extended(_)) => {
             said.push_str("frame with an identifier of 29 bits")
         }
-        (Content::Data(_), Identifier::Error(_)) => said.push_str("error frame"),
+        (Content::Data(_), Identifier::Error(class)) => push_error_words(said, class),
         (Content::Remote(_), Identifier::Base(id)) => push_remote(said, id),
         (Content::Remote(_), Identifier::Extended(_) | Identifier::Error(_)) => {
             said.push_str("remote frame")

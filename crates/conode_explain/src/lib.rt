@@ -45,11 +45,13 @@ macro_rules! attempt_value_in_memory {
 mod abort_words;
 mod bad_words;
 mod ends;
+mod error_words;
 mod explain_file;
 mod explained;
 mod filtered;
 mod frame_words;
 mod progress;
+mod segment_words;
 mod settings;
 mod sheets;
 mod step;

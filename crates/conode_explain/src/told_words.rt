@@ -19,12 +19,11 @@ ghost use Rattle.conode_explain.specs.ToldWords.{
 
 use crate::abort_words::words_of;
 use crate::frame_words::set_words;
+use crate::segment_words::{push_or_segment, shown_number};
 use co_sheet_changes::{Names, shown_name};
 use co_text::{push_byte, push_decimal, push_digit};
 use co_value::Key;
-use conode_explain_entries::{
-    ChannelIds, push_after, push_end, push_segment, push_transfer, segment_number,
-};
+use conode_explain_entries::{ChannelIds, push_after, push_end, push_segment, push_transfer};
 use conode_explain_forms::{push_end_value, push_refusal};
 use conode_explain_pdo::{Bus, Claim};
 use conode_explain_services::Nodes;
@@ -74,8 +73,9 @@ fn set_part_words(
         frame.now.content node part) }
 {
     let name = name_in(bus.names(node), node, part.of);
-    let Some(number) = segment_number(part.what) else {
+    let Some(number) = shown_number(part.what, &frame.content) else {
         attempt!(set_words(said, bus, claims, named, nodes, id, frame));
+        attempt!(push_or_segment(said, part.what, &frame.content));
         return push_after(said, part.what, part.of, name);
     };
     said.clear();
