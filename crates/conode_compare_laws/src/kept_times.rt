@@ -36,7 +36,7 @@ use co_sdo::Bank;
 
 /// Clients alone write an entry of a device that is built from a data sheet, and `compare` takes
 /// their frames for such, where the application doesn't write it (`AllWriteNot`), and each frame to
-/// another SDO channel than the default one is told (`AllToTold`), as where none comes to one. This
+/// another SDO channel than the default one is recognized (`AllToTold`), as where none comes. This
 /// is a law: a call of it changes nothing.
 pub fn writes_seen()
     ensures { (plan : Plan) (k : Constants) (clients : OtherClients) (key : Key)

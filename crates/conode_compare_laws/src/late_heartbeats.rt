@@ -158,7 +158,7 @@ pub fn built_no_late_heartbeats_written()
 /// (`HaveBytes`); and no other node sends on the identifiers of its error control and of the answers
 /// (`AreElsewhere`). `seen`: where clients alone write 1017:00, and `compare` takes their frames for
 /// such (`AllWriteSeen`). `told`: where the application doesn't write it (`AllWriteNot`), and by the
-/// data sheet the frames to other SDO channels are told (`has_hidden_channel`, `AllGiven`). This is
+/// data sheet frames to other SDO channels are recognized (`has_hidden_channel`, `AllGiven`). This is
 /// a law: a call of it changes nothing.
 pub fn sheet_no_late_heartbeats()
     ensures seen { (plan : Plan) (k : Constants) (subject : Subject) (rows : List Row)
