@@ -1,11 +1,12 @@
 -- What FileInfo and DeviceInfo say, on both sides of each edge.
 use Rattle.std.proofs.Common.{◌≡◌, ℕ, List, [], ◌∷◌, true, false, refl, codes, map, take, drop}
-use Rattle.std.specs.Prelude.{replicate}
+use Rattle.std.specs.Prelude.{replicate, ◌++◌}
 use Rattle.co_sheet_warnings.specs.declared.warning.WarningKind.TheVariants.{FileInfoKeys, DeviceInfoKeys, PdoCount, IdentityNumber, DateFormat}
 use Rattle.co_sheet_warnings.specs.declared.keys.Topic.TheVariants.{FileInfo, DeviceInfo}
 use Rattle.co_sheet_warnings.specs.declared.known_key.KnownKey.TheVariants.{FileName}
 use Rattle.co_sheet_warnings.specs.KnownKeys.{key_text}
-use Rattle.co_sheet_warnings.specs.Infos.{device_keys, file_keys, is_date, is_time}
+use Rattle.co_sheet_text.specs.Numerals.{unsigned_number}
+use Rattle.co_sheet_warnings.specs.Infos.{device_keys, file_keys, is_date, is_read_as, is_time}
 use Rattle.co_sheet_warnings.specs.Warnings.{few_places, place_in_text, places_in, places_of}
 use Rattle.co_sheet_warnings.proofs.ExampleTexts.{places}
 
@@ -100,6 +101,27 @@ other_numbers = refl
 no_numbers : other_numbers_of (identity (codes "VendorNumber=one") (codes "ProductNumber=") (codes "VendorName=3")) ≡ (2 ∷ []) ∷ [] ∷ [] ∷ []
 unfolding places_of few_places place_in_text places_in
 no_numbers = refl
+
+-- of the vendor-ID 0xF1A2: a leading zero is octal or decimal, by the tool that wrote it
+read_as : map (λ text. is_read_as 61858 text (unsigned_number text)) (codes "0170642" ∷ codes "0000061858" ∷ codes "00170642" ∷ codes "61858" ∷ codes "0xF1A2" ∷ codes "0170643" ∷ codes "0061857" ∷ codes "170642" ∷ codes "0F1A2" ∷ codes "-061858" ∷ codes "" ∷ [])
+    ≡ true ∷ true ∷ true ∷ true ∷ true ∷ false ∷ false ∷ false ∷ false ∷ false ∷ false ∷ []
+read_as = refl
+
+-- no octal digits
+only_decimal : map (λ n. is_read_as n (codes "0190") (unsigned_number (codes "0190"))) (190 ∷ 136 ∷ 0x190 ∷ []) ≡ true ∷ false ∷ false ∷ []
+only_decimal = refl
+
+abbrev vendor_of : List ℕ → List (List ℕ)
+vendor_of number = codes "[DeviceInfo]" ∷ codes "VendorNumber=010" ∷ codes "[1018sub1]" ∷ (codes "DefaultValue=" ++ number) ∷ []
+
+leading_zero : map (λ number. places (IdentityNumber 1) (vendor_of number)) (codes "8" ∷ codes "10" ∷ codes "9" ∷ codes "16" ∷ []) ≡ [] ∷ [] ∷ (2 ∷ []) ∷ (2 ∷ []) ∷ []
+unfolding places_of few_places place_in_text places_in
+leading_zero = refl
+
+-- so with a number of PDOs
+pdos_with_zero : places PdoCount (codes "[DeviceInfo]" ∷ codes "NrOfRXPDO=08" ∷ codes "NrOfTXPDO=010" ∷ codes "[1800]" ∷ codes "[1801]" ∷ codes "[1802]" ∷ codes "[1803]" ∷ codes "[1804]" ∷ codes "[1805]" ∷ codes "[1806]" ∷ codes "[1807]" ∷ []) ≡ 2 ∷ []
+unfolding places_of few_places place_in_text places_in
+pdos_with_zero = refl
 
 no_identity : places (IdentityNumber 1) (codes "[DeviceInfo]" ∷ codes "VendorNumber=2" ∷ codes "[1018sub1]" ∷ codes "DefaultValue=one" ∷ codes "[1018]" ∷ codes "DefaultValue=1" ∷ []) ≡ []
 unfolding places_of few_places place_in_text places_in

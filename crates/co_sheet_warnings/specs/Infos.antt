@@ -23,6 +23,9 @@ use Rattle.std.specs.Prelude.{
   is_some,
   Option,
   option_and_then,
+  Result,
+  Ok,
+  Err,
 }
 use Rattle.std.specs.List.{list_any, before_first, after_first}
 use Rattle.std.specs.Option.{option_map_or}
@@ -30,7 +33,10 @@ use Rattle.std.specs.Result.{result_ok}
 use Rattle.co_text.specs.Texts.{decimal_in}
 use Rattle.co_sheet_text.specs.declared.section_kind.SectionKind.{SectionKind}
 use Rattle.co_sheet_text.specs.declared.section_kind.SectionKind.TheVariants.{Object}
-use Rattle.co_sheet_text.specs.Numerals.{unsigned_number}
+use Rattle.co_sheet_text.specs.declared.numeral.NumeralFault.{NumeralFault}
+use Rattle.co_sheet_text.specs.declared.numeral.NumeralFault.TheVariants.{Malformed, Ambiguous}
+use Rattle.co_sheet_text.specs.Names.{number_in}
+use Rattle.co_sheet_text.specs.Numerals.{is_number_in, unsigned_number}
 use Rattle.co_sheet_text.specs.Sections.{TextSection}
 use Rattle.co_sheet_text.specs.Text.{same_name}
 use Rattle.co_sheet.specs.Entries.{Entry, is_other_than_zero}
@@ -95,13 +101,23 @@ missing_keys info keys sections required =
 
 -- ---- numbers of DeviceInfo
 
--- a key that isn't this number; one that can't be read isn't
 abbrev pub key_number : WrittenKey → Option ℕ
 key_number k = result_ok (unsigned_number k.value)
 
+-- digits of a base that write this number
+abbrev pub writes : ℕ → ℕ → List ℕ → Bool
+writes base n text = is_number_in base text && (number_in base text == n)
+
+-- A text that reads so is this number. A leading zero may mean octal to the tool that wrote it: either
+-- reading may be it. Another text that can't be read isn't.
+abbrev pub is_read_as : ℕ → List ℕ → Result ℕ NumeralFault → Bool
+is_read_as n text (Ok m) = m == n
+is_read_as n text (Err Ambiguous) = writes 10 n text || writes 8 n text
+is_read_as n text (Err Malformed) = false
+
+-- a key that isn't this number
 abbrev pub other_than : ℕ → WrittenKey → List ℕ
-other_than n k =
-    option_map_or (λ m. if m == n then [] else k.line ∷ []) (key_number k) (k.line ∷ [])
+other_than n k = if is_read_as n k.value (unsigned_number k.value) then [] else k.line ∷ []
 
 abbrev pub other_number_at : List WrittenKey → KnownKey → ℕ → List ℕ
 other_number_at keys known n = option_map_or (other_than n) (key_at DeviceInfo keys known) []

@@ -1,8 +1,9 @@
 //! What FileInfo and DeviceInfo say.
 
-ghost use Rattle.std.specs.Prelude.{◌≡◌, length, map, flat_map, option_map, option_to_list};
+ghost use Rattle.std.specs.Prelude.{◌≡◌, ◌≤◌, length, map, flat_map, option_map, option_to_list};
 ghost use Rattle.std.specs.Option.{option_copied};
 ghost use Rattle.co_sheet.specs.SectionViews.{entry_view};
+ghost use Rattle.co_sheet_text.specs.Numerals.{unsigned_number};
 ghost use Rattle.co_sheet_text.specs.Views.{section_view};
 ghost use Rattle.co_sheet_warnings.specs.Infos.{
   date_formats,
@@ -16,6 +17,7 @@ ghost use Rattle.co_sheet_warnings.specs.Infos.{
   is_missing,
   is_number_of,
   is_object_within,
+  is_read_as,
   is_time,
   key_at,
   lacks_any,
@@ -26,6 +28,7 @@ ghost use Rattle.co_sheet_warnings.specs.Infos.{
   other_number_at,
   other_than,
   pdo_counts,
+  writes,
 };
 ghost use Rattle.co_sheet_warnings.specs.private.Views.{is_written, key_view};
 
@@ -34,7 +37,9 @@ use crate::keys::{Topic, WrittenKey, topic_of};
 use crate::known_key::KnownKey;
 use crate::sub_indices::is_within;
 use co_sheet::EntrySection;
-use co_sheet_text::{SectionKind, TextSection, same_name, unsigned_number};
+use co_sheet_text::{
+    NumeralFault, SectionKind, TextSection, number_in, same_name, unsigned_number,
+};
 use co_text::{decimal_in, split_at_first};
 
 fn is_info(info: Topic, topic: Topic) -> bool
@@ -171,19 +176,38 @@ pub(crate) fn missing_keys(
     Some(0)
 }
 
+// whether digits of a base write this number
+fn writes(base: u32, number: u64, text: &[u8]) -> bool
+    requires low { 2 ≤ base }
+    requires high { base ≤ 36 }
+    ensures { result ≡ writes base number text.now }
+{
+    match number_in(base, text) {
+        Some(given) => given == number,
+        None => false,
+    }
+}
+
+// Whether a text is this number. With a leading zero either reading may be it, as octal and as
+// decimal.
+fn is_read_as(number: u64, text: &[u8]) -> bool
+    ensures { result ≡ is_read_as number text.now (unsigned_number text.now) }
+{
+    match unsigned_number(text) {
+        Ok(given) => given == number,
+        Err(NumeralFault::Ambiguous) => writes(10, number, text) || writes(8, number, text),
+        Err(NumeralFault::Malformed) => false,
+    }
+}
+
 // the line of a key that isn't this number
 fn other_than(key: &WrittenKey, number: u64) -> Option<usize>
     ensures { option_to_list result ≡ other_than number (key_view key.now) }
 {
-    match unsigned_number(key.value) {
-        Ok(given) => {
-            if given == number {
-                None
-            } else {
-                Some(key.line)
-            }
-        }
-        Err(_) => Some(key.line),
+    if is_read_as(number, key.value) {
+        None
+    } else {
+        Some(key.line)
     }
 }
 

@@ -56,11 +56,11 @@ either_breach : (b : Bool) (x y : Option Breach) → of_timeouts (breach_finding
 either_breach true x y p q = p
 either_breach false x y p q = q
 
-no_end : (frame : FrameContent) (e : Ended) (direction : Direction) (ending : Ending) → of_timeouts (breach_finding (ending_breach frame e direction ending)) ≡ []
-no_end frame e direction (Aborted Server code) = either_breach ((same_key (key_in frame) e.key || (code.0 == unknown_command)) || names_none (key_in frame) e.frames) None (Some (AbortKey e.key)) refl refl
-no_end frame e Upload (SizeDiffers indicated) = either_breach (is_padded frame e indicated) None (Some (Size e.key indicated e.bytes)) refl refl
-no_end frame e Upload (CrcDiffers came computed) = refl
-no_end frame e direction ending = refl
+no_end : (newest : Newest) (frame : FrameContent) (e : Ended) (direction : Direction) (ending : Ending) → of_timeouts (breach_finding (ending_breach newest frame e direction ending)) ≡ []
+no_end newest frame e direction (Aborted Server code) = either_breach ((same_key (key_in frame) e.key || (code.0 == unknown_command)) || names_none newest (key_in frame) e.frames) None (Some (AbortKey e.key)) refl refl
+no_end newest frame e Upload (SizeDiffers indicated) = either_breach (is_padded frame e indicated) None (Some (Size e.key indicated e.bytes)) refl refl
+no_end newest frame e Upload (CrcDiffers came computed) = refl
+no_end newest frame e direction ending = refl
 
 no_server_breach : (newest : Newest) (key : Key) (w : What) (byte : ℕ) → of_timeouts (breach_finding (server_breach newest key w byte)) ≡ []
 no_server_breach Request key what.Repeated byte = refl
@@ -84,7 +84,7 @@ no_breach (Some newest) side says frame = by says.ended
   where
     by : (o : Option Ended) → of_timeouts (breach_finding (breach_at (Some newest) side (record says { ended = o }) frame)) ≡ []
     by None = no_keyed newest side says.of says.what (byte_at frame 0)
-    by (Some e) = no_end frame e e.direction e.ending
+    by (Some e) = no_end newest frame e e.direction e.ending
 
 breach_none : (answer started : ℕ) (d : Dialogue) (micros : ℕ) (side : Side) (frame : FrameContent) → of_timeouts (breach_finding (exchange_in answer started d micros side frame).breach) ≡ []
 unfolding exchange_in

@@ -51,7 +51,7 @@ Fine frame heard = (newest : Option Newest) (of : Option Key) → of_transfers (
 -- by how the transfer ends, if it does
 abbrev pub FineEnd : FrameContent → Option Ended → Type 0
 FineEnd frame None = Unit {0}
-FineEnd frame (Some e) = of_transfers (breach_finding (ended_breach frame e)) ≡ []
+FineEnd frame (Some e) = (newest : Newest) → of_transfers (breach_finding (ended_breach newest frame e)) ≡ []
 
 -- a frame that is neither one that came before nor unexpected
 abbrev pub is_plain : What → Bool
@@ -81,7 +81,7 @@ fine_by : (w : What) (e : Option Ended) (frame : FrameContent) (newest : Option 
     → of_transfers (breach_finding (breach_at newest Server (record { what = w; of = of; ended = e }) frame)) ≡ []
 unfolding breach_at
 fine_by w e frame None of h end = refl
-fine_by w (Some e) frame (Some newest) of h end = end
+fine_by w (Some e) frame (Some newest) of h end = end newest
 fine_by w None frame (Some newest) None h end = refl
 fine_by w None frame (Some newest) (Some key) h end = ap (λ b. of_transfers (breach_finding b)) (none_by newest key w _ h)
 
@@ -90,23 +90,23 @@ fine heard frame h end = λ newest of. fine_by heard.what heard.ended frame newe
 
 -- ---- a transfer that is confirmed
 
-regular : (frame : FrameContent) (e : Ended) (direction : Direction) (o : Option ℕ) → of_transfers (breach_finding (ending_breach frame e direction (size_verdict o (Done false)))) ≡ []
-regular frame e Download None = refl
-regular frame e Upload None = refl
-regular frame e Download (Some size) = refl
-regular frame e Upload (Some size) = by (is_padded frame e size)
+regular : (frame : FrameContent) (e : Ended) (direction : Direction) (o : Option ℕ) (newest : Newest) → of_transfers (breach_finding (ending_breach newest frame e direction (size_verdict o (Done false)))) ≡ []
+regular frame e Download None newest = refl
+regular frame e Upload None newest = refl
+regular frame e Download (Some size) newest = refl
+regular frame e Upload (Some size) newest = by (is_padded frame e size)
   where
     by : (b : Bool) → of_transfers (breach_finding (if b then None else Some (Size e.key size e.bytes))) ≡ []
     by true = refl
     by false = refl
 
-pub confirmed_end : (frame : FrameContent) (e : Ended) (direction : Direction) (u : Transfer) → of_transfers (breach_finding (ending_breach frame e direction (verdict u None))) ≡ []
-confirmed_end frame e direction u = by u.irregular direction
+pub confirmed_end : (frame : FrameContent) (e : Ended) (direction : Direction) (u : Transfer) (newest : Newest) → of_transfers (breach_finding (ending_breach newest frame e direction (verdict u None))) ≡ []
+confirmed_end frame e direction u newest = by u.irregular direction
   where
-    by : (irregular : Bool) (direction : Direction) → of_transfers (breach_finding (ending_breach frame e direction (if irregular then Irregular else size_verdict (size_fault u.size u.taken.count) (Done false)))) ≡ []
+    by : (irregular : Bool) (direction : Direction) → of_transfers (breach_finding (ending_breach newest frame e direction (if irregular then Irregular else size_verdict (size_fault u.size u.taken.count) (Done false)))) ≡ []
     by true Download = refl
     by true Upload = refl
-    by false direction = regular frame e direction (size_fault u.size u.taken.count)
+    by false direction = regular frame e direction (size_fault u.size u.taken.count) newest
 
 -- no CRC comes with it
 abbrev pub IsWithoutCrc : Option (Option ℕ) → Type 0
@@ -148,8 +148,8 @@ abbrev pub IsFit : Key → Key → AbortCode → Type 0
 IsFit named key code = (same_key named key || (code.0 == unknown_command)) ≡ true
 
 abort_end : (frame : FrameContent) (e : Ended) (direction : Direction) (code : AbortCode) → (same_key (key_in frame) e.key || (code.0 == unknown_command)) ≡ true
-    → of_transfers (breach_finding (ending_breach frame e direction (Aborted Server code))) ≡ []
-abort_end frame e direction code fit = ap (λ b. of_transfers (breach_finding (if b || names_none (key_in frame) e.frames then None else Some (AbortKey e.key)))) fit
+    → (newest : Newest) → of_transfers (breach_finding (ending_breach newest frame e direction (Aborted Server code))) ≡ []
+abort_end frame e direction code fit newest = ap (λ b. of_transfers (breach_finding (if b || names_none newest (key_in frame) e.frames then None else Some (AbortKey e.key)))) fit
 
 pub abort_fine : (heard : Bool) (t : Transfer) (code : AbortCode) (micros : ℕ) (frame : FrameContent) → (same_key (key_in frame) t.key || (code.0 == unknown_command)) ≡ true
     → Fine frame (follows_by heard (Some t) (Abort code) micros Server frame.bytes).says
@@ -158,10 +158,10 @@ abort_fine heard t code micros frame fit =
   where
     -- nothing is found of what may be none of this transfer
     by : (segment : Option (Option ℕ)) (direction : Direction)
-        → of_transfers (breach_finding (ending_breach frame (ended (one_more t) micros (abort_ending Server segment code)) direction (abort_ending Server segment code))) ≡ []
-    by None direction = abort_end frame (ended (one_more t) micros (Aborted Server code)) direction code fit
-    by (Some next) Download = refl
-    by (Some next) Upload = refl
+        → (newest : Newest) → of_transfers (breach_finding (ending_breach newest frame (ended (one_more t) micros (abort_ending Server segment code)) direction (abort_ending Server segment code))) ≡ []
+    by None direction newest = abort_end frame (ended (one_more t) micros (Aborted Server code)) direction code fit newest
+    by (Some next) Download newest = refl
+    by (Some next) Upload newest = refl
 
 -- ---- where no transfer is open
 

@@ -58,11 +58,11 @@ key_breach : (b : Bool) (key : Key) → of_data (breach_finding (if b then None 
 key_breach true key = refl
 key_breach false key = refl
 
-whole_end : (frame : FrameContent) (e : Ended) (direction : Direction) (ending : Ending) → is_partial direction ending ≡ false → of_data (breach_finding (ending_breach frame e direction ending)) ≡ []
-whole_end frame e direction (Aborted Server code) h = key_breach ((same_key (key_in frame) e.key || (code.0 == unknown_command)) || names_none (key_in frame) e.frames) e.key
-whole_end frame e Upload (SizeDiffers indicated) h = absurd (cc)
-whole_end frame e Upload (CrcDiffers came computed) h = absurd (cc)
-whole_end frame e direction ending h = refl
+whole_end : (newest : Newest) (frame : FrameContent) (e : Ended) (direction : Direction) (ending : Ending) → is_partial direction ending ≡ false → of_data (breach_finding (ending_breach newest frame e direction ending)) ≡ []
+whole_end newest frame e direction (Aborted Server code) h = key_breach ((same_key (key_in frame) e.key || (code.0 == unknown_command)) || names_none newest (key_in frame) e.frames) e.key
+whole_end newest frame e Upload (SizeDiffers indicated) h = absurd (cc)
+whole_end newest frame e Upload (CrcDiffers came computed) h = absurd (cc)
+whole_end newest frame e direction ending h = refl
 
 form_breach : (b : Bool) (key : Key) → of_data (breach_finding (if b then None else Some (Form key))) ≡ []
 form_breach true key = refl
@@ -95,7 +95,7 @@ whole_breach (Some newest) side heard frame h = by heard.ended h
   where
     by : (o : Option Ended) → IsWhole o → of_data (breach_finding (breach_at (Some newest) side (record heard { ended = o }) frame)) ≡ []
     by None h = no_keyed newest side heard.of heard.what _
-    by (Some e) h = whole_end frame e e.direction e.ending h
+    by (Some e) h = whole_end newest frame e e.direction e.ending h
 
 ended_is : (following : Following) (micros : ℕ) (side : Side) (bytes : List ℕ) → (followed following micros side bytes).says.ended ≡ (reads following micros side bytes).says.ended
 ended_is following micros side bytes = ap (λ (f : Followed). f.says.ended) (same_reading following.heard following.transfer micros side bytes bytes).followed

@@ -116,11 +116,11 @@ either_breach : (b : Bool) (x y : Option Breach) → of_toggles (breach_finding 
 either_breach true x y p q = p
 either_breach false x y p q = q
 
-no_end : (frame : FrameContent) (e : Ended) (direction : Direction) (ending : Ending) → of_toggles (breach_finding (ending_breach frame e direction ending)) ≡ []
-no_end frame e direction (Aborted Server code) = either_breach ((same_key (key_in frame) e.key || (code.0 == unknown_command)) || names_none (key_in frame) e.frames) None (Some (AbortKey e.key)) refl refl
-no_end frame e Upload (SizeDiffers indicated) = either_breach (is_padded frame e indicated) None (Some (Size e.key indicated e.bytes)) refl refl
-no_end frame e Upload (CrcDiffers came computed) = refl
-no_end frame e direction ending = refl
+no_end : (newest : Newest) (frame : FrameContent) (e : Ended) (direction : Direction) (ending : Ending) → of_toggles (breach_finding (ending_breach newest frame e direction ending)) ≡ []
+no_end newest frame e direction (Aborted Server code) = either_breach ((same_key (key_in frame) e.key || (code.0 == unknown_command)) || names_none newest (key_in frame) e.frames) None (Some (AbortKey e.key)) refl refl
+no_end newest frame e Upload (SizeDiffers indicated) = either_breach (is_padded frame e indicated) None (Some (Size e.key indicated e.bytes)) refl refl
+no_end newest frame e Upload (CrcDiffers came computed) = refl
+no_end newest frame e direction ending = refl
 
 no_server_breach : (newest : Newest) (key : Key) (w : What) (byte : ℕ) → is_again w ≡ false → of_toggles (breach_finding (server_breach newest key w byte)) ≡ []
 no_server_breach Request key what.Repeated byte n = absurd (false≢true (sym n))
@@ -144,7 +144,7 @@ client_breach (Some newest) says frame = by says.ended
   where
     by : (o : Option Ended) → of_toggles (breach_finding (breach_at (Some newest) Client (record says { ended = o }) frame)) ≡ []
     by None = refl
-    by (Some e) = no_end frame e e.direction e.ending
+    by (Some e) = no_end newest frame e e.direction e.ending
 
 server_breach_none : (newest : Option Newest) (says : Says) (frame : FrameContent) → (newest ≡ None) ⊎ (is_again says.what ≡ false) → of_toggles (breach_finding (breach_at newest Server says frame)) ≡ []
 unfolding breach_at
@@ -154,7 +154,7 @@ server_breach_none (Some newest) says frame (inr n) = by says.ended
   where
     by : (o : Option Ended) → of_toggles (breach_finding (breach_at (Some newest) Server (record says { ended = o }) frame)) ≡ []
     by None = no_keyed newest says.of says.what _ n
-    by (Some e) = no_end frame e e.direction e.ending
+    by (Some e) = no_end newest frame e e.direction e.ending
 
 -- no transfer is known, or the frame isn't one that came before
 abbrev IsOnce : ℕ → Dialogue → List ℕ → Type 0

@@ -99,25 +99,25 @@ pub left_end : (frame : FrameContent) (current : Option Transfer) (micros : ℕ)
 left_end frame None micros bytes = tt
 left_end frame (Some t) micros bytes = by t.direction (segment_follows t bytes) (is_lost t) (is_same_request t bytes) t.by
   where
-    by : (direction : Direction) (follows lost same : Bool) (side : Side)
-        → of_transfers (breach_finding (ending_breach frame (ended t micros (leaves_as (number_of bytes) follows lost same side)) direction (leaves_as (number_of bytes) follows lost same side))) ≡ []
-    by Download true lost same side = refl
-    by Upload true lost same side = refl
-    by Download false true same side = refl
-    by Upload false true same side = refl
-    by Download false false true side = refl
-    by Upload false false true side = refl
-    by Download false false false Client = refl
-    by Upload false false false Client = refl
-    by Download false false false Server = refl
-    by Upload false false false Server = refl
+    by : (direction : Direction) (follows lost same : Bool) (side : Side) (newest : Newest)
+        → of_transfers (breach_finding (ending_breach newest frame (ended t micros (leaves_as (number_of bytes) follows lost same side)) direction (leaves_as (number_of bytes) follows lost same side))) ≡ []
+    by Download true lost same side newest = refl
+    by Upload true lost same side newest = refl
+    by Download false true same side newest = refl
+    by Upload false true same side newest = refl
+    by Download false false true side newest = refl
+    by Upload false false true side newest = refl
+    by Download false false false Client newest = refl
+    by Upload false false false Client newest = refl
+    by Download false false false Server newest = refl
+    by Upload false false false Server newest = refl
 
-abort_end : (frame : FrameContent) (t : Transfer) (code : AbortCode) (micros : ℕ) (direction : Direction) (segment : Option (Option ℕ))
-    → of_transfers (breach_finding (ending_breach frame (ended (one_more t) micros (abort_ending Client segment code)) direction (abort_ending Client segment code))) ≡ []
-abort_end frame t code micros Download None = refl
-abort_end frame t code micros Upload None = refl
-abort_end frame t code micros Download (Some next) = refl
-abort_end frame t code micros Upload (Some next) = refl
+abort_end : (frame : FrameContent) (t : Transfer) (code : AbortCode) (micros : ℕ) (direction : Direction) (segment : Option (Option ℕ)) (newest : Newest)
+    → of_transfers (breach_finding (ending_breach newest frame (ended (one_more t) micros (abort_ending Client segment code)) direction (abort_ending Client segment code))) ≡ []
+abort_end frame t code micros Download None newest = refl
+abort_end frame t code micros Upload None newest = refl
+abort_end frame t code micros Download (Some next) newest = refl
+abort_end frame t code micros Upload (Some next) newest = refl
 
 -- no request confirms a transfer that isn't in blocks
 turn_end : (x : Option (Option ℕ)) (heard : Bool) (w : What) (u : Transfer) (micros : ℕ) (frame : FrameContent) → is_some x ≡ false → FineEnd frame (turns_at x heard w u micros Client).says.ended
@@ -169,7 +169,7 @@ client_breach (Some newest) heard frame h = by heard.ended h
   where
     by : (o : Option Ended) → FineEnd frame o → of_transfers (breach_finding (breach_by newest Client heard frame o)) ≡ []
     by None h = refl
-    by (Some e) h = h
+    by (Some e) h = h newest
 
 says_client : (d : Dialogue) (micros : ℕ) (frame : FrameContent) → IfSome d.channel.transfer Sound
     → (followed d.channel micros Client frame.bytes).says.ended ≡ (follows_by d.channel.heard d.channel.transfer (request_reading (request_in frame.bytes) micros frame.bytes) micros Client frame.bytes).says.ended

@@ -28,6 +28,7 @@ use Rattle.conode_explain_transfers.specs.Transfers.{Turn, after, awaited_number
 use Rattle.conode_explain_transfers.specs.Turns.{request_turn}
 use Rattle.conode_explain_transfers.specs.Unanswered.{not_followed_by}
 use Rattle.conode_explain_laws.proofs.Readings.{Abort, Nothing, Request, follows_by, request_reading, turn_of}
+use Rattle.conode_compare_transfers.specs.declared.newest.Newest.{Newest}
 use Rattle.conode_compare_transfers.specs.Breaches.{ending_breach}
 use Rattle.conode_compare_rules.specs.Answers.{breach_finding}
 use Rattle.conode_compare_laws.specs.AnswerFindings.{of_transfers}
@@ -156,12 +157,12 @@ module _ (heard : Bool) (t : Transfer) (micros : ℕ) (frame : FrameContent) (is
   request_heard request = by_turn (request_turn t request frame.bytes) (makes t is request frame.bytes b)
 
 -- an abort ends it
-abort_end : (frame : FrameContent) (t : Transfer) (code : AbortCode) (micros : ℕ) (direction : Direction) (segment : Option (Option ℕ))
-    → of_transfers (breach_finding (ending_breach frame (ended (one_more t) micros (abort_ending Client segment code)) direction (abort_ending Client segment code))) ≡ []
-abort_end frame t code micros Download None = refl
-abort_end frame t code micros Upload None = refl
-abort_end frame t code micros Download (Some next) = refl
-abort_end frame t code micros Upload (Some next) = refl
+abort_end : (frame : FrameContent) (t : Transfer) (code : AbortCode) (micros : ℕ) (direction : Direction) (segment : Option (Option ℕ)) (newest : Newest)
+    → of_transfers (breach_finding (ending_breach newest frame (ended (one_more t) micros (abort_ending Client segment code)) direction (abort_ending Client segment code))) ≡ []
+abort_end frame t code micros Download None newest = refl
+abort_end frame t code micros Upload None newest = refl
+abort_end frame t code micros Download (Some next) newest = refl
+abort_end frame t code micros Upload (Some next) newest = refl
 
 pub abort_heard : (heard : Bool) (t : Transfer) (micros : ℕ) (frame : FrameContent) (code : AbortCode) → Heard t frame (follows_by heard (Some t) (Abort code) micros Client frame.bytes)
 abort_heard heard t micros frame code = record { follows = over refl; fine = abort_end frame t code micros t.direction (not_followed_by Client t frame.bytes) }

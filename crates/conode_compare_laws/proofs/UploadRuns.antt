@@ -70,7 +70,7 @@ request_breach (Some newest) says frame (inr h) = by says.ended h
   where
     by : (o : Option Ended) → FineEnd frame o → of_transfers (breach_finding (breach_by newest Client says frame o)) ≡ []
     by None h = refl
-    by (Some e) h = h
+    by (Some e) h = h newest
 
 no_request_breach : (answer started : ℕ) (d : Dialogue) (micros : ℕ) (frame : FrameContent) → IsFineRequest micros d frame → of_transfers (breach_finding (exchange_in answer started d micros Client frame).breach) ≡ []
 unfolding exchange_in

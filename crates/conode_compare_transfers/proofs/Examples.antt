@@ -13,6 +13,7 @@ use Rattle.conode_explain_transfers.specs.declared.kinds.What.{What}
 use Rattle.conode_explain_transfers.specs.declared.kinds.What.TheVariants.{Initiate, OutOfSequence, Part, Repeated, Segment, Unexpected}
 use Rattle.conode_compare_transfers.specs.declared.breach.Breach.{Breach}
 use Rattle.conode_compare_transfers.specs.declared.breach.Breach.TheVariants.{AbortKey, Crc, Form, Size, Toggle}
+use Rattle.conode_compare_transfers.specs.declared.newest.Newest.{Newest}
 use Rattle.conode_compare_transfers.specs.declared.newest.Newest.TheVariants.{Acknowledge, AllAcknowledged, Answer, Data, LastData, LaterAcknowledge, LaterData, Request}
 use Rattle.conode_compare_transfers.specs.Breaches.{breach_at, ended_breach, server_breach}
 use Rattle.conode_compare_transfers.specs.NewestFrames.{newest_after, newest_with}
@@ -295,9 +296,9 @@ no_key : aborted 0x05040001 (abort_of 9 0) ≡ None
 unfolding breach_at
 no_key = refl
 
--- 0000:00 in answer to a frame without a multiplexer, whatever the code; not to the initiate request
-abbrev refused : ℕ → FrameContent → Option Breach
-refused frames frame = ended_breach frame (record {
+-- 0000:00 in answer to a frame without a multiplexer, whatever the code
+abbrev refused : Newest → ℕ → FrameContent → Option Breach
+refused newest frames frame = ended_breach newest frame (record {
   key = key;
   direction = Download;
   protocol = Segmented;
@@ -313,11 +314,23 @@ refused frames frame = ended_breach frame (record {
 abbrev abort_of_none : ℕ → ℕ → ℕ → FrameContent
 abort_of_none low high sub = record { id = 0x585; bytes = 0x80 ∷ low ∷ high ∷ sub ∷ 0 ∷ 0 ∷ 0 ∷ 8 ∷ [] }
 
-no_entry : map (λ frames. refused frames (abort_of_none 0 0 0)) (2 ∷ 3 ∷ []) ≡ Some (AbortKey key) ∷ None ∷ []
+-- two frames are the initiate request and the abort; of three the second is the client's
+no_entry : map (λ frames. refused Request frames (abort_of_none 0 0 0)) (2 ∷ 3 ∷ []) ≡ Some (AbortKey key) ∷ None ∷ []
 no_entry = refl
 
-an_entry : refused 3 (abort_of_none 1 0 0) ∷ refused 3 (abort_of_none 0 1 0) ∷ refused 3 (abort_of_none 0 0 1) ∷ [] ≡ Some (AbortKey key) ∷ Some (AbortKey key) ∷ Some (AbortKey key) ∷ []
+an_entry : refused Request 3 (abort_of_none 1 0 0) ∷ refused Request 3 (abort_of_none 0 1 0) ∷ refused Request 3 (abort_of_none 0 0 1) ∷ [] ≡ Some (AbortKey key) ∷ Some (AbortKey key) ∷ Some (AbortKey key) ∷ []
 an_entry = refl
+
+-- The newest frame is the device's: it answered, or it sends the segments that the client asked for.
+knows_entry : map (λ newest. refused newest 9 (abort_of_none 0 0 0)) (Answer ∷ Data ∷ LastData 3 ∷ []) ≡ Some (AbortKey key) ∷ Some (AbortKey key) ∷ Some (AbortKey key) ∷ []
+knows_entry = refl
+
+-- the client acknowledged; a segment after that may have been on its way
+asked_without_key : map (λ newest. refused newest 9 (abort_of_none 0 0 0)) (Acknowledge ∷ LaterData ∷ LaterAcknowledge ∷ AllAcknowledged ∷ []) ≡ None ∷ None ∷ None ∷ None ∷ []
+asked_without_key = refl
+
+asked_of_another : map (λ newest. refused newest 9 (abort_of_none 0 0 1)) (Acknowledge ∷ LaterData ∷ LaterAcknowledge ∷ AllAcknowledged ∷ []) ≡ Some (AbortKey key) ∷ Some (AbortKey key) ∷ Some (AbortKey key) ∷ Some (AbortKey key) ∷ []
+asked_of_another = refl
 
 by_client : breach_at (Some Answer) Client (ended_by Download (Aborted Client (record { 0 = 0x08000000 }))) (abort_of 9 0) ≡ None
 unfolding breach_at

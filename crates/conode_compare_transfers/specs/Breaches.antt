@@ -33,17 +33,29 @@ key_in frame = record { index = byte_at frame 1 + byte_at frame 2 * 256; sub = b
 
 -- ---- the end of a transfer
 
--- 0000:00, once the transfer went on, of so many frames: a server may have given it up after its
--- timeout without an abort, and the client's next frame has no multiplexer. The first of them, the
--- initiate request, has one.
-abbrev pub names_none : Key → ℕ → Bool
-names_none named frames = same_key named (record { index = 0; sub = 0 }) && nat_lt 2 frames
+-- A frame of the device may answer one of the client that has no multiplexer: the newest one of the
+-- transfer is such a frame of the client, or a segment that was on its way before the client's
+-- acknowledge. Of so many frames with this one the first is the initiate request, which has one. After
+-- an answer, and among the segments that the client asked for, the device knows the entry.
+abbrev pub answers_without_key : Newest → ℕ → Bool
+answers_without_key Request frames = nat_lt 2 frames
+answers_without_key Acknowledge frames = true
+answers_without_key LaterData frames = true
+answers_without_key LaterAcknowledge frames = true
+answers_without_key AllAcknowledged frames = true
+answers_without_key newest frames = false
+
+-- 0000:00, where the client's frame has no multiplexer: a server may have given the transfer up after
+-- its timeout without an abort
+abbrev pub names_none : Newest → Key → ℕ → Bool
+names_none newest named frames =
+    same_key named (record { index = 0; sub = 0 }) && answers_without_key newest frames
 
 -- `abort-key`: an abort of another entry; a server that doesn't know a command may not know where
 -- its multiplexer is
-abbrev pub abort_breach : Key → Ended → AbortCode → Option Breach
-abort_breach named ended code =
-    if (same_key named ended.key || (code.0 == unknown_command)) || names_none named ended.frames then None else Some (AbortKey ended.key)
+abbrev pub abort_breach : Newest → Key → Ended → AbortCode → Option Breach
+abort_breach newest named ended code =
+    if (same_key named ended.key || (code.0 == unknown_command)) || names_none newest named ended.frames then None else Some (AbortKey ended.key)
 
 abbrev pub is_segmented : Protocol → Bool
 is_segmented Segmented = true
@@ -59,14 +71,14 @@ abbrev pub size_breach : FrameContent → Ended → ℕ → Option Breach
 size_breach frame ended indicated = if is_padded frame ended indicated then None else Some (Size ended.key indicated ended.bytes)
 
 -- `answer-size`, `answer-crc`: an upload whose bytes aren't those that the device named
-abbrev pub ending_breach : FrameContent → Ended → Direction → Ending → Option Breach
-ending_breach frame ended direction (Aborted Server code) = abort_breach (key_in frame) ended code
-ending_breach frame ended Upload (SizeDiffers indicated) = size_breach frame ended indicated
-ending_breach frame ended Upload (CrcDiffers came computed) = Some (Crc ended.key came computed)
-ending_breach frame ended direction ending = None
+abbrev pub ending_breach : Newest → FrameContent → Ended → Direction → Ending → Option Breach
+ending_breach newest frame ended direction (Aborted Server code) = abort_breach newest (key_in frame) ended code
+ending_breach newest frame ended Upload (SizeDiffers indicated) = size_breach frame ended indicated
+ending_breach newest frame ended Upload (CrcDiffers came computed) = Some (Crc ended.key came computed)
+ending_breach newest frame ended direction ending = None
 
-abbrev pub ended_breach : FrameContent → Ended → Option Breach
-ended_breach frame ended = ending_breach frame ended ended.direction ended.ending
+abbrev pub ended_breach : Newest → FrameContent → Ended → Option Breach
+ended_breach newest frame ended = ending_breach newest frame ended ended.direction ended.ending
 
 -- ---- another frame of the device
 
@@ -95,7 +107,7 @@ keyed_breach newest side key what first = None
 -- ---- every frame
 
 abbrev pub breach_by : Newest → Side → Heard → FrameContent → Option Ended → Option Breach
-breach_by newest side heard frame (Some ended) = ended_breach frame ended
+breach_by newest side heard frame (Some ended) = ended_breach newest frame ended
 breach_by newest side heard frame None = keyed_breach newest side heard.of heard.what (byte_at frame 0)
 
 -- of a frame by an end, after the newest one of the open transfer

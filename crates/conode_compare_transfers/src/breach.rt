@@ -3,6 +3,7 @@
 ghost use Rattle.std.specs.Prelude.{◌≡◌};
 ghost use Rattle.conode_compare_transfers.specs.Breaches.{
   abort_breach,
+  answers_without_key,
   breach_at,
   byte_at,
   ended_breach,
@@ -57,20 +58,39 @@ pub fn key_in(frame: &Frame) -> Key
     }
 }
 
-// Whether an abort names 0000:00, once a transfer went on: a server may have given it up after its
-// timeout without an abort, and the client's next frame has no multiplexer.
-fn names_none(named: Key, frames: u64) -> bool
-    ensures { result ≡ names_none named frames }
+// Whether a frame of the device, the last of so many, may answer one of the client that has no
+// multiplexer. The first frame, the initiate request, has one; a segment after an acknowledge may have
+// been on its way before that.
+fn answers_without_key(newest: Newest, frames: u64) -> bool
+    ensures { result ≡ answers_without_key newest frames }
 {
-    named == Key { index: 0, sub: 0 } && frames > 2
+    match newest {
+        Newest::Request => frames > 2,
+        Newest::Acknowledge
+        | Newest::LaterData
+        | Newest::LaterAcknowledge
+        | Newest::AllAcknowledged => true,
+        Newest::Answer | Newest::Data | Newest::LastData(_) => false,
+    }
+}
+
+// Whether an abort names 0000:00, and may answer a frame without a multiplexer: a server may have
+// given the transfer up after its timeout without an abort.
+fn names_none(newest: Newest, named: Key, frames: u64) -> bool
+    ensures { result ≡ names_none newest named frames }
+{
+    named == Key { index: 0, sub: 0 } && answers_without_key(newest, frames)
 }
 
 // An abort of another entry; a server that doesn't know a command may not know where its
 // multiplexer is.
-fn abort_breach(named: Key, ended: &Ended, code: AbortCode) -> Option<Breach>
-    ensures { result ≡ abort_breach named ended.now code }
+fn abort_breach(newest: Newest, named: Key, ended: &Ended, code: AbortCode) -> Option<Breach>
+    ensures { result ≡ abort_breach newest named ended.now code }
 {
-    if named == ended.key || code == AbortCode::UNKNOWN_COMMAND || names_none(named, ended.frames) {
+    if named == ended.key
+        || code == AbortCode::UNKNOWN_COMMAND
+        || names_none(newest, named, ended.frames)
+    {
         None
     } else {
         Some(Breach::AbortKey(ended.key))
@@ -98,9 +118,9 @@ fn size_breach(frame: &Frame, ended: &Ended, indicated: u32) -> Option<Breach>
     }
 }
 
-// the difference of the end of a transfer
-fn ended_breach(frame: &Frame, ended: &Ended) -> Option<Breach>
-    ensures { result ≡ ended_breach frame.now ended.now }
+// the difference of the end of a transfer, after its newest frame
+fn ended_breach(newest: Newest, frame: &Frame, ended: &Ended) -> Option<Breach>
+    ensures { result ≡ ended_breach newest frame.now ended.now }
 {
     match (ended.direction, ended.ending) {
         (
@@ -109,7 +129,7 @@ fn ended_breach(frame: &Frame, ended: &Ended) -> Option<Breach>
                 by: Side::Server,
                 code,
             },
-        ) => abort_breach(key_in(frame), ended, code),
+        ) => abort_breach(newest, key_in(frame), ended, code),
         (Direction::Upload, Ending::SizeDiffers { indicated }) => {
             size_breach(frame, ended, indicated)
         }
@@ -146,7 +166,7 @@ pub fn breach_at(newest: Option<Newest>, side: Side, heard: &Heard, frame: &Fram
 {
     let newest = newest?;
     if let Some(ended) = &heard.ended {
-        return ended_breach(frame, ended);
+        return ended_breach(newest, frame, ended);
     }
     match (side, heard.of) {
         (Side::Server, Some(key)) => server_breach(newest, key, heard.what, byte_at(frame, 0)),

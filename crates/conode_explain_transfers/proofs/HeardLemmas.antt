@@ -4,7 +4,7 @@ use Rattle.std.specs.Prelude.{◌==◌, Bool, true, false, if◌then◌else◌, 
 use Rattle.conode_explain_transfers.specs.declared.channel.Heard.{Heard}
 use Rattle.conode_explain_transfers.specs.declared.ended.Ended.{Ended}
 use Rattle.conode_explain_transfers.specs.declared.ended.Ending.{Ending}
-use Rattle.conode_explain_transfers.specs.declared.ended.Ending.TheVariants.{Done, Interrupted, Unanswered}
+use Rattle.conode_explain_transfers.specs.declared.ended.Ending.TheVariants.{Done, Interrupted, Repeated, Unanswered}
 use Rattle.conode_explain_transfers.specs.declared.kinds.Side.{Side}
 use Rattle.conode_explain_transfers.specs.declared.kinds.Side.TheVariants.{Server}
 use Rattle.conode_explain_transfers.specs.declared.kinds.What.{What}
@@ -14,7 +14,7 @@ use Rattle.conode_explain_transfers.specs.BlockTurns.{most_segments}
 use Rattle.conode_explain_transfers.specs.Data.{IfDone, IsDoneWith}
 use Rattle.conode_explain_transfers.specs.Followed.{Event, Framed, BootedUp, Following, ends_as, followed}
 use Rattle.conode_explain_transfers.specs.HeardData.{heard_after, heard_of, data_heard, heard_data, IsDoneHeard}
-use Rattle.conode_explain_transfers.specs.Hearings.{after_aside, aside, heard_next, hearing, hearing_by, hearing_where, is_irregular, is_over, lacks_acknowledge, lacks_start, leaves_after_last, made_up, sure_end, sure_ending}
+use Rattle.conode_explain_transfers.specs.Hearings.{after_aside, aside, heard_next, hearing, hearing_by, hearing_where, is_over, is_unsure, lacks_acknowledge, lacks_start, leaves_after_last, made_up, sure_end, sure_ending}
 use Rattle.conode_explain_transfers.specs.Readings.{reading_of}
 use Rattle.conode_explain_transfers.specs.Turns.{turn_of}
 use Rattle.conode_explain_transfers.proofs.DataLemmas.{IsOpenWith, StaysOpen, frame_step}
@@ -22,10 +22,10 @@ use Rattle.conode_explain_transfers.proofs.DoneLemmas.{frame_done}
 
 -- ---- what the code makes of a frame
 
-pub says_next : (old x : Following) (said : Heard) (irregular : Bool) (end : Option Ended) (micros : ℕ) (side : Side) (frame : List ℕ)
-    → x ≡ record old { transfer = made_up old.transfer side frame } → said ≡ (followed x micros side frame).says → irregular ≡ is_irregular old.transfer
-    → end ≡ sure_end irregular said.ended → record { what = said.what; of = said.of; ended = end } ≡ (heard_next old micros side frame).says
-says_next old x said irregular end micros side frame made is was sure = rw (sure, was, is, made) refl
+pub says_next : (old x : Following) (said : Heard) (unsure : Bool) (end : Option Ended) (micros : ℕ) (side : Side) (frame : List ℕ)
+    → x ≡ record old { transfer = made_up old.transfer side frame } → said ≡ (followed x micros side frame).says → unsure ≡ is_unsure old.transfer
+    → end ≡ sure_end unsure said.ended → record { what = said.what; of = said.of; ended = end } ≡ (heard_next old micros side frame).says
+says_next old x said unsure end micros side frame made is was sure = rw (sure, was, is, made) refl
 
 pub next_next : (old x new : Following) (micros : ℕ) (side : Side) (frame : List ℕ)
     → x ≡ record old { transfer = made_up old.transfer side frame } → new ≡ (followed x micros side frame).next → new ≡ (heard_next old micros side frame).next
@@ -52,18 +52,19 @@ aside_open : (current : Option Transfer) (frame bytes : List ℕ) → StaysOpen 
 aside_open None frame bytes h = tt
 aside_open (Some transfer) frame bytes h = by (slice_index frame 0 == 128)
   where
-    by : (abort : Bool) → IsOpenWith (if abort then record transfer { by = Server } else transfer) bytes
+    by : (abort : Bool) → IsOpenWith (if abort then record transfer { put_aside = true; by = Server } else record transfer { put_aside = true }) bytes
     by true = record { unconfirmed = h.unconfirmed; taken = h.taken }
-    by false = h
+    by false = record { unconfirmed = h.unconfirmed; taken = h.taken }
 
-sure_done : (irregular : Bool) (end : Option Ended) (fact : Bool → Type 0) → IfSome end (λ e. IfDone e.ending fact) → IfSome (sure_end irregular end) (λ e. IfDone e.ending fact)
-sure_done irregular None fact h = h
-sure_done irregular (Some e) fact h = by irregular e.ending h
+sure_done : (unsure : Bool) (end : Option Ended) (fact : Bool → Type 0) → IfSome end (λ e. IfDone e.ending fact) → IfSome (sure_end unsure end) (λ e. IfDone e.ending fact)
+sure_done unsure None fact h = h
+sure_done unsure (Some e) fact h = by unsure e.ending h
   where
     by : (i : Bool) (ending : Ending) → IfDone ending fact → IfDone (sure_ending i ending) fact
     by false ending h = h
     by true (Done crc) h = h
     by true Unanswered h = tt
+    by true Repeated h = tt
     by true _ h = tt
 
 -- one that is left isn't done
@@ -111,7 +112,7 @@ heard_done log micros side frame = where_over (is_over following.transfer side f
     by : (x : Option What) → IfSome (hearing_by x following micros side frame).says.ended (λ e. IfDone e.ending (Fact x))
     by (Some what) = tt
     by None =
-        sure_done (is_irregular following.transfer) _ (Fact None)
+        sure_done (is_unsure following.transfer) _ (Fact None)
         (frame_done following.heard current (reading_of current side frame) micros side frame (heard_data log)
         (made_open following.transfer side frame (heard_data log) (heard_open log)))
 

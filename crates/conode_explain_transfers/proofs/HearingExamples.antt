@@ -3,7 +3,7 @@ use Rattle.std.proofs.Common.{◌≡◌, ℕ, true, false, List, [], ◌∷◌, 
 use Rattle.std.specs.Prelude.{map}
 use Rattle.co_frame.specs.SdoRequests.{request_row_in}
 use Rattle.co_frame.specs.SdoResponses.{response_row_in}
-use Rattle.conode_explain_transfers.specs.declared.ended.Ending.TheVariants.{Done, Aborted, Unanswered, Interrupted, Irregular}
+use Rattle.conode_explain_transfers.specs.declared.ended.Ending.TheVariants.{Done, Aborted, Unanswered, Repeated as AskedAgain, Interrupted, Irregular}
 use Rattle.conode_explain_transfers.specs.declared.kinds.Protocol.TheVariants.{Undecided, Expedited, Segmented, Block}
 use Rattle.conode_explain_transfers.specs.declared.kinds.Side.TheVariants.{Client, Server}
 use Rattle.conode_explain_transfers.specs.declared.kinds.What.TheVariants.{Initiate, Part, Segment, OutOfSequence, Overtaken, Unexpected, Stray, BegunBefore}
@@ -70,6 +70,45 @@ abort_or_answer : map (λ answer. (shown (c (codes "4005210000000000") ∷ s ans
 unfolding request_row_in response_row_in shifted crc_with
 abort_or_answer = refl
 
+-- the same request comes again: after such an abort, and where a frame didn't go on, it isn't said that it had no answer
+again_after_abort : (shown (c (codes "4000200500000000") ∷ s (codes "8000200011000906") ∷ c (codes "4000200500000000") ∷ s (codes "4B00200501000000") ∷ [])).ends
+    ≡ record { protocol = Undecided; bytes = 0; first = []; frames = 1; ending = Interrupted }
+    ∷ record { protocol = Expedited; bytes = 2; first = 0x01 ∷ 0x00 ∷ []; frames = 2; ending = Done false } ∷ []
+unfolding request_row_in response_row_in shifted crc_with
+again_after_abort = refl
+
+again_after : map (λ frames. (shown (c (codes "A40021007F000000") ∷ frames ++ c (codes "A40021007F000000") ∷ [])).ends)
+    ([] ∷ (s (codes "A100000000000000") ∷ []) ∷ (s (codes "0141424344454647") ∷ []) ∷ (s (codes "8000200011000906") ∷ s (codes "A100000000000000") ∷ []) ∷ [])
+    ≡ (record { protocol = Block; bytes = 0; first = []; frames = 1; ending = AskedAgain } ∷ [])
+    ∷ (record { protocol = Block; bytes = 0; first = []; frames = 1; ending = AskedAgain } ∷ [])
+    ∷ (record { protocol = Block; bytes = 0; first = []; frames = 2; ending = Interrupted } ∷ [])
+    ∷ (record { protocol = Block; bytes = 0; first = []; frames = 1; ending = Interrupted } ∷ [])
+    ∷ []
+unfolding request_row_in response_row_in shifted crc_with
+again_after = refl
+
+-- a request whose first byte is one higher is no segment after it
+no_segment_after_answer : shown (c (codes "2000200000000000") ∷ s (codes "2000000000000000") ∷ c (codes "210120010E000000") ∷ s (codes "6001200100000000") ∷ c (codes "8001200100000405") ∷ [])
+    ≡ record {
+      whats = Initiate ∷ Overtaken ∷ Initiate ∷ Part ∷ Part ∷ [];
+      ends = record { protocol = Segmented; bytes = 0; first = []; frames = 1; ending = Unanswered }
+          ∷ record { protocol = Segmented; bytes = 0; first = []; frames = 3; ending = Aborted Client (record { 0 = 0x05040000 }) } ∷ [];
+    }
+unfolding request_row_in response_row_in shifted crc_with
+no_segment_after_answer = refl
+
+-- nothing came; an answer without a key, an abort, the last segment of an upload, an answer of another entry
+no_segment_after : map (λ frames. (shown (c (codes "2000200000000000") ∷ frames ++ c (codes "210120010E000000") ∷ [])).ends)
+    ([] ∷ (s (codes "3000000000000000") ∷ []) ∷ (s (codes "8018100411000906") ∷ []) ∷ (uploaded 0x84 ∷ []) ∷ (s (codes "6000100000000000") ∷ []) ∷ [])
+    ≡ []
+    ∷ (record { protocol = Segmented; bytes = 0; first = []; frames = 1; ending = Unanswered } ∷ [])
+    ∷ (record { protocol = Segmented; bytes = 0; first = []; frames = 1; ending = Interrupted } ∷ [])
+    ∷ (record { protocol = Segmented; bytes = 0; first = []; frames = 1; ending = Unanswered } ∷ [])
+    ∷ (record { protocol = Segmented; bytes = 0; first = []; frames = 1; ending = Unanswered } ∷ [])
+    ∷ []
+unfolding request_row_in response_row_in shifted crc_with
+no_segment_after = refl
+
 -- the last segment of a block upload that was given up, while 2100:00 is read, and written in blocks
 late_last : map (λ request. (shown (c request ∷ uploaded 0x84 ∷ [])).whats) (codes "4000210000000000" ∷ codes "C000210000000000" ∷ []) ≡ (Initiate ∷ Segment 4 ∷ []) ∷ (Initiate ∷ Segment 4 ∷ []) ∷ []
 unfolding request_row_in response_row_in shifted crc_with
@@ -127,22 +166,71 @@ left_download : shown (one_segment ++ c (codes "4000100000000000") ∷ s (codes 
 unfolding request_row_in response_row_in shifted crc_with
 left_download = refl
 
-abbrev left : List End
-left = record { protocol = Block; bytes = 0; first = []; frames = 3; ending = Interrupted } ∷ []
+-- it falls back to another protocol for the same entry
+left_for_same : shown (c (codes "C600200015000000") ∷ s (codes "A40020007F000000") ∷ segment 1 ∷ c (codes "2F00200005000000") ∷ s (codes "6000200000000000") ∷ c (codes "4000200000000000") ∷ s (codes "4F00200005000000") ∷ [])
+    ≡ record {
+      whats = Initiate ∷ Part ∷ Segment 1 ∷ OutOfSequence 47 2 ∷ Unexpected ∷ Initiate ∷ Part ∷ [];
+      ends = record { protocol = Block; bytes = 0; first = []; frames = 4; ending = Interrupted }
+          ∷ record { protocol = Expedited; bytes = 1; first = 0x05 ∷ []; frames = 2; ending = Done false } ∷ [];
+    }
+unfolding request_row_in response_row_in shifted crc_with
+left_for_same = refl
 
--- each response to initiate, and each part of the entry
-over : map (λ answer. (shown (one_segment ++ s answer ∷ [])).ends)
-    (codes "6000100000000000" ∷ codes "4300100094010200" ∷ codes "4100100009000000" ∷ codes "A00010007F000000" ∷ codes "C000100000000000" ∷ codes "6001210000000000" ∷ codes "6000200000000000" ∷ codes "6000210100000000" ∷ [])
-    ≡ left ∷ left ∷ left ∷ left ∷ left ∷ left ∷ left ∷ left ∷ []
+abbrev left : ℕ → List End
+left frames = record { protocol = Block; bytes = 0; first = []; frames = frames; ending = Interrupted } ∷ []
+
+-- 40h is segment 64
+abbrev with_request : List Sent
+with_request = one_segment ++ c (codes "4000100000000000") ∷ []
+
+-- each response to initiate; of a block download each part of the entry; and of the entry all others
+over : map (λ answer. (shown (with_request ++ s answer ∷ [])).ends)
+    (codes "6000100000000000" ∷ codes "4300100094010200" ∷ codes "4100100009000000" ∷ codes "A00010007F000000" ∷ codes "C000100000000000"
+    ∷ codes "A00121007F000000" ∷ codes "A00020007F000000" ∷ codes "A00021017F000000"
+    ∷ codes "6000210000000000" ∷ codes "4F002100AA000000" ∷ codes "4100210009000000" ∷ codes "C000210000000000" ∷ [])
+    ≡ left 4 ∷ left 4 ∷ left 4 ∷ left 4 ∷ left 4 ∷ left 4 ∷ left 4 ∷ left 4 ∷ left 4 ∷ left 4 ∷ left 4 ∷ left 4 ∷ []
 unfolding request_row_in response_row_in shifted crc_with
 over = refl
 
--- one of the entry, which may be in the recording twice, and other responses
-not_over : map (λ answer. (shown (one_segment ++ s answer ∷ [])).ends)
-    (codes "6000210000000000" ∷ codes "A00021007F000000" ∷ codes "A2017F0000000000" ∷ codes "2000000000000000" ∷ codes "0031323334353637" ∷ [])
+-- its own one, which may be in the recording twice, and other responses
+not_over : map (λ answer. (shown (with_request ++ s answer ∷ [])).ends)
+    (codes "A00021007F000000" ∷ codes "A400210004000000" ∷ codes "A2017F0000000000" ∷ codes "2000000000000000" ∷ codes "0031323334353637" ∷ [])
     ≡ [] ∷ [] ∷ [] ∷ [] ∷ [] ∷ []
 unfolding request_row_in response_row_in shifted crc_with
 not_over = refl
+
+-- 1 and 31 look like no request, 32 and 64 do; A0h too, after missing ones
+looks_like_request : map (λ first. (shown (c (codes "C000210000000000") ∷ s (codes "A00021007F000000") ∷ segment first ∷ s (codes "4300100094010200") ∷ [])).ends)
+    (1 ∷ 31 ∷ 32 ∷ 64 ∷ 0x81 ∷ 0x9F ∷ 0xA0 ∷ [])
+    ≡ [] ∷ [] ∷ left 3 ∷ left 3 ∷ [] ∷ [] ∷ left 3 ∷ []
+unfolding request_row_in response_row_in shifted crc_with
+looks_like_request = refl
+
+abbrev segments_to_31 : List Sent
+segments_to_31 = map segment (1 ∷ 2 ∷ 3 ∷ 4 ∷ 5 ∷ 6 ∷ 7 ∷ 8 ∷ 9 ∷ 10 ∷ 11 ∷ 12 ∷ 13 ∷ 14 ∷ 15 ∷ 16 ∷ 17 ∷ 18 ∷ 19 ∷ 20 ∷ 21 ∷ 22 ∷ 23 ∷ 24 ∷ 25 ∷ 26 ∷ 27 ∷ 28 ∷ 29 ∷ 30 ∷ 31 ∷ [])
+
+-- the last one is A0h: none is missing; and 31 comes twice
+over_after_last : map (λ frames. (shown (c (codes "C000210000000000") ∷ s (codes "A00021007F000000") ∷ segments_to_31 ++ frames ++ s (codes "4300100094010200") ∷ [])).ends)
+    ((segment 0xA0 ∷ []) ∷ (segment 31 ∷ segment 0xA0 ∷ []) ∷ [])
+    ≡ [] ∷ left 35 ∷ []
+unfolding request_row_in response_row_in shifted crc_with
+over_after_last = refl
+
+-- an answer to a request before the download is late, or comes twice: the download isn't left
+late_in_sub_block : shown (c (codes "C600210015000000") ∷ s (codes "A40021007F000000") ∷ s (codes "4300100092010200") ∷ segment 1 ∷ segment 2 ∷ segment 0x83 ∷ s (codes "A2037F0000000000") ∷ c (codes "C15C8B0000000000") ∷ s (codes "A100000000000000") ∷ [])
+    ≡ record {
+      whats = Initiate ∷ Part ∷ Unexpected ∷ Segment 1 ∷ Segment 2 ∷ Segment 3 ∷ Part ∷ Part ∷ Part ∷ [];
+      ends = record {
+        protocol = Block;
+        bytes = 21;
+        first = 0x41 ∷ 0x42 ∷ 0x43 ∷ 0x44 ∷ 0x45 ∷ 0x46 ∷ 0x47 ∷ 0x41 ∷ 0x42 ∷ 0x43 ∷ 0x44 ∷ 0x45 ∷ 0x46 ∷ 0x47 ∷ 0x41 ∷ 0x42 ∷ 0x43 ∷ 0x44 ∷ 0x45 ∷ 0x46 ∷ 0x47 ∷ [];
+        frames = 9;
+        ending = Irregular;
+      }
+          ∷ [];
+    }
+unfolding request_row_in response_row_in shifted crc_with
+late_in_sub_block = refl
 
 -- in a sub-block of an upload it is a segment, and after the last acknowledge of a download it is of none
 elsewhere : map (λ frames. (shown frames).whats)

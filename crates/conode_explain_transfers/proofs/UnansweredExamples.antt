@@ -203,7 +203,10 @@ unfolding request_row_in response_row_in shifted crc_with
 after_a_wrong_answer = refl
 
 after_an_earlier_answer : shown (c (codes "22002100AABBCCDD") ∷ s (codes "3000000000000000") ∷ c (codes "23002100AABBCCDD") ∷ [])
-    ≡ record { whats = Initiate ∷ Overtaken ∷ Segment 35 ∷ []; ends = [] }
+    ≡ record {
+      whats = Initiate ∷ Overtaken ∷ Initiate ∷ [];
+      ends = record { protocol = Expedited; bytes = 0; first = []; frames = 1; ending = Unanswered } ∷ [];
+    }
 unfolding request_row_in response_row_in shifted crc_with
 after_an_earlier_answer = refl
 

@@ -3,12 +3,12 @@
 use Rattle.std.specs.Prelude.{ℕ, ◌==◌, ◌&&◌, ◌||◌, nat_lt, not, Bool, true, false, if◌then◌else◌, List, length, slice_index, Option, Some, None}
 use Rattle.co_frame.specs.SdoResponses.{response_in}
 use Rattle.co_frame.specs.declared.sdo_response.SdoResponse.{SdoResponse}
-use Rattle.co_frame.specs.declared.sdo_response.SdoResponse.TheVariants.{Abort, UploadSegment}
+use Rattle.co_frame.specs.declared.sdo_response.SdoResponse.TheVariants.{Abort, UploadSegment, BlockDownloadInitiated}
 use Rattle.co_value.specs.Keys.{same_key}
 use Rattle.co_value.specs.declared.key.Key.{Key}
 use Rattle.conode_explain_transfers.specs.declared.ended.Ended.{Ended}
 use Rattle.conode_explain_transfers.specs.declared.ended.Ending.{Ending}
-use Rattle.conode_explain_transfers.specs.declared.ended.Ending.TheVariants.{Unanswered, Interrupted}
+use Rattle.conode_explain_transfers.specs.declared.ended.Ending.TheVariants.{Unanswered, Repeated, Interrupted}
 use Rattle.conode_explain_transfers.specs.declared.kinds.Side.{Side}
 use Rattle.conode_explain_transfers.specs.declared.kinds.Side.TheVariants.{Client, Server}
 use Rattle.conode_explain_transfers.specs.declared.kinds.What.{What}
@@ -23,7 +23,7 @@ use Rattle.conode_explain_transfers.specs.Followed.{Following, Followed, after_b
 use Rattle.conode_explain_transfers.specs.Readings.{answers_key, is_in_sub_block, is_sender, plain_reading}
 use Rattle.conode_explain_transfers.specs.Stages.{is_initiated}
 use Rattle.conode_explain_transfers.specs.Transfers.{is_download}
-use Rattle.conode_explain_transfers.specs.Unanswered.{multiplexer_of, number_of, refuses_with}
+use Rattle.conode_explain_transfers.specs.Unanswered.{is_client, multiplexer_of, number_of, refuses_with}
 
 -- ---- segments by their first byte
 
@@ -60,14 +60,18 @@ earlier_abort transfer bytes =
     if slice_index bytes 0 == 128 then Some Overtaken
     else (if is_block_upload transfer then None else Some (Segment (number_of bytes)))
 
+-- a response to initiate, of this entry
+abbrev pub answers_this : Key → SdoResponse → List ℕ → Bool
+answers_this key response bytes = answers_key response && same_key (multiplexer_of bytes) key
+
 -- A server answers in turn, so what can't answer this request answers an earlier one: an abort of
--- another entry, or a response that isn't one to initiate. A segment may be of the sub-block of a block
--- upload. A response to initiate of another entry is `overtaken` in `turn_of` too.
+-- another entry, a response to initiate of another entry, or a response that isn't one to initiate. A
+-- segment may be of the sub-block of a block upload.
 abbrev pub earlier : Transfer → Option SdoResponse → List ℕ → Option What
 earlier transfer None bytes = None
 earlier transfer (Some (Abort key code)) bytes = if names_other (multiplexer_of bytes) transfer.key then earlier_abort transfer bytes else None
 earlier transfer (Some (UploadSegment toggle segment last)) bytes = overtaken_if (not (is_block_upload transfer))
-earlier transfer (Some response) bytes = overtaken_if (not (answers_key response))
+earlier transfer (Some response) bytes = overtaken_if (not (answers_this transfer.key response bytes))
 
 -- A frame that is of no transfer which is followed, and what it is then: where none is open, a segment
 -- of one whose begin isn't in the recording.
@@ -76,27 +80,45 @@ aside None side bytes = if is_low_last bytes then Some (Segment (number_of bytes
 aside (Some transfer) Client bytes = None
 aside (Some transfer) Server bytes = if awaits_first transfer then earlier transfer (response_in bytes) bytes else None
 
--- After such an abort the server sent the newest frame: it may have meant this request, and named it
--- wrongly.
-abbrev pub with_abort : List ℕ → Transfer → Transfer
-with_abort bytes transfer = if slice_index bytes 0 == 128 then record transfer { by = Server } else transfer
+-- The server sent something since the request. After an abort it sent the newest frame: it may have
+-- meant this request, and named it wrongly.
+abbrev pub with_aside : List ℕ → Transfer → Transfer
+with_aside bytes transfer =
+    if slice_index bytes 0 == 128 then record transfer { put_aside = true; by = Server } else record transfer { put_aside = true }
 
 abbrev pub after_aside : Option Transfer → List ℕ → Option Transfer
 after_aside None bytes = None
-after_aside (Some transfer) bytes = Some (with_abort bytes transfer)
+after_aside (Some transfer) bytes = Some (with_aside bytes transfer)
 
 -- ---- sub-blocks that are over
 
--- a response to initiate, of another entry
-abbrev pub answers_other : Key → Option SdoResponse → List ℕ → Bool
-answers_other key None bytes = false
-answers_other key (Some response) bytes = answers_key response && not (same_key (multiplexer_of bytes) key)
+abbrev pub is_after_last : Stage → Bool
+is_after_last (SubBlock last) = last
+is_after_last _ = false
 
--- A server that awaits segments answers no request (7.2.4.3.10): where it answers one of another entry in
--- a sub-block of a download, the client has left that, and a request was taken for a segment.
+-- none of its segments is missing, and the last one came
+abbrev pub awaits_last_acknowledge : Transfer → Bool
+awaits_last_acknowledge transfer = not transfer.irregular && is_after_last transfer.stage
+
+-- A segment with a number of 32 or more begins as an initiate request may (20h to 2Fh, 40h, A0h to A7h,
+-- C0h to C7h). After a regular last segment none is read, and a request is taken for none.
+abbrev pub may_have_request : Transfer → Bool
+may_have_request transfer = nat_lt 32 transfer.next_number && not (awaits_last_acknowledge transfer)
+
+-- a response to another initiate request than that of a block download of this entry, which may be in
+-- the recording twice
+abbrev pub answers_another : Key → Option SdoResponse → Bool
+answers_another key None = false
+answers_another key (Some (BlockDownloadInitiated named block_size)) = not (same_key named key)
+answers_another key (Some response) = answers_key response
+
+-- A server that awaits segments answers no request (7.2.4.3.10): where it answers one in a sub-block of a
+-- download, the client has left that, and the request was taken for a segment. A segment has looked like
+-- one; else the answer is late, and was to a request before the download.
 abbrev pub is_over : Option Transfer → Side → List ℕ → Bool
 is_over (Some transfer) Server bytes =
-    (is_in_sub_block transfer.stage && is_download transfer.direction) && answers_other transfer.key (response_in bytes) bytes
+    ((is_in_sub_block transfer.stage && is_download transfer.direction) && may_have_request transfer)
+    && answers_another transfer.key (response_in bytes)
 is_over current side bytes = false
 
 -- ---- frames that are missing
@@ -108,10 +130,6 @@ is_block_initiated _ = false
 abbrev pub is_within_sub_block : Stage → Bool
 is_within_sub_block (SubBlock last) = not last
 is_within_sub_block _ = false
-
-abbrev pub is_after_last : Stage → Bool
-is_after_last (SubBlock last) = last
-is_after_last _ = false
 
 abbrev pub begins_any : Reading → Bool
 begins_any (Begin initiate) = true
@@ -129,10 +147,6 @@ abbrev pub lacks_acknowledge : Transfer → Side → List ℕ → Bool
 lacks_acknowledge transfer side bytes =
     (transfer.irregular && (is_within_sub_block transfer.stage && is_sender transfer.direction side))
     && (is_low_segment bytes && (nat_lt transfer.block_size (number_of bytes) && (number_of bytes == transfer.next_number)))
-
--- none of its segments is missing, and the last one came
-abbrev pub awaits_last_acknowledge : Transfer → Bool
-awaits_last_acknowledge transfer = not transfer.irregular && is_after_last transfer.stage
 
 -- no segment comes after the last one, so what looks like an initiate request then is one
 abbrev pub leaves_after_last : Transfer → Side → List ℕ → Bool
@@ -153,18 +167,21 @@ made_up (Some transfer) side bytes = Some (with_missing side bytes transfer)
 
 -- ---- ends
 
--- frames of it are missing, maybe the answer too: it isn't said that there was none
+-- frames of it are missing, maybe the answer too; or the server sent the newest one, as an abort that may
+-- have been meant for it
+abbrev pub is_unsure : Option Transfer → Bool
+is_unsure None = false
+is_unsure (Some transfer) = transfer.irregular || not (is_client transfer.by)
+
+-- then it isn't said that there was no answer, also where the same request comes again
 abbrev pub sure_ending : Bool → Ending → Ending
 sure_ending true Unanswered = Interrupted
-sure_ending irregular ending = ending
-
-abbrev pub is_irregular : Option Transfer → Bool
-is_irregular None = false
-is_irregular (Some transfer) = transfer.irregular
+sure_ending true Repeated = Interrupted
+sure_ending unsure ending = ending
 
 abbrev pub sure_end : Bool → Option Ended → Option Ended
-sure_end irregular None = None
-sure_end irregular (Some e) = Some (record e { ending = sure_ending irregular e.ending })
+sure_end unsure None = None
+sure_end unsure (Some e) = Some (record e { ending = sure_ending unsure e.ending })
 
 -- ---- a frame
 
@@ -183,12 +200,12 @@ cut following micros = record {
 }
 
 abbrev pub with_end : Bool → Followed → Followed
-with_end irregular f = record { says = record f.says { ended = sure_end irregular f.says.ended }; next = f.next }
+with_end unsure f = record { says = record f.says { ended = sure_end unsure f.says.ended }; next = f.next }
 
 -- the channel takes it
 abbrev pub heard_next : Following → ℕ → Side → List ℕ → Followed
 heard_next following micros side bytes =
-    with_end (is_irregular following.transfer) (followed (record following { transfer = made_up following.transfer side bytes }) micros side bytes)
+    with_end (is_unsure following.transfer) (followed (record following { transfer = made_up following.transfer side bytes }) micros side bytes)
 
 abbrev pub hearing_by : Option What → Following → ℕ → Side → List ℕ → Followed
 hearing_by (Some what) following micros side bytes = passed following what bytes

@@ -33,6 +33,7 @@ begun initiate micros bytes = record {
   newest = micros;
   by = Client;
   went_on = false;
+  put_aside = false;
 }
 
 abbrev pub is_download : Direction → Bool

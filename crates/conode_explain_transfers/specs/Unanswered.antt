@@ -20,16 +20,19 @@ abbrev pub is_client : Side → Bool
 is_client Client = true
 is_client Server = false
 
--- the response to initiate is awaited, and the newest frame is the client's
+-- the response to initiate is awaited, the newest frame is the client's, and none of the server was put
+-- aside
 abbrev pub is_unanswered : Transfer → Bool
-is_unanswered transfer = is_initiated transfer.stage && is_client transfer.by
+is_unanswered transfer = is_initiated transfer.stage && (is_client transfer.by && not transfer.put_aside)
 
 -- the number of a segment
 abbrev pub number_of : List ℕ → ℕ
 number_of bytes = slice_index bytes 0 % 128
 
 -- The client goes on with the segment after what looked like its initiate request, and which looks
--- like another one. None comes after the last segment, which begins with 128 or more.
+-- like another one. None comes after the last segment, which begins with 128 or more. The server sends
+-- nothing between the segments of a sub-block (7.2.4.3.10), so where it sent something, there was a
+-- request.
 abbrev pub segment_follows : Transfer → List ℕ → Bool
 segment_follows transfer bytes =
     is_unanswered transfer && (slice_index transfer.request.items 0 + 1 == number_of bytes)

@@ -5,7 +5,8 @@ ghost use Rattle.co_frame.specs.SdoResponses.{response_in};
 ghost use Rattle.conode_explain_transfers.specs.Followed.{Event, Framed};
 ghost use Rattle.conode_explain_transfers.specs.HeardData.{heard_after, heard_of};
 ghost use Rattle.conode_explain_transfers.specs.Hearings.{
-  answers_other,
+  answers_another,
+  answers_this,
   aside,
   awaits_first,
   awaits_last_acknowledge,
@@ -18,21 +19,22 @@ ghost use Rattle.conode_explain_transfers.specs.Hearings.{
   is_after_last,
   is_block_initiated,
   is_block_upload,
-  is_irregular,
   is_low_last,
   is_low_segment,
   is_over,
+  is_unsure,
   is_within_sub_block,
   lacks_acknowledge,
   lacks_start,
   leaves_after_last,
   made_up,
+  may_have_request,
   names_other,
   overtaken_if,
   passed,
   sure_end,
   sure_ending,
-  with_abort,
+  with_aside,
   with_missing,
 };
 ghost use Rattle.conode_explain_transfers.specs.Readings.{is_in_sub_block, plain_reading};
@@ -45,11 +47,11 @@ use crate::kinds::{Side, What};
 use crate::reading::{Reading, answers_key, plain_reading};
 use crate::stage::Stage;
 use crate::transfer::Transfer;
-use crate::unanswered::{ABORT, byte_at, multiplexer_of, number_of};
+use crate::unanswered::{ABORT, byte_at, is_client, multiplexer_of, number_of};
 use co_frame::{Frame, SdoResponse};
 use co_value::Key;
 
-/// No segment with a number below it begins as a response to initiate does.
+/// No segment with a number below it begins as an initiate request does, or as a response to one.
 const FIRST_SERVICE: u8 = 32;
 
 // Whether it begins as a segment of a sub-block with a number of 1 to 31 does.
@@ -91,21 +93,22 @@ fn begins_any(side: Side, frame: &Frame) -> bool
     }
 }
 
-fn sure_ending(irregular: bool, ending: Ending) -> Ending
-    ensures { result ≡ sure_ending irregular ending }
+fn sure_ending(unsure: bool, ending: Ending) -> Ending
+    ensures { result ≡ sure_ending unsure ending }
 {
     match ending {
-        Ending::Unanswered if irregular => Ending::Interrupted,
+        Ending::Unanswered if unsure => Ending::Interrupted,
+        Ending::Repeated if unsure => Ending::Interrupted,
         _ => ending,
     }
 }
 
-fn sure_end(irregular: bool, ended: Option<Ended>) -> Option<Ended>
-    ensures { result ≡ sure_end irregular ended }
+fn sure_end(unsure: bool, ended: Option<Ended>) -> Option<Ended>
+    ensures { result ≡ sure_end unsure ended }
 {
     match ended {
         Some(ended) => {
-            let ending = sure_ending(irregular, ended.ending);
+            let ending = sure_ending(unsure, ended.ending);
             Some(Ended { ending, ..ended })
         }
         None => None,
@@ -174,6 +177,13 @@ impl Transfer {
         }
     }
 
+    // Whether a response that a frame has answers its initiate request.
+    fn answers_this(&self, response: &SdoResponse, frame: &Frame) -> bool
+        ensures { result ≡ answers_this self.now.key response.now frame.now.bytes }
+    {
+        answers_key(response) && self.has_key(multiplexer_of(frame.bytes()))
+    }
+
     // What a response is that can't answer its initiate request, and so answers an earlier one.
     fn earlier(&self, response: &Option<SdoResponse>, frame: &Frame) -> Option<What>
         ensures { result ≡ earlier self.now response.now frame.now.bytes }
@@ -194,7 +204,7 @@ impl Transfer {
                     last: _,
                 },
             ) => overtaken_if(!self.is_block_upload()),
-            Some(response) => overtaken_if(!answers_key(response)),
+            Some(response) => overtaken_if(!self.answers_this(response, frame)),
         }
     }
 
@@ -208,15 +218,21 @@ impl Transfer {
         }
     }
 
-    // Whether a frame of the server answers an initiate request of another entry.
-    fn answers_other(&self, frame: &Frame) -> bool
-        ensures { result ≡ answers_other self.now.key (response_in frame.now.bytes) frame.now.bytes }
+    // Whether a segment of its sub-block may be an initiate request.
+    fn may_have_request(&self) -> bool
+        ensures { result ≡ may_have_request self.now }
+    {
+        FIRST_SERVICE < self.next_number && !self.awaits_last_acknowledge()
+    }
+
+    // Whether a frame of the server answers another initiate request than that of this block download.
+    fn answers_another(&self, frame: &Frame) -> bool
+        ensures { result ≡ answers_another self.now.key (response_in frame.now.bytes) }
     {
         match SdoResponse::read(frame) {
             None => false,
-            Some(response) => {
-                answers_key(&response) && !self.has_key(multiplexer_of(frame.bytes()))
-            }
+            Some(SdoResponse::BlockDownloadInitiated { key, block_size: _ }) => !self.has_key(key),
+            Some(response) => answers_key(&response),
         }
     }
 
@@ -251,10 +267,11 @@ impl Transfer {
         (self.awaits_last_acknowledge() && self.is_sender(side)) && begins_any(side, frame)
     }
 
-    // Notes that the server sent an abort which isn't of this transfer.
-    fn note_abort(&mut self, frame: &Frame)
-        ensures { self.new ≡ with_abort frame.now.bytes self.old }
+    // Notes that the server sent a frame which isn't of this transfer.
+    fn note_aside(&mut self, frame: &Frame)
+        ensures { self.new ≡ with_aside frame.now.bytes self.old }
     {
+        self.put_aside = true;
         if byte_at(frame.bytes(), 0) == ABORT {
             self.by = Side::Server;
         }
@@ -310,24 +327,26 @@ impl Channel {
         }
     }
 
-    // Whether a frame of the open transfer didn't go on with the others.
-    fn is_irregular(&self) -> bool
-        ensures { result ≡ is_irregular self.now.transfer }
+    // Whether the open transfer may have had an answer: a frame of it didn't go on with the others, or
+    // the server sent the newest one.
+    fn is_unsure(&self) -> bool
+        ensures { result ≡ is_unsure self.now.transfer }
     {
         match &self.transfer {
-            Some(transfer) => transfer.irregular,
+            Some(transfer) => transfer.irregular || !is_client(transfer.by),
             None => false,
         }
     }
 
-    // Whether the server answers another request within a sub-block of a download: the client has left
-    // that.
+    // Whether the server answers another request within a sub-block of a download, which may be one of
+    // its segments: the client has left that.
     fn is_over(&self, side: Side, frame: &Frame) -> bool
         ensures { result ≡ is_over self.now.transfer side frame.now.bytes }
     {
         match (&self.transfer, side) {
             (Some(transfer), Side::Server) => {
-                transfer.is_within_download() && transfer.answers_other(frame)
+                (transfer.is_within_download() && transfer.may_have_request())
+                    && transfer.answers_another(frame)
             }
             _ => false,
         }
@@ -352,7 +371,7 @@ impl Channel {
         ensures next { self.new ≡ (passed self.old what frame.now.bytes).next }
     {
         if let Some(transfer) = &mut self.transfer {
-            transfer.note_abort(frame);
+            transfer.note_aside(frame);
         }
         Heard {
             what,
@@ -366,21 +385,22 @@ impl Channel {
         ensures says { result ≡ (heard_next self.old micros side frame.now.bytes).says }
         ensures next { self.new ≡ (heard_next self.old micros side frame.now.bytes).next }
     {
-        let irregular = self.is_irregular();
+        let unsure = self.is_unsure();
         self.make_up(side, frame);
         let heard = self.take(micros, side, frame);
         Heard {
             what: heard.what,
             of: heard.of,
-            ended: sure_end(irregular, heard.ended),
+            ended: sure_end(unsure, heard.ended),
         }
     }
 
     /// Hears a frame of a recording as `take` does, but for this: an answer to an earlier request is
-    /// `Overtaken`, and changes nothing; one of another entry in a sub-block of a download ends that;
-    /// where no transfer is open, 81h to 9Fh is a segment; of a
-    /// transfer that lacks the start of a block upload, or an acknowledge with a larger block size,
-    /// the segments are followed; and none of which frames are missing is `Unanswered`.
+    /// `Overtaken`, and after one no request is a segment; one to a request that looked like a segment
+    /// of a block download ends that; where no transfer is open, 81h to 9Fh is a segment; of a transfer
+    /// that lacks the start of a block upload, or an acknowledge with a larger block size, the segments
+    /// are followed; and none of which frames are missing, or an abort was put aside, is `Unanswered` or
+    /// `Repeated`.
     pub fn hear(&mut self, micros: u64, side: Side, frame: &Frame) -> Heard
         ensures heard { result ≡ (hearing self.old micros side frame.now.bytes).says }
         ensures next { self.new ≡ (hearing self.old micros side frame.now.bytes).next }

@@ -55,6 +55,9 @@ pub(crate) struct Transfer {
     /// Whether the client went on before the response to initiate, with a frame that begins nothing; or
     /// the request may be a segment of a sub-block.
     pub(crate) went_on: bool,
+    /// Whether the server sent something since the request that is of another transfer, and was put
+    /// aside.
+    pub(crate) put_aside: bool,
 }
 
 impl Transfer {
@@ -86,6 +89,7 @@ impl Transfer {
             newest: micros,
             by: Side::Client,
             went_on: false,
+            put_aside: false,
         }
     }
 

@@ -35,7 +35,8 @@ pub(crate) fn byte_at(bytes: &[u8], place: usize) -> u8
     }
 }
 
-fn is_client(side: Side) -> bool
+/// Whether it is the client.
+pub(crate) fn is_client(side: Side) -> bool
     ensures { result ≡ is_client side }
 {
     match side {
@@ -73,11 +74,12 @@ pub(crate) fn went_on_with(side: Side, stage: Stage, before: bool) -> bool
 }
 
 impl Transfer {
-    // Whether the response to initiate is awaited, and the newest frame is the client's.
+    // Whether the response to initiate is awaited, the newest frame is the client's, and none of the
+    // server was put aside.
     fn is_unanswered(&self) -> bool
         ensures { result ≡ is_unanswered self.now }
     {
-        self.stage.is_initiated() && is_client(self.by)
+        self.stage.is_initiated() && (is_client(self.by) && !self.put_aside)
     }
 
     /// Whether it can't be followed: the client went on before the response to initiate, and that

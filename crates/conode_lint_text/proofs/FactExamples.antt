@@ -10,7 +10,7 @@ use Rattle.co_sheet_text.specs.declared.section_kind.SectionKind.TheVariants.{Ma
 use Rattle.co_sheet_text.specs.Sections.{Property, TextSection}
 use Rattle.conode_lint_text.specs.declared.finding.About.TheVariants.{Line, FirstAt, Misspelt, Fact}
 use Rattle.conode_lint_text.specs.declared.fact.Fact.TheVariants as fact
-use Rattle.conode_lint_text.specs.FactTexts.{count_text, fact_text, hexadecimal, identity_text, missing_text}
+use Rattle.conode_lint_text.specs.FactTexts.{count_text, fact_text, hexadecimal, identity_text, missing_text, unread_text}
 use Rattle.conode_lint_text.specs.Facts.{bad_list, bad_number, bad_type, count_fact, device_info, duplicate_key, duplicate_section, file_info, first_at, identity_number, list_fact, listed_twice, missing_key, missing_mandatory, missing_section, pdo_count, sub_index_0, sub_number, too_large}
 use Rattle.conode_lint_text.specs.Bounds.{bad_default, bad_limits}
 use Rattle.conode_lint_text.specs.Findings.{about_message, fix_with}
@@ -20,7 +20,7 @@ use Rattle.conode_lint_text.specs.Findings.{about_message, fix_with}
 lists : fact_text fact.NoCount ∷ fact_text (fact.ListGap 7 6 3) ∷ fact_text (fact.ListCount 3 2) ∷ fact_text (fact.HighIndex 12) ∷ []
     ≡ codes "the list has no SupportedObjects" ∷ codes "the list counts 7 objects and has 6: key 3 is missing"
     ∷ codes "the list counts 3 objects and has 2 of the keys 1 to 3" ∷ codes "the index of line 12 is above 0xFFFF" ∷ []
-unfolding fact_text count_text filled digits
+unfolding fact_text unread_text count_text filled digits
 lists = refl
 
 keys : fact_text (fact.NoType true) ∷ fact_text (fact.NoAccess true) ∷ fact_text (fact.NoTypeOrAccess false) ∷ []
@@ -75,18 +75,19 @@ counts : fact_text (fact.SubNumber 3 4) ∷ fact_text (fact.NoSubNumber 4) ∷ f
     ≡ codes "SubNumber is 3, and the number of the object's sub-index sections is 4"
     ∷ codes "SubNumber is no number, and the number of the object's sub-index sections is 4"
     ∷ codes "sub-index 0 is 2, and the highest sub-index of the object is 4" ∷ []
-unfolding fact_text count_text filled digits
+unfolding fact_text unread_text count_text filled digits
 counts = refl
 
-device : fact_text (fact.RpdoCount 1 0) ∷ fact_text (fact.TpdoCount 2 4) ∷ fact_text (fact.Identity 5 61858) ∷ []
+device : fact_text (fact.RpdoCount 1 0) ∷ fact_text (fact.TpdoCount 2 4) ∷ fact_text (fact.Identity 5 61858) ∷ fact_text (fact.NoRpdoCount 0) ∷ fact_text (fact.NoTpdoCount 4) ∷ fact_text (fact.NoIdentity 61858) ∷ []
     ≡ codes "NrOfRXPDO is 1, and the number of the sheet's RPDOs is 0" ∷ codes "NrOfTXPDO is 2, and the number of the sheet's TPDOs is 4"
-    ∷ codes "the number is 0x5, and that of the identity object is 0xF1A2" ∷ []
-unfolding fact_text count_text identity_text hexadecimal filled digits
+    ∷ codes "the number is 0x5, and that of the identity object is 0xF1A2" ∷ codes "NrOfRXPDO is no number, and the number of the sheet's RPDOs is 0"
+    ∷ codes "NrOfTXPDO is no number, and the number of the sheet's TPDOs is 4" ∷ codes "the number can't be read, and that of the identity object is 0xF1A2" ∷ []
+unfolding fact_text unread_text count_text identity_text hexadecimal filled digits
 device = refl
 
 bounds : fact_text (fact.BelowLow 7) ∷ fact_text (fact.AboveHigh 8) ∷ fact_text (fact.LimitsCrossed 9) ∷ fact_text (fact.AboveNegative 10) ∷ fact_text (fact.NegativeHigh 11) ∷ []
     ≡ codes "the value is below the LowLimit of line 7" ∷ codes "the value is above the HighLimit of line 8" ∷ codes "HighLimit is below the LowLimit of line 9" ∷ codes "the value is above the HighLimit of line 10, which is a negative number" ∷ codes "HighLimit is a negative number, below the LowLimit of line 11" ∷ []
-unfolding fact_text count_text filled digits
+unfolding fact_text unread_text count_text filled digits
 bounds = refl
 
 with_meaning : about_message (FirstAt 40) (codes "m") ∷ about_message (Misspelt NrOfRxPdo) (codes "m") ∷ about_message (Fact (fact.NoType true)) (codes "m") ∷ []
@@ -158,7 +159,7 @@ right_types : bad_type 35 sections (codes "DataType = 0x0007") ∷ bad_type 45 s
 right_types = refl
 
 type_text : fact_text (fact.FixedType 7) ∷ fix_with (Fact (fact.FixedType 7)) (codes "f") ∷ [] ≡ codes "CiA 301 has DataType=0x0007 here" ∷ codes "give that type, or take the object out of its list" ∷ []
-unfolding fact_text count_text fix_with filled digits digits_text
+unfolding fact_text unread_text count_text fix_with filled digits digits_text
 type_text = refl
 
 bad_numbers : bad_number (codes " defaultvalue = x") ∷ bad_number (codes "ParameterValue=x") ∷ bad_number (codes "LowLimit=x") ∷ [] ≡ Fact fact.NoValue ∷ Fact fact.NoValue ∷ Line ∷ []
@@ -199,8 +200,8 @@ sub_indices : sub_number 55 sections (codes "SubNumber=3") ∷ sub_number 55 sec
 sub_indices = refl
 
 -- 1400h and 15FFh; 1800h
-pdo_counts : pdo_count sections (codes "NrOfRxPdo=3") ∷ pdo_count sections (codes "NrOfTXPDO = 0x10") ∷ pdo_count sections (codes "NrOfTXPDO=") ∷ []
-    ≡ Fact (fact.RpdoCount 3 2) ∷ Fact (fact.TpdoCount 16 1) ∷ Line ∷ []
+pdo_counts : pdo_count sections (codes "NrOfRxPdo=3") ∷ pdo_count sections (codes "NrOfTXPDO = 0x10") ∷ pdo_count sections (codes "NrOfTXPDO=4 ; four") ∷ pdo_count sections (codes "nrofrxpdo=08") ∷ []
+    ≡ Fact (fact.RpdoCount 3 2) ∷ Fact (fact.TpdoCount 16 1) ∷ Fact (fact.NoTpdoCount 1) ∷ Fact (fact.NoRpdoCount 2) ∷ []
 pdo_counts = refl
 
 infos_at : file_info 0 (true ∷ []) ∷ file_info 1 (true ∷ []) ∷ device_info 0 (true ∷ []) ∷ device_info 1 (true ∷ []) ∷ []
@@ -208,8 +209,8 @@ infos_at : file_info 0 (true ∷ []) ∷ file_info 1 (true ∷ []) ∷ device_in
 infos_at = refl
 
 -- DefaultValue, ParameterValue before it, and a sub-index that isn't there
-identities : identity_number sections 1 (codes "VendorNumber=1") ∷ identity_number sections 2 (codes "productnumber=1") ∷ identity_number sections 3 (codes "RevisionNumber=1") ∷ identity_number sections 1 (codes "VendorNumber=x") ∷ []
-    ≡ Fact (fact.Identity 1 0x12) ∷ Fact (fact.Identity 1 4) ∷ Line ∷ Line ∷ []
+identities : identity_number sections 1 (codes "VendorNumber=1") ∷ identity_number sections 2 (codes "productnumber=1") ∷ identity_number sections 3 (codes "RevisionNumber=1") ∷ identity_number sections 1 (codes "VendorNumber=x") ∷ identity_number sections 3 (codes "RevisionNumber=x") ∷ []
+    ≡ Fact (fact.Identity 1 0x12) ∷ Fact (fact.Identity 1 4) ∷ Line ∷ Fact (fact.NoIdentity 0x12) ∷ Line ∷ []
 identities = refl
 
 first_of_two : first_at (Some 7) ∷ first_at None ∷ [] ≡ FirstAt 7 ∷ Line ∷ []

@@ -7,7 +7,7 @@ use Rattle.co_sheet_warnings.specs.KnownKeys.{key_text}
 use Rattle.co_text.specs.Printed.{digits_text}
 use Rattle.conode_text.specs.Filled.{filled}
 use Rattle.conode_lint_text.specs.declared.fact.Fact.{Fact}
-use Rattle.conode_lint_text.specs.declared.fact.Fact.TheVariants.{NoCount, ListCount, ListGap, HighIndex, NoMandatoryList, NotListed, LargeText, NoValue, FixedType, NoType, NoAccess, NoTypeOrAccess, NoFileInfo, FileInfoLacks, NoDeviceInfo, DeviceInfoLacks, NoSubNumber, SubNumber, SubIndex0, RpdoCount, TpdoCount, Identity, BelowLow, AboveHigh, AboveNegative, LimitsCrossed, NegativeHigh}
+use Rattle.conode_lint_text.specs.declared.fact.Fact.TheVariants.{NoCount, ListCount, ListGap, HighIndex, NoMandatoryList, NotListed, LargeText, NoValue, FixedType, NoType, NoAccess, NoTypeOrAccess, NoFileInfo, FileInfoLacks, NoDeviceInfo, DeviceInfoLacks, NoSubNumber, SubNumber, SubIndex0, RpdoCount, TpdoCount, NoRpdoCount, NoTpdoCount, Identity, NoIdentity, BelowLow, AboveHigh, AboveNegative, LimitsCrossed, NegativeHigh}
 
 -- words with numbers in their places; those past the last place aren't written
 abbrev pub with_numbers : List ℕ → ℕ → ℕ → ℕ → List ℕ
@@ -77,6 +77,23 @@ count_text (NegativeHigh line) =
     with_numbers (codes "HighLimit is a negative number, below the LowLimit of line %") line 0 0
 count_text other = []
 
+-- of the number of the identity object alone
+abbrev pub no_identity_text : ℕ → List ℕ
+no_identity_text other =
+    codes "the number can't be read, and that of the identity object is " ++ hexadecimal other
+
+-- of a number that can't be read, or of another fact with numbers
+unfoldable pub unread_text : Fact → List ℕ
+unread_text (NoSubNumber has) =
+    with_numbers
+    (codes "SubNumber is no number, and the number of the object's sub-index sections is %") has 0 0
+unread_text (NoRpdoCount has) =
+    with_numbers (codes "NrOfRXPDO is no number, and the number of the sheet's RPDOs is %") has 0 0
+unread_text (NoTpdoCount has) =
+    with_numbers (codes "NrOfTXPDO is no number, and the number of the sheet's TPDOs is %") has 0 0
+unread_text (NoIdentity other) = no_identity_text other
+unread_text fact = count_text fact
+
 -- of any fact
 unfoldable pub fact_text : Fact → List ℕ
 fact_text NoCount = codes "the list has no SupportedObjects"
@@ -93,7 +110,4 @@ fact_text (FileInfoLacks missing) = missing_text (codes "FileInfo lacks ") file_
 fact_text (NoDeviceInfo missing) =
     missing_text (codes "there is no section [DeviceInfo]; it has to have ") device_keys missing
 fact_text (DeviceInfoLacks missing) = missing_text (codes "DeviceInfo lacks ") device_keys missing
-fact_text (NoSubNumber has) =
-    with_numbers
-    (codes "SubNumber is no number, and the number of the object's sub-index sections is %") has 0 0
-fact_text fact = count_text fact
+fact_text fact = unread_text fact

@@ -300,8 +300,16 @@ pdo_fact sections name number =
     then Fact (fact.RpdoCount number (object_count 0x1400 0x15FF sections))
     else Fact (fact.TpdoCount number (object_count 0x1800 0x19FF sections))
 
+abbrev pub no_pdo_fact : List TextSection → List ℕ → About
+no_pdo_fact sections name =
+    if same_name name (codes "NrOfRXPDO")
+    then Fact (fact.NoRpdoCount (object_count 0x1400 0x15FF sections))
+    else Fact (fact.NoTpdoCount (object_count 0x1800 0x19FF sections))
+
 abbrev pub pdo_count : List TextSection → List ℕ → About
-pdo_count sections text = option_map_or (pdo_fact sections (key_name text)) (key_number text) Line
+pdo_count sections text =
+    option_map_or (pdo_fact sections (key_name text)) (key_number text)
+    (no_pdo_fact sections (key_name text))
 
 -- the initial number of a section
 abbrev pub initial_number : TextSection → Option ℕ
@@ -315,7 +323,8 @@ identity_at sections sub =
 -- of the IdentityNumber of a line, by the sub-index of the identity object
 abbrev pub identity_fact : Option ℕ → Option ℕ → About
 identity_fact (Some number) (Some other) = Fact (fact.Identity number other)
-identity_fact number other = Line
+identity_fact None (Some other) = Fact (fact.NoIdentity other)
+identity_fact number None = Line
 
 abbrev pub identity_number : List TextSection → ℕ → List ℕ → About
 identity_number sections sub text =

@@ -8,7 +8,9 @@ ghost use Rattle.conode_lint_text.specs.FactTexts.{
   hexadecimal,
   identity_text,
   missing_text,
+  no_identity_text,
   not_listed,
+  unread_text,
 };
 
 use co_sheet_warnings::{KnownKey, device_keys, file_keys};
@@ -61,8 +63,14 @@ pub enum Fact {
     RpdoCount(u64, usize),
     /// NrOfTXPDO, and the number of TPDOs.
     TpdoCount(u64, usize),
+    /// NrOfRXPDO that is no number, and the number of RPDOs.
+    NoRpdoCount(usize),
+    /// NrOfTXPDO that is no number, and the number of TPDOs.
+    NoTpdoCount(usize),
     /// A number of DeviceInfo, and that of the identity object.
     Identity(u64, u64),
+    /// The number of the identity object, where that of DeviceInfo can't be read.
+    NoIdentity(u64),
     /// A value below its LowLimit, by the line of the limit.
     BelowLow(usize),
     /// A value above its HighLimit, by the line of the limit.
@@ -224,6 +232,48 @@ fn push_count(text: &mut String, fact: Fact) -> Result<(), AllocError>
     }
 }
 
+fn push_no_identity(text: &mut String, other: u64) -> Result<(), AllocError>
+    ensures { OnOk result (string_bytes text.new ≡ string_bytes text.old ++ no_identity_text other) }
+{
+    push_hexadecimal(
+        text,
+        "the number can't be read, and that of the identity object is ",
+        other,
+    )
+}
+
+// of a number that can't be read, or of another fact with numbers
+#[tactic(auto, unfolding(crate::specs::FactTexts::unread_text))]
+fn push_unread(text: &mut String, fact: Fact) -> Result<(), AllocError>
+    ensures { OnOk result (string_bytes text.new ≡ string_bytes text.old ++ unread_text fact) }
+{
+    match fact {
+        Fact::NoSubNumber(has) => push_numbers(
+            text,
+            "SubNumber is no number, and the number of the object's sub-index sections is %",
+            has as u64,
+            0,
+            0,
+        ),
+        Fact::NoRpdoCount(has) => push_numbers(
+            text,
+            "NrOfRXPDO is no number, and the number of the sheet's RPDOs is %",
+            has as u64,
+            0,
+            0,
+        ),
+        Fact::NoTpdoCount(has) => push_numbers(
+            text,
+            "NrOfTXPDO is no number, and the number of the sheet's TPDOs is %",
+            has as u64,
+            0,
+            0,
+        ),
+        Fact::NoIdentity(other) => push_no_identity(text, other),
+        _ => push_count(text, fact),
+    }
+}
+
 fn push_key(text: &mut String, words: &str, key: &str) -> Result<(), AllocError>
     ensures { OnOk result
         (string_bytes text.new ≡ string_bytes text.old ++ words.now ++ key.now) }
@@ -305,13 +355,6 @@ pub(crate) fn push_fact(text: &mut String, fact: Fact) -> Result<(), AllocError>
         Fact::DeviceInfoLacks(missing) => {
             push_missing(text, "DeviceInfo lacks ", device_keys(), &missing)
         }
-        Fact::NoSubNumber(has) => push_numbers(
-            text,
-            "SubNumber is no number, and the number of the object's sub-index sections is %",
-            has as u64,
-            0,
-            0,
-        ),
-        _ => push_count(text, fact),
+        _ => push_unread(text, fact),
     }
 }

@@ -27,6 +27,7 @@ ghost use Rattle.conode_lint_text.specs.Facts.{
   key_number,
   missing_key,
   missing_section,
+  no_pdo_fact,
   other_type,
   pdo_count,
   pdo_fact,
@@ -416,13 +417,23 @@ fn pdo_fact(sections: &[TextSection<'_, '_>], name: &[u8], number: u64) -> About
     }
 }
 
-/// Of the PdoCount of a line: its number, and the number of PDOs.
+fn no_pdo_fact(sections: &[TextSection<'_, '_>], name: &[u8]) -> About
+    ensures { result ≡ no_pdo_fact (map section_view sections.now) name.now }
+{
+    if same_name(name, b"NrOfRXPDO") {
+        About::Fact(Fact::NoRpdoCount(object_count(0x1400, 0x15FF, sections)))
+    } else {
+        About::Fact(Fact::NoTpdoCount(object_count(0x1800, 0x19FF, sections)))
+    }
+}
+
+/// Of the PdoCount of a line: its number, if it is one, and the number of PDOs.
 pub fn pdo_count(sections: &[TextSection<'_, '_>], text: &[u8]) -> About
     ensures { result ≡ pdo_count (map section_view sections.now) text.now }
 {
     match key_number(text) {
         Some(number) => pdo_fact(sections, key_name(text), number),
-        None => About::Line,
+        None => no_pdo_fact(sections, key_name(text)),
     }
 }
 
@@ -445,12 +456,14 @@ fn identity_at(sections: &[TextSection<'_, '_>], sub: u8) -> Option<u64>
     }
 }
 
-/// Of the IdentityNumber of a line: its number, and that of the identity object, at this sub-index.
+/// Of the IdentityNumber of a line: its number, if it can be read, and that of the identity object, at
+/// this sub-index.
 pub fn identity_number(sections: &[TextSection<'_, '_>], sub: u8, text: &[u8]) -> About
     ensures { result ≡ identity_number (map section_view sections.now) sub text.now }
 {
     match (key_number(text), identity_at(sections, sub)) {
         (Some(number), Some(other)) => About::Fact(Fact::Identity(number, other)),
-        _ => About::Line,
+        (None, Some(other)) => About::Fact(Fact::NoIdentity(other)),
+        (_, None) => About::Line,
     }
 }
