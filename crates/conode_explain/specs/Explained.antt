@@ -66,7 +66,7 @@ nothing_known = record { seen = nothing_seen; channels = []; further = []; entri
 -- a boot-up is one of its node also where nothing was heard on the node's default channel
 abbrev pub or_boot_up : FrameContent → Option Told → Option Told
 or_boot_up frame (Some told) = Some told
-or_boot_up frame None = if is_boot_up frame then Some (record { node = frame.id - 0x700; part = None; ended = None }) else None
+or_boot_up frame None = if is_boot_up frame then Some (record { node = frame.id - 0x700; part = None; left = None; ended = None; unclear = None }) else None
 
 abbrev pub telling_by : List Track → Record → FrameContent → Telling
 telling_by channels frame content =
@@ -195,12 +195,14 @@ abbrev pub boot_lines : Layout → List KnownSheet → SoFar → List FurtherCha
 boot_lines form sheets so_far further frame node None = flat_map (interrupted_in form sheets so_far frame.micros frame.interface node) further
 boot_lines form sheets so_far further frame node (Some part) = []
 
--- what ended with a frame: the transfer of its channel, and of a boot-up those of the node's others
+-- what ended with a frame: the transfer of its channel that was left before it, the one that is open, and
+-- of a boot-up those of the node's others
 unfoldable pub end_lines : Layout → List KnownSheet → SoFar → Option Place → List FurtherChannel → Record → Option Told → List (List ℕ)
 end_lines form sheets so_far place further frame None = []
 end_lines form sheets so_far place further frame (Some told) =
-    ended_lines form sheets so_far frame.micros frame.interface told.node (ids_of place) told.ended
-    ++ boot_lines form sheets so_far further frame told.node told.part
+    ended_lines form sheets so_far frame.micros frame.interface told.node (ids_of place) told.left
+    ++ (ended_lines form sheets so_far frame.micros frame.interface told.node (ids_of place) told.ended
+    ++ boot_lines form sheets so_far further frame told.node told.part)
 
 -- the other channels after a boot-up
 abbrev pub further_booted : List FurtherChannel → List ℕ → ℕ → Option Role → List FurtherChannel

@@ -202,16 +202,22 @@ pub(crate) fn write_told_ends<W: Write>(
         Some(place) => Some(place.ids),
         None => None,
     };
+    let micros = frame.micros;
+    let name = frame.interface.bytes();
+    let node = told.node;
+    attempt!(write_end(
+        room, seen, settings, micros, name, node, ids, &told.left, out
+    ));
     attempt!(write_end(
         room,
         seen,
         settings,
-        frame.micros,
-        frame.interface.bytes(),
-        told.node,
+        micros,
+        name,
+        node,
         ids,
         &told.ended,
-        out,
+        out
     ));
     write_boot_up(room, seen, settings, channels, frame, told, out)
 }

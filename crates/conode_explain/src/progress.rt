@@ -132,7 +132,9 @@ fn or_boot_up(frame: &Frame, told: Option<Told>) -> Option<Told>
     Some(Told {
         node: (frame.id() - 0x700) as u8,
         part: None,
+        left: None,
         ended: None,
+        unclear: None,
     })
 }
 

@@ -1,11 +1,12 @@
 -- What entries have, evaluated on both sides of each edge.
-use Rattle.std.proofs.Common.{◌≡◌, ℕ, Bool, true, false, List, [], ◌∷◌, Some, None, refl}
+use Rattle.std.proofs.Common.{◌≡◌, ℕ, Bool, true, false, List, [], ◌∷◌, Option, Some, None, refl}
 use Rattle.std.specs.Prelude.{codes, is_some, map, slice_index_or}
 use Rattle.co_value.specs.declared.key.Key.{Key}
 use Rattle.conode_explain_transfers.specs.declared.ended.Ending.TheVariants as endings
 use Rattle.conode_explain_transfers.specs.declared.kinds.Direction.TheVariants.{Download, Upload}
 use Rattle.conode_explain_transfers.specs.declared.kinds.Side.TheVariants.{Client, Server}
 use Rattle.conode_explain_transfers.specs.declared.kinds.What.TheVariants.{Initiate}
+use Rattle.conode_explain_transfers.specs.declared.told.Part.{Part}
 use Rattle.conode_explain_entries.specs.declared.event.Event.{Event}
 use Rattle.conode_explain_entries.specs.declared.event.Event.TheVariants.{Written, Read, BootedUp, Saved, Restored}
 use Rattle.conode_explain_entries.specs.declared.event.PdoEntry.{PdoEntry}
@@ -13,7 +14,7 @@ use Rattle.conode_explain_entries.specs.declared.event.PdoPart.TheVariants.{CobI
 use Rattle.conode_explain_entries.specs.declared.state.PdoState.{PdoState}
 use Rattle.conode_explain_entries.specs.declared.state.Value.{Value}
 use Rattle.conode_explain_entries.specs.declared.state.Value.TheVariants as values
-use Rattle.conode_explain_entries.specs.Events.{entry_of, event_by, event_with}
+use Rattle.conode_explain_entries.specs.Events.{entry_of, event_by, event_with, or_unclear}
 use Rattle.conode_explain_entries.specs.Histories.{assumed_values, nothing_shown}
 use Rattle.conode_explain_entries.specs.Tables.{Happening, state_after}
 
@@ -377,8 +378,20 @@ save_to_restore = refl
 asked_whether_it_saves : event_by Upload (endings.Done false) (key 0x1010 1) (1 ∷ 0 ∷ 0 ∷ 0 ∷ []) ≡ None
 asked_whether_it_saves = refl
 
-boots : event_with None None ≡ Some BootedUp
+boots : event_with None None None ≡ Some BootedUp
 boots = refl
 
-goes_on : event_with (Some (record { side = Client; what = Initiate; of = None })) None ≡ None
+-- a frame of a transfer
+abbrev part : Option Part
+part = Some (record { side = Client; what = Initiate; of = None })
+
+goes_on : event_with part None None ≡ None
 goes_on = refl
+
+-- a download that isn't known was accepted: of an entry that is followed, and of another one
+accepted : map (event_with part None) (Some (key 0x1A00 1) ∷ Some (key 0x2001 1) ∷ []) ≡ Some (Written (tpdo1 1) None) ∷ None ∷ []
+accepted = refl
+
+-- beside a transfer that shows something of its entry, and one that shows nothing
+beside : map (λ event. or_unclear event (Some (key 0x1A00 1))) (Some BootedUp ∷ None ∷ []) ≡ Some BootedUp ∷ Some (Written (tpdo1 1) None) ∷ []
+beside = refl

@@ -111,10 +111,16 @@ abbrev pub event_of : Option Ended → Option Event
 event_of None = None
 event_of (Some ended) = event_after ended
 
-abbrev pub event_with : Option Part → Option Ended → Option Event
-event_with None ended = Some BootedUp
-event_with (Some part) ended = event_of ended
+-- where no transfer that ended shows anything: a download that isn't known was accepted
+abbrev pub or_unclear : Option Event → Option Key → Option Event
+or_unclear (Some event) unclear = Some event
+or_unclear None None = None
+or_unclear None (Some key) = unclear_event key
+
+abbrev pub event_with : Option Part → Option Ended → Option Key → Option Event
+event_with None ended unclear = Some BootedUp
+event_with (Some part) ended unclear = or_unclear (event_of ended) unclear
 
 -- a frame that is no part of a transfer is the node's boot-up
 abbrev pub event_in : Told → Option Event
-event_in told = event_with told.part told.ended
+event_in told = event_with told.part told.ended told.unclear

@@ -7,6 +7,7 @@ use Rattle.conode_explain_transfers.specs.declared.kinds.Side.TheVariants.{Clien
 use Rattle.conode_explain_transfers.specs.declared.told.Told.{Told}
 use Rattle.conode_explain_transfers.specs.Followed.{Following, after_boot, nothing_heard}
 use Rattle.conode_explain_transfers.specs.Hearings.{hearing}
+use Rattle.conode_explain_transfers.specs.Reveals.{revealed}
 use Rattle.conode_explain_transfers.specs.Tracks.{told_by}
 use Rattle.conode_explain_entries.specs.declared.further.ChannelIds.{ChannelIds}
 use Rattle.conode_explain_entries.specs.declared.further.FurtherChannel.{FurtherChannel}
@@ -73,8 +74,9 @@ pub record FurtherTelling : Type 0 where
 abbrev pub telling_at : Option ℕ → List FurtherChannel → Place → ℕ → List ℕ → FurtherTelling
 telling_at None channels place micros bytes = record { told = None; channels = channels }
 telling_at (Some at) channels place micros bytes =
-    let f = hearing (channel_at channels at).channel micros place.side bytes in
-    record { told = Some (told_by place.side place.node f.says); channels = with_channel channels at f.next }
+    let channel = (channel_at channels at).channel in
+    let f = hearing channel micros place.side bytes in
+    record { told = Some (told_by place.side place.node (revealed channel micros place.side bytes) f.says); channels = with_channel channels at f.next }
 
 -- with its stamp on an interface; a channel that there is no room for isn't followed
 unfoldable pub further_telling : List FurtherChannel → List ℕ → Place → ℕ → List ℕ → FurtherTelling

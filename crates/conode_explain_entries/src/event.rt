@@ -6,6 +6,7 @@ ghost use Rattle.conode_explain_entries.specs.Events.{
   entry_of,
   event_after,
   event_in,
+  event_of,
   has_signature,
   is_channel,
   is_cob_id,
@@ -16,6 +17,7 @@ ghost use Rattle.conode_explain_entries.specs.Events.{
   is_unclear,
   number_in,
   number_width,
+  or_unclear,
   read_event,
   unclear_event,
   upload_event,
@@ -50,7 +52,7 @@ pub struct PdoEntry {
 #[derive(Clone, Copy)]
 pub enum Event {
     /// A download to an entry was acknowledged, with this number. `None`: bytes of it are missing
-    /// in the recording.
+    /// in the recording, or it isn't known.
     Written { of: PdoEntry, number: Option<u32> },
     /// An upload of an entry was answered with this number.
     Read { of: PdoEntry, number: u32 },
@@ -245,6 +247,26 @@ fn event_after(ended: &Ended) -> Option<Event>
     }
 }
 
+fn event_of(ended: &Option<Ended>) -> Option<Event>
+    ensures { result ≡ event_of ended.now }
+{
+    match ended {
+        Some(ended) => event_after(ended),
+        None => None,
+    }
+}
+
+// where no transfer that ended shows anything: a download that isn't known was accepted
+fn or_unclear(event: Option<Event>, unclear: Option<Key>) -> Option<Event>
+    ensures { result ≡ or_unclear event unclear }
+{
+    match (event, unclear) {
+        (Some(event), _) => Some(event),
+        (None, Some(key)) => unclear_event(key),
+        (None, None) => None,
+    }
+}
+
 /// What a frame does to the entries of its node, by what is known about it; `None` for nothing.
 pub fn event_in(told: &Told) -> Option<Event>
     ensures { result ≡ event_in told.now }
@@ -252,8 +274,5 @@ pub fn event_in(told: &Told) -> Option<Event>
     if let None = told.part {
         return Some(Event::BootedUp);
     }
-    match &told.ended {
-        Some(ended) => event_after(ended),
-        None => None,
-    }
+    or_unclear(event_of(&told.ended), told.unclear)
 }

@@ -3,6 +3,7 @@
 ghost use Rattle.std.specs.Prelude.{◌≡◌, ◌<◌, ◌≤◌, [], length, OnOk, IfOk, IfSome};
 ghost use Rattle.conode_explain_transfers.specs.Followed.{after_boot};
 ghost use Rattle.conode_explain_transfers.specs.Hearings.{hearing};
+ghost use Rattle.conode_explain_transfers.specs.Reveals.{revealed};
 ghost use Rattle.conode_explain_entries.specs.Further.{
   are_same,
   booted,
@@ -19,7 +20,7 @@ ghost use Rattle.conode_explain_entries.specs.Further.{
 
 use arrayvec::ArrayVec;
 use co_frame::Frame;
-use conode_explain_transfers::{Channel, Heard, Side, Told};
+use conode_explain_transfers::{Channel, Heard, Revealed, Side, Told};
 use std::alloc::{AllocError, Global};
 use std::marker::Model;
 
@@ -183,6 +184,16 @@ impl FurtherChannels {
         self.channels[at].channel.hear(micros, side, frame)
     }
 
+    // What a frame of the channel at a place reveals.
+    #[tactic(auto, using(crate::proofs::Changes::same_at))]
+    fn reveals_at(&self, at: usize, micros: u64, side: Side, frame: &Frame) -> Revealed
+        requires { at < length self.now }
+        ensures { result
+            ≡ revealed (channel_at self.now at).channel micros side frame.now.bytes }
+    {
+        self.channels[at].channel.reveals(micros, side, frame)
+    }
+
     /// Takes a frame of a channel with its stamp in microseconds on an interface, whose name has at
     /// most 15 bytes. Returns what the frame is there; `None` for a channel that there is no room
     /// for. It allocates when a channel is heard first; on an `Err` memory ran out.
@@ -203,8 +214,9 @@ impl FurtherChannels {
         let Some(at) = attempt_value!(self.place(interface, place)) else {
             return Ok(None);
         };
+        let revealed = self.reveals_at(at, micros, place.side, frame);
         let heard = self.take_at(at, micros, place.side, frame);
-        Ok(Some(Told::by(place.side, place.node, heard)))
+        Ok(Some(Told::by(place.side, place.node, revealed, heard)))
     }
 
     /// A node on an interface booted up: no transfer of its channels is open any more.

@@ -142,7 +142,7 @@ down e = record {
 }
 
 abbrev told : ℕ → Option Ended → Option Told
-told node e = Some (record { node = node; part = None; ended = e })
+told node e = Some (record { node = node; part = None; left = None; ended = e; unclear = None })
 
 abbrev signal : Signal
 signal = of_node 5 0x2001 1

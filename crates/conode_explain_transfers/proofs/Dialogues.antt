@@ -1,6 +1,7 @@
 -- How worked dialogues are written: frames as hexadecimal digits, the first one first, and what is said of them.
 use Rattle.std.proofs.Common.{ℕ, List, [], ◌∷◌}
 use Rattle.std.specs.Prelude.{◌+◌, ◌-◌, ◌*◌, nat_lt, if◌then◌else◌, Option, Some, None}
+use Rattle.co_value.specs.declared.key.Key.{Key}
 use Rattle.conode_explain_transfers.specs.declared.channel.Heard.{Heard}
 use Rattle.conode_explain_transfers.specs.declared.ended.Ended.{Ended}
 use Rattle.conode_explain_transfers.specs.declared.ended.Ending.{Ending}
@@ -11,6 +12,7 @@ use Rattle.conode_explain_transfers.specs.declared.kinds.Side.TheVariants.{Clien
 use Rattle.conode_explain_transfers.specs.declared.kinds.What.{What}
 use Rattle.conode_explain_transfers.specs.Followed.{Following, nothing_heard, closed, followed}
 use Rattle.conode_explain_transfers.specs.Hearings.{hearing}
+use Rattle.conode_explain_transfers.specs.Reveals.{revealed}
 use Rattle.conode_explain_transfers.specs.Tracks.{shown_end, shown_what}
 
 -- the digits of a frame
@@ -70,16 +72,35 @@ told frames = told_from nothing_heard frames
 abbrev pub shown_of : Heard → Heard
 shown_of heard = record { what = shown_what heard.what heard.ended; of = heard.of; ended = shown_end heard.ended }
 
+-- a transfer that was left has its end before the one that ends with the frame
+abbrev pub left_with : Option Ended → Told → Told
+left_with left told = record { whats = told.whats; ends = ends_with left told.ends }
+
 abbrev pub shown_from : Following → List Sent → Told
 shown_from following [] = record { whats = []; ends = [] }
 shown_from following (sent ∷ later) =
     let step = hearing following 0 sent.side sent.bytes in
-    told_with (shown_of step.says) (shown_from step.next later)
+    left_with (revealed following 0 sent.side sent.bytes).left (told_with (shown_of step.says) (shown_from step.next later))
 
 abbrev pub shown : List Sent → Told
 shown frames = shown_from nothing_heard frames
 
--- the channel after them
+-- the channel after it heard them
+abbrev pub heard_all : Following → List Sent → Following
+heard_all following [] = following
+heard_all following (sent ∷ later) = heard_all (hearing following 0 sent.side sent.bytes).next later
+
+-- the entries of which nothing is known after them
+abbrev pub keys_with : Option Key → List Key → List Key
+keys_with None keys = keys
+keys_with (Some key) keys = key ∷ keys
+
+abbrev pub unclear_from : Following → List Sent → List Key
+unclear_from following [] = []
+unclear_from following (sent ∷ later) =
+    keys_with (revealed following 0 sent.side sent.bytes).unclear (unclear_from (hearing following 0 sent.side sent.bytes).next later)
+
+-- the channel after it took them
 abbrev pub after_all : Following → List Sent → Following
 after_all following [] = following
 after_all following (sent ∷ later) = after_all (followed following 0 sent.side sent.bytes).next later

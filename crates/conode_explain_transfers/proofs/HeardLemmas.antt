@@ -1,21 +1,26 @@
 -- What is kept and what is done in a recording, after every log.
 use Rattle.std.proofs.Common.{◌≡◌, ℕ, List, [], ◌∷◌, refl}
 use Rattle.std.specs.Prelude.{◌==◌, Bool, true, false, if◌then◌else◌, slice_index, Option, Some, None, IfSome}
+use Rattle.co_frame.specs.SdoResponses.{response_in}
+use Rattle.co_value.specs.declared.key.Key.{Key}
 use Rattle.conode_explain_transfers.specs.declared.channel.Heard.{Heard}
 use Rattle.conode_explain_transfers.specs.declared.ended.Ended.{Ended}
 use Rattle.conode_explain_transfers.specs.declared.ended.Ending.{Ending}
 use Rattle.conode_explain_transfers.specs.declared.ended.Ending.TheVariants.{Done, Interrupted, Repeated, Unanswered}
 use Rattle.conode_explain_transfers.specs.declared.kinds.Side.{Side}
-use Rattle.conode_explain_transfers.specs.declared.kinds.Side.TheVariants.{Server}
+use Rattle.conode_explain_transfers.specs.declared.kinds.Side.TheVariants.{Client, Server}
 use Rattle.conode_explain_transfers.specs.declared.kinds.What.{What}
+use Rattle.conode_explain_transfers.specs.declared.reading.Reading.{Reading}
+use Rattle.conode_explain_transfers.specs.declared.reading.Reading.TheVariants.{Begin}
 use Rattle.conode_explain_transfers.specs.declared.stage.Stage.TheVariants.{SubBlock, AllAcknowledged}
 use Rattle.conode_explain_transfers.specs.declared.transfer.Transfer.{Transfer}
 use Rattle.conode_explain_transfers.specs.BlockTurns.{most_segments}
-use Rattle.conode_explain_transfers.specs.Data.{IfDone, IsDoneWith}
+use Rattle.conode_explain_transfers.specs.Data.{IfDone, IsDoneWith, data_by}
+use Rattle.conode_explain_transfers.specs.Doubtful.{begun_by, freed, freed_by, if_answered, is_answer, noted, shown_by}
 use Rattle.conode_explain_transfers.specs.Followed.{Event, Framed, BootedUp, Following, ends_as, followed}
-use Rattle.conode_explain_transfers.specs.HeardData.{heard_after, heard_of, data_heard, heard_data, IsDoneHeard}
-use Rattle.conode_explain_transfers.specs.Hearings.{after_aside, aside, heard_next, hearing, hearing_by, hearing_where, is_over, is_unsure, lacks_acknowledge, lacks_start, leaves_after_last, made_up, sure_end, sure_ending}
-use Rattle.conode_explain_transfers.specs.Readings.{reading_of}
+use Rattle.conode_explain_transfers.specs.HeardData.{heard_after, heard_of, data_freed, data_heard, heard_data, IsDoneHeard}
+use Rattle.conode_explain_transfers.specs.Hearings.{after_aside, aside, heard_next, hearing_by, hearing_in, hearing_where, is_over, is_unsure, lacks_acknowledge, lacks_start, leaves_after_last, made_up, sure_end, sure_ending}
+use Rattle.conode_explain_transfers.specs.Readings.{plain_reading, reading_of}
 use Rattle.conode_explain_transfers.specs.Turns.{turn_of}
 use Rattle.conode_explain_transfers.proofs.DataLemmas.{IsOpenWith, StaysOpen, frame_step}
 use Rattle.conode_explain_transfers.proofs.DoneLemmas.{frame_done}
@@ -27,9 +32,10 @@ pub says_next : (old x : Following) (said : Heard) (unsure : Bool) (end : Option
     → end ≡ sure_end unsure said.ended → record { what = said.what; of = said.of; ended = end } ≡ (heard_next old micros side frame).says
 says_next old x said unsure end micros side frame made is was sure = rw (sure, was, is, made) refl
 
-pub next_next : (old x new : Following) (micros : ℕ) (side : Side) (frame : List ℕ)
-    → x ≡ record old { transfer = made_up old.transfer side frame } → new ≡ (followed x micros side frame).next → new ≡ (heard_next old micros side frame).next
-next_next old x new micros side frame made is = rw (is, made) refl
+pub next_next : (old x y new : Following) (what : What) (micros : ℕ) (side : Side) (frame : List ℕ)
+    → x ≡ record old { transfer = made_up old.transfer side frame } → y ≡ (followed x micros side frame).next → what ≡ (followed x micros side frame).says.what
+    → new ≡ record y { transfer = noted side what micros frame y.transfer } → new ≡ (heard_next old micros side frame).next
+next_next old x y new what micros side frame made is said note = rw (note, said, is, made) refl
 
 -- ---- a frame
 
@@ -72,10 +78,42 @@ left_open : (current : Option Transfer) (micros : ℕ) (fact : Bool → Type 0) 
 left_open None micros fact = tt
 left_open (Some transfer) micros fact = tt
 
+-- nor does the note of the client's newest frame
+noted_open : (side : Side) (what : What) (micros : ℕ) (frame : List ℕ) (current : Option Transfer) (bytes : List ℕ)
+    → StaysOpen current bytes → StaysOpen (noted side what micros frame current) bytes
+noted_open side what micros frame None bytes h = tt
+noted_open Client what micros frame (Some transfer) bytes h = record { unconfirmed = h.unconfirmed; taken = h.taken }
+noted_open Server what micros frame (Some transfer) bytes h = h
+
+-- a request that was taken for a segment begins without data
+begun_open : (reading : Reading) (transfer : Transfer) → StaysOpen (begun_by reading transfer) []
+begun_open (Begin initiate) transfer = record { unconfirmed = refl; taken = refl }
+begun_open _ transfer = tt
+
+answered_open : (request : Option Transfer) (entry : Key) (frame : List ℕ) → StaysOpen request [] → StaysOpen (if_answered request entry frame) []
+answered_open None entry frame h = tt
+answered_open (Some request) entry frame h = by (is_answer entry request (response_in frame) frame)
+  where
+    by : (answer : Bool) → StaysOpen (if answer then Some request else None) []
+    by true = h
+    by false = tt
+
+shown_open : (current : Option Transfer) (side : Side) (frame : List ℕ) → StaysOpen (shown_by current side frame) []
+shown_open None side frame = tt
+shown_open (Some transfer) Client frame = tt
+shown_open (Some transfer) Server frame =
+    answered_open (begun_by (plain_reading Client transfer.doubtful.bytes) transfer) transfer.key frame
+    (begun_open (plain_reading Client transfer.doubtful.bytes) transfer)
+
+freed_open : (shown current : Option Transfer) (bytes : List ℕ) → StaysOpen shown [] → StaysOpen current bytes
+    → StaysOpen (freed_by shown current) (data_freed shown bytes)
+freed_open None current bytes s h = h
+freed_open (Some request) current bytes s h = s
+
 -- ---- every log
 
 heard_step : (following : Following) (micros : ℕ) (side : Side) (frame bytes : List ℕ) → StaysOpen following.transfer bytes
-    → StaysOpen (hearing following micros side frame).next.transfer (data_heard (aside following.transfer side frame) (made_up following.transfer side frame) side frame bytes)
+    → StaysOpen (hearing_in following micros side frame).next.transfer (data_heard (aside following.transfer side frame) (made_up following.transfer side frame) side frame bytes)
 heard_step following micros side frame bytes h = where_over (is_over following.transfer side frame)
   where
     current : Option Transfer
@@ -83,15 +121,33 @@ heard_step following micros side frame bytes h = where_over (is_over following.t
 
     by : (x : Option What) → StaysOpen (hearing_by x following micros side frame).next.transfer (data_heard x current side frame bytes)
     by (Some what) = aside_open following.transfer frame bytes h
-    by None = frame_step following.heard current (reading_of current side frame) micros side frame bytes (made_open following.transfer side frame bytes h)
+    by None =
+        let x : Following = record following { transfer = current } in
+        noted_open side (followed x micros side frame).says.what micros frame (followed x micros side frame).next.transfer
+        (data_by current (reading_of current side frame) frame bytes)
+        (frame_step following.heard current (reading_of current side frame) micros side frame bytes (made_open following.transfer side frame bytes h))
 
     where_over : (over : Bool) → StaysOpen (hearing_where over following micros side frame).next.transfer (data_heard (aside following.transfer side frame) current side frame bytes)
     where_over true = tt
     where_over false = by (aside following.transfer side frame)
 
+-- what is open before a frame
+abbrev before : List Event → Side → List ℕ → Following
+before log side frame = record (heard_after log) { transfer = freed (heard_after log).transfer side frame }
+
+abbrev data_before : List Event → Side → List ℕ → List ℕ
+data_before log side frame = data_freed (shown_by (heard_after log).transfer side frame) (heard_data log)
+
+before_open : (log : List Event) (side : Side) (frame : List ℕ) → StaysOpen (heard_after log).transfer (heard_data log)
+    → StaysOpen (before log side frame).transfer (data_before log side frame)
+before_open log side frame h =
+    let current = (heard_after log).transfer in
+    freed_open (shown_by current side frame) current (heard_data log) (shown_open current side frame) h
+
 pub heard_open : (log : List Event) → StaysOpen (heard_after log).transfer (heard_data log)
 heard_open [] = tt
-heard_open (Framed micros side frame ∷ older) = heard_step (heard_after older) micros side frame (heard_data older) (heard_open older)
+heard_open (Framed micros side frame ∷ older) =
+    heard_step (before older side frame) micros side frame (data_before older side frame) (before_open older side frame (heard_open older))
 heard_open (BootedUp micros ∷ older) = tt
 
 pub heard_done : (log : List Event) (micros : ℕ) (side : Side) (frame : List ℕ)
@@ -99,22 +155,25 @@ pub heard_done : (log : List Event) (micros : ℕ) (side : Side) (frame : List �
 heard_done log micros side frame = where_over (is_over following.transfer side frame)
   where
     following : Following
-    following = heard_after log
+    following = before log side frame
 
     current : Option Transfer
     current = made_up following.transfer side frame
 
+    kept : List ℕ
+    kept = data_before log side frame
+
     Fact : Option What → Bool → Type 0
     Fact x crc =
         IfSome current (λ transfer.
-        IsDoneWith transfer (reading_of current side frame) (turn_of transfer (reading_of current side frame) frame) (data_heard x current side frame (heard_data log)) crc)
+        IsDoneWith transfer (reading_of current side frame) (turn_of transfer (reading_of current side frame) frame) (data_heard x current side frame kept) crc)
 
     by : (x : Option What) → IfSome (hearing_by x following micros side frame).says.ended (λ e. IfDone e.ending (Fact x))
     by (Some what) = tt
     by None =
         sure_done (is_unsure following.transfer) _ (Fact None)
-        (frame_done following.heard current (reading_of current side frame) micros side frame (heard_data log)
-        (made_open following.transfer side frame (heard_data log) (heard_open log)))
+        (frame_done following.heard current (reading_of current side frame) micros side frame kept
+        (made_open following.transfer side frame kept (before_open log side frame (heard_open log))))
 
     where_over : (over : Bool) → IfSome (hearing_where over following micros side frame).says.ended (λ e. IfDone e.ending (IsDoneHeard log micros side frame))
     where_over true = left_open following.transfer micros (IsDoneHeard log micros side frame)

@@ -1,5 +1,5 @@
 -- What is heard of transfers in a recording: answers to earlier requests, and frames that are missing (CiA 301, 7.2.4.3).
-use Rattle.std.proofs.Common.{◌≡◌, ℕ, true, false, List, [], ◌∷◌, ◌++◌, Some, None, refl, codes}
+use Rattle.std.proofs.Common.{◌≡◌, ℕ, true, false, List, [], ◌∷◌, ◌++◌, refl, codes}
 use Rattle.std.specs.Prelude.{map}
 use Rattle.co_frame.specs.SdoRequests.{request_row_in}
 use Rattle.co_frame.specs.SdoResponses.{response_row_in}
@@ -159,8 +159,9 @@ one_segment = c (codes "C000210000000000") ∷ s (codes "A00021007F000000") ∷ 
 -- the client gave the download up, and reads 1000:00: 40h is segment 64 until it is answered
 left_download : shown (one_segment ++ c (codes "4000100000000000") ∷ s (codes "4300100094010200") ∷ c (codes "4000210000000000") ∷ s (codes "4F002100AA000000") ∷ [])
     ≡ record {
-      whats = Initiate ∷ Part ∷ Segment 1 ∷ OutOfSequence 64 2 ∷ Unexpected ∷ Initiate ∷ Part ∷ [];
-      ends = record { protocol = Block; bytes = 0; first = []; frames = 4; ending = Interrupted }
+      whats = Initiate ∷ Part ∷ Segment 1 ∷ OutOfSequence 64 2 ∷ Part ∷ Initiate ∷ Part ∷ [];
+      ends = record { protocol = Block; bytes = 0; first = []; frames = 3; ending = Interrupted }
+          ∷ record { protocol = Expedited; bytes = 4; first = 0x94 ∷ 0x01 ∷ 0x02 ∷ 0x00 ∷ []; frames = 2; ending = Done false }
           ∷ record { protocol = Expedited; bytes = 1; first = 0xAA ∷ []; frames = 2; ending = Done false } ∷ [];
     }
 unfolding request_row_in response_row_in shifted crc_with
@@ -169,8 +170,9 @@ left_download = refl
 -- it falls back to another protocol for the same entry
 left_for_same : shown (c (codes "C600200015000000") ∷ s (codes "A40020007F000000") ∷ segment 1 ∷ c (codes "2F00200005000000") ∷ s (codes "6000200000000000") ∷ c (codes "4000200000000000") ∷ s (codes "4F00200005000000") ∷ [])
     ≡ record {
-      whats = Initiate ∷ Part ∷ Segment 1 ∷ OutOfSequence 47 2 ∷ Unexpected ∷ Initiate ∷ Part ∷ [];
-      ends = record { protocol = Block; bytes = 0; first = []; frames = 4; ending = Interrupted }
+      whats = Initiate ∷ Part ∷ Segment 1 ∷ OutOfSequence 47 2 ∷ Part ∷ Initiate ∷ Part ∷ [];
+      ends = record { protocol = Block; bytes = 0; first = []; frames = 3; ending = Interrupted }
+          ∷ record { protocol = Expedited; bytes = 1; first = 0x05 ∷ []; frames = 2; ending = Done false }
           ∷ record { protocol = Expedited; bytes = 1; first = 0x05 ∷ []; frames = 2; ending = Done false } ∷ [];
     }
 unfolding request_row_in response_row_in shifted crc_with
@@ -183,9 +185,9 @@ left frames = record { protocol = Block; bytes = 0; first = []; frames = frames;
 abbrev with_request : List Sent
 with_request = one_segment ++ c (codes "4000100000000000") ∷ []
 
--- each response to initiate; of a block download each part of the entry; and of the entry all others
+-- each response to initiate, which doesn't answer that request; of a block download each part of the entry; and of the entry all others
 over : map (λ answer. (shown (with_request ++ s answer ∷ [])).ends)
-    (codes "6000100000000000" ∷ codes "4300100094010200" ∷ codes "4100100009000000" ∷ codes "A00010007F000000" ∷ codes "C000100000000000"
+    (codes "6000100000000000" ∷ codes "4301100094010200" ∷ codes "4101100009000000" ∷ codes "A00010007F000000" ∷ codes "C000100000000000"
     ∷ codes "A00121007F000000" ∷ codes "A00020007F000000" ∷ codes "A00021017F000000"
     ∷ codes "6000210000000000" ∷ codes "4F002100AA000000" ∷ codes "4100210009000000" ∷ codes "C000210000000000" ∷ [])
     ≡ left 4 ∷ left 4 ∷ left 4 ∷ left 4 ∷ left 4 ∷ left 4 ∷ left 4 ∷ left 4 ∷ left 4 ∷ left 4 ∷ left 4 ∷ left 4 ∷ []

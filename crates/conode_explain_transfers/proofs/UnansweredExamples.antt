@@ -500,11 +500,11 @@ boot_up = refl
 
 -- a request to node 6 isn't the segment after one of node 5
 other_channel : (telling (telling [] [] 0 (record { id = 0x605; bytes = (segment 32).bytes })).tracks [] 0 (record { id = 0x606; bytes = (segment 33).bytes })).told
-    ≡ Some (record { node = 6; part = Some (record { side = Client; what = Initiate; of = None }); ended = None })
+    ≡ Some (record { node = 6; part = Some (record { side = Client; what = Initiate; of = None }); left = None; ended = None; unclear = None })
 unfolding request_row_in response_row_in shifted crc_with placed sdo_telling telling
 other_channel = refl
 
 same_channel : (telling (telling [] [] 0 (record { id = 0x605; bytes = (segment 32).bytes })).tracks [] 0 (record { id = 0x605; bytes = (segment 33).bytes })).told
-    ≡ Some (record { node = 5; part = Some (record { side = Client; what = Segment 33; of = None }); ended = None })
+    ≡ Some (record { node = 5; part = Some (record { side = Client; what = Segment 33; of = None }); left = None; ended = None; unclear = None })
 unfolding request_row_in response_row_in shifted crc_with placed sdo_telling telling
 same_channel = refl

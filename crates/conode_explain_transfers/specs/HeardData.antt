@@ -6,6 +6,7 @@ use Rattle.conode_explain_transfers.specs.declared.kinds.Side.{Side}
 use Rattle.conode_explain_transfers.specs.declared.kinds.What.{What}
 use Rattle.conode_explain_transfers.specs.declared.transfer.Transfer.{Transfer}
 use Rattle.conode_explain_transfers.specs.Data.{data_by, IsDoneWith}
+use Rattle.conode_explain_transfers.specs.Doubtful.{freed, shown_by}
 use Rattle.conode_explain_transfers.specs.Followed.{Event, Framed, BootedUp, Following, after_boot, nothing_heard}
 use Rattle.conode_explain_transfers.specs.Hearings.{aside, hearing, made_up}
 use Rattle.conode_explain_transfers.specs.Readings.{reading_of}
@@ -26,18 +27,24 @@ abbrev pub data_heard : Option What → Option Transfer → Side → List ℕ �
 data_heard (Some what) current side frame bytes = bytes
 data_heard None current side frame bytes = data_by current (reading_of current side frame) frame bytes
 
+-- where the frame answers a request that was taken for a segment, the transfer begins with that
+abbrev pub data_freed : Option Transfer → List ℕ → List ℕ
+data_freed None bytes = bytes
+data_freed (Some request) bytes = []
+
 -- the data of the transfer that the newest frame belongs to
 abbrev pub heard_data : List Event → List ℕ
 heard_data [] = []
 heard_data (Framed micros side frame ∷ older) =
-    let current = (heard_after older).transfer in
-    data_heard (aside current side frame) (made_up current side frame) side frame (heard_data older)
+    let before = (heard_after older).transfer in
+    let current = freed before side frame in
+    data_heard (aside current side frame) (made_up current side frame) side frame (data_freed (shown_by before side frame) (heard_data older))
 heard_data (BootedUp micros ∷ older) = []
 
 -- the open transfer is done with a frame after a log
 abbrev pub IsDoneHeard : List Event → ℕ → Side → List ℕ → Bool → Type 0
 IsDoneHeard log micros side frame crc =
-    let current = made_up (heard_after log).transfer side frame in
+    let current = made_up (freed (heard_after log).transfer side frame) side frame in
     let reading = reading_of current side frame in
     IfSome current (λ transfer.
     IsDoneWith transfer reading (turn_of transfer reading frame) (heard_data (Framed micros side frame ∷ log)) crc)

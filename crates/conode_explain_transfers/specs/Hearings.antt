@@ -19,6 +19,7 @@ use Rattle.conode_explain_transfers.specs.declared.stage.Stage.{Stage}
 use Rattle.conode_explain_transfers.specs.declared.stage.Stage.TheVariants.{BlockInitiated, SubBlock, AllAcknowledged}
 use Rattle.conode_explain_transfers.specs.declared.transfer.Transfer.{Transfer}
 use Rattle.conode_explain_transfers.specs.BlockTurns.{is_block, most_segments}
+use Rattle.conode_explain_transfers.specs.Doubtful.{freed, noted}
 use Rattle.conode_explain_transfers.specs.Followed.{Following, Followed, after_boot, ends_as, followed}
 use Rattle.conode_explain_transfers.specs.Readings.{answers_key, is_in_sub_block, is_sender, plain_reading}
 use Rattle.conode_explain_transfers.specs.Stages.{is_initiated}
@@ -202,10 +203,16 @@ cut following micros = record {
 abbrev pub with_end : Bool → Followed → Followed
 with_end unsure f = record { says = record f.says { ended = sure_end unsure f.says.ended }; next = f.next }
 
+-- the client's newest frame is kept, where it may be a request
+abbrev pub with_note : ℕ → Side → List ℕ → Followed → Followed
+with_note micros side bytes f =
+    record { says = f.says; next = record f.next { transfer = noted side f.says.what micros bytes f.next.transfer } }
+
 -- the channel takes it
 abbrev pub heard_next : Following → ℕ → Side → List ℕ → Followed
 heard_next following micros side bytes =
-    with_end (is_unsure following.transfer) (followed (record following { transfer = made_up following.transfer side bytes }) micros side bytes)
+    with_note micros side bytes
+    (with_end (is_unsure following.transfer) (followed (record following { transfer = made_up following.transfer side bytes }) micros side bytes))
 
 abbrev pub hearing_by : Option What → Following → ℕ → Side → List ℕ → Followed
 hearing_by (Some what) following micros side bytes = passed following what bytes
@@ -215,6 +222,10 @@ abbrev pub hearing_where : Bool → Following → ℕ → Side → List ℕ → 
 hearing_where true following micros side bytes = cut following micros
 hearing_where false following micros side bytes = hearing_by (aside following.transfer side bytes) following micros side bytes
 
+-- of the transfer that is open before it
+abbrev pub hearing_in : Following → ℕ → Side → List ℕ → Followed
+hearing_in following micros side bytes = hearing_where (is_over following.transfer side bytes) following micros side bytes
+
 -- a frame with its stamp, by an end, with these bytes
 abbrev pub hearing : Following → ℕ → Side → List ℕ → Followed
-hearing following micros side bytes = hearing_where (is_over following.transfer side bytes) following micros side bytes
+hearing following micros side bytes = hearing_in (record following { transfer = freed following.transfer side bytes }) micros side bytes

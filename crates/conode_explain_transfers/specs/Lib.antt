@@ -2,12 +2,14 @@ pub mod BlockTurns
 pub mod Crc
 pub mod Data
 pub mod Digests
+pub mod Doubtful
 pub mod Endings
 pub mod Followed
 pub mod HeardData
 pub mod Hearings
 pub mod Initiates
 pub mod Readings
+pub mod Reveals
 pub mod SegmentedTurns
 pub mod Stages
 pub mod Transfers

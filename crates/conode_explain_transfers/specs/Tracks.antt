@@ -1,6 +1,6 @@
 -- The SDO channels of a recording, one for each node on each interface; each is followed as
 -- `hearing` says.
-use Rattle.std.specs.Prelude.{ℕ, ◌==◌, ◌&&◌, nat_lt, Bool, true, false, if◌then◌else◌, List, [], ◌∷◌, ◌++◌, length, slice_set, position, Option, Some, None}
+use Rattle.std.specs.Prelude.{ℕ, ◌==◌, ◌&&◌, nat_lt, Bool, if◌then◌else◌, List, [], ◌∷◌, ◌++◌, length, slice_set, position, Option, Some, None}
 use Rattle.std.specs.List.{slice_index_or}
 use Rattle.std.specs.Str.{bytes_eq}
 use Rattle.conode_explain_transfers.specs.declared.ended.Ending.{Ending}
@@ -13,6 +13,8 @@ use Rattle.conode_explain_transfers.specs.declared.kinds.What.TheVariants.{Segme
 use Rattle.conode_explain_transfers.specs.Endings.{is_followed}
 use Rattle.conode_explain_transfers.specs.Followed.{Following, nothing_heard, broken_off, after_boot}
 use Rattle.conode_explain_transfers.specs.Hearings.{hearing}
+use Rattle.conode_explain_transfers.specs.Reveals.{revealed}
+use Rattle.conode_explain_transfers.specs.declared.revealed.Revealed.{Revealed}
 use Rattle.conode_explain_transfers.specs.declared.told.Told.{Told}
 use Rattle.conode_explain_transfers.specs.declared.track.Track.{Track}
 
@@ -76,12 +78,14 @@ abbrev pub shown_what : What → Option Ended → What
 shown_what what None = what
 shown_what what (Some e) = frame_after what e.ending
 
--- a frame of an end, of which its channel says this
-abbrev pub told_by : Side → ℕ → Heard → Told
-told_by side node heard = record {
+-- a frame of an end, which reveals this, and of which its channel says this
+abbrev pub told_by : Side → ℕ → Revealed → Heard → Told
+told_by side node revealed heard = record {
   node = node;
   part = Some (record { side = side; what = shown_what heard.what heard.ended; of = heard.of });
+  left = revealed.left;
   ended = shown_end heard.ended;
+  unclear = revealed.unclear;
 }
 
 -- a frame with its stamp, by an end, with these bytes, on the channel at a place
@@ -89,8 +93,9 @@ told_by side node heard = record {
 abbrev pub telling_at : Option ℕ → List Track → ℕ → ℕ → Side → List ℕ → Telling
 telling_at None tracks node micros side bytes = record { told = None; tracks = tracks }
 telling_at (Some place) tracks node micros side bytes =
-    let f = hearing (track_at tracks place).channel micros side bytes in
-    record { told = Some (told_by side node f.says); tracks = with_channel tracks place f.next }
+    let channel = (track_at tracks place).channel in
+    let f = hearing channel micros side bytes in
+    record { told = Some (told_by side node (revealed channel micros side bytes) f.says); tracks = with_channel tracks place f.next }
 
 -- a frame of a node on an interface; a channel that there is no room for isn't followed
 unfoldable pub sdo_telling : List Track → List ℕ → ℕ → ℕ → Side → List ℕ → Telling
@@ -103,7 +108,7 @@ boot_telling_at None tracks node micros = record { told = None; tracks = tracks 
 boot_telling_at (Some place) tracks node micros =
     let following = (track_at tracks place).channel in
     record {
-      told = Some (record { node = node; part = None; ended = shown_end (broken_off following.transfer micros) });
+      told = Some (record { node = node; part = None; left = None; ended = shown_end (broken_off following.transfer micros); unclear = None });
       tracks = with_channel tracks place (after_boot following);
     }
 

@@ -34,6 +34,8 @@ begun initiate micros bytes = record {
   by = Client;
   went_on = false;
   put_aside = false;
+  doubtful = record { id = 0; bytes = [] };
+  doubtful_at = 0;
 }
 
 abbrev pub is_download : Direction → Bool

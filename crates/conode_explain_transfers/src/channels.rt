@@ -3,6 +3,7 @@
 ghost use Rattle.std.specs.Prelude.{◌≡◌, ◌<◌, ◌≤◌, [], length, OnOk, IfOk, IfSome};
 ghost use Rattle.conode_explain_transfers.specs.Followed.{broken_off, after_boot};
 ghost use Rattle.conode_explain_transfers.specs.Hearings.{hearing};
+ghost use Rattle.conode_explain_transfers.specs.Reveals.{revealed};
 ghost use Rattle.conode_explain_transfers.specs.Tracks.{
   place_of,
   track_at,
@@ -16,7 +17,7 @@ ghost use Rattle.conode_explain_transfers.specs.Tellings.{is_boot_up, telling};
 use crate::ended::shown_end;
 use crate::told::Told;
 use crate::track::Track;
-use crate::{Ended, Heard, Side};
+use crate::{Ended, Heard, Revealed, Side};
 use co_frame::Frame;
 use std::alloc::{AllocError, Global};
 use std::marker::Model;
@@ -105,6 +106,16 @@ impl Channels {
         self.tracks[place].channel.hear(micros, side, frame)
     }
 
+    // What a frame of the channel at a place reveals.
+    #[tactic(auto, using(crate::proofs::Places::same_at))]
+    fn reveals_at(&self, place: usize, micros: u64, side: Side, frame: &Frame) -> Revealed
+        requires { place < length self.now }
+        ensures { result
+            ≡ revealed (track_at self.now place).channel micros side frame.now.bytes }
+    {
+        self.tracks[place].channel.reveals(micros, side, frame)
+    }
+
     // The node of the channel at a place booted up.
     #[tactic(auto, using(crate::proofs::Places::same_at))]
     fn boot_at(&mut self, place: usize, micros: u64) -> Option<Ended>
@@ -136,8 +147,9 @@ impl Channels {
         let Some(place) = self.place(interface, node)? else {
             return Ok(None);
         };
+        let revealed = self.reveals_at(place, micros, side, frame);
         let heard = self.take_at(place, micros, side, frame);
-        Ok(Some(Told::by(side, node, heard)))
+        Ok(Some(Told::by(side, node, revealed, heard)))
     }
 
     // A node booted up.
@@ -151,7 +163,9 @@ impl Channels {
         Some(Told {
             node,
             part: None,
+            left: None,
             ended: shown_end(ended),
+            unclear: None,
         })
     }
 

@@ -2,6 +2,7 @@
 
 ghost use Rattle.std.specs.Prelude.{◌≡◌, ◌∷◌, ◌&&◌, List};
 ghost use Rattle.co_frame.specs.SdoResponses.{response_in};
+ghost use Rattle.conode_explain_transfers.specs.Doubtful.{noted};
 ghost use Rattle.conode_explain_transfers.specs.Followed.{Event, Framed};
 ghost use Rattle.conode_explain_transfers.specs.HeardData.{heard_after, heard_of};
 ghost use Rattle.conode_explain_transfers.specs.Hearings.{
@@ -16,6 +17,7 @@ ghost use Rattle.conode_explain_transfers.specs.Hearings.{
   earlier_abort,
   heard_next,
   hearing,
+  hearing_in,
   is_after_last,
   is_block_initiated,
   is_block_upload,
@@ -225,7 +227,8 @@ impl Transfer {
         FIRST_SERVICE < self.next_number && !self.awaits_last_acknowledge()
     }
 
-    // Whether a frame of the server answers another initiate request than that of this block download.
+    // Whether a frame of the server answers another initiate request than that of this block
+    // download.
     fn answers_another(&self, frame: &Frame) -> bool
         ensures { result ≡ answers_another self.now.key (response_in frame.now.bytes) }
     {
@@ -327,8 +330,8 @@ impl Channel {
         }
     }
 
-    // Whether the open transfer may have had an answer: a frame of it didn't go on with the others, or
-    // the server sent the newest one.
+    // Whether the open transfer may have had an answer: a frame of it didn't go on with the others,
+    // or the server sent the newest one.
     fn is_unsure(&self) -> bool
         ensures { result ≡ is_unsure self.now.transfer }
     {
@@ -338,9 +341,9 @@ impl Channel {
         }
     }
 
-    // Whether the server answers another request within a sub-block of a download, which may be one of
-    // its segments: the client has left that.
-    fn is_over(&self, side: Side, frame: &Frame) -> bool
+    /// Whether the server answers another request within a sub-block of a download, which may be
+    /// one of its segments: the client has left that.
+    pub(crate) fn is_over(&self, side: Side, frame: &Frame) -> bool
         ensures { result ≡ is_over self.now.transfer side frame.now.bytes }
     {
         match (&self.transfer, side) {
@@ -380,6 +383,16 @@ impl Channel {
         }
     }
 
+    // Keeps the client's newest frame, where it may be a request.
+    fn note(&mut self, side: Side, what: What, micros: u64, frame: &Frame)
+        ensures { self.new ≡ record self.old
+            { transfer = noted side what micros frame.now.bytes self.old.transfer } }
+    {
+        if let Some(transfer) = &mut self.transfer {
+            transfer.note_newest(side, what, micros, frame);
+        }
+    }
+
     // A frame that the channel takes.
     fn hear_next(&mut self, micros: u64, side: Side, frame: &Frame) -> Heard
         ensures says { result ≡ (heard_next self.old micros side frame.now.bytes).says }
@@ -388,6 +401,7 @@ impl Channel {
         let unsure = self.is_unsure();
         self.make_up(side, frame);
         let heard = self.take(micros, side, frame);
+        self.note(side, heard.what, micros, frame);
         Heard {
             what: heard.what,
             of: heard.of,
@@ -395,12 +409,28 @@ impl Channel {
         }
     }
 
-    /// Hears a frame of a recording as `take` does, but for this: an answer to an earlier request is
-    /// `Overtaken`, and after one no request is a segment; one to a request that looked like a segment
-    /// of a block download ends that; where no transfer is open, 81h to 9Fh is a segment; of a transfer
-    /// that lacks the start of a block upload, or an acknowledge with a larger block size, the segments
-    /// are followed; and none of which frames are missing, or an abort was put aside, is `Unanswered` or
-    /// `Repeated`.
+    // A frame of the open transfer, or of another one.
+    fn hear_in(&mut self, micros: u64, side: Side, frame: &Frame) -> Heard
+        ensures heard { result ≡ (hearing_in self.old micros side frame.now.bytes).says }
+        ensures next { self.new ≡ (hearing_in self.old micros side frame.now.bytes).next }
+    {
+        if self.is_over(side, frame) {
+            return self.cut(micros);
+        }
+        if let Some(what) = self.aside(side, frame) {
+            return self.pass(what, frame);
+        }
+        self.hear_next(micros, side, frame)
+    }
+
+    /// Hears a frame of a recording as `take` does, but for this: an answer to an earlier request
+    /// is `Overtaken`, and after one no request is a segment; one to a request that was taken for a
+    /// segment of a block download is of the transfer that this request begins, or ends the download
+    /// where the request isn't known; where no transfer is open, 81h to 9Fh is a segment; of a
+    /// transfer that lacks the start of a block upload, or an acknowledge with a larger block size,
+    /// the segments are followed; and none of which frames are missing, or an abort was put aside,
+    /// is `Unanswered` or `Repeated`. What the frame reveals of a transfer that was left has to be
+    /// asked for before (`reveals`).
     pub fn hear(&mut self, micros: u64, side: Side, frame: &Frame) -> Heard
         ensures heard { result ≡ (hearing self.old micros side frame.now.bytes).says }
         ensures next { self.new ≡ (hearing self.old micros side frame.now.bytes).next }
@@ -410,12 +440,7 @@ impl Channel {
         ensures stands { (log : List Event) → self.old ≡ heard_after log →
             self.new ≡ heard_after (Framed micros side frame.now.bytes ∷ log) }
     {
-        if self.is_over(side, frame) {
-            return self.cut(micros);
-        }
-        if let Some(what) = self.aside(side, frame) {
-            return self.pass(what, frame);
-        }
-        self.hear_next(micros, side, frame)
+        self.free(side, frame);
+        self.hear_in(micros, side, frame)
     }
 }

@@ -4,7 +4,7 @@ ghost use Rattle.std.specs.Prelude.{◌≡◌};
 ghost use Rattle.conode_explain_transfers.specs.Tracks.{shown_what, told_by};
 
 use crate::ended::shown_end;
-use crate::{Ended, Ending, Heard, Side, What};
+use crate::{Ended, Ending, Heard, Revealed, Side, What};
 use co_value::Key;
 
 /// What a frame is in the transfers of its channel.
@@ -27,8 +27,12 @@ pub struct Told {
     pub node: u8,
     /// What it is in the transfers; `None` for a boot-up.
     pub part: Option<Part>,
+    /// The transfer that the client has left before it, as it reveals.
+    pub left: Option<Ended>,
     /// The transfer that ended with it.
     pub ended: Option<Ended>,
+    /// An entry of which nothing is known any more: a download that isn't known is accepted.
+    pub unclear: Option<Key>,
 }
 
 // what a frame is; where it looks like an initiate request or an abort, and is a segment, that
@@ -45,9 +49,10 @@ fn shown_what(what: What, ended: &Option<Ended>) -> What
 }
 
 impl Told {
-    /// What is said about a frame of an end of a node's channel, which heard this.
-    pub fn by(side: Side, node: u8, heard: Heard) -> Told
-        ensures { result ≡ told_by side node heard }
+    /// What is said about a frame of an end of a node's channel, which reveals this, and of which
+    /// the channel heard this.
+    pub fn by(side: Side, node: u8, revealed: Revealed, heard: Heard) -> Told
+        ensures { result ≡ told_by side node revealed heard }
     {
         let part = Part {
             side,
@@ -57,7 +62,9 @@ impl Told {
         Told {
             node,
             part: Some(part),
+            left: revealed.left,
             ended: shown_end(heard.ended),
+            unclear: revealed.unclear,
         }
     }
 }

@@ -52,12 +52,17 @@ pub(crate) struct Transfer {
     pub(crate) begun: u64,
     pub(crate) newest: u64,
     pub(crate) by: Side,
-    /// Whether the client went on before the response to initiate, with a frame that begins nothing; or
-    /// the request may be a segment of a sub-block.
+    /// Whether the client went on before the response to initiate, with a frame that begins nothing;
+    /// or the request may be a segment of a sub-block.
     pub(crate) went_on: bool,
     /// Whether the server sent something since the request that is of another transfer, and was put
     /// aside.
     pub(crate) put_aside: bool,
+    /// The client's newest frame, if it is a segment that isn't the next one, or comes after the
+    /// last: it may be an initiate request. Else one without bytes.
+    pub(crate) doubtful: Frame,
+    /// The stamp of the client's newest frame, once one came after the request.
+    pub(crate) doubtful_at: u64,
 }
 
 impl Transfer {
@@ -90,6 +95,8 @@ impl Transfer {
             by: Side::Client,
             went_on: false,
             put_aside: false,
+            doubtful: Frame::default(),
+            doubtful_at: 0,
         }
     }
 
