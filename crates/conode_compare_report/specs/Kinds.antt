@@ -1,7 +1,7 @@
 -- The kinds of differences, in the order of the table in docs/COMPARE.md.
 use Rattle.std.specs.Prelude.{ℕ, List, codes}
 use Rattle.conode_compare_pdos.specs.declared.deviation.Deviation.{Deviation}
-use Rattle.conode_compare_pdos.specs.declared.deviation.Deviation.TheVariants.{Length, NotOperational, WithoutSync, Inhibit, Timer}
+use Rattle.conode_compare_pdos.specs.declared.deviation.Deviation.TheVariants.{Length, NotOperational, WithoutSync, FewSyncs, Inhibit, Timer}
 use Rattle.conode_compare_transfers.specs.declared.breach.Breach.{Breach}
 use Rattle.conode_compare_transfers.specs.declared.breach.Breach.TheVariants.{Toggle, Form, Size, Crc, Early}
 use Rattle.conode_compare_values.specs.declared.mismatch.Mismatch.{Mismatch}
@@ -15,6 +15,7 @@ abbrev pub of_deviation : Deviation → Kind
 of_deviation (Length length mapped) = PdoLength
 of_deviation NotOperational = PdoState
 of_deviation WithoutSync = PdoSync
+of_deviation (FewSyncs syncs kind) = PdoSync
 of_deviation (Inhibit passed inhibit) = PdoInhibit
 of_deviation (Timer passed timer) = PdoLate
 

@@ -159,7 +159,7 @@ fn of_deviation(deviation: Deviation) -> Kind
     match deviation {
         Deviation::Length(_, _) => Kind::PdoLength,
         Deviation::NotOperational => Kind::PdoState,
-        Deviation::WithoutSync => Kind::PdoSync,
+        Deviation::WithoutSync | Deviation::FewSyncs(_, _) => Kind::PdoSync,
         Deviation::Inhibit(_, _) => Kind::PdoInhibit,
         Deviation::Timer(_, _) => Kind::PdoLate,
     }
