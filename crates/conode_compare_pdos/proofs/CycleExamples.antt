@@ -15,7 +15,7 @@ use Rattle.conode_compare_pdos.specs.declared.deviation.Moment.{Moment}
 use Rattle.conode_compare_pdos.specs.declared.parameters.Parameters.{Parameters}
 use Rattle.conode_compare_pdos.specs.declared.tpdo.Tpdo.{Tpdo}
 use Rattle.conode_compare_pdos.specs.Cycles.{cycle_sent, cycle_synced, is_cyclic, is_early, new_cycle}
-use Rattle.conode_compare_pdos.specs.Deviations.{cycle_deviation, deviation_at, time_deviation}
+use Rattle.conode_compare_pdos.specs.Deviations.{deviation_at, time_deviation}
 use Rattle.conode_compare_pdos.specs.Followed.{cycle_of, framed, unknown_pdos}
 use Rattle.conode_compare_pdos.specs.Tpdos.{after_command, after_frame, after_gap, after_poll, after_request, after_sync, after_transfer, booted_tpdo}
 
@@ -35,31 +35,39 @@ types = refl
 
 -- at each fourth, whichever is the first
 exact : early_in 4 new_cycle (1 ∷ 4 ∷ 4 ∷ 4 ∷ []) ≡ false ∷ false ∷ false ∷ false ∷ []
+unfolding early_in
 exact = refl
 
 -- at each: three frames in turn come after fewer SYNCs than the type; then the count begins anew
 at_each : early_in 4 new_cycle (1 ∷ 1 ∷ 1 ∷ 1 ∷ 1 ∷ []) ≡ false ∷ false ∷ true ∷ false ∷ true ∷ []
+unfolding early_in
 at_each = refl
 
 at_each_of_240 : early_in 240 new_cycle (1 ∷ 1 ∷ 1 ∷ []) ≡ false ∷ false ∷ true ∷ []
+unfolding early_in
 at_each_of_240 = refl
 
 at_each_of_2 : early_in 2 new_cycle (1 ∷ 1 ∷ 1 ∷ 1 ∷ []) ≡ false ∷ false ∷ false ∷ true ∷ []
+unfolding early_in
 at_each_of_2 = refl
 
 -- one SYNC too early each time
 at_each_third : early_in 4 new_cycle (1 ∷ 3 ∷ 3 ∷ 3 ∷ 3 ∷ 3 ∷ []) ≡ false ∷ false ∷ false ∷ false ∷ false ∷ true ∷ []
+unfolding early_in
 at_each_third = refl
 
 -- the first is sent as the next one is to be, and the next ones in time
 slow : early_in 4 new_cycle (4 ∷ 0 ∷ 4 ∷ 4 ∷ []) ≡ false ∷ false ∷ false ∷ false ∷ []
+unfolding early_in
 slow = refl
 
 not_so_slow : early_in 4 new_cycle (4 ∷ 0 ∷ 4 ∷ 3 ∷ []) ≡ false ∷ false ∷ false ∷ true ∷ []
+unfolding early_in
 not_so_slow = refl
 
 -- one is missing: those after it may be as early as ever
 missing : early_in 4 new_cycle (4 ∷ 0 ∷ 8 ∷ 0 ∷ 4 ∷ 3 ∷ []) ≡ false ∷ false ∷ false ∷ false ∷ false ∷ true ∷ []
+unfolding early_in
 missing = refl
 
 -- n - 1, n, 2n - 1, 2n and 2n + 1 SYNCs since the one that the last frame answered
@@ -95,36 +103,36 @@ abbrev early : Tpdo
 early = record (booted_tpdo (Some (record { syncs = 1; spare = 2 })) (parameters 4)) { syncs = 1 }
 
 found_early : deviation_at at true early 4 ≡ Some (FewSyncs 1 4)
-unfolding deviation_at cycle_deviation time_deviation
+unfolding deviation_at time_deviation
 found_early = refl
 
 in_time : deviation_at at true (record early { cycle = Some (record { syncs = 1; spare = 3 }) }) 4 ≡ None
-unfolding deviation_at cycle_deviation time_deviation
+unfolding deviation_at time_deviation
 in_time = refl
 
 -- after no SYNC it is that
 without_sync : deviation_at at true (record early { syncs = 0 }) 4 ≡ Some WithoutSync
-unfolding deviation_at cycle_deviation time_deviation
+unfolding deviation_at time_deviation
 without_sync = refl
 
 -- where the identifier of SYNC or the state isn't known, SYNCs aren't counted, or a parameter was just written
 not_found : deviation_at at false early 4 ∷ deviation_at (record at { known = false }) true early 4 ∷ deviation_at at true (record early { cycle = None }) 4 ∷ deviation_at at true (record early { changed = Some 890000 }) 4 ∷ []
     ≡ None ∷ None ∷ None ∷ None ∷ []
-unfolding deviation_at cycle_deviation time_deviation
+unfolding deviation_at time_deviation
 not_found = refl
 
 written_before : deviation_at at true (record early { changed = Some 889999 }) 4 ≡ Some (FewSyncs 1 4)
-unfolding deviation_at cycle_deviation time_deviation
+unfolding deviation_at time_deviation
 written_before = refl
 
 while_idle : deviation_at (record at { idle = true }) true early 4 ≡ Some NotOperational
-unfolding deviation_at cycle_deviation time_deviation
+unfolding deviation_at time_deviation
 while_idle = refl
 
 -- of types 2 to 240 alone; three SYNCs are enough for type 3
 of_types : map (λ (p : Parameters). deviation_at at true (record early { parameters = p }) 4) (parameters 1 ∷ parameters 3 ∷ parameters 4 ∷ parameters 240 ∷ parameters 241 ∷ record (parameters 4) { kind = None } ∷ [])
     ≡ None ∷ None ∷ Some (FewSyncs 1 4) ∷ Some (FewSyncs 1 240) ∷ None ∷ None ∷ []
-unfolding deviation_at cycle_deviation time_deviation
+unfolding deviation_at time_deviation
 of_types = refl
 
 -- ---- where the count begins anew, and where it ends

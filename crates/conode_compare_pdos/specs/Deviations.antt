@@ -59,7 +59,7 @@ few_syncs_of None cycle = None
 few_syncs_of (Some kind) cycle = few_syncs kind cycle
 
 -- `pdo-sync`: a TPDO of type n = 2 to 240 that comes after fewer SYNCs than it may
-unfoldable pub cycle_deviation : Moment → Bool → Tpdo → Option Deviation
+abbrev pub cycle_deviation : Moment → Bool → Tpdo → Option Deviation
 cycle_deviation moment has_sync pdo =
     if has_sync && is_certain moment pdo.changed then few_syncs_of pdo.parameters.kind pdo.cycle else None
 

@@ -156,7 +156,6 @@ fn few_syncs_of(kind: Option<u8>, cycle: Option<Cycle>) -> Option<Deviation>
 }
 
 // of a TPDO of type 2 to 240
-#[tactic(auto, unfolding(crate::specs::Deviations::cycle_deviation))]
 fn cycle_deviation(moment: &Moment, has_sync: bool, pdo: &Tpdo) -> Option<Deviation>
     ensures { result ≡ cycle_deviation moment.now has_sync pdo.now }
 {
