@@ -2,9 +2,9 @@
 """compare_random.py [COUNT [SEED [PROGRAM]]]: random sessions of a device that keeps to the standard, compared with its data sheet.
 
 A session is a random trace for the sensor or the I/O module of examples/: SDO requests of every kind, also broken ones, NMT commands to
-the device, to others and to all, SYNCs, RPDOs, another node's heartbeats, texts in segments. What `conode replay` says that the device sends is put into the
-trace behind the input that it follows. Such a recording has no difference: `conode compare` has to find none. One sheet has another SDO
-channel open, on which a second client sends too, in some sessions.
+the device, to others and to all, SYNCs, RPDOs, another node's heartbeats, texts in segments. In some sessions TPDOs answer each n-th of
+many SYNCs. What `conode replay` says that the device sends is put into the trace after the input that it follows. Such a recording has no
+difference: `conode compare` has to find none. One sheet has another SDO channel open, on which a second client sends too, in some sessions.
 """
 import os
 import random
@@ -21,6 +21,8 @@ SHEETS = [("examples/temperature-sensor.eds", 5, "1017:00,2000:00,2010:00")]
 SHEETS += [("examples/io-module.eds", 8, "1014:00,1015:00,1017:00,1800:01,1800:02,1A00:00,2001:00")]
 # and with what RPDOs write
 SHEETS += [("examples/io-module.eds", 8, "1017:00,1400:01,1400:02,1600:00,1600:01,6200:01,6200:02,6411:01")]
+# and with many SYNCs
+SHEETS += [("examples/io-module.eds", 8, "1800:02,1801:02")]
 # with another SDO channel, whose client may write each entry
 FURTHER = """[1201]
 ParameterName=SDO channel 2
@@ -47,6 +49,11 @@ KEYS += [(0x1800, 1), (0x1800, 2), (0x1A00, 0), (0x2000, 0), (0x2001, 1), (0x123
 FURTHER_KEYS = [(0x1014, 0), (0x1015, 0), (0x1017, 0), (0x1017, 0), (0x1800, 1), (0x1800, 2), (0x1A00, 0)]
 RPDO_KEYS = [(0x1017, 0), (0x1400, 1), (0x1400, 2), (0x1600, 0), (0x1600, 1), (0x6200, 1), (0x6200, 2), (0x6411, 1)]
 
+SYNC_KEYS = [(0x1017, 0), (0x1018, 1), (0x1800, 1), (0x1800, 2), (0x1800, 2), (0x1801, 2), (0x1A00, 0)]
+TYPES = [0, 1, 2, 2, 3, 4, 5, 7, 20, 240]
+# between inputs, in seconds; of a second without any a recording begins anew
+GAPS = [0.001, 0.003, 0.01, 0.1, 0.5, 1.0, 1.5, 3.0]
+
 
 def data_of(it, node, keys):
     """The identifier and the data of a random frame."""
@@ -56,7 +63,7 @@ def data_of(it, node, keys):
     if kind < 0.4:
         return 0x600 + node, b"\x40" + key + bytes(4)
     if kind < 0.55:
-        value = it.choice([0, 1, 100, 500, 1000, 2000])
+        value = it.choice(TYPES if sub == 2 else [0, 1, 100, 500, 1000, 2000])
         return 0x600 + node, bytes([it.choice([0x2F, 0x2B, 0x23])]) + key + value.to_bytes(4, "little")
     if kind < 0.6:
         return 0x600 + node, bytes(it.randrange(256) for _ in range(8))
@@ -118,14 +125,23 @@ def recording(it, sheet, node, folder, keys):
         inputs.append(line(stamp, 0x600 + node, b"\x2b\x17\x10\x00\x64" + bytes(3)))
         inputs.append(line(stamp + 0.1, 0, b"\x01\x00"))
         stamp += 0.2
+    if keys is SYNC_KEYS:
+        # TPDOs of such a type, and operational
+        for index in (b"\x00\x18", b"\x01\x18"):
+            inputs.append(line(stamp, 0x600 + node, b"\x2f" + index + b"\x02" + bytes([it.choice(TYPES), 0, 0, 0])))
+            stamp += 0.1
+        inputs.append(line(stamp, 0, b"\x01\x00"))
+        stamp += 0.1
     for _ in range(it.randrange(5, 120)):
-        stamp += it.choice([0.001, 0.003, 0.01, 0.1, 0.5, 1.0, 1.5, 3.0])
+        stamp += it.choice(GAPS[:5] if keys is SYNC_KEYS else GAPS)
         if it.random() < 0.1:
             for frame in text_of(it, node):
                 inputs.append(line(stamp, *frame))
                 stamp += 0.001
         elif keys is RPDO_KEYS and it.random() < 0.3:
             inputs.append(line(stamp, *rpdo_of(it, node)))
+        elif keys is SYNC_KEYS and it.random() < 0.8:
+            inputs.append(line(stamp, 0x80, b"" if it.random() < 0.97 else bytes([it.randrange(1, 241)])))
         else:
             is_second = it.random() < second
             identifier, data = data_of(it, node, FURTHER_KEYS if is_second else keys)
@@ -147,6 +163,13 @@ def recording(it, sheet, node, folder, keys):
     return lines + sent
 
 
+def keys_of(held):
+    """The entries that a session is about, by what is kept of them."""
+    if "6200" in held:
+        return RPDO_KEYS
+    return SYNC_KEYS if "1801" in held else KEYS
+
+
 def main():
     different = 0
     with tempfile.TemporaryDirectory() as folder:
@@ -157,7 +180,7 @@ def main():
             sheet = sheet.replace("further.eds", f"{folder}/further.eds")
             file = f"{folder}/session.log"
             with open(file, "w", encoding="ascii") as recorded:
-                recorded.write("\n".join(recording(it, sheet, node, folder, RPDO_KEYS if "6200" in held else KEYS)) + "\n")
+                recorded.write("\n".join(recording(it, sheet, node, folder, keys_of(held))) + "\n")
             # with the room that the device has
             words = [*PROGRAM, "compare", sheet, file, "--node", str(node), "--strings", "16", "--domains", "889"]
             words += ["--held", held] if held else []

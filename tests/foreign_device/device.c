@@ -228,7 +228,7 @@ static void receive_sync(micros now)
         uint32_t type = type_of(pdo->index);
         if (rpdos[at].waits) take_rpdo(&rpdos[at]);
         if (type == 0 && pdo->wanted) send_tpdo(pdo, now + dice(2000));
-        if (type >= 1 && type <= 240 && ++pdo->syncs >= type) {
+        if (type >= 1 && type <= 240 && (++pdo->syncs >= type || errs(TPDO_SYNC_COUNT))) {
             pdo->syncs = 0;
             send_tpdo(pdo, now + dice(2000));
         }

@@ -20,7 +20,7 @@ static const char *const mistake_names[MISTAKES] = {
     "abort-multiplexer",
     "value-size", "value-const", "read-refused", "read-only-written", "limits-ignored", "write-forgotten",
     "toggle-wrong", "segment-short", "size-wrong", "crc-wrong", "block-sequence",
-    "tpdo-length", "tpdo-pre-operational", "tpdo-inhibit", "tpdo-without-sync", "tpdo-event-timer",
+    "tpdo-length", "tpdo-pre-operational", "tpdo-inhibit", "tpdo-without-sync", "tpdo-sync-count", "tpdo-event-timer",
 };
 
 struct waiting {

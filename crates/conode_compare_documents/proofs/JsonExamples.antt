@@ -63,7 +63,7 @@ document : json_document about report
     ++ codes "\"rule\":\"a heartbeat comes within the producer heartbeat time, 1017:00 (CiA 301, 7.2.8.3.2)\","
     ++ codes "\"context\":[{\"line\":2,\"text\":\"(2.000000) c 705#7F\"},{\"line\":3,\"text\":\"" ++ 0xC3 ∷ 0xBC ∷ codes "\"}]}],"
     ++ codes "\"kinds\":[{\"name\":\"heartbeat-late\",\"rule\":\"a heartbeat comes within the producer heartbeat time, 1017:00 (CiA 301, 7.2.8.3.2)\",\"found\":1,\"occasions\":2},"
-    ++ codes "{\"name\":\"pdo-sync\",\"rule\":\"a TPDO of type 0 to 240 is sent after a SYNC (CiA 301, 7.5.2.37)\",\"found\":0,\"occasions\":4},"
+    ++ codes "{\"name\":\"pdo-sync\",\"rule\":\"a TPDO of type n up to 240 is sent at each n-th SYNC, of type 0 after one (CiA 301, 7.5.2.37)\",\"found\":0,\"occasions\":4},"
     ++ codes "{\"name\":\"answer-crc\",\"rule\":\"a block upload ends with the CRC of its bytes (CiA 301, 7.2.4.3.16)\",\"found\":0,\"occasions\":0}],"
     ++ codes "\"coverage\":{\"entries\":[{\"index\":4119,\"subIndex\":0,\"name\":\"<Heartbeat>\",\"read\":false,\"written\":true,\"refused\":false}],"
     ++ codes "\"services\":[{\"name\":\"boot-up\",\"count\":1}],\"states\":{\"initialising\":false,\"preOperational\":true,\"operational\":false,\"stopped\":false},"

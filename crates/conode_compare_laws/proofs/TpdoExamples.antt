@@ -70,7 +70,7 @@ with_pdos pdos = record {
 }
 
 abbrev subject : Subject
-subject = with_pdos (record unknown_pdos { first = booted_tpdo first })
+subject = with_pdos (record unknown_pdos { first = booted_tpdo None first })
 
 abbrev found_in : (Deviation → Bool) → Subject → List Recorded → List Finding
 found_in is of recorded = differences_in (tpdo_differences is) of [] recorded
@@ -118,7 +118,7 @@ unsynced_heard : recording (device_with (u32 Rw 0x1005 0 0x85 ∷ u8 Rw 0x1800 2
 unfolding searches
 unsynced_heard = refl
 
-sync_taken_for_emergency : found_in is_pdo_sync (with_pdos (record unknown_pdos { sync = Some 0x85; first = booted_tpdo (record first { kind = Some 1 }) })) unsynced ≡ Pdo 1 WithoutSync ∷ []
+sync_taken_for_emergency : found_in is_pdo_sync (with_pdos (record unknown_pdos { sync = Some 0x85; first = booted_tpdo None (record first { kind = Some 1 }) })) unsynced ≡ Pdo 1 WithoutSync ∷ []
 unfolding findings_at progress_with begun booted found control_finding second_boot_up states.after_control after_boot_up after_command states.after_command after_emergency process_findings moment_at sighting deviation_at time_deviation is_settled after_process framed
 sync_taken_for_emergency = refl
 
@@ -127,8 +127,8 @@ sync_taken_for_emergency = refl
 abbrev sheet_pdos : Pdos
 sheet_pdos = record unknown_pdos {
   sync = Some 0x80;
-  first = booted_tpdo first;
-  second = booted_tpdo (record first { id = Some 0x285; length = Some 2 });
+  first = booted_tpdo None first;
+  second = booted_tpdo None (record first { id = Some 0x285; length = Some 2 });
 }
 
 meets : AreTpdosOf device sheet_pdos
@@ -143,7 +143,7 @@ meets = record {
 }
 
 -- with two of them on one it isn't such a device
-not_alone : is_alone (device_with (u32 Rw 0x1801 1 0x185 ∷ [])).start 0 (booted_tpdo first) ≡ false
+not_alone : is_alone (device_with (u32 Rw 0x1801 1 0x185 ∷ [])).start 0 (booted_tpdo None first) ≡ false
 unfolding searches is_alone
 not_alone = refl
 

@@ -41,7 +41,7 @@ use Rattle.conode_compare_laws.proofs.NamedKeys.{first_of, last_of}
 use Rattle.conode_compare_laws.proofs.Runs.{AllRun, joined}
 use Rattle.conode_compare_laws.proofs.TpdoDue.{IsAt, active, alone, active_kept, due_all, due_distinct, tpdo_number}
 use Rattle.conode_compare_laws.proofs.TpdoInputs.{AllInputs, AreClear, all_clear, names_later, of_device_too, of_recording}
-use Rattle.conode_compare_laws.proofs.TpdoKinds.{deviation_none, length_none, state_none, sync_none, time_none, timer_none}
+use Rattle.conode_compare_laws.proofs.TpdoKinds.{deviation_none, few_none, length_none, state_none, sync_none, time_none, timer_none}
 use Rattle.conode_compare_laws.proofs.TpdoLogs.{ages_at, ages_of, ages_then, log_is, next_ages, over, then_at}
 use Rattle.conode_compare_laws.proofs.TpdoNames.{AllNameNone}
 use Rattle.conode_compare_laws.proofs.TpdoOthers.{Holds, is_of, others}
@@ -99,6 +99,7 @@ judged subject micros frame all old k sheet number n of over_then p has_sync pdo
     let moment : Judged = moment_at subject p micros in
     deviation_none is_pdo_inhibit moment has_sync pdo (length_of (frame n)) (state_none is_pdo_inhibit moment refl) (length_none is_pdo_inhibit pdo.parameters.length pdo.odd (length_of (frame n)) (λ l m. refl))
     (sync_none is_pdo_inhibit has_sync pdo refl)
+    (few_none is_pdo_inhibit moment has_sync pdo (λ s n. refl))
     (time_none is_pdo_inhibit moment pdo
     (λ on.
     let kind : nat_le 254 (number_at k.start (tpdo_key n 2)) ≡ true =

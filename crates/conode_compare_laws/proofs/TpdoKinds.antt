@@ -1,17 +1,23 @@
 -- A difference of a TPDO isn't of a kind, where none of those it is the first of is.
 use Rattle.std.proofs.Common.{◌≡◌, ℕ, ◌-◌, Bool, true, false, Option, Some, None, refl}
 use Rattle.std.specs.Prelude.{if◌then◌else◌, ◌==◌, ◌&&◌, ◌||◌, nat_le, nat_lt}
+use Rattle.conode_compare_pdos.specs.declared.cycle.Cycle.{Cycle}
 use Rattle.conode_compare_pdos.specs.declared.deviation.Deviation.{Deviation}
-use Rattle.conode_compare_pdos.specs.declared.deviation.Deviation.TheVariants.{Length, NotOperational, WithoutSync, Inhibit, Timer}
+use Rattle.conode_compare_pdos.specs.declared.deviation.Deviation.TheVariants.{Length, NotOperational, WithoutSync, FewSyncs, Inhibit, Timer}
 use Rattle.conode_compare_pdos.specs.declared.deviation.Moment.{Moment}
 use Rattle.conode_compare_pdos.specs.declared.parameters.Parameters.{Parameters}
 use Rattle.conode_compare_pdos.specs.declared.tpdo.Sent.{Sent}
 use Rattle.conode_compare_pdos.specs.declared.tpdo.Tpdo.{Tpdo}
+use Rattle.conode_compare_pdos.specs.Cycles.{is_cyclic, is_early}
 use Rattle.conode_compare_pdos.specs.Deviations.{
+  cycle_deviation,
   deviation_at,
+  few_syncs,
+  few_syncs_of,
   first_of,
   greatest_gap,
   inhibit_deviation,
+  is_certain,
   is_event_driven,
   is_number,
   is_settled,
@@ -39,15 +45,16 @@ unless_none : (is : Deviation → Bool) (b : Bool) (o : Option Deviation) → is
 unless_none is true o h = refl
 unless_none is false o h = h
 
--- the first of four
+-- the first of five
 pub deviation_none : (is : Deviation → Bool) (moment : Moment) (has_sync : Bool) (pdo : Tpdo) (length : ℕ) → is_of is (state_deviation moment) ≡ false → is_of is (length_deviation pdo.parameters.length pdo.odd length) ≡ false
-    → is_of is (sync_deviation has_sync pdo) ≡ false → is_of is (time_deviation moment pdo) ≡ false → is_of is (deviation_at moment has_sync pdo length) ≡ false
+    → is_of is (sync_deviation has_sync pdo) ≡ false → is_of is (cycle_deviation moment has_sync pdo) ≡ false → is_of is (time_deviation moment pdo) ≡ false → is_of is (deviation_at moment has_sync pdo length) ≡ false
 unfolding deviation_at
-deviation_none is moment has_sync pdo length state bytes sync time =
+deviation_none is moment has_sync pdo length state bytes sync few time =
     if_none is (is_settled moment pdo.changed) _
     (first_none is (state_deviation moment) _ state
     (first_none is (length_deviation pdo.parameters.length pdo.odd length) _ bytes
-    (first_none is (sync_deviation has_sync pdo) (time_deviation moment pdo) sync time)))
+    (first_none is (sync_deviation has_sync pdo) _ sync
+    (first_none is (cycle_deviation moment has_sync pdo) (time_deviation moment pdo) few time))))
 
 -- ---- kinds that aren't looked for
 
@@ -60,6 +67,17 @@ length_none is (Some mapped) odd length h = unless_none is ((length == mapped) |
 
 pub sync_none : (is : Deviation → Bool) (has_sync : Bool) (pdo : Tpdo) → is WithoutSync ≡ false → is_of is (sync_deviation has_sync pdo) ≡ false
 sync_none is has_sync pdo h = if_none is (has_sync && (is_synchronous pdo.parameters.kind && (pdo.syncs == 0))) (Some WithoutSync) h
+
+few_in : (is : Deviation → Bool) (n : ℕ) (cycle : Option Cycle) → ((s m : ℕ) → is (FewSyncs s m) ≡ false) → is_of is (few_syncs n cycle) ≡ false
+few_in is n None h = refl
+few_in is n (Some cycle) h = if_none is (is_cyclic n && is_early n cycle) (Some (FewSyncs cycle.syncs n)) (h cycle.syncs n)
+
+few_of : (is : Deviation → Bool) (kind : Option ℕ) (cycle : Option Cycle) → ((s m : ℕ) → is (FewSyncs s m) ≡ false) → is_of is (few_syncs_of kind cycle) ≡ false
+few_of is None cycle h = refl
+few_of is (Some n) cycle h = few_in is n cycle h
+
+pub few_none : (is : Deviation → Bool) (moment : Moment) (has_sync : Bool) (pdo : Tpdo) → ((s m : ℕ) → is (FewSyncs s m) ≡ false) → is_of is (cycle_deviation moment has_sync pdo) ≡ false
+few_none is moment has_sync pdo h = if_none is (has_sync && is_certain moment pdo.changed) (few_syncs_of pdo.parameters.kind pdo.cycle) (few_of is pdo.parameters.kind pdo.cycle h)
 
 pub inhibit_none : (is : Deviation → Bool) (moment : Moment) (inhibit : ℕ) (sent : Sent) → ((passed n : ℕ) → is (Inhibit passed n) ≡ false) → is_of is (inhibit_deviation moment inhibit sent) ≡ false
 inhibit_none is moment inhibit sent h = if_none is (nat_lt (moment.micros - sent.free) (least_gap moment inhibit)) (Some (Inhibit (moment.micros - sent.micros) inhibit)) (h (moment.micros - sent.micros) inhibit)

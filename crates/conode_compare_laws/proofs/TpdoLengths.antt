@@ -37,7 +37,7 @@ use Rattle.conode_compare_laws.proofs.Runs.{AllRun, joined}
 use Rattle.conode_compare_laws.proofs.TpdoDue.{active, active_kept, alone, due_all, due_distinct, tpdo_number}
 use Rattle.conode_compare_laws.proofs.TpdoImages.{mapping_kept, tpdo_wide}
 use Rattle.conode_compare_laws.proofs.TpdoInputs.{AllInputs, AreClear, all_clear, names_later, of_device_too, of_recording}
-use Rattle.conode_compare_laws.proofs.TpdoKinds.{deviation_none, state_none, sync_none, untimed}
+use Rattle.conode_compare_laws.proofs.TpdoKinds.{deviation_none, few_none, state_none, sync_none, untimed}
 use Rattle.conode_compare_laws.proofs.TpdoNames.{AllNameNone}
 use Rattle.conode_compare_laws.proofs.TpdoOthers.{AreFine, Holds, IsOf, Knows, is_of, knows_framed, knows_kept, knows_sheet, others}
 use Rattle.conode_compare_laws.proofs.TpdoParts.{Walk, Walked, besides, besides_run, came_other, tpdo_ids, walks, weaken}
@@ -67,6 +67,7 @@ bytes_fine sheet pdo id length (inr same) on has =
 fine : (moment : Judged) (has_sync : Bool) (sheet pdo : Tpdo) (id length : ℕ) → IsOf sheet pdo → HasBytes sheet id length → is_id pdo.parameters.id id ≡ true → is_of is_pdo_length (deviation_at moment has_sync pdo length) ≡ false
 fine moment has_sync sheet pdo id length of has on =
     deviation_none is_pdo_length moment has_sync pdo length (state_none is_pdo_length moment refl) (bytes_fine sheet pdo id length of on has) (sync_none is_pdo_length has_sync pdo refl)
+    (few_none is_pdo_length moment has_sync pdo (λ s n. refl))
     (untimed is_pdo_length moment pdo (λ passed n. refl) (λ passed n. refl))
 
 all_fine : (moment : Judged) (facts pdos : Pdos) (id length : ℕ) → Knows facts pdos → HaveBytes facts id length → AreFine is_pdo_length moment pdos id length

@@ -24,7 +24,8 @@ use Rattle.conode_compare_pdos.specs.declared.deviation.Moment.{Moment}
 use Rattle.conode_compare_pdos.specs.declared.pdos.Pdos.{Pdos}
 use Rattle.conode_compare_pdos.specs.declared.pdos.Sighting.{Sighting}
 use Rattle.conode_compare_pdos.specs.declared.tpdo.Tpdo.{Tpdo}
-use Rattle.conode_compare_pdos.specs.Deviations.{deviation_at, is_judged, shows_length}
+use Rattle.conode_compare_pdos.specs.Cycles.{cycle_sent}
+use Rattle.conode_compare_pdos.specs.Deviations.{deviation_at, is_certain, is_judged, shows_length}
 use Rattle.conode_compare_pdos.specs.Followed.{commanded, first_seen, framed, interrupted, is_shared, or_else, seen, sighting, unjudged, unknown_pdos}
 use Rattle.conode_compare_pdos.specs.PdoParameters.{nothing_known}
 use Rattle.conode_compare_pdos.specs.Tpdos.{after_frame as after_tpdo, is_id}
@@ -97,7 +98,7 @@ pub tpdo_sent : (moment : Moment) (id length : ℕ) (pdo : Tpdo) → (after_tpdo
 tpdo_sent moment id length pdo = by (is_id pdo.parameters.id id) pdo refl
   where
     by : (b : Bool) (x : Tpdo) → x.parameters ≡ pdo.parameters
-        → (if b then record pdo { sent = Some (record { free = moment.free; micros = moment.micros }); syncs = pdo.syncs - 1; odd = if shows_length moment pdo length then Some length else pdo.odd } else x).parameters ≡ pdo.parameters
+        → (if b then record pdo { sent = Some (record { free = moment.free; micros = moment.micros }); syncs = pdo.syncs - 1; cycle = option_map (cycle_sent (is_certain moment pdo.changed) pdo.parameters.kind) pdo.cycle; odd = if shows_length moment pdo length then Some length else pdo.odd } else x).parameters ≡ pdo.parameters
     by true x h = refl
     by false x h = h
 

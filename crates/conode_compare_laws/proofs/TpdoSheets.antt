@@ -15,7 +15,7 @@ use Rattle.co_pdo.specs.Mappings.{mapping_of, total_of}
 use Rattle.co_pdo.specs.Tpdos.{tpdo_key}
 use Rattle.co_node.specs.Built.{IsBuilt}
 use Rattle.co_node_model.specs.Moments.{Constants}
-use Rattle.conode_compare_pdos.specs.Followed.{pdos_of}
+use Rattle.conode_compare_pdos.specs.Followed.{cycle_of, pdos_of}
 use Rattle.conode_compare_pdos.specs.PdoParameters.{identifier_of, length_of, parameters_of}
 use Rattle.conode_compare_pdos.specs.SheetNumbers.{preset_at, time_at, tiny}
 use Rattle.conode_compare_pdos.specs.Tpdos.{booted_tpdo}
@@ -45,7 +45,7 @@ module _ (plan : Plan) (last : plan.node ≤ 127) (lawful : All IsSheetRow plan.
           id_of x (preset_is plan last lawful none sync_key Unsigned32 x long (record { request = refl; answer = refl; fixed = refl; numeric = refl }) is) (nat_lt x 0x80000000 && (x / 0x20000000 % 2 == 0))
 
   own_keys : (i : ℕ) → i < 512 → IsOwnKey (tpdo_key i 2) Unsigned8 → IsOwnKey (tpdo_key i 3) Unsigned16 → IsOwnKey (tpdo_key i 5) Unsigned16
-      → (k : Constants) → IsBuilt plan k → is_alone k.start i (booted_tpdo (parameters_of plan.rows plan.node i)) ≡ true → IsTpdoOf k i (booted_tpdo (parameters_of plan.rows plan.node i))
+      → (k : Constants) → IsBuilt plan k → is_alone k.start i (booted_tpdo (cycle_of plan.rows) (parameters_of plan.rows plan.node i)) ≡ true → IsTpdoOf k i (booted_tpdo (cycle_of plan.rows) (parameters_of plan.rows plan.node i))
   unfolding parameters_of
   own_keys i less second third fifth k is alone = record {
     alone = alone;

@@ -50,7 +50,7 @@ use Rattle.conode_compare_laws.proofs.Runs.{AllRun, joined, then_none}
 use Rattle.conode_compare_rules.specs.States.{judged_state}
 use Rattle.conode_compare_laws.proofs.Shown.{Stage, boots, fits_nothing, freer_operational, is_shown, runs, stage_after}
 use Rattle.conode_compare_laws.proofs.TpdoDue.{AreDistinct, due_distinct}
-use Rattle.conode_compare_laws.proofs.TpdoKinds.{deviation_none, length_none, sync_none, untimed}
+use Rattle.conode_compare_laws.proofs.TpdoKinds.{deviation_none, few_none, length_none, sync_none, untimed}
 use Rattle.conode_compare_laws.proofs.TpdoNames.{AllNameNone, unstamped_names}
 use Rattle.conode_compare_laws.proofs.TpdoOthers as others
 use Rattle.conode_compare_laws.proofs.TpdoOthers.{AreFine, Holds, Knows, is_of, knows_framed, knows_kept, knows_sheet}
@@ -78,7 +78,7 @@ operational subject p micros h =
 fine : (subject : Subject) (p : Progress) (micros length : ℕ) (has_sync : Bool) (pdo : Tpdo) → is_shown p.nmt.state node.Operational ≡ true → is_of is_pdo_state (deviation_at (moment_at subject p micros) has_sync pdo length) ≡ false
 fine subject p micros length has_sync pdo h =
     deviation_none is_pdo_state (moment_at subject p micros) has_sync pdo length (operational subject p micros h) (length_none is_pdo_state pdo.parameters.length pdo.odd length (λ l m. refl))
-    (sync_none is_pdo_state has_sync pdo refl) (untimed is_pdo_state (moment_at subject p micros) pdo (λ passed n. refl) (λ passed n. refl))
+    (sync_none is_pdo_state has_sync pdo refl) (few_none is_pdo_state (moment_at subject p micros) has_sync pdo (λ s n. refl)) (untimed is_pdo_state (moment_at subject p micros) pdo (λ passed n. refl) (λ passed n. refl))
 
 all_fine : (subject : Subject) (p : Progress) (micros id length : ℕ) → is_shown p.nmt.state node.Operational ≡ true → AreFine is_pdo_state (moment_at subject p micros) p.pdos id length
 all_fine subject p micros id length h = record {

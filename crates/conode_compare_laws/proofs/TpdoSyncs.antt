@@ -49,7 +49,7 @@ use Rattle.conode_compare_laws.proofs.NamedKeys.{first_of, last_of}
 use Rattle.conode_compare_laws.proofs.Runs.{AllRun, joined}
 use Rattle.conode_compare_laws.proofs.TpdoDue.{IsAt, active, active_kept, alone, due_all, due_distinct, number_kept, tpdo_number}
 use Rattle.conode_compare_laws.proofs.TpdoInputs.{AllInputs, AreClear, all_clear, names_later, of_device_too, of_recording}
-use Rattle.conode_compare_laws.proofs.TpdoKinds.{deviation_none, length_none, state_none, untimed}
+use Rattle.conode_compare_laws.proofs.TpdoKinds.{deviation_none, few_none, length_none, state_none, untimed}
 use Rattle.conode_compare_laws.proofs.TpdoNames.{AllNameNone}
 use Rattle.conode_compare_laws.proofs.TpdoOthers.{
   AreFine,
@@ -93,8 +93,8 @@ record HaveSync (facts : Pdos) (synced : Bool) (due : List ℕ) (pdos : Pdos) : 
   third : HasSync synced pdos.sync 2 due pdos.third
   fourth : HasSync synced pdos.sync 3 due pdos.fourth
 
-counted : (pdo : Tpdo) → 1 ≤ (after_sync pdo).syncs
-counted pdo = by (nat_le most_syncs pdo.syncs)
+counted : (length : ℕ) (pdo : Tpdo) → 1 ≤ (after_sync length pdo).syncs
+counted length pdo = by (nat_le most_syncs pdo.syncs)
   where
     by : (b : Bool) → 1 ≤ (if b then most_syncs else pdo.syncs + 1)
     by true = omega arith
@@ -115,7 +115,7 @@ unfolding framed
 framed_has facts synced due pdos moment id length knows a b c d = by (is_id pdos.sync id) knows
   where
     after_syncs : Pdos
-    after_syncs = record pdos { first = after_sync pdos.first; second = after_sync pdos.second; third = after_sync pdos.third; fourth = after_sync pdos.fourth }
+    after_syncs = record pdos { first = after_sync length pdos.first; second = after_sync length pdos.second; third = after_sync length pdos.third; fourth = after_sync length pdos.fourth }
 
     after_frames : Pdos
     after_frames = record pdos { first = after_tpdo moment id length pdos.first; second = after_tpdo moment id length pdos.second; third = after_tpdo moment id length pdos.third; fourth = after_tpdo moment id length pdos.fourth }
@@ -123,10 +123,10 @@ framed_has facts synced due pdos moment id length knows a b c d = by (is_id pdos
     by : (here : Bool) → Knows facts (if here then after_syncs else after_frames) → HaveSync facts synced due (if here then after_syncs else after_frames)
     by true k = record {
       knows = k;
-      first = λ on has is. counted pdos.first;
-      second = λ on has is. counted pdos.second;
-      third = λ on has is. counted pdos.third;
-      fourth = λ on has is. counted pdos.fourth;
+      first = λ on has is. counted length pdos.first;
+      second = λ on has is. counted length pdos.second;
+      third = λ on has is. counted length pdos.third;
+      fourth = λ on has is. counted length pdos.fourth;
     }
     by false k = record { knows = k; first = a; second = b; third = c; fourth = d }
 
@@ -237,7 +237,7 @@ fine : (moment : Judged) (synced : Bool) (sync : Option ℕ) (sheet pdo : Tpdo) 
     → is_id pdo.parameters.id id ≡ true → is_of is_pdo_sync (deviation_at moment (is_some sync) pdo length) ≡ false
 fine moment synced sync sheet pdo number n id length later of ok has on =
     deviation_none is_pdo_sync moment (is_some sync) pdo length (state_none is_pdo_sync moment refl) (length_none is_pdo_sync pdo.parameters.length pdo.odd length (λ l m. refl))
-    (sync_fine synced sync sheet pdo number n id later of ok has on) (untimed is_pdo_sync moment pdo (λ passed n. refl) (λ passed n. refl))
+    (sync_fine synced sync sheet pdo number n id later of ok has on) (few_none is_pdo_sync moment (is_some sync) pdo (λ s n. refl)) (untimed is_pdo_sync moment pdo (λ passed n. refl) (λ passed n. refl))
 
 all_are_fine : (facts : Pdos) (moment : Judged) (synced : Bool) (n id length : ℕ) (later : List ℕ) (pdos : Pdos) → AreSynced facts synced n id → HaveSync facts synced (n ∷ later) pdos → AreFine is_pdo_sync moment pdos id length
 all_are_fine facts moment synced n id length later pdos ok h = record {
@@ -373,10 +373,10 @@ synced_has facts due pdos moment id length knows (inr here) =
     let k : Knows facts (framed pdos moment id length) = knows_framed facts pdos moment id length knows in
     rw here (record {
       knows = record { sync = knows.sync; first = knows.first; second = knows.second; third = knows.third; fourth = knows.fourth };
-      first = λ on has is. counted pdos.first;
-      second = λ on has is. counted pdos.second;
-      third = λ on has is. counted pdos.third;
-      fourth = λ on has is. counted pdos.fourth;
+      first = λ on has is. counted length pdos.first;
+      second = λ on has is. counted length pdos.second;
+      third = λ on has is. counted length pdos.third;
+      fourth = λ on has is. counted length pdos.fourth;
     })
 
 sync_passes : (subject : Subject) (rows : List Row) (p : Progress) (micros id length : ℕ) (due : List ℕ) → IsNewest micros p → Knows subject.facts.pdos p.pdos → is_followed subject.facts.pdos id ≡ false → IfSome subject.facts.pdos.sync (λ known. known ≡ id)

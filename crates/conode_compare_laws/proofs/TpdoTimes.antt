@@ -51,7 +51,7 @@ unfolding framed
 framed_timed R node ids facts micros ages pdos moment id length knows same a b c d = by (is_id pdos.sync id) (knows_framed facts pdos moment id length knows) same a b c d
   where
     after_syncs : Pdos
-    after_syncs = record pdos { first = after_sync pdos.first; second = after_sync pdos.second; third = after_sync pdos.third; fourth = after_sync pdos.fourth }
+    after_syncs = record pdos { first = after_sync length pdos.first; second = after_sync length pdos.second; third = after_sync length pdos.third; fourth = after_sync length pdos.fourth }
 
     after_frames : Pdos
     after_frames = record pdos { first = after_tpdo moment id length pdos.first; second = after_tpdo moment id length pdos.second; third = after_tpdo moment id length pdos.third; fourth = after_tpdo moment id length pdos.fourth }

@@ -18,7 +18,7 @@ abbrev pub is_pdo_length : Deviation → Bool
 is_pdo_length (Length length mapped) = true
 is_pdo_length other = false
 
--- `pdo-sync`
+-- `pdo-sync` without a SYNC; not that of too few SYNCs, of which there is no law so far
 abbrev pub is_pdo_sync : Deviation → Bool
 is_pdo_sync WithoutSync = true
 is_pdo_sync other = false

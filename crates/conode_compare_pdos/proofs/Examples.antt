@@ -32,13 +32,13 @@ abbrev event_driven : Parameters
 event_driven = record { id = Some 0x188; kind = Some 255; inhibit = Some 1000; timer = Some 1000; length = Some 4 }
 
 abbrev tpdo : Tpdo
-tpdo = booted_tpdo event_driven
+tpdo = booted_tpdo None event_driven
 
 abbrev sent : Tpdo
 sent = after_frame (at 5) 0x188 4 tpdo
 
 abbrev synchronous : Tpdo
-synchronous = booted_tpdo (record event_driven { kind = Some 240 })
+synchronous = booted_tpdo None (record event_driven { kind = Some 240 })
 
 -- ---- the number of bytes, and the state
 
@@ -54,7 +54,7 @@ long : deviation_at (at 5) true tpdo 5 ≡ Some (Length 5 4)
 unfolding deviation_at time_deviation
 long = refl
 
-unknown_length : deviation_at (at 5) true (booted_tpdo (record event_driven { length = None })) 3 ≡ None
+unknown_length : deviation_at (at 5) true (booted_tpdo None (record event_driven { length = None })) 3 ≡ None
 unfolding deviation_at time_deviation
 unknown_length = refl
 
@@ -77,7 +77,7 @@ judged = refl
 not_judged : is_judged (record (at 5) { known = false }) tpdo 4 ≡ false
 not_judged = refl
 
-length_not_judged : is_judged (at 5) (booted_tpdo (record event_driven { length = None })) 4 ≡ false
+length_not_judged : is_judged (at 5) (booted_tpdo None (record event_driven { length = None })) 4 ≡ false
 length_not_judged = refl
 
 -- ---- a wrong number of bytes is said once
@@ -130,29 +130,29 @@ without_sync : deviation_at (at 5) true synchronous 4 ≡ Some WithoutSync
 unfolding deviation_at time_deviation
 without_sync = refl
 
-with_sync : deviation_at (at 5) true (after_sync synchronous) 4 ≡ None
+with_sync : deviation_at (at 5) true (after_sync 0 synchronous) 4 ≡ None
 unfolding deviation_at time_deviation
 with_sync = refl
 
-again : deviation_at (at 5) true (after_frame (at 5) 0x188 4 (after_sync synchronous)) 4 ≡ Some WithoutSync
+again : deviation_at (at 5) true (after_frame (at 5) 0x188 4 (after_sync 0 synchronous)) 4 ≡ Some WithoutSync
 unfolding deviation_at time_deviation
 again = refl
 
 -- a slow device may answer two of them in turn, not three
-slow : deviation_at (at 5) true (after_frame (at 5) 0x188 4 (after_sync (after_sync (after_sync synchronous)))) 4 ≡ None
+slow : deviation_at (at 5) true (after_frame (at 5) 0x188 4 (after_sync 0 (after_sync 0 (after_sync 0 synchronous)))) 4 ≡ None
 unfolding deviation_at time_deviation
 slow = refl
 
-too_many : deviation_at (at 5) true (after_frame (at 5) 0x188 4 (after_frame (at 5) 0x188 4 (after_sync (after_sync (after_sync synchronous))))) 4 ≡ Some WithoutSync
+too_many : deviation_at (at 5) true (after_frame (at 5) 0x188 4 (after_frame (at 5) 0x188 4 (after_sync 0 (after_sync 0 (after_sync 0 synchronous))))) 4 ≡ Some WithoutSync
 unfolding deviation_at time_deviation
 too_many = refl
 
 -- types 241 to 253 are reserved, or asked for by remote frames
-reserved : deviation_at (at 5) true (booted_tpdo (record event_driven { kind = Some 241 })) 4 ≡ None
+reserved : deviation_at (at 5) true (booted_tpdo None (record event_driven { kind = Some 241 })) 4 ≡ None
 unfolding deviation_at time_deviation
 reserved = refl
 
-unknown_type : deviation_at (at 5) true (booted_tpdo (record event_driven { kind = None })) 4 ≡ None
+unknown_type : deviation_at (at 5) true (booted_tpdo None (record event_driven { kind = None })) 4 ≡ None
 unfolding deviation_at time_deviation
 unknown_type = refl
 

@@ -1,3 +1,4 @@
+mod CycleExamples
 mod Examples
 pub mod OtherFrames
 mod RpdoExamples

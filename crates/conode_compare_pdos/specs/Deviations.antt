@@ -1,11 +1,13 @@
 -- Where a TPDO differs from CiA 301 (7.2.2, 7.3.2.2 and 7.5.2.37).
 use Rattle.std.specs.Prelude.{ℕ, ◌+◌, ◌-◌, ◌*◌, ◌/◌, ◌==◌, nat_lt, nat_le, Bool, true, false, not, ◌&&◌, ◌||◌, if◌then◌else◌, Option, Some, None, is_some}
+use Rattle.conode_compare_pdos.specs.declared.cycle.Cycle.{Cycle}
 use Rattle.conode_compare_pdos.specs.declared.deviation.Deviation.{Deviation}
-use Rattle.conode_compare_pdos.specs.declared.deviation.Deviation.TheVariants.{Length, NotOperational, WithoutSync, Inhibit, Timer}
+use Rattle.conode_compare_pdos.specs.declared.deviation.Deviation.TheVariants.{Length, NotOperational, WithoutSync, FewSyncs, Inhibit, Timer}
 use Rattle.conode_compare_pdos.specs.declared.deviation.Moment.{Moment}
 use Rattle.conode_compare_pdos.specs.declared.parameters.Parameters.{Parameters}
 use Rattle.conode_compare_pdos.specs.declared.tpdo.Sent.{Sent}
 use Rattle.conode_compare_pdos.specs.declared.tpdo.Tpdo.{Tpdo}
+use Rattle.conode_compare_pdos.specs.Cycles.{is_cyclic, is_early}
 
 -- milliseconds in microseconds
 abbrev pub micros_of : ℕ → ℕ
@@ -43,6 +45,23 @@ length_deviation (Some mapped) odd length = if (length == mapped) || is_number o
 abbrev pub sync_deviation : Bool → Tpdo → Option Deviation
 sync_deviation has_sync pdo =
     if has_sync && (is_synchronous pdo.parameters.kind && (pdo.syncs == 0)) then Some WithoutSync else None
+
+-- the device is known to be operational, and the parameters are settled
+abbrev pub is_certain : Moment → Option ℕ → Bool
+is_certain moment changed = (moment.known && not moment.idle) && is_settled moment changed
+
+abbrev pub few_syncs : ℕ → Option Cycle → Option Deviation
+few_syncs n None = None
+few_syncs n (Some cycle) = if is_cyclic n && is_early n cycle then Some (FewSyncs cycle.syncs n) else None
+
+abbrev pub few_syncs_of : Option ℕ → Option Cycle → Option Deviation
+few_syncs_of None cycle = None
+few_syncs_of (Some kind) cycle = few_syncs kind cycle
+
+-- `pdo-sync`: a TPDO of type n = 2 to 240 that comes after fewer SYNCs than it may
+abbrev pub cycle_deviation : Moment → Bool → Tpdo → Option Deviation
+cycle_deviation moment has_sync pdo =
+    if has_sync && is_certain moment pdo.changed then few_syncs_of pdo.parameters.kind pdo.cycle else None
 
 -- how many microseconds two frames are apart at least, with an inhibit time in 100 µs
 abbrev pub least_gap : Moment → ℕ → ℕ
@@ -93,7 +112,8 @@ deviation_at moment has_sync pdo length =
     if is_settled moment pdo.changed then
     first_of (state_deviation moment)
     (first_of (length_deviation pdo.parameters.length pdo.odd length)
-    (first_of (sync_deviation has_sync pdo) (time_deviation moment pdo)))
+    (first_of (sync_deviation has_sync pdo)
+    (first_of (cycle_deviation moment has_sync pdo) (time_deviation moment pdo))))
     else None
 
 -- the frame is `pdo-length`

@@ -3,14 +3,17 @@ use Rattle.std.specs.Prelude.{ℕ, Bool, false, ◌&&◌, ◌||◌, if◌then◌
 use Rattle.co_profile.specs.Keys.{sync_key}
 use Rattle.co_sheet.specs.Content.{Row}
 use Rattle.co_value.specs.declared.key.Key.{Key}
+use Rattle.co_sheet_changes.specs.Names.{row_at}
 use Rattle.co_value.specs.Keys.{same_key}
 use Rattle.conode_explain_transfers.specs.declared.ended.Ended.{Ended}
+use Rattle.conode_compare_pdos.specs.declared.cycle.Cycle.{Cycle}
 use Rattle.conode_compare_pdos.specs.declared.deviation.Moment.{Moment}
 use Rattle.conode_compare_pdos.specs.declared.pdos.Pdos.{Pdos}
 use Rattle.conode_compare_pdos.specs.declared.pdos.Sighting.{Sighting}
 use Rattle.conode_compare_pdos.specs.declared.tpdo.Tpdo.{Tpdo}
+use Rattle.conode_compare_pdos.specs.Cycles.{new_cycle}
 use Rattle.conode_compare_pdos.specs.Deviations.{deviation_at, is_judged}
-use Rattle.conode_compare_pdos.specs.PdoParameters.{identifier_of, parameters_of}
+use Rattle.conode_compare_pdos.specs.PdoParameters.{identifier_of, key_of, parameters_of}
 use Rattle.conode_compare_pdos.specs.SheetNumbers.{preset_at}
 use Rattle.conode_compare_pdos.specs.Tpdos.{after_command, after_frame, after_gap, after_poll, after_request, after_sync, after_transfer, booted_tpdo, is_id, unknown_tpdo}
 
@@ -29,14 +32,19 @@ each change pdos = record {
   fourth = change 3 pdos.fourth;
 }
 
+-- SYNCs are counted, unless the device may become operational by itself (1F80h, CiA 302-2): the
+-- recording doesn't show when its count begins then
+abbrev pub cycle_of : List Row → Option Cycle
+cycle_of rows = if is_some (row_at rows (key_of 0x1F80 0)) then None else Some new_cycle
+
 -- after a boot-up: what the data sheet has
 unfoldable pub pdos_of : List Row → ℕ → Pdos
 pdos_of rows node = record {
   sync = option_and_then identifier_of (preset_at rows node sync_key);
-  first = booted_tpdo (parameters_of rows node 0);
-  second = booted_tpdo (parameters_of rows node 1);
-  third = booted_tpdo (parameters_of rows node 2);
-  fourth = booted_tpdo (parameters_of rows node 3);
+  first = booted_tpdo (cycle_of rows) (parameters_of rows node 0);
+  second = booted_tpdo (cycle_of rows) (parameters_of rows node 1);
+  third = booted_tpdo (cycle_of rows) (parameters_of rows node 2);
+  fourth = booted_tpdo (cycle_of rows) (parameters_of rows node 3);
 }
 
 -- an NMT command came, or a heartbeat shows another state than operational
@@ -46,8 +54,8 @@ commanded pdos = each (λ number. after_command) pdos
 abbrev pub interrupted : Pdos → Pdos
 interrupted pdos = each (λ number. after_gap) pdos
 
-abbrev pub synced : Pdos → Pdos
-synced pdos = each (λ number. after_sync) pdos
+abbrev pub synced : Pdos → ℕ → Pdos
+synced pdos length = each (λ number. after_sync length) pdos
 
 abbrev pub polled : Pdos → ℕ → Pdos
 polled pdos id = each (λ number. after_poll id) pdos
@@ -65,7 +73,7 @@ transferred pdos ended micros = each (after_transfer ended micros) pdos
 -- a data frame with this identifier and so many bytes: a SYNC, or a TPDO
 unfoldable pub framed : Pdos → Moment → ℕ → ℕ → Pdos
 framed pdos moment id length =
-    if is_id pdos.sync id then synced pdos else each (λ number. after_frame moment id length) pdos
+    if is_id pdos.sync id then synced pdos length else each (λ number. after_frame moment id length) pdos
 
 -- ---- what is said of a frame
 

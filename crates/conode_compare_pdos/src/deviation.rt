@@ -2,10 +2,13 @@
 
 ghost use Rattle.std.specs.Prelude.{◌≡◌, ◌<◌, ◌^◌};
 ghost use Rattle.conode_compare_pdos.specs.Deviations.{
+  cycle_deviation,
   deviation_at,
   drift_of,
+  few_syncs_of,
   greatest_gap,
   inhibit_deviation,
+  is_certain,
   is_event_driven,
   is_judged,
   is_number,
@@ -22,6 +25,7 @@ ghost use Rattle.conode_compare_pdos.specs.Deviations.{
   timer_deviation,
 };
 
+use crate::cycle::{Cycle, is_cyclic, is_early};
 use crate::tpdo::{Sent, Tpdo};
 
 /// A difference of a TPDO.
@@ -33,6 +37,8 @@ pub enum Deviation {
     NotOperational,
     /// `pdo-sync`: it is synchronous, and since its last one no SYNC came.
     WithoutSync,
+    /// `pdo-sync`: so many SYNCs since the last one, fewer than its type, which is from 2 to 240.
+    FewSyncs(u16, u8),
     /// `pdo-inhibit`: so many microseconds since the last one, and the inhibit time has so many 100
     /// µs.
     Inhibit(u64, u16),
@@ -83,6 +89,13 @@ fn is_settled(moment: &Moment, changed: Option<u64>) -> bool
     }
 }
 
+// whether the device is known to be operational, and the parameters are settled
+pub(crate) fn is_certain(moment: &Moment, changed: Option<u64>) -> bool
+    ensures { result ≡ is_certain moment.now changed }
+{
+    moment.known && !moment.idle && is_settled(moment, changed)
+}
+
 fn is_synchronous(kind: Option<u8>) -> bool
     ensures { result ≡ is_synchronous kind }
 {
@@ -126,6 +139,28 @@ fn sync_deviation(has_sync: bool, pdo: &Tpdo) -> Option<Deviation>
 {
     if has_sync && is_synchronous(pdo.parameters.kind) && pdo.syncs == 0 {
         Some(Deviation::WithoutSync)
+    } else {
+        None
+    }
+}
+
+fn few_syncs_of(kind: Option<u8>, cycle: Option<Cycle>) -> Option<Deviation>
+    ensures { result ≡ few_syncs_of kind cycle }
+{
+    match (kind, cycle) {
+        (Some(kind), Some(cycle)) if is_cyclic(kind) && is_early(kind, cycle) => Some(
+            Deviation::FewSyncs(cycle.syncs, kind),
+        ),
+        _ => None,
+    }
+}
+
+// of a TPDO of type 2 to 240
+fn cycle_deviation(moment: &Moment, has_sync: bool, pdo: &Tpdo) -> Option<Deviation>
+    ensures { result ≡ cycle_deviation moment.now has_sync pdo.now }
+{
+    if has_sync && is_certain(moment, pdo.changed) {
+        few_syncs_of(pdo.parameters.kind, pdo.cycle)
     } else {
         None
     }
@@ -221,6 +256,7 @@ pub(crate) fn deviation_at(
     state_deviation(moment)
         .or(length_deviation(pdo.parameters.length, pdo.odd, length))
         .or(sync_deviation(has_sync, pdo))
+        .or(cycle_deviation(moment, has_sync, pdo))
         .or(time_deviation(moment, pdo))
 }
 

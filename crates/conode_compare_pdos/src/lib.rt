@@ -3,6 +3,7 @@
 //! event timer. And what is known of its RPDOs.
 #![tactic(auto)]
 
+mod cycle;
 mod deviation;
 mod identifiers;
 mod numbers;
@@ -12,6 +13,7 @@ mod rpdo;
 mod rpdos;
 mod tpdo;
 
+pub use cycle::Cycle;
 pub use deviation::{Deviation, Moment};
 pub use identifiers::{may_change, may_get, may_have};
 pub use numbers::{first_word, number_of, preset_at, small};

@@ -6,6 +6,7 @@ ghost use Rattle.co_sheet.specs.SheetViews.{row_view};
 ghost use Rattle.co_value.specs.Keys.{is_key_before};
 ghost use Rattle.conode_compare_pdos.specs.Followed.{
   commanded,
+  cycle_of,
   first_seen,
   framed,
   has_id,
@@ -22,12 +23,14 @@ ghost use Rattle.conode_compare_pdos.specs.Followed.{
   unknown_pdos,
 };
 
+use crate::cycle::Cycle;
 use crate::deviation::{Deviation, Moment, deviation_at, is_judged};
 use crate::numbers::preset_at;
-use crate::parameters::{Parameters, identifier_of};
+use crate::parameters::{Parameters, identifier_of, key_of};
 use crate::tpdo::{Tpdo, is_id};
 use co_profile::keys::SYNC_COB_ID;
 use co_sheet::EntryRow;
+use co_sheet_changes::row_at;
 use co_value::Key;
 use conode_explain_transfers::Ended;
 
@@ -57,6 +60,18 @@ pub struct Sighting {
     pub judged: bool,
 }
 
+// the count of SYNCs, unless the device may become operational by itself (1F80h, CiA 302-2)
+fn cycle_of(rows: &[EntryRow<'_>]) -> Option<Cycle>
+    requires { AllPairs (λ e f. is_key_before e.key f.key ≡ true) rows.now }
+    ensures { result ≡ cycle_of (map row_view rows.now) }
+{
+    if row_at(rows, key_of(0x1F80, 0)).is_some() {
+        None
+    } else {
+        Some(Cycle::new())
+    }
+}
+
 /// What a data sheet, whose entries are in increasing key, has of the TPDOs of the device with a
 /// node-ID.
 #[tactic(auto, unfolding(crate::specs::Followed::pdos_of))]
@@ -64,15 +79,16 @@ pub fn pdos_of(rows: &[EntryRow<'_>], node: u8) -> Pdos
     requires { AllPairs (λ e f. is_key_before e.key f.key ≡ true) rows.now }
     ensures { result ≡ pdos_of (map row_view rows.now) node }
 {
+    let cycle = cycle_of(rows);
     Pdos {
         sync: match preset_at(rows, node, SYNC_COB_ID) {
             Some(number) => identifier_of(number),
             None => None,
         },
-        first: Tpdo::booted(Parameters::of(rows, node, 0)),
-        second: Tpdo::booted(Parameters::of(rows, node, 1)),
-        third: Tpdo::booted(Parameters::of(rows, node, 2)),
-        fourth: Tpdo::booted(Parameters::of(rows, node, 3)),
+        first: Tpdo::booted(cycle, Parameters::of(rows, node, 0)),
+        second: Tpdo::booted(cycle, Parameters::of(rows, node, 1)),
+        third: Tpdo::booted(cycle, Parameters::of(rows, node, 2)),
+        fourth: Tpdo::booted(cycle, Parameters::of(rows, node, 3)),
     }
 }
 
@@ -180,14 +196,14 @@ impl Pdos {
         self.fourth = self.fourth.after_transfer(3, ended, micros);
     }
 
-    // A SYNC came.
-    fn take_sync(&mut self)
-        ensures { self.new ≡ synced self.old }
+    // A SYNC with so many bytes came.
+    fn take_sync(&mut self, length: u8)
+        ensures { self.new ≡ synced self.old length }
     {
-        self.first = self.first.after_sync();
-        self.second = self.second.after_sync();
-        self.third = self.third.after_sync();
-        self.fourth = self.fourth.after_sync();
+        self.first = self.first.after_sync(length);
+        self.second = self.second.after_sync(length);
+        self.third = self.third.after_sync(length);
+        self.fourth = self.fourth.after_sync(length);
     }
 
     // whether one of them has this identifier: most frames are of other nodes
@@ -208,7 +224,7 @@ impl Pdos {
         ensures { self.new ≡ framed self.old moment.now id length }
     {
         if is_id(self.sync, id) {
-            self.take_sync();
+            self.take_sync(length);
             return;
         }
         if !self.has_id(id) {

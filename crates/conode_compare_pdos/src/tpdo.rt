@@ -19,7 +19,8 @@ ghost use Rattle.conode_compare_pdos.specs.Tpdos.{
   with_parameters,
 };
 
-use crate::deviation::{Moment, shows_length};
+use crate::cycle::{Cycle, anew, cycle_sent, cycle_synced};
+use crate::deviation::{Moment, is_certain, shows_length};
 use crate::parameters::{Parameters, communication, mapping};
 use co_value::Key;
 use conode_explain_transfers::{Direction, Ended, Ending, Protocol};
@@ -42,6 +43,8 @@ pub struct Tpdo {
     pub sent: Option<Sent>,
     /// How many SYNCs it may answer, at most two.
     pub syncs: u8,
+    /// The SYNCs since its newest frame; `None` where they aren't counted.
+    pub cycle: Option<Cycle>,
     /// When one of its parameters was written or read last.
     pub changed: Option<u64>,
     /// With how many bytes it came, other than are mapped, where that was said.
@@ -97,25 +100,27 @@ impl Tpdo {
             parameters: Parameters::unknown(),
             sent: None,
             syncs: MOST_SYNCS,
+            cycle: None,
             changed: None,
             odd: None,
         }
     }
 
     /// The device booted up.
-    pub(crate) fn booted(parameters: Parameters) -> Tpdo
-        ensures { result ≡ booted_tpdo parameters }
+    pub(crate) fn booted(cycle: Option<Cycle>, parameters: Parameters) -> Tpdo
+        ensures { result ≡ booted_tpdo cycle parameters }
     {
         Tpdo {
             parameters,
             sent: None,
             syncs: 0,
+            cycle,
             changed: None,
             odd: None,
         }
     }
 
-    /// An NMT command came: times count anew.
+    /// An NMT command came: times and SYNCs count anew.
     pub(crate) fn after_command(self) -> Tpdo
         ensures { result ≡ after_command self }
     {
@@ -123,6 +128,7 @@ impl Tpdo {
             parameters: self.parameters,
             sent: None,
             syncs: self.syncs,
+            cycle: anew(self.cycle),
             changed: self.changed,
             odd: self.odd,
         }
@@ -136,14 +142,15 @@ impl Tpdo {
             parameters: self.parameters,
             sent: None,
             syncs: MOST_SYNCS,
+            cycle: anew(self.cycle),
             changed: self.changed,
             odd: self.odd,
         }
     }
 
-    /// A SYNC came.
-    pub(crate) fn after_sync(self) -> Tpdo
-        ensures { result ≡ after_sync self }
+    /// A SYNC with so many bytes came.
+    pub(crate) fn after_sync(self, length: u8) -> Tpdo
+        ensures { result ≡ after_sync length self }
     {
         Tpdo {
             parameters: self.parameters,
@@ -153,20 +160,27 @@ impl Tpdo {
             } else {
                 self.syncs + 1
             },
+            cycle: cycle_synced(self.cycle, length),
             changed: self.changed,
             odd: self.odd,
         }
     }
 
     /// A remote frame with this identifier came: where it asks for the TPDO, that is sent without
-    /// an event.
+    /// an event. Which frame that is isn't known.
     pub(crate) fn after_poll(self, id: u16) -> Tpdo
         ensures { result ≡ after_poll id self }
     {
-        if is_id(self.parameters.id, id) {
-            self.after_gap()
-        } else {
-            self
+        if !is_id(self.parameters.id, id) {
+            return self;
+        }
+        Tpdo {
+            parameters: self.parameters,
+            sent: None,
+            syncs: MOST_SYNCS,
+            cycle: None,
+            changed: self.changed,
+            odd: self.odd,
         }
     }
 
@@ -178,6 +192,7 @@ impl Tpdo {
             return self;
         }
         let is_odd = shows_length(moment, &self, length);
+        let certain = is_certain(moment, self.changed);
         Tpdo {
             parameters: self.parameters,
             sent: Some(Sent {
@@ -185,6 +200,7 @@ impl Tpdo {
                 micros: moment.micros,
             }),
             syncs: self.syncs.saturating_sub(1),
+            cycle: cycle_sent(self.cycle, certain, self.parameters.kind),
             changed: self.changed,
             odd: if is_odd { Some(length) } else { self.odd },
         }
@@ -192,12 +208,13 @@ impl Tpdo {
 
     // A parameter was written or read.
     fn with_parameters(self, micros: u64, parameters: Parameters) -> Tpdo
-        ensures { result ≡ with_parameters micros self.odd parameters }
+        ensures { result ≡ with_parameters micros self parameters }
     {
         Tpdo {
             parameters,
             sent: None,
             syncs: MOST_SYNCS,
+            cycle: anew(self.cycle),
             changed: Some(micros),
             odd: self.odd,
         }

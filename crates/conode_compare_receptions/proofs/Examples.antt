@@ -141,7 +141,7 @@ others = refl
 
 abbrev unfollowed : ℕ → Receptions
 unfollowed id =
-    let pdos = record unknown_pdos { third = booted_tpdo (record nothing_known { id = Some 0x185 }) } in
+    let pdos = record unknown_pdos { third = booted_tpdo None (record nothing_known { id = Some 0x185 }) } in
     after (record booted { followed = false }) (record operational { pdos = pdos; written = booted.writes.written }) (record { id = id; bytes = [] })
 
 not_followed : (map (λ id. number_in (unfollowed id)) (0x206 ∷ 0x701 ∷ 0x185 ∷ []) ≡ None ∷ Some 5 ∷ Some 5 ∷ [])

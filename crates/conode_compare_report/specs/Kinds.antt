@@ -1,7 +1,7 @@
 -- The kinds of differences, in the order of the table in docs/COMPARE.md.
 use Rattle.std.specs.Prelude.{ℕ, List, codes}
 use Rattle.conode_compare_pdos.specs.declared.deviation.Deviation.{Deviation}
-use Rattle.conode_compare_pdos.specs.declared.deviation.Deviation.TheVariants.{Length, NotOperational, WithoutSync, Inhibit, Timer}
+use Rattle.conode_compare_pdos.specs.declared.deviation.Deviation.TheVariants.{Length, NotOperational, WithoutSync, FewSyncs, Inhibit, Timer}
 use Rattle.conode_compare_transfers.specs.declared.breach.Breach.{Breach}
 use Rattle.conode_compare_transfers.specs.declared.breach.Breach.TheVariants.{Toggle, Form, Size, Crc, Early}
 use Rattle.conode_compare_values.specs.declared.mismatch.Mismatch.{Mismatch}
@@ -15,6 +15,7 @@ abbrev pub of_deviation : Deviation → Kind
 of_deviation (Length length mapped) = PdoLength
 of_deviation NotOperational = PdoState
 of_deviation WithoutSync = PdoSync
+of_deviation (FewSyncs syncs kind) = PdoSync
 of_deviation (Inhibit passed inhibit) = PdoInhibit
 of_deviation (Timer passed timer) = PdoLate
 
@@ -96,7 +97,7 @@ kind_rule HeartbeatState = codes "a heartbeat has the NMT state that the command
 kind_rule HeartbeatLength = codes "a frame of error control has one byte (CiA 301, 7.2.8.3.2)"
 kind_rule PdoLength = codes "a TPDO has as many bytes as its mapping (CiA 301, 7.5.2.38)"
 kind_rule PdoState = codes "a TPDO is sent while operational only (CiA 301, 7.3.2.2)"
-kind_rule PdoSync = codes "a TPDO of type 0 to 240 is sent after a SYNC (CiA 301, 7.5.2.37)"
+kind_rule PdoSync = codes "a TPDO of type n up to 240 is sent at each n-th SYNC, of type 0 after one (CiA 301, 7.5.2.37)"
 kind_rule PdoInhibit = codes "two frames of a TPDO are at least its inhibit time apart (CiA 301, 7.5.2.37)"
 kind_rule PdoLate = codes "a TPDO is sent when its event timer has passed (CiA 301, 7.5.2.37)"
 kind_rule BootMissing = codes "after a reset a boot-up comes before any other frame (CiA 301, 7.3.2.2)"

@@ -116,7 +116,7 @@ static RULES: [&str; 29] = [
     "a frame of error control has one byte (CiA 301, 7.2.8.3.2)",
     "a TPDO has as many bytes as its mapping (CiA 301, 7.5.2.38)",
     "a TPDO is sent while operational only (CiA 301, 7.3.2.2)",
-    "a TPDO of type 0 to 240 is sent after a SYNC (CiA 301, 7.5.2.37)",
+    "a TPDO of type n up to 240 is sent at each n-th SYNC, of type 0 after one (CiA 301, 7.5.2.37)",
     "two frames of a TPDO are at least its inhibit time apart (CiA 301, 7.5.2.37)",
     "a TPDO is sent when its event timer has passed (CiA 301, 7.5.2.37)",
     "after a reset a boot-up comes before any other frame (CiA 301, 7.3.2.2)",
@@ -159,7 +159,7 @@ fn of_deviation(deviation: Deviation) -> Kind
     match deviation {
         Deviation::Length(_, _) => Kind::PdoLength,
         Deviation::NotOperational => Kind::PdoState,
-        Deviation::WithoutSync => Kind::PdoSync,
+        Deviation::WithoutSync | Deviation::FewSyncs(_, _) => Kind::PdoSync,
         Deviation::Inhibit(_, _) => Kind::PdoInhibit,
         Deviation::Timer(_, _) => Kind::PdoLate,
     }

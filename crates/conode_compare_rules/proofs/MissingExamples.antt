@@ -42,7 +42,7 @@ abbrev sheet : Entries
 sheet = record { period = Some 1000; emergencies = true; inhibit = Some 0; inhibit_shown = None }
 
 abbrev pdos : Pdos
-pdos = record unknown_pdos { first = booted_tpdo event_driven }
+pdos = record unknown_pdos { first = booted_tpdo None event_driven }
 
 abbrev facts : Facts
 facts = record { before = sheet; booted = sheet; pdos = pdos; clients = no_clients; starts_itself = false; modular = false; stores = false; as_sheet = true }

@@ -8,7 +8,7 @@ use Rattle.conode_explain_values.specs.declared.value_type.ValueType.{ValueType}
 use Rattle.conode_explain_values.specs.declared.value_type.ValueType.TheVariants.{Plain, Real32, TimeOfDay}
 use Rattle.conode_explain_values.specs.Numbers.{number_text}
 use Rattle.conode_explain_values.specs.Values.{value_text}
-use Rattle.conode_compare_pdos.specs.declared.deviation.Deviation.TheVariants.{Length, NotOperational, WithoutSync, Inhibit, Timer}
+use Rattle.conode_compare_pdos.specs.declared.deviation.Deviation.TheVariants.{Length, NotOperational, WithoutSync, FewSyncs, Inhibit, Timer}
 use Rattle.conode_compare_transfers.specs.declared.breach.Breach.TheVariants.{Toggle, Form, AbortKey, Size, Crc, Early}
 use Rattle.conode_compare_values.specs.declared.mismatch.Mismatch.TheVariants.{ValueLength, ValueConst, ConstText, ReadRefused, Written, AboveLimit, BelowLimit, BeyondRoom}
 use Rattle.conode_compare_rules.specs.declared.finding.Finding.TheVariants.{BootMissing, SecondBootUp, HeartbeatLength, NoState, WrongState, HeartbeatLate, EmergencyLength, EmergencyRegister, EmergencyInhibit, NoAnswer, AnswerKey, AnswerForm, AnswerStopped, Transfer, Value, Held, Pdo}
@@ -150,6 +150,14 @@ pdo_state = refl
 pdo_sync : finding_text plain (Pdo 3 WithoutSync) ≡ codes "pdo-sync: TPDO3, and since its last one no SYNC came"
 unfolding finding_text pdo_text digits filled
 pdo_sync = refl
+
+pdo_few_syncs : finding_text plain (Pdo 1 (FewSyncs 1 240)) ≡ codes "pdo-sync: TPDO1 1 SYNC after the last one, its type is 240"
+unfolding finding_text pdo_text digits filled
+pdo_few_syncs = refl
+
+pdo_no_syncs : finding_text plain (Pdo 2 (FewSyncs 0 2)) ≡ codes "pdo-sync: TPDO2 0 SYNCs after the last one, its type is 2"
+unfolding finding_text pdo_text digits filled
+pdo_no_syncs = refl
 
 pdo_inhibit : finding_text plain (Pdo 4 (Inhibit 88999 1000)) ≡ codes "pdo-inhibit: TPDO4 88.999 ms since the last one, its inhibit time is 100.000 ms"
 unfolding finding_text pdo_text millis_text digits_text digits filled

@@ -5,7 +5,7 @@ use Rattle.co_value.specs.declared.key.Key.{Key}
 use Rattle.co_value.specs.KeyTexts.{key_text}
 use Rattle.conode_explain_values.specs.declared.value_type.ValueType.{ValueType}
 use Rattle.conode_compare_pdos.specs.declared.deviation.Deviation.{Deviation}
-use Rattle.conode_compare_pdos.specs.declared.deviation.Deviation.TheVariants.{Length, NotOperational, WithoutSync, Inhibit, Timer}
+use Rattle.conode_compare_pdos.specs.declared.deviation.Deviation.TheVariants.{Length, NotOperational, WithoutSync, FewSyncs, Inhibit, Timer}
 use Rattle.conode_compare_transfers.specs.declared.breach.Breach.{Breach}
 use Rattle.conode_compare_transfers.specs.declared.breach.Breach.TheVariants.{Toggle, Form, AbortKey, Size, Crc, Early}
 use Rattle.conode_compare_values.specs.declared.mismatch.Mismatch.{Mismatch}
@@ -24,6 +24,16 @@ state_name PreOperational = codes "pre-operational"
 state_name Operational = codes "operational"
 state_name Stopped = codes "stopped"
 
+-- of a TPDO, so many SYNCs after the last one, by its transmission type
+abbrev pub few_text : ℕ → ℕ → ℕ → List ℕ
+few_text number syncs kind =
+    if syncs == 1 then
+    filled (codes "pdo-sync: TPDO% 1 SYNC after the last one, its type is %")
+    (decimal number ∷ decimal kind ∷ [])
+    else
+    filled (codes "pdo-sync: TPDO% % SYNCs after the last one, its type is %")
+    (decimal number ∷ decimal syncs ∷ decimal kind ∷ [])
+
 -- of a TPDO by its number
 unfoldable pub pdo_text : ℕ → Deviation → List ℕ
 pdo_text number (Length length mapped) =
@@ -33,6 +43,7 @@ pdo_text number NotOperational =
     filled (codes "pdo-state: TPDO% while the device isn't operational") (decimal number ∷ [])
 pdo_text number WithoutSync =
     filled (codes "pdo-sync: TPDO%, and since its last one no SYNC came") (decimal number ∷ [])
+pdo_text number (FewSyncs syncs kind) = few_text number syncs kind
 pdo_text number (Inhibit passed inhibit) =
     filled (codes "pdo-inhibit: TPDO% % since the last one, its inhibit time is %")
     (decimal number ∷ millis_text passed ∷ millis_text (inhibit * 100) ∷ [])

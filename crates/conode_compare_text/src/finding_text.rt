@@ -3,6 +3,7 @@
 ghost use Rattle.std.specs.Prelude.{◌≡◌, ◌++◌, OnOk, string_bytes};
 ghost use Rattle.conode_compare_text.specs.FindingTexts.{
   early_text,
+  few_text,
   finding_line,
   finding_text,
   mismatch_text,
@@ -36,6 +37,25 @@ fn state_name(state: NmtState) -> &'static str
     STATES[state as usize]
 }
 
+// of a TPDO, so many SYNCs after the last one
+fn few_said(number: u8, syncs: u16, kind: u8) -> Said
+    ensures { said_text result ≡ few_text number syncs kind }
+{
+    if syncs == 1 {
+        return Said::Two(
+            "pdo-sync: TPDO% 1 SYNC after the last one, its type is %",
+            Value::Number(number as u64),
+            Value::Number(kind as u64),
+        );
+    }
+    Said::Three(
+        "pdo-sync: TPDO% % SYNCs after the last one, its type is %",
+        Value::Number(number as u64),
+        Value::Number(syncs as u64),
+        Value::Number(kind as u64),
+    )
+}
+
 // what is different of a TPDO
 #[tactic(auto, unfolding(crate::specs::FindingTexts::pdo_text))]
 fn pdo_said(number: u8, deviation: Deviation) -> Said
@@ -56,6 +76,7 @@ fn pdo_said(number: u8, deviation: Deviation) -> Said
             "pdo-sync: TPDO%, and since its last one no SYNC came",
             Value::Number(number as u64),
         ),
+        Deviation::FewSyncs(syncs, kind) => few_said(number, syncs, kind),
         Deviation::Inhibit(passed, inhibit) => Said::Three(
             "pdo-inhibit: TPDO% % since the last one, its inhibit time is %",
             Value::Number(number as u64),
