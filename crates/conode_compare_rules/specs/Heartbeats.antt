@@ -121,11 +121,14 @@ time_taken heartbeats free = option_map (λ sent. free - sent) heartbeats.sent
 
 -- Heartbeats that come late one after another are one mistake, unless one takes longer than each before it
 -- in the row, `slow`, by more than the tolerance and by how much the clocks may differ.
+abbrev pub leeway : Limits → ℕ → ℕ
+leeway limits period = micros_of limits.tolerance + drift_of limits period
+
 abbrev pub is_as_slow : Limits → ℕ → Option ℕ → Option ℕ → Bool
 is_as_slow limits period None taken = false
 is_as_slow limits period (Some slow) None = false
 is_as_slow limits period (Some slow) (Some taken) =
-    nat_le (taken - slow) (micros_of limits.tolerance + drift_of limits period)
+    nat_le (taken - slow) (leeway limits period)
 
 abbrev pub is_late_again : Limits → Option ℕ → Heartbeats → ℕ → Bool
 is_late_again limits None heartbeats free = false

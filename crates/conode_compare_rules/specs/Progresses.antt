@@ -351,20 +351,20 @@ unfoldable pub exchange_at : Subject → Progress → ℕ → Side → FrameCont
 exchange_at subject progress micros side frame = exchange_in subject.limits.answer progress.started progress.dialogue micros side frame
 
 -- a stopped device answers no request that came later than the tolerance after the command, or the change
-abbrev pub follows_asked : Subject → Progress → Option Asked → Bool
-follows_asked subject progress None = false
-follows_asked subject progress (Some asked) =
-    is_settled subject.limits progress.started progress.nmt.commanded asked.micros && is_steady subject.limits progress.nmt asked.micros
+abbrev pub follows_asked : Limits → ℕ → Nmt → Option Asked → Bool
+follows_asked limits started nmt None = false
+follows_asked limits started nmt (Some asked) =
+    is_settled limits started nmt.commanded asked.micros && is_steady limits nmt asked.micros
 
-abbrev pub follows_by_answer : Subject → Progress → Exchange → Bool
-follows_by_answer subject progress exchange =
-    has_followed is_stopped progress.nmt && (exchange.certain && follows_asked subject progress exchange.asked)
+abbrev pub follows_by_answer : Limits → ℕ → Nmt → Exchange → Bool
+follows_by_answer limits started nmt exchange =
+    has_followed is_stopped nmt && (exchange.certain && follows_asked limits started nmt exchange.asked)
 
 -- by an answer: that it has followed a command, where a heartbeat showed stopped
-abbrev pub nmt_heard : Subject → Progress → ℕ → Side → Exchange → Nmt
-nmt_heard subject progress micros Client exchange = progress.nmt
-nmt_heard subject progress micros Server exchange =
-    with_followed progress.nmt (follows_by_answer subject progress exchange) micros
+abbrev pub nmt_heard : Limits → ℕ → Nmt → ℕ → Side → Exchange → Nmt
+nmt_heard limits started nmt micros Client exchange = nmt
+nmt_heard limits started nmt micros Server exchange =
+    with_followed nmt (follows_by_answer limits started nmt exchange) micros
 
 unfoldable pub channel_heard : Subject → Progress → ℕ → Side → FrameContent → Progress
 channel_heard subject progress micros side frame =
@@ -372,7 +372,7 @@ channel_heard subject progress micros side frame =
     let ended = (exchange_at subject progress micros side frame).heard.ended in
     let shown = shown_beside progress.other_client ended in
     record progress {
-      nmt = nmt_heard subject progress micros side (exchange_at subject progress micros side frame);
+      nmt = nmt_heard subject.limits progress.started progress.nmt micros side (exchange_at subject progress micros side frame);
       heartbeats = after_transfer progress.heartbeats ended micros;
       entries = with_sharing (shares_id subject.node side frame) (asked_by side frame (entries_heard progress.entries shown next.asked));
       pdos = pdos_by side frame (pdos_heard progress.pdos shown next.asked micros) micros;

@@ -15,7 +15,6 @@ ghost use Rattle.conode_compare_rules.specs.Progresses.{
   exchange_noted,
   is_judged,
   late_noted,
-  nmt_heard,
   pdos_by,
   pdos_heard,
   pdos_requested,
@@ -100,20 +99,6 @@ fn is_judged(exchange: &Exchange) -> bool
 }
 
 impl Progress {
-    // an answer may show that the device has followed a command
-    fn note_answered(&mut self, subject: &Subject, micros: u64, side: Side, exchange: &Exchange)
-        ensures { self.new ≡ record self.old {
-          nmt = nmt_heard subject.now self.old micros side exchange.now;
-        } }
-    {
-        match side {
-            Side::Server if self.follows_by_answer(subject, exchange) => {
-                self.nmt.note_followed(micros)
-            }
-            _ => {}
-        }
-    }
-
     // a frame of the SDO channel is heard
     #[tactic(auto, unfolding(crate::specs::Progresses::exchange_at, crate::specs::Progresses::channel_heard))]
     fn hear(&mut self, subject: &Subject, micros: u64, side: Side, frame: &Frame) -> Exchange
@@ -124,7 +109,8 @@ impl Progress {
         let exchange = self
             .dialogue
             .hear(subject.limits.answer, self.started, micros, side, frame);
-        self.note_answered(subject, micros, side, &exchange);
+        self.nmt
+            .note_heard(&subject.limits, self.started, micros, side, &exchange);
         let entries = entries_heard(
             self.entries,
             self.other_client,

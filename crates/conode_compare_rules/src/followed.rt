@@ -7,6 +7,7 @@ ghost use Rattle.conode_compare_rules.specs.Progresses.{
   follows_by_answer,
   follows_by_emergency,
   is_idle,
+  nmt_heard,
   steady_when_free,
 };
 ghost use Rattle.conode_compare_rules.specs.States.{has_followed, is_back, with_back, with_followed};
@@ -16,6 +17,7 @@ use crate::limits::{Limits, Subject};
 use crate::nmt::{Nmt, same_state};
 use crate::progress::Progress;
 use conode_compare_transfers::{Asked, Exchange, is_past};
+use conode_explain_transfers::Side;
 
 /// Whether a device in this state sends no PDOs: they are sent while operational alone.
 pub(crate) fn is_idle(starts_itself: bool, state: NmtState) -> bool
@@ -59,6 +61,50 @@ impl Nmt {
         }
     }
 
+    // whether a request came later than the tolerance after the command, and after the device was
+    // seen to be stopped
+    fn follows_asked(&self, limits: &Limits, started: u64, asked: Option<Asked>) -> bool
+        ensures { result ≡ follows_asked limits.now started self.now asked }
+    {
+        match asked {
+            Some(asked) => {
+                self.is_settled(limits, started, asked.micros)
+                    && self.is_steady(limits, asked.micros)
+            }
+            None => false,
+        }
+    }
+
+    // whether an answer shows that it has followed a command
+    fn follows_by_answer(&self, limits: &Limits, started: u64, exchange: &Exchange) -> bool
+        ensures { result ≡ follows_by_answer limits.now started self.now exchange.now }
+    {
+        self.has_left_stopped()
+            && exchange.certain
+            && self.follows_asked(limits, started, exchange.asked)
+    }
+
+    /// A frame of the SDO channel comes: an answer may show that the device has followed a command.
+    pub(crate) fn note_heard(
+        &mut self,
+        limits: &Limits,
+        started: u64,
+        micros: u64,
+        side: Side,
+        exchange: &Exchange,
+    )
+        ensures { self.new ≡ nmt_heard limits.now started self.old micros side exchange.now }
+    {
+        match side {
+            Side::Client => {}
+            Side::Server => {
+                if self.follows_by_answer(limits, started, exchange) {
+                    self.note_followed(micros);
+                }
+            }
+        }
+    }
+
     /// Whether a heartbeat shows the state before once more, later than the tolerance after a frame
     /// that showed that the device had followed the command.
     pub(crate) fn is_back(&self, limits: &Limits, free: u64, shown: NmtState) -> bool
@@ -96,29 +142,5 @@ impl Progress {
         ensures { result ≡ follows_by_emergency subject.now self.now }
     {
         self.nmt.has_left_stopped() && self.entries.emergencies && self.steady_when_free(subject)
-    }
-
-    // whether a request came later than the tolerance after the command, and after the device was
-    // seen to be stopped
-    fn follows_asked(&self, subject: &Subject, asked: Option<Asked>) -> bool
-        ensures { result ≡ follows_asked subject.now self.now asked }
-    {
-        match asked {
-            Some(asked) => {
-                self.nmt
-                    .is_settled(&subject.limits, self.started, asked.micros)
-                    && self.nmt.is_steady(&subject.limits, asked.micros)
-            }
-            None => false,
-        }
-    }
-
-    /// Whether an answer shows that it has followed a command.
-    pub(crate) fn follows_by_answer(&self, subject: &Subject, exchange: &Exchange) -> bool
-        ensures { result ≡ follows_by_answer subject.now self.now exchange.now }
-    {
-        self.nmt.has_left_stopped()
-            && exchange.certain
-            && self.follows_asked(subject, exchange.asked)
     }
 }

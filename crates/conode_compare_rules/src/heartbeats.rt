@@ -15,6 +15,7 @@ ghost use Rattle.conode_compare_rules.specs.Heartbeats.{
   is_late_again,
   is_missing,
   is_shown,
+  leeway,
   longer,
   missing_after,
   shown_after,
@@ -54,6 +55,13 @@ fn allowance(limits: &Limits, period: u16) -> u64
     ensures { result ≡ allowance limits.now period }
 {
     micros_of(period as u32) + micros_of(limits.tolerance) + drift_of(limits, period)
+}
+
+// how many microseconds longer a heartbeat may take than a late one that is the same mistake
+fn leeway(limits: &Limits, period: u16) -> u64
+    ensures { result ≡ leeway limits.now period }
+{
+    micros_of(limits.tolerance) + drift_of(limits, period)
 }
 
 /// Whether nothing at all was recorded for longer than three periods; where none is known, or no
@@ -257,7 +265,7 @@ impl Heartbeats {
     {
         match (entries.period, self.slow, self.time_taken(free)) {
             (Some(period), Some(slow), Some(taken)) => {
-                taken.saturating_sub(slow) <= micros_of(limits.tolerance) + drift_of(limits, period)
+                taken.saturating_sub(slow) <= leeway(limits, period)
             }
             _ => false,
         }
