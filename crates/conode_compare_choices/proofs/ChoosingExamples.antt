@@ -99,7 +99,7 @@ subject = record {
 abbrev shows : NmtState → ℕ → Progress
 shows state micros = record (before_recording subject) {
   newest = Some micros;
-  nmt = record { state = state; commanded = None; reset = None; several = false; booted = None; due = Unknown; changed = None };
+  nmt = record { state = state; commanded = None; reset = None; several = false; booted = None; due = Unknown; followed = None; changed = None; strayed = Unknown; mixed = false; odd = None };
   entries = entries;
   pdos = pdos;
 }

@@ -63,6 +63,8 @@ use Rattle.conode_compare_rules.specs.Progresses.{
   is_missing_at,
   heartbeat_findings,
   is_of_client,
+  is_again,
+  late_alone,
   late_at,
   late_by,
   late_by_tpdo,
@@ -219,7 +221,11 @@ none_with limits (Some n) p micros period ago same since few free = none_since l
 
 none_late : (subject : Subject) (p : Progress) (micros period ago : ℕ) → (period ≡ 0) ⊎ (ago ≤ period * 1000) → Begun period micros ago p → late_at subject p micros ≡ None
 unfolding late_finding overdue_by
-none_late subject p micros period ago few h = ap (λ o. option_map (λ (late : ℕ × ℕ). HeartbeatLate late.0 late.1) o) (none_with subject.limits p.entries.period p micros period ago h.known h.since few h.free)
+none_late subject p micros period ago few h = by (is_again subject p)
+  where
+    by : (again : Bool) → (if again then None else late_alone subject p micros) ≡ None
+    by true = refl
+    by false = ap (λ o. option_map (λ (late : ℕ × ℕ). HeartbeatLate late.0 late.1) o) (none_with subject.limits p.entries.period p micros period ago h.known h.since few h.free)
 
 -- ---- one frame
 
@@ -294,7 +300,7 @@ ended_since : (beats : Heartbeats) (o : Option Ended) (micros ago : ℕ) → IfS
 ended_since beats None micros ago h = h
 ended_since beats (Some e) micros ago h = by (is_some (shown_period e))
   where
-    by : (b : Bool) → IfSome (if b then record { guarded = beats.guarded; since = Some micros; sent = sent_after e.direction e beats.sent; shown = beats.shown } else beats).since (λ last. micros ≤ last + ago)
+    by : (b : Bool) → IfSome (if b then record { guarded = beats.guarded; since = Some micros; sent = sent_after e.direction e beats.sent; shown = beats.shown; slow = None } else beats).since (λ last. micros ≤ last + ago)
     by true = omega arith
     by false = h
 
@@ -304,7 +310,7 @@ shown_since true beats o micros ago = tt
 shown_since false beats None micros ago = tt
 shown_since false beats (Some e) micros ago = by (shown_period e)
   where
-    by : (shown : Option ℕ) → IfSome shown (IsRecent micros ago (if is_some shown then record { guarded = beats.guarded; since = Some micros; sent = sent_after e.direction e beats.sent; shown = beats.shown } else beats).since)
+    by : (shown : Option ℕ) → IfSome shown (IsRecent micros ago (if is_some shown then record { guarded = beats.guarded; since = Some micros; sent = sent_after e.direction e beats.sent; shown = beats.shown; slow = None } else beats).since)
     by None = tt
     by (Some n) = inr (omega arith)
 

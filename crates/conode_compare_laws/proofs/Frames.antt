@@ -1,6 +1,6 @@
 -- What compare finds at one frame, and what it knows of the NMT state after it.
 use Rattle.std.proofs.Common.{◌≡◌, ℕ, ◌+◌, Bool, true, false, List, [], ◌++◌, length, Option, Some, None, refl, ap, ◌∙◌, arith}
-use Rattle.std.specs.Prelude.{if◌then◌else◌, ◌==◌, ◌||◌, not, is_some, option_map}
+use Rattle.std.specs.Prelude.{if◌then◌else◌, ◌==◌, ◌&&◌, ◌||◌, not, is_some, option_map}
 use Rattle.std.specs.Option.{option_to_list}
 use Rattle.std.proofs.lemmas.Bool.Decides.{nat_tests}
 use Rattle.co_frame.specs.FrameContent.{FrameContent}
@@ -19,7 +19,8 @@ use Rattle.co_node_model.specs.Nmt.{service_for}
 use Rattle.conode_explain_transfers.specs.declared.kinds.Side.TheVariants.{Client, Server}
 use Rattle.conode_compare_pdos.specs.declared.pdos.Sighting.{Sighting}
 use Rattle.conode_compare_rules.specs.declared.finding.Finding.{Finding}
-use Rattle.conode_compare_rules.specs.declared.finding.Finding.TheVariants.{BootMissing}
+use Rattle.conode_compare_rules.specs.declared.finding.Finding.TheVariants.{BootMissing, TwoStates}
+use Rattle.conode_compare_rules.specs.declared.finding.NmtState.{NmtState}
 use Rattle.conode_compare_rules.specs.declared.finding.NmtState.TheVariants.{Unknown, PreOperational}
 use Rattle.conode_compare_rules.specs.declared.kind.FrameKind.{FrameKind}
 use Rattle.conode_compare_rules.specs.declared.kind.FrameKind.TheVariants.{Command, CommandToAll, Control, Emergency as Emcy, OddEmergency, Sdo, Process, Other}
@@ -57,12 +58,12 @@ use Rattle.conode_compare_rules.specs.Progresses.{
   with_gap,
 }
 use Rattle.conode_compare_rules.specs.States as states
-use Rattle.conode_compare_rules.specs.States.{after_boot_up, after_other, awaits_boot_up, boot_finding, boots_known, control_finding, is_guarded_state, is_settled, second_boot_up, shows_state, state_commanded, state_finding}
+use Rattle.conode_compare_rules.specs.States.{after_boot_up, after_other, awaits_boot_up, boot_finding, boots_known, control_finding, is_guarded_state, is_settled, said_of, second_boot_up, shows_state, state_commanded, state_finding, strays_again}
 use Rattle.conode_compare_rules.specs.Verdicts.{found}
 use Rattle.conode_compare_pdos.specs.Followed as tpdos
 use Rattle.conode_compare_laws.specs.Differences.{state_differences}
 use Rattle.conode_compare_laws.proofs.LongCommands.{long_such}
-use Rattle.conode_compare_laws.proofs.Shown.{Stage, boots, runs, Fits, fits_nothing, unbooted, or_unknown, none_overdue, none_judged, is_shown, stage_after, command_fits, either_shown}
+use Rattle.conode_compare_laws.proofs.Shown.{Stage, boots, runs, Fits, fits_nothing, unbooted, or_unknown, none_overdue, none_judged, freer_not_wrong, is_shown, stage_after, command_fits, either_shown}
 
 -- what compare knows of the NMT state fits
 abbrev pub FitsAt : ℕ → Stage → Progress → Type 0
@@ -245,24 +246,45 @@ boot_passes subject rows p micros h = record {
   fits = boots_shown (boots_known subject.limits p.nmt.commanded micros);
 }
 
+-- a heartbeat of its state is none that it can't have reached by itself
+none_wrong : (settled wrong same : Bool) → wrong ≡ false → ((settled && wrong) && same) ≡ false
+none_wrong true true same e = absurd (cc)
+none_wrong true false same e = refl
+none_wrong false wrong same e = refl
+
+never_again : (subject : Subject) (p : Progress) (micros : ℕ) (actual : NodeState) → FitsAt micros (runs actual) p
+    → strays_again subject p.started p.heartbeats.guarded p.nmt p.free (state_byte (heartbeat_of actual)) ≡ false
+never_again subject p micros node.PreOperational h = none_wrong (not p.heartbeats.guarded && is_settled subject.limits p.started p.nmt.commanded p.free) _ _ (freer_not_wrong subject.facts.starts_itself p.nmt.state p.nmt.due node.PreOperational h)
+never_again subject p micros node.Operational h = none_wrong (not p.heartbeats.guarded && is_settled subject.limits p.started p.nmt.commanded p.free) _ _ (freer_not_wrong subject.facts.starts_itself p.nmt.state p.nmt.due node.Operational h)
+never_again subject p micros node.Stopped h = none_wrong (not p.heartbeats.guarded && is_settled subject.limits p.started p.nmt.commanded p.free) _ _ (freer_not_wrong subject.facts.starts_itself p.nmt.state p.nmt.due node.Stopped h)
+
 none_controlled : (subject : Subject) (p : Progress) (micros : ℕ) (actual : NodeState) → FitsAt micros (runs actual) p
     → control_finding subject p.started p.heartbeats.guarded p.nmt p.free micros (state_byte (heartbeat_of actual)) ≡ None
 unfolding control_finding
-none_controlled subject p micros node.PreOperational h = by (p.heartbeats.guarded || (is_guarded_state 127 || not (is_settled subject.limits p.started p.nmt.commanded p.free)))
+none_controlled subject p micros node.PreOperational h = by (strays_again subject p.started p.heartbeats.guarded p.nmt p.free 127) (p.heartbeats.guarded || (is_guarded_state 127 || not (is_settled subject.limits p.started p.nmt.commanded p.free)))
+    (never_again subject p micros node.PreOperational h)
   where
-    by : (b : Bool) → (if b then None else state_finding subject.facts.starts_itself (states.judged_state p.nmt) 127) ≡ None
-    by true = refl
-    by false = none_judged subject.facts.starts_itself p.nmt.state p.nmt.due node.PreOperational h
-none_controlled subject p micros node.Operational h = by (p.heartbeats.guarded || (is_guarded_state 5 || not (is_settled subject.limits p.started p.nmt.commanded p.free)))
+    by : (again b : Bool) → again ≡ false
+        → (if again then Some (TwoStates (states.state_of 127) (states.judged_state p.nmt)) else (if b then None else said_of p.nmt.odd (state_finding subject.facts.starts_itself (states.judged_state p.nmt) 127))) ≡ None
+    by true b e = absurd (cc)
+    by false true e = refl
+    by false false e = ap (said_of p.nmt.odd) (none_judged subject.facts.starts_itself p.nmt.state p.nmt.due node.PreOperational h)
+none_controlled subject p micros node.Operational h = by (strays_again subject p.started p.heartbeats.guarded p.nmt p.free 5) (p.heartbeats.guarded || (is_guarded_state 5 || not (is_settled subject.limits p.started p.nmt.commanded p.free)))
+    (never_again subject p micros node.Operational h)
   where
-    by : (b : Bool) → (if b then None else state_finding subject.facts.starts_itself (states.judged_state p.nmt) 5) ≡ None
-    by true = refl
-    by false = none_judged subject.facts.starts_itself p.nmt.state p.nmt.due node.Operational h
-none_controlled subject p micros node.Stopped h = by (p.heartbeats.guarded || (is_guarded_state 4 || not (is_settled subject.limits p.started p.nmt.commanded p.free)))
+    by : (again b : Bool) → again ≡ false
+        → (if again then Some (TwoStates (states.state_of 5) (states.judged_state p.nmt)) else (if b then None else said_of p.nmt.odd (state_finding subject.facts.starts_itself (states.judged_state p.nmt) 5))) ≡ None
+    by true b e = absurd (cc)
+    by false true e = refl
+    by false false e = ap (said_of p.nmt.odd) (none_judged subject.facts.starts_itself p.nmt.state p.nmt.due node.Operational h)
+none_controlled subject p micros node.Stopped h = by (strays_again subject p.started p.heartbeats.guarded p.nmt p.free 4) (p.heartbeats.guarded || (is_guarded_state 4 || not (is_settled subject.limits p.started p.nmt.commanded p.free)))
+    (never_again subject p micros node.Stopped h)
   where
-    by : (b : Bool) → (if b then None else state_finding subject.facts.starts_itself (states.judged_state p.nmt) 4) ≡ None
-    by true = refl
-    by false = none_judged subject.facts.starts_itself p.nmt.state p.nmt.due node.Stopped h
+    by : (again b : Bool) → again ≡ false
+        → (if again then Some (TwoStates (states.state_of 4) (states.judged_state p.nmt)) else (if b then None else said_of p.nmt.odd (state_finding subject.facts.starts_itself (states.judged_state p.nmt) 4))) ≡ None
+    by true b e = absurd (cc)
+    by false true e = refl
+    by false false e = ap (said_of p.nmt.odd) (none_judged subject.facts.starts_itself p.nmt.state p.nmt.due node.Stopped h)
 
 heartbeat_none : (subject : Subject) (rows : List Row) (p : Progress) (micros : ℕ) (actual : NodeState) → FitsAt micros (runs actual) p
     → option_to_list (boot_finding subject.limits p.nmt micros)
@@ -276,12 +298,17 @@ other_shown : (limits : Limits) (p : Progress) (micros : ℕ) (actual : NodeStat
 unfolding after_other
 other_shown limits p micros actual h = or_unknown micros (runs actual) (is_some (awaits_boot_up limits p.nmt micros)) p.nmt.state p.nmt.reset p.nmt.booted h
 
+-- unless they are those of two devices
+unless_two : (two : Bool) (state : NmtState) (actual : NodeState) → is_shown state actual ≡ true → is_shown (if two then Unknown else state) actual ≡ true
+unless_two true state actual h = refl
+unless_two false state actual h = h
+
 pub heartbeat_passes : (subject : Subject) (rows : List Row) (p : Progress) (micros : ℕ) (actual : NodeState) → FitsAt micros (runs actual) p
     → Passes subject rows p micros (Control (state_byte (heartbeat_of actual))) (runs actual)
 unfolding found control_findings heartbeat_findings progresses.after_control states.after_control
 heartbeat_passes subject rows p micros node.PreOperational h = record {
   none = heartbeat_none subject rows p micros node.PreOperational h;
-  fits = by (shows_state subject.limits p.started p.nmt p.free 127);
+  fits = unless_two (strays_again subject p.started p.heartbeats.guarded p.nmt p.free 127) _ node.PreOperational (by (shows_state subject.limits p.started p.nmt p.free 127));
 }
   where
     by : (b : Bool) → is_shown (if b then states.with_state (after_other subject.limits p.nmt micros) (states.state_of 127) micros else after_other subject.limits p.nmt micros).state node.PreOperational ≡ true
@@ -289,7 +316,7 @@ heartbeat_passes subject rows p micros node.PreOperational h = record {
     by false = other_shown subject.limits p micros node.PreOperational h
 heartbeat_passes subject rows p micros node.Operational h = record {
   none = heartbeat_none subject rows p micros node.Operational h;
-  fits = by (shows_state subject.limits p.started p.nmt p.free 5);
+  fits = unless_two (strays_again subject p.started p.heartbeats.guarded p.nmt p.free 5) _ node.Operational (by (shows_state subject.limits p.started p.nmt p.free 5));
 }
   where
     by : (b : Bool) → is_shown (if b then states.with_state (after_other subject.limits p.nmt micros) (states.state_of 5) micros else after_other subject.limits p.nmt micros).state node.Operational ≡ true
@@ -297,7 +324,7 @@ heartbeat_passes subject rows p micros node.Operational h = record {
     by false = other_shown subject.limits p micros node.Operational h
 heartbeat_passes subject rows p micros node.Stopped h = record {
   none = heartbeat_none subject rows p micros node.Stopped h;
-  fits = by (shows_state subject.limits p.started p.nmt p.free 4);
+  fits = unless_two (strays_again subject p.started p.heartbeats.guarded p.nmt p.free 4) _ node.Stopped (by (shows_state subject.limits p.started p.nmt p.free 4));
 }
   where
     by : (b : Bool) → is_shown (if b then states.with_state (after_other subject.limits p.nmt micros) (states.state_of 4) micros else after_other subject.limits p.nmt micros).state node.Stopped ≡ true

@@ -109,7 +109,7 @@ not_wrong alone Stopped node.Operational h = absurd (cc)
 not_wrong alone Stopped node.Stopped h = refl
 
 -- where the newest command leads to another state, a frame is judged by the freer one
-freer_not_wrong : (alone : Bool) (state due : NmtState) (actual : NodeState) → is_shown state actual ≡ true → is_wrong alone (freer state due) (same_state actual) ≡ false
+pub freer_not_wrong : (alone : Bool) (state due : NmtState) (actual : NodeState) → is_shown state actual ≡ true → is_wrong alone (freer state due) (same_state actual) ≡ false
 freer_not_wrong alone Unknown due actual h = refl
 freer_not_wrong alone Initialising due actual h = refl
 freer_not_wrong alone PreOperational Operational actual h = refl

@@ -83,7 +83,7 @@ subject = record {
 }
 
 abbrev nmt_in : NmtState → Nmt
-nmt_in state = record { state = state; commanded = None; reset = None; several = false; booted = None; due = Unknown; changed = None }
+nmt_in state = record { state = state; commanded = None; reset = None; several = false; booted = None; due = Unknown; followed = None; changed = None; strayed = Unknown; mixed = false; odd = None }
 
 abbrev shows : NmtState → ℕ → Progress
 shows state micros = record (before_recording subject) { newest = Some micros; free = micros; nmt = nmt_in state }

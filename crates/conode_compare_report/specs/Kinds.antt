@@ -7,7 +7,7 @@ use Rattle.conode_compare_transfers.specs.declared.breach.Breach.TheVariants.{To
 use Rattle.conode_compare_values.specs.declared.mismatch.Mismatch.{Mismatch}
 use Rattle.conode_compare_values.specs.declared.mismatch.Mismatch.TheVariants.{ConstText, ReadRefused, Written, AboveLimit, BelowLimit, BeyondRoom}
 use Rattle.conode_compare_rules.specs.declared.finding.Finding.{Finding}
-use Rattle.conode_compare_rules.specs.declared.finding.Finding.TheVariants.{SecondBootUp, NoState, WrongState, EmergencyStopped, Unasked, AnswerStopped, Transfer, Value, Held, Pdo}
+use Rattle.conode_compare_rules.specs.declared.finding.Finding.TheVariants.{SecondBootUp, NoState, TwoStates, WrongState, EmergencyStopped, Unasked, AnswerStopped, Transfer, Value, Held, Pdo}
 use Rattle.conode_compare_report.specs.declared.kind.Kind.{Kind}
 use Rattle.conode_compare_report.specs.declared.kind.Kind.TheVariants.{HeartbeatLate, HeartbeatState, HeartbeatLength, PdoLength, PdoState, PdoSync, PdoInhibit, PdoLate, BootMissing, SecondSender, EmergencyLength, EmergencyState, EmergencyRegister, EmergencyInhibit, NoAnswer, AnswerKey, AnswerForm, AnswerToggle, AnswerSize, AnswerCrc, AnswerState, AbortKey, AbortEarly, ValueLength, ValueConst, ValueHeld, AccessRead, AccessWrite, AccessLimits}
 
@@ -41,6 +41,7 @@ of_mismatch (BeyondRoom key bytes room) = AccessLimits
 abbrev pub kind_of : Finding → Kind
 kind_of (Finding.BootMissing passed) = BootMissing
 kind_of (SecondBootUp passed) = SecondSender
+kind_of (TwoStates shown held) = SecondSender
 kind_of Unasked = SecondSender
 kind_of (Finding.HeartbeatLength length) = HeartbeatLength
 kind_of (NoState byte) = HeartbeatState

@@ -199,7 +199,9 @@ impl Kind {
     {
         match finding {
             Finding::BootMissing(_) => Kind::BootMissing,
-            Finding::SecondBootUp(_) | Finding::Unasked => Kind::SecondSender,
+            Finding::SecondBootUp(_) | Finding::TwoStates(_, _) | Finding::Unasked => {
+                Kind::SecondSender
+            }
             Finding::HeartbeatLength(_) => Kind::HeartbeatLength,
             Finding::NoState(_) | Finding::WrongState(_, _) => Kind::HeartbeatState,
             Finding::HeartbeatLate(_, _) => Kind::HeartbeatLate,

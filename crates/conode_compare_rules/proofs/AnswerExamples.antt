@@ -19,7 +19,7 @@ use Rattle.conode_compare_values.specs.SheetValues.{mismatch_at, row_mismatch, v
 use Rattle.conode_compare_values.specs.HeldNumbers.{held_mismatch, nothing_written}
 use Rattle.conode_compare_rules.specs.declared.finding.Finding.{Finding}
 use Rattle.conode_compare_rules.specs.declared.finding.Finding.TheVariants.{AnswerStopped, Transfer, Value}
-use Rattle.conode_compare_rules.specs.declared.finding.NmtState.TheVariants.{PreOperational, Operational, Stopped}
+use Rattle.conode_compare_rules.specs.declared.finding.NmtState.TheVariants.{Unknown, PreOperational, Operational, Stopped}
 use Rattle.conode_compare_rules.specs.declared.limits.Subject.{Subject}
 use Rattle.conode_compare_rules.specs.declared.nmt.Nmt.{Nmt}
 use Rattle.conode_compare_rules.specs.Answers.{answer_finding, confirmed_finding, ended_finding, held_finding, is_exact, stopped_finding, what_finding}
@@ -37,7 +37,11 @@ stopped_at micros = record {
   several = false;
   booted = None;
   due = Stopped;
+  followed = None;
   changed = None;
+  strayed = Unknown;
+  mixed = false;
+  odd = None;
 }
 
 abbrev answered_in : Bool → Exchange

@@ -5,3 +5,4 @@ mod MissingExamples
 mod SheetExamples
 mod SilenceExamples
 mod StateExamples
+mod TurnExamples

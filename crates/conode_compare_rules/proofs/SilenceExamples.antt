@@ -14,7 +14,7 @@ abbrev limits : Limits
 limits = record { tolerance = 10; drift = 1; answer = 1000; boot = 10000; time = None }
 
 abbrev operational : Nmt
-operational = record { state = Operational; commanded = None; reset = None; several = false; booted = None; due = Unknown; changed = None }
+operational = record { state = Operational; commanded = None; reset = None; several = false; booted = None; due = Unknown; followed = None; changed = None; strayed = Unknown; mixed = false; odd = None }
 
 abbrev awaited : Key
 awaited = record { index = 0x1000; sub = 0 }

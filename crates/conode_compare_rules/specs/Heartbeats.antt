@@ -15,7 +15,7 @@ use Rattle.conode_compare_transfers.specs.Times.{is_past, micros_of}
 use Rattle.conode_compare_rules.specs.Times.{drift_of}
 
 abbrev pub no_heartbeat : Heartbeats
-no_heartbeat = record { guarded = false; since = None; sent = None; shown = None }
+no_heartbeat = record { guarded = false; since = None; sent = None; shown = None; slow = None }
 
 -- A heartbeat came, or an answer of node guarding. It may have waited since the bus was free last,
 -- `free`.
@@ -25,6 +25,7 @@ after_byte heartbeats free micros byte = record {
   since = Some micros;
   sent = Some free;
   shown = heartbeats.shown;
+  slow = heartbeats.slow;
 }
 
 -- With a transfer of 1017:00 the wait for the next one begins anew. By a download the device counts
@@ -40,6 +41,7 @@ after_ended heartbeats ended micros =
       since = Some micros;
       sent = sent_after ended.direction ended heartbeats.sent;
       shown = heartbeats.shown;
+      slow = None;
     }
     else heartbeats
 
@@ -110,6 +112,43 @@ unfoldable pub is_missing : Limits → Option ℕ → Heartbeats → ℕ → Boo
 is_missing limits None heartbeats free = false
 is_missing limits (Some period) heartbeats free =
     is_shown heartbeats.since heartbeats.shown && missing_after limits period heartbeats.shown free
+
+-- ---- late ones in a row
+
+-- how long the heartbeat takes that comes next, by when the bus was free
+abbrev pub time_taken : Heartbeats → ℕ → Option ℕ
+time_taken heartbeats free = option_map (λ sent. free - sent) heartbeats.sent
+
+-- Heartbeats that come late one after another are one mistake, unless one takes longer than each before it
+-- in the row, `slow`, by more than the tolerance and by how much the clocks may differ.
+abbrev pub leeway : Limits → ℕ → ℕ
+leeway limits period = micros_of limits.tolerance + drift_of limits period
+
+abbrev pub is_as_slow : Limits → ℕ → Option ℕ → Option ℕ → Bool
+is_as_slow limits period None taken = false
+is_as_slow limits period (Some slow) None = false
+is_as_slow limits period (Some slow) (Some taken) =
+    nat_le (taken - slow) (leeway limits period)
+
+abbrev pub is_late_again : Limits → Option ℕ → Heartbeats → ℕ → Bool
+is_late_again limits None heartbeats free = false
+is_late_again limits (Some period) heartbeats free =
+    is_as_slow limits period heartbeats.slow (time_taken heartbeats free)
+
+abbrev pub longer : Option ℕ → Option ℕ → Option ℕ
+longer None taken = taken
+longer (Some slow) None = Some slow
+longer (Some slow) (Some taken) = Some (if nat_lt slow taken then taken else slow)
+
+-- A heartbeat comes late, or it was said before it came that it is late.
+abbrev pub comes_late : Limits → Option ℕ → Heartbeats → ℕ → ℕ → Bool
+comes_late limits period heartbeats free micros =
+    not (is_some heartbeats.since) || is_some (overdue_by limits period heartbeats free micros)
+
+-- the longest time of the row, after a heartbeat: one that comes in time ends it
+abbrev pub slow_after : Limits → Option ℕ → Heartbeats → ℕ → ℕ → Option ℕ
+slow_after limits period heartbeats free micros =
+    if comes_late limits period heartbeats free micros then longer heartbeats.slow (time_taken heartbeats free) else None
 
 -- ---- early ones
 

@@ -20,13 +20,15 @@ use Rattle.conode_compare_values.specs.declared.written.Written.{Written}
 use Rattle.conode_compare_transfers.specs.declared.dialogue.Exchange.{Exchange}
 use Rattle.conode_compare_rules.specs.declared.entries.Entries.{Entries}
 use Rattle.conode_compare_rules.specs.declared.finding.Finding.{Finding}
-use Rattle.conode_compare_rules.specs.declared.finding.Finding.TheVariants.{HeartbeatLength, Pdo as PdoFinding}
+use Rattle.conode_compare_rules.specs.declared.finding.Finding.TheVariants.{Pdo as PdoFinding}
 use Rattle.conode_compare_rules.specs.declared.finding.NmtState.{NmtState}
 use Rattle.conode_compare_rules.specs.declared.finding.NmtState.TheVariants.{Unknown, Initialising, PreOperational, Stopped}
 use Rattle.conode_compare_transfers.specs.declared.dialogue.Dialogue.{Dialogue}
 use Rattle.conode_compare_rules.specs.declared.heartbeats.Heartbeats.{Heartbeats}
 use Rattle.conode_compare_rules.specs.declared.limits.Limits.{Limits}
 use Rattle.conode_compare_rules.specs.declared.limits.Subject.{Subject}
+use Rattle.conode_compare_rules.specs.declared.nmt.Nmt.{Nmt}
+use Rattle.conode_compare_rules.specs.declared.repeated.Odd.TheVariants.{Length}
 use Rattle.conode_compare_rules.specs.declared.kind.FrameKind.{FrameKind}
 use Rattle.conode_compare_rules.specs.declared.kind.FrameKind.TheVariants.{Command, CommandToAll, LongCommand, Guarding, Control, OddControl, Emergency, OddEmergency, Sdo, Process, Polled, Fault, Other}
 use Rattle.conode_compare_rules.specs.declared.verdict.Findings.{Findings}
@@ -34,12 +36,12 @@ use Rattle.conode_compare_rules.specs.Answers.{answer_finding, confirmed_finding
 use Rattle.conode_compare_transfers.specs.Dialogues.{asks_to_write, dialogue_heard, given_up, interrupted, nothing_asked, nothing_left, exchange_in}
 use Rattle.conode_compare_transfers.specs.Breaches.{key_in}
 use Rattle.conode_compare_values.specs.HeldNumbers.{is_kept, nothing_written, unmapped, with_process, written_heard}
-use Rattle.conode_compare_rules.specs.EmergencyRules.{emergency_finding, length_finding}
+use Rattle.conode_compare_rules.specs.EmergencyRules.{emergency_finding, is_stopped, length_finding}
 use Rattle.conode_compare_rules.specs.EntriesInForce.{asked_by, asked_to_write, ended_entries, overwritten, reset_entries, shares_id, with_sharing}
 use Rattle.conode_compare_rules.specs.OtherClients.{is_channel, may_send}
-use Rattle.conode_compare_rules.specs.Heartbeats.{after_byte, after_transfer, early_remark, follows_closely, late_finding, no_heartbeat, is_gap, is_missing, with_shown}
+use Rattle.conode_compare_rules.specs.Heartbeats.{after_byte, after_transfer, early_remark, follows_closely, late_finding, no_heartbeat, is_gap, is_late_again, is_missing, slow_after, with_shown}
 use Rattle.conode_compare_rules.specs.States as states
-use Rattle.conode_compare_rules.specs.States.{boot_finding, control_finding, is_operational, is_reset, is_settled, is_steady, judged_state, nothing_commanded, restart_remark}
+use Rattle.conode_compare_rules.specs.States.{boot_finding, control_finding, has_followed, is_operational, is_reset, is_same_byte, is_same_length, is_settled, is_steady, judged_state, nothing_commanded, after_turn, odd_after, odd_finding, restart_remark, with_followed, with_odd}
 use Rattle.conode_compare_transfers.specs.Times.{is_past}
 use Rattle.conode_compare_rules.specs.Verdicts.{found, nothing_found}
 
@@ -112,7 +114,7 @@ begun subject progress micros =
 -- what is open isn't known any more: after a reset, a boot-up, and an error frame
 unfoldable pub with_gap : Progress → ℕ → Progress
 with_gap progress micros = record progress {
-  heartbeats = record progress.heartbeats { since = None; sent = None };
+  heartbeats = record progress.heartbeats { since = None; sent = None; slow = None };
   emergency = None;
   dialogue = interrupted progress.dialogue micros;
   pdos = tpdos.interrupted progress.pdos;
@@ -130,7 +132,11 @@ after_fault progress micros = record (with_gap progress micros) { nmt = nothing_
 -- boot-up, nor of the inhibit time of its EMCY.
 unfoldable pub after_command : Progress → NmtService → Bool → ℕ → Progress
 after_command progress service own micros =
-    let commanded = record progress { nmt = states.after_command progress.nmt service own micros; pdos = tpdos.commanded progress.pdos } in
+    let commanded = record progress {
+      nmt = states.after_command progress.nmt service own micros;
+      heartbeats = record progress.heartbeats { slow = None };
+      pdos = tpdos.commanded progress.pdos;
+    } in
     if is_reset service then record (with_gap commanded micros) { entries = reset_entries progress.entries; pdos = tpdos.unknown_pdos }
     else commanded
 
@@ -156,7 +162,7 @@ booted_pdos subject progress = if progress.other_client then tpdos.unknown_pdos 
 unfoldable pub booted : Subject → Progress → ℕ → Progress
 booted subject progress micros = record progress {
   nmt = states.after_control subject.limits progress.started progress.nmt progress.free micros 0;
-  heartbeats = record progress.heartbeats { since = Some micros; sent = Some progress.free };
+  heartbeats = record progress.heartbeats { since = Some micros; sent = Some progress.free; slow = None };
   entries = booted_entries subject progress;
   emergency = None;
   dialogue = record (interrupted progress.dialogue micros) { slow = nothing_left; sub_block = false };
@@ -186,8 +192,16 @@ unfoldable pub control_judged : Subject → Progress → Bool
 control_judged subject progress =
     (not progress.heartbeats.guarded && is_known progress.nmt.state) && settled_when_free subject progress
 
+-- a heartbeat is late, whether the last one was late, too, or not
+abbrev pub late_alone : Subject → Progress → ℕ → Option Finding
+late_alone subject progress micros = late_finding subject.limits progress.entries.period progress.heartbeats progress.free micros
+
+-- it takes no longer than the last ones, which were late, too
+abbrev pub is_again : Subject → Progress → Bool
+is_again subject progress = is_late_again subject.limits progress.entries.period progress.heartbeats progress.free
+
 abbrev pub late_at : Subject → Progress → ℕ → Option Finding
-late_at subject progress micros = late_finding subject.limits progress.entries.period progress.heartbeats progress.free micros
+late_at subject progress micros = if is_again subject progress then None else late_alone subject progress micros
 
 abbrev pub is_missing_at : Subject → Progress → Bool
 is_missing_at subject progress = is_missing subject.limits progress.entries.period progress.heartbeats progress.free
@@ -205,13 +219,24 @@ abbrev pub heartbeats_by : Subject → Progress → Bool → ℕ → Heartbeats
 heartbeats_by subject progress own micros =
     said_late (with_shown progress.heartbeats (own && is_some (late_at subject progress micros)) micros) (late_by subject progress own micros)
 
+-- the difference of its byte
+abbrev pub byte_finding : Subject → Progress → ℕ → ℕ → Option Finding
+byte_finding subject progress micros byte =
+    control_finding subject progress.started progress.heartbeats.guarded progress.nmt progress.free micros byte
+
+-- A heartbeat has the same byte as the last one, which is no state, or is late as the last one was. Both
+-- were said of an earlier one, so it is unjudged.
+abbrev pub is_repeated : Subject → Progress → ℕ → ℕ → Bool
+is_repeated subject progress micros byte =
+    is_same_byte byte progress.nmt.odd || (is_again subject progress && is_some (late_alone subject progress micros))
+
 unfoldable pub heartbeat_findings : Subject → Progress → Option Finding → ℕ → ℕ → Findings
 heartbeat_findings subject progress answer micros byte =
     found (boot_finding subject.limits progress.nmt micros)
     (late_at subject progress micros)
     answer
-    (control_finding subject progress.started progress.heartbeats.guarded progress.nmt progress.free micros byte)
-    (control_judged subject progress)
+    (byte_finding subject progress micros byte)
+    (control_judged subject progress && not (is_repeated subject progress micros byte))
 
 abbrev pub silence_at : Subject → Progress → ℕ → ℕ → Option Finding
 silence_at subject progress micros byte = silence_finding subject.limits progress.started progress.nmt progress.dialogue micros byte
@@ -219,10 +244,15 @@ silence_at subject progress micros byte = silence_finding subject.limits progres
 unfoldable pub control_findings : Subject → Progress → ℕ → ℕ → Findings
 control_findings subject progress micros byte = heartbeat_findings subject progress (silence_at subject progress micros byte) micros byte
 
+abbrev pub slow_then : Subject → Progress → ℕ → Option ℕ
+slow_then subject progress micros = slow_after subject.limits progress.entries.period progress.heartbeats progress.free micros
+
 unfoldable pub after_control : Subject → Progress → ℕ → ℕ → Progress
 after_control subject progress micros byte = record progress {
-  nmt = states.after_control subject.limits progress.started progress.nmt progress.free micros byte;
-  heartbeats = after_byte progress.heartbeats progress.free micros byte;
+  nmt = with_odd (odd_after (byte_finding subject progress micros byte) byte progress.nmt.odd)
+      (after_turn subject progress.started progress.heartbeats.guarded progress.nmt progress.free byte
+      (states.after_control subject.limits progress.started progress.nmt progress.free micros byte));
+  heartbeats = record (after_byte progress.heartbeats progress.free micros byte) { slow = slow_then subject progress micros };
   pdos = if byte == 5 then progress.pdos else tpdos.commanded progress.pdos;
   dialogue = if is_some (silence_at subject progress micros byte) then given_up progress.dialogue micros else progress.dialogue;
   remark = early_remark subject.limits progress.entries.period progress.heartbeats micros byte;
@@ -234,14 +264,19 @@ odd_control_findings subject progress micros length =
     found (boot_finding subject.limits progress.nmt micros)
     (late_at subject progress micros)
     None
-    (Some (HeartbeatLength length))
-    true
+    (odd_finding progress.nmt length)
+    (not (is_same_length length progress.nmt.odd))
 
 unfoldable pub after_odd_control : Subject → Progress → ℕ → Progress
 after_odd_control subject progress micros = record progress {
   nmt = states.after_other subject.limits progress.nmt micros;
   heartbeats = record progress.heartbeats { since = Some micros; sent = None };
 }
+
+abbrev pub after_length : Subject → Progress → ℕ → ℕ → Progress
+after_length subject progress micros length =
+    let after = after_odd_control subject progress micros in
+    record after { nmt = with_odd (Some (Length length)) after.nmt }
 
 -- ---- EMCY
 
@@ -257,10 +292,16 @@ odd_emergency_findings progress length = found None None None (length_finding pr
 unfoldable pub after_emergency : Progress → ℕ → Progress
 after_emergency progress micros = record progress { nmt = record progress.nmt { booted = None }; emergency = Some micros }
 
+-- a stopped device sends none: that the device has followed a command, where a heartbeat showed stopped
+abbrev pub follows_by_emergency : Subject → Progress → Bool
+follows_by_emergency subject progress =
+    has_followed is_stopped progress.nmt && (progress.entries.emergencies && steady_when_free subject progress)
+
 -- by an EMCY of eight bytes a heartbeat may be missing
 abbrev pub emergency_noted : Subject → Progress → ℕ → Progress
 emergency_noted subject progress micros =
     after_emergency (record progress {
+      nmt = with_followed progress.nmt (follows_by_emergency subject progress) micros;
       heartbeats = heartbeats_by subject progress progress.entries.emergencies micros;
     }) micros
 
@@ -309,12 +350,29 @@ pdos_by Server frame pdos micros = pdos
 unfoldable pub exchange_at : Subject → Progress → ℕ → Side → FrameContent → Exchange
 exchange_at subject progress micros side frame = exchange_in subject.limits.answer progress.started progress.dialogue micros side frame
 
+-- a stopped device answers no request that came later than the tolerance after the command, or the change
+abbrev pub follows_asked : Limits → ℕ → Nmt → Option Asked → Bool
+follows_asked limits started nmt None = false
+follows_asked limits started nmt (Some asked) =
+    is_settled limits started nmt.commanded asked.micros && is_steady limits nmt asked.micros
+
+abbrev pub follows_by_answer : Limits → ℕ → Nmt → Exchange → Bool
+follows_by_answer limits started nmt exchange =
+    has_followed is_stopped nmt && (exchange.certain && follows_asked limits started nmt exchange.asked)
+
+-- by an answer: that it has followed a command, where a heartbeat showed stopped
+abbrev pub nmt_heard : Limits → ℕ → Nmt → ℕ → Side → Exchange → Nmt
+nmt_heard limits started nmt micros Client exchange = nmt
+nmt_heard limits started nmt micros Server exchange =
+    with_followed nmt (follows_by_answer limits started nmt exchange) micros
+
 unfoldable pub channel_heard : Subject → Progress → ℕ → Side → FrameContent → Progress
 channel_heard subject progress micros side frame =
     let next = dialogue_heard subject.limits.answer progress.started progress.dialogue micros side frame in
     let ended = (exchange_at subject progress micros side frame).heard.ended in
     let shown = shown_beside progress.other_client ended in
     record progress {
+      nmt = nmt_heard subject.limits progress.started progress.nmt micros side (exchange_at subject progress micros side frame);
       heartbeats = after_transfer progress.heartbeats ended micros;
       entries = with_sharing (shares_id subject.node side frame) (asked_by side frame (entries_heard progress.entries shown next.asked));
       pdos = pdos_by side frame (pdos_heard progress.pdos shown next.asked micros) micros;
@@ -422,8 +480,16 @@ abbrev pub process_pdos : Subject → Progress → ℕ → ℕ → ℕ → Pdos
 process_pdos subject progress micros id length =
     if is_of_client subject id then tpdos.unknown_pdos else tpdos.framed progress.pdos (moment_at subject progress micros) id length
 
+-- a device that isn't operational sends no TPDO: that it has followed a command, where a heartbeat showed
+-- that it wasn't
+abbrev pub follows_by_tpdo : Subject → Progress → ℕ → ℕ → ℕ → Bool
+follows_by_tpdo subject progress micros id length =
+    has_followed (is_idle subject.facts.starts_itself) progress.nmt
+    && (is_some (sighted subject progress micros id length) && steady_when_free subject progress)
+
 unfoldable pub after_process : Subject → Progress → ℕ → ℕ → ℕ → Progress
 after_process subject progress micros id length = record progress {
+  nmt = with_followed progress.nmt (follows_by_tpdo subject progress micros id length) micros;
   heartbeats = heartbeats_by subject progress (is_some (sighted subject progress micros id length)) micros;
   entries = process_entries subject progress id;
   pdos = process_pdos subject progress micros id length;
@@ -452,7 +518,7 @@ findings_in subject rows progress micros _ = nothing_found
 abbrev pub after_frame : Subject → Progress → ℕ → FrameKind → Progress
 after_frame subject progress micros (Control byte) =
     if byte == 0 then booted subject progress micros else after_control subject progress micros byte
-after_frame subject progress micros (OddControl length) = after_odd_control subject progress micros
+after_frame subject progress micros (OddControl length) = after_length subject progress micros length
 after_frame subject progress micros (Emergency code register) = emergency_noted subject progress micros
 after_frame subject progress micros (OddEmergency length) = after_emergency progress micros
 after_frame subject progress micros (Sdo Server frame) = after_answer subject progress micros frame

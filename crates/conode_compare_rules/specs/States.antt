@@ -5,7 +5,7 @@ use Rattle.std.specs.Option.{option_map_or}
 use Rattle.co_frame.specs.declared.nmt.NmtService.{NmtService}
 use Rattle.co_frame.specs.declared.nmt.NmtService.TheVariants.{Start, Stop, EnterPreOperational, ResetNode, ResetCommunication}
 use Rattle.conode_compare_rules.specs.declared.finding.Finding.{Finding}
-use Rattle.conode_compare_rules.specs.declared.finding.Finding.TheVariants.{BootMissing, SecondBootUp, NoState, WrongState}
+use Rattle.conode_compare_rules.specs.declared.finding.Finding.TheVariants.{BootMissing, HeartbeatLength, SecondBootUp, NoState, TwoStates, WrongState}
 use Rattle.conode_compare_rules.specs.declared.finding.Remark.{Remark}
 use Rattle.conode_compare_rules.specs.declared.finding.Remark.TheVariants.{Restarted}
 use Rattle.conode_compare_rules.specs.declared.finding.NmtState.{NmtState}
@@ -13,11 +13,25 @@ use Rattle.conode_compare_rules.specs.declared.finding.NmtState.TheVariants.{Unk
 use Rattle.conode_compare_rules.specs.declared.limits.Limits.{Limits}
 use Rattle.conode_compare_rules.specs.declared.limits.Subject.{Subject}
 use Rattle.conode_compare_rules.specs.declared.nmt.Commanded.{Commanded}
+use Rattle.conode_compare_rules.specs.declared.repeated.Odd.{Odd}
+use Rattle.conode_compare_rules.specs.declared.repeated.Odd.TheVariants.{Byte, Length}
 use Rattle.conode_compare_rules.specs.declared.nmt.Nmt.{Nmt}
 use Rattle.conode_compare_transfers.specs.Times.{is_past}
 
 abbrev pub nothing_commanded : Nmt
-nothing_commanded = record { state = Unknown; commanded = None; reset = None; several = false; booted = None; due = Unknown; changed = None }
+nothing_commanded = record {
+  state = Unknown;
+  commanded = None;
+  reset = None;
+  several = false;
+  booted = None;
+  due = Unknown;
+  followed = None;
+  changed = None;
+  strayed = Unknown;
+  mixed = false;
+  odd = None;
+}
 
 -- ---- commands
 
@@ -74,7 +88,11 @@ after_command nmt service own micros = record {
   several = several_after service nmt;
   booted = if is_reset service then None else nmt.booted;
   due = goes_to service;
+  followed = None;
   changed = nmt.changed;
+  strayed = Unknown;
+  mixed = false;
+  odd = nmt.odd;
 }
 
 -- ---- boot-ups
@@ -122,7 +140,11 @@ after_boot_up limits nmt micros = record {
   several = nmt.several;
   booted = if nmt.several then None else Some micros;
   due = if boots_known limits nmt.commanded micros then Unknown else nmt.due;
+  followed = None;
   changed = None;
+  strayed = Unknown;
+  mixed = false;
+  odd = None;
 }
 
 -- more than one boot-up may still come: the newest reset isn't so old that its boot-up would be
@@ -133,14 +155,10 @@ several_left limits nmt micros = option_map_or (λ reset. nmt.several && not (is
 -- a heartbeat, an answer or another frame of error control; after a boot-up that is missing the state
 -- is unknown
 unfoldable pub after_other : Limits → Nmt → ℕ → Nmt
-after_other limits nmt micros = record {
+after_other limits nmt micros = record nmt {
   state = if is_some (awaits_boot_up limits nmt micros) then Unknown else nmt.state;
-  commanded = nmt.commanded;
-  reset = nmt.reset;
   several = several_left limits nmt micros;
   booted = None;
-  due = nmt.due;
-  changed = nmt.changed;
 }
 
 -- the tolerance is over since the recording began, and since the newest command
@@ -189,7 +207,34 @@ abbrev pub with_state : Nmt → NmtState → ℕ → Nmt
 with_state nmt shown micros = record nmt {
   state = shown;
   due = if same_state shown nmt.due then Unknown else nmt.due;
+  followed = if same_state shown nmt.state then nmt.followed else None;
   changed = if is_turn nmt.state shown then Some micros else nmt.changed;
+}
+
+-- ---- a command that was followed
+
+-- The state that was shown forbids a frame that the device sends, and that which the newest command leads
+-- to allows it: the device has followed the command by then.
+abbrev pub has_followed : (NmtState → Bool) → Nmt → Bool
+has_followed forbids nmt = forbids nmt.state && not (forbids (judged_state nmt))
+
+-- the first such frame since the command
+abbrev pub with_followed : Nmt → Bool → ℕ → Nmt
+with_followed nmt follows micros = record nmt {
+  followed = if follows && not (is_some nmt.followed) then Some micros else nmt.followed;
+}
+
+-- A heartbeat shows the state before once more, later than the tolerance after such a frame: the device
+-- was in the other state and left it. So that isn't due any more.
+abbrev pub is_back : Limits → Nmt → ℕ → NmtState → Bool
+is_back limits nmt free shown =
+    same_state shown nmt.state && option_map_or (λ f. is_past f limits.tolerance free) nmt.followed false
+
+abbrev pub with_back : Bool → ℕ → Nmt → Nmt
+with_back back micros nmt = record nmt {
+  due = if back then Unknown else nmt.due;
+  followed = if back then None else nmt.followed;
+  changed = if back then Some micros else nmt.changed;
 }
 
 -- ---- heartbeats
@@ -228,23 +273,84 @@ state_finding starts_itself state byte =
     if is_state byte then (if is_wrong starts_itself state (state_of byte) then Some (WrongState (state_of byte) state) else None)
     else (if is_initialising state then None else Some (NoState byte))
 
+-- ---- one mistake is one difference
+
+abbrev pub is_same_byte : ℕ → Option Odd → Bool
+is_same_byte byte (Some (Byte other)) = byte == other
+is_same_byte byte odd = false
+
+abbrev pub is_same_length : ℕ → Option Odd → Bool
+is_same_length length (Some (Length other)) = length == other
+is_same_length length odd = false
+
+-- a byte that is no state isn't said again until another byte or length comes, or a boot-up
+abbrev pub said_of : Option Odd → Option Finding → Option Finding
+said_of odd (Some (NoState byte)) = if is_same_byte byte odd then None else Some (NoState byte)
+said_of odd finding = finding
+
+abbrev pub odd_after : Option Finding → ℕ → Option Odd → Option Odd
+odd_after (Some (NoState other)) byte odd = Some (Byte other)
+odd_after finding byte odd = if is_same_byte byte odd then odd else None
+
+-- `heartbeat-length`: error control of another number of bytes than one; the same isn't said again until
+-- one of another length comes, or a boot-up
+abbrev pub odd_finding : Nmt → ℕ → Option Finding
+odd_finding nmt length = if is_same_length length nmt.odd then None else Some (HeartbeatLength length)
+
+abbrev pub with_odd : Option Odd → Nmt → Nmt
+with_odd odd nmt = record nmt { odd = odd }
+
+-- ---- states in turn
+
+-- a heartbeat shows a state that the device can't have reached by itself
+abbrev pub strays : Subject → ℕ → Bool → Nmt → ℕ → ℕ → Bool
+strays subject started guarded nmt free byte =
+    (not guarded && is_settled subject.limits started nmt.commanded free)
+    && (is_state byte && is_wrong subject.facts.starts_itself (judged_state nmt) (state_of byte))
+
+-- It went so out of the same state before, and returned to it: the heartbeats are those of two devices.
+abbrev pub strays_again : Subject → ℕ → Bool → Nmt → ℕ → ℕ → Bool
+strays_again subject started guarded nmt free byte =
+    strays subject started guarded nmt free byte && same_state (judged_state nmt) nmt.strayed
+
+-- of two devices the state is unknown until a boot-up or a command
+abbrev pub with_turn : Bool → Bool → NmtState → Nmt → Nmt
+with_turn stray again state nmt = record nmt {
+  state = if again then Unknown else nmt.state;
+  due = if again then Unknown else nmt.due;
+  strayed = if stray then state else nmt.strayed;
+  mixed = again || nmt.mixed;
+}
+
+abbrev pub after_turn : Subject → ℕ → Bool → Nmt → ℕ → ℕ → Nmt → Nmt
+after_turn subject started guarded nmt free byte next =
+    with_turn (strays subject started guarded nmt free byte) (strays_again subject started guarded nmt free byte) (judged_state nmt) next
+
+-- ---- error control
+
 -- The difference of a byte of error control; answers of node guarding aren't judged. A heartbeat may
 -- have waited since the bus was free last: where a command came since, or within the tolerance
 -- before, it may be one of the state before that.
 unfoldable pub control_finding : Subject → ℕ → Bool → Nmt → ℕ → ℕ → ℕ → Option Finding
 control_finding subject started guarded nmt free micros byte =
     if byte == 0 then second_boot_up nmt.booted micros
+    else (if strays_again subject started guarded nmt free byte then Some (TwoStates (state_of byte) (judged_state nmt))
     else (if guarded || (is_guarded_state byte || not (is_settled subject.limits started nmt.commanded free)) then None
-    else state_finding subject.facts.starts_itself (judged_state nmt) byte)
+    else said_of nmt.odd (state_finding subject.facts.starts_itself (judged_state nmt) byte)))
 
 -- a heartbeat shows the state, once it was settled when the bus was free last, and unless the boot-up
--- is awaited
+-- is awaited, or two devices send
 abbrev pub shows_state : Limits → ℕ → Nmt → ℕ → ℕ → Bool
 shows_state limits started nmt free byte =
-    is_settled limits started nmt.commanded free && (is_state byte && not (is_initialising nmt.state))
+    is_settled limits started nmt.commanded free && (is_state byte && not (is_initialising nmt.state || nmt.mixed))
+
+abbrev pub shows_back : Limits → ℕ → Nmt → ℕ → ℕ → Bool
+shows_back limits started nmt free byte =
+    shows_state limits started nmt free byte && is_back limits nmt free (state_of byte)
 
 unfoldable pub after_control : Limits → ℕ → Nmt → ℕ → ℕ → ℕ → Nmt
 after_control limits started nmt free micros byte =
     if byte == 0 then after_boot_up limits nmt micros
-    else (if shows_state limits started nmt free byte then with_state (after_other limits nmt micros) (state_of byte) micros
+    else with_back (shows_back limits started nmt free byte) micros
+    (if shows_state limits started nmt free byte then with_state (after_other limits nmt micros) (state_of byte) micros
     else after_other limits nmt micros)

@@ -44,6 +44,9 @@ pub enum Finding {
     /// `heartbeat-state`: a heartbeat with this state, which the device can't have reached from the
     /// other one.
     WrongState(NmtState, NmtState),
+    /// `second-sender`: heartbeats with these two states in turn, the first of which the device
+    /// can't have reached from the other one, and no command.
+    TwoStates(NmtState, NmtState),
     /// `heartbeat-late`: so many microseconds since the last heartbeat, and 1017:00 has so many ms.
     HeartbeatLate(u64, u16),
     /// `emcy-length`: an EMCY of so many bytes, not of eight.

@@ -86,6 +86,7 @@ impl Progress {
     {
         self.heartbeats.since = None;
         self.heartbeats.sent = None;
+        self.heartbeats.slow = None;
         self.emergency = None;
         self.dialogue.interrupt(micros);
         self.pdos.interrupt();

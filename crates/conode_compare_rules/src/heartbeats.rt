@@ -9,11 +9,18 @@ ghost use Rattle.conode_compare_rules.specs.Heartbeats.{
   late_finding,
   no_heartbeat,
   overdue_by,
+  comes_late,
+  is_as_slow,
   is_gap,
+  is_late_again,
   is_missing,
   is_shown,
+  leeway,
+  longer,
   missing_after,
   shown_after,
+  slow_after,
+  time_taken,
   with_shown,
   follows_closely,
 };
@@ -38,6 +45,9 @@ pub(crate) struct Heartbeats {
     /// When an EMCY or a TPDO showed first that it sends while the next one is late; where that is
     /// after `since`.
     pub(crate) shown: Option<u64>,
+    /// The longest time that one of the newest heartbeats took, which all came late; where the
+    /// newest one did.
+    pub(crate) slow: Option<u64>,
 }
 
 /// After how many microseconds a heartbeat is late.
@@ -45,6 +55,13 @@ fn allowance(limits: &Limits, period: u16) -> u64
     ensures { result ≡ allowance limits.now period }
 {
     micros_of(period as u32) + micros_of(limits.tolerance) + drift_of(limits, period)
+}
+
+// how many microseconds longer a heartbeat may take than a late one that is the same mistake
+fn leeway(limits: &Limits, period: u16) -> u64
+    ensures { result ≡ leeway limits.now period }
+{
+    micros_of(limits.tolerance) + drift_of(limits, period)
 }
 
 /// Whether nothing at all was recorded for longer than three periods; where none is known, or no
@@ -70,6 +87,17 @@ pub(crate) fn follows_closely(newest: u64, micros: u64) -> bool
     micros.saturating_sub(newest) <= FRAME_TIME
 }
 
+// the longer one of two times
+fn longer(slow: Option<u64>, taken: Option<u64>) -> Option<u64>
+    ensures { result ≡ longer slow taken }
+{
+    match (slow, taken) {
+        (Some(slow), Some(taken)) => Some(if slow < taken { taken } else { slow }),
+        (Some(slow), None) => Some(slow),
+        (None, taken) => taken,
+    }
+}
+
 impl Heartbeats {
     /// No heartbeat came.
     pub(crate) fn new() -> Heartbeats
@@ -80,6 +108,7 @@ impl Heartbeats {
             since: None,
             sent: None,
             shown: None,
+            slow: None,
         }
     }
 
@@ -92,6 +121,7 @@ impl Heartbeats {
             since: Some(micros),
             sent: Some(free),
             shown: self.shown,
+            slow: self.slow,
         }
     }
 
@@ -109,6 +139,7 @@ impl Heartbeats {
                     Direction::Upload => self.sent,
                 },
                 shown: self.shown,
+                slow: None,
             },
             _ => self,
         }
@@ -215,5 +246,44 @@ impl Heartbeats {
             Some((passed, period)) => Some(Finding::HeartbeatLate(passed, period)),
             None => None,
         }
+    }
+
+    // how long the next heartbeat takes, by when the bus was free
+    fn time_taken(&self, free: u64) -> Option<u64>
+        ensures { result ≡ time_taken self.now free }
+    {
+        match self.sent {
+            Some(sent) => Some(free.saturating_sub(sent)),
+            None => None,
+        }
+    }
+
+    /// Whether the next heartbeat, where it is late, takes no longer than the last ones, which came
+    /// late, too.
+    pub(crate) fn is_late_again(&self, limits: &Limits, entries: &Entries, free: u64) -> bool
+        ensures { result ≡ is_late_again limits.now entries.now.period self.now free }
+    {
+        match (entries.period, self.slow, self.time_taken(free)) {
+            (Some(period), Some(slow), Some(taken)) => {
+                taken.saturating_sub(slow) <= leeway(limits, period)
+            }
+            _ => false,
+        }
+    }
+
+    /// The longest time of the heartbeats that came late one after another, once one comes.
+    pub(crate) fn slow_after(
+        &self,
+        limits: &Limits,
+        entries: &Entries,
+        free: u64,
+        micros: u64,
+    ) -> Option<u64>
+        ensures { result ≡ slow_after limits.now entries.now.period self.now free micros }
+    {
+        if self.since.is_some() && self.overdue_by(limits, entries, free, micros).is_none() {
+            return None;
+        }
+        longer(self.slow, self.time_taken(free))
     }
 }

@@ -3,10 +3,12 @@
 #![tactic(auto)]
 
 mod answers;
+mod channel;
 mod clients;
 mod emergencies;
 mod entries;
 mod finding;
+mod followed;
 mod gaps;
 mod heartbeats;
 mod kind;
@@ -15,6 +17,8 @@ mod limits;
 mod nmt;
 mod process;
 mod progress;
+mod repeated;
+mod turns;
 mod verdict;
 
 pub use clients::OtherClients;

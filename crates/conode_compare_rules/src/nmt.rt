@@ -30,12 +30,14 @@ ghost use Rattle.conode_compare_rules.specs.States.{
   restart_remark,
   second_boot_up,
   several_left,
+  shows_state,
   state_finding,
   with_state,
 };
 
 use crate::finding::{Finding, NmtState, Remark};
 use crate::limits::{Limits, Subject};
+use crate::repeated::Odd;
 use co_frame::NmtService;
 use conode_compare_transfers::is_past;
 
@@ -66,9 +68,20 @@ pub(crate) struct Nmt {
     /// The state that the newest command leads to, until a heartbeat shows it: the device may reach
     /// it at any time.
     pub(crate) due: NmtState,
+    /// The stamp of the first frame after a heartbeat that only the state that is due allows, and
+    /// not the one that the heartbeat showed: the device has followed the command.
+    pub(crate) followed: Option<u64>,
     /// The stamp of the newest heartbeat that showed that it left operational or stopped, or entered
     /// stopped.
     pub(crate) changed: Option<u64>,
+    /// The state out of which it went last to one that it can't have reached by itself, since the
+    /// boot-up and the newest command; unknown where it hasn't.
+    pub(crate) strayed: NmtState,
+    /// Whether its heartbeats are those of two devices: then no state is known until a boot-up or a
+    /// command.
+    pub(crate) mixed: bool,
+    /// What was wrong about its newest frame of error control, other than the state.
+    pub(crate) odd: Option<Odd>,
 }
 
 /// Whether a command is a reset.
@@ -130,7 +143,8 @@ fn freer(state: NmtState, due: NmtState) -> NmtState
     }
 }
 
-fn same_state(state: NmtState, other: NmtState) -> bool
+/// Whether two known states are one.
+pub(crate) fn same_state(state: NmtState, other: NmtState) -> bool
     ensures { result ≡ same_state state other }
 {
     matches!(
@@ -178,8 +192,8 @@ fn is_up(state: NmtState) -> bool
     !matches!(state, NmtState::Unknown | NmtState::Initialising)
 }
 
-// the state that a heartbeat's byte names
-fn state_of(byte: u8) -> NmtState
+/// The state that a heartbeat's byte names.
+pub(crate) fn state_of(byte: u8) -> NmtState
     ensures { result ≡ state_of byte }
 {
     match byte {
@@ -198,14 +212,15 @@ pub(crate) fn is_guarded_state(byte: u8) -> bool
     byte == 0x84 || byte == 0x85 || byte == 0xFF
 }
 
-fn is_state(byte: u8) -> bool
+/// Whether a byte of error control is a state other than that of a boot-up.
+pub(crate) fn is_state(byte: u8) -> bool
     ensures { result ≡ is_state byte }
 {
     byte == 4 || byte == 5 || byte == 127
 }
 
-// a state that a device can't have reached by itself
-fn is_wrong(starts_itself: bool, state: NmtState, shown: NmtState) -> bool
+/// Whether a device can't have reached a state by itself.
+pub(crate) fn is_wrong(starts_itself: bool, state: NmtState, shown: NmtState) -> bool
     ensures { result ≡ is_wrong starts_itself state shown }
 {
     match (state, shown) {
@@ -227,7 +242,11 @@ impl Nmt {
             several: false,
             booted: None,
             due: NmtState::Unknown,
+            followed: None,
             changed: None,
+            strayed: NmtState::Unknown,
+            mixed: false,
+            odd: None,
         }
     }
 
@@ -354,10 +373,13 @@ impl Nmt {
         if byte == 0 {
             return self.second_boot_up(micros);
         }
+        if self.strays_again(subject, started, guarded, free, byte) {
+            return Some(Finding::TwoStates(state_of(byte), self.judged_state()));
+        }
         if guarded || is_guarded_state(byte) || !self.is_settled(&subject.limits, started, free) {
             return None;
         }
-        self.state_finding(subject.facts.starts_itself, byte)
+        self.said_of(self.state_finding(subject.facts.starts_itself, byte))
     }
 
     // whether the state after a boot-up is pre-operational
@@ -389,7 +411,11 @@ impl Nmt {
             several: self.several || is_reset(service) && !is_up(self.state),
             booted: if is_reset(service) { None } else { self.booted },
             due: goes_to(service),
+            followed: None,
             changed: self.changed,
+            strayed: NmtState::Unknown,
+            mixed: false,
+            odd: self.odd,
         }
     }
 
@@ -410,7 +436,11 @@ impl Nmt {
             several: self.several,
             booted: if self.several { None } else { Some(micros) },
             due: if known { NmtState::Unknown } else { self.due },
+            followed: None,
             changed: None,
+            strayed: NmtState::Unknown,
+            mixed: false,
+            odd: None,
         }
     }
 
@@ -442,7 +472,11 @@ impl Nmt {
             several,
             booted: None,
             due: self.due,
+            followed: self.followed,
             changed: self.changed,
+            strayed: self.strayed,
+            mixed: self.mixed,
+            odd: self.odd,
         }
     }
 
@@ -461,12 +495,31 @@ impl Nmt {
             } else {
                 self.due
             },
+            followed: if same_state(shown, self.state) {
+                self.followed
+            } else {
+                None
+            },
             changed: if is_turn(self.state, shown) {
                 Some(micros)
             } else {
                 self.changed
             },
+            strayed: self.strayed,
+            mixed: self.mixed,
+            odd: self.odd,
         }
+    }
+
+    // whether a heartbeat shows the state: it was settled when the bus was free last, no boot-up is
+    // awaited, and not two devices send
+    fn shows_state(&self, limits: &Limits, started: u64, free: u64, byte: u8) -> bool
+        ensures { result ≡ shows_state limits.now started self.now free byte }
+    {
+        self.is_settled(limits, started, free)
+            && is_state(byte)
+            && !matches!(self.state, NmtState::Initialising)
+            && !self.mixed
     }
 
     /// A byte of error control came; the bus was free last at `free`.
@@ -484,11 +537,15 @@ impl Nmt {
         if byte == 0 {
             return self.after_boot_up(limits, micros);
         }
-        let settled = self.is_settled(limits, started, free);
         let next = self.after_other(limits, micros);
-        if !settled || !is_state(byte) || matches!(self.state, NmtState::Initialising) {
+        if !self.shows_state(limits, started, free, byte) {
             return next;
         }
-        next.with_state(state_of(byte), micros)
+        let shown = state_of(byte);
+        let mut next = next.with_state(shown, micros);
+        if self.is_back(limits, free, shown) {
+            next.leave_due(micros);
+        }
+        next
     }
 }

@@ -11,6 +11,7 @@ ghost use Rattle.conode_compare_rules.specs.EntriesInForce.{overwritten};
 ghost use Rattle.conode_compare_pdos.specs.Followed.{unknown_pdos};
 
 use crate::finding::{Finding, NmtState};
+use crate::followed::is_idle;
 use crate::limits::Subject;
 use crate::progress::Progress;
 use crate::verdict::Findings;
@@ -40,11 +41,7 @@ impl Progress {
     {
         let steady = self.steady_when_free(subject);
         let is_known = !matches!(self.nmt.state, NmtState::Unknown | NmtState::Initialising);
-        let is_idle = match self.nmt.judged_state() {
-            NmtState::PreOperational => !subject.facts.starts_itself,
-            NmtState::Stopped => true,
-            _ => false,
-        };
+        let is_idle = is_idle(subject.facts.starts_itself, self.nmt.judged_state());
         Moment {
             micros,
             free: self.free,
@@ -84,6 +81,9 @@ impl Progress {
     {
         let moment = self.moment_at(subject, micros);
         let sighting = self.pdos.sighting(&moment, id, length);
+        if self.follows_by_tpdo(subject, sighting.is_some()) {
+            self.nmt.note_followed(micros);
+        }
         let late = self.notice_late(subject, sighting.is_some(), micros);
         if subject.facts.clients.may_send(id) {
             self.note_client();

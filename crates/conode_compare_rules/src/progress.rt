@@ -4,67 +4,54 @@ ghost use Rattle.std.specs.Prelude.{◌≡◌, true, map};
 ghost use Rattle.std.specs.List.{AllPairs};
 ghost use Rattle.co_sheet.specs.SheetViews.{row_view};
 ghost use Rattle.co_value.specs.Keys.{is_key_before};
-ghost use Rattle.conode_explain_transfers.specs.declared.kinds.Side.TheVariants.{Client};
 ghost use Rattle.conode_compare_rules.specs.Progresses.{
-  after_answer,
   after_command,
   after_control,
   after_emergency,
-  after_odd_control,
-  after_sdo,
-  answer_findings,
+  after_length,
   before_recording,
   boot_findings,
   booted,
   booted_entries,
   booted_pdos,
+  byte_finding,
   control_findings,
   control_judged,
   progress_with,
   emergency_findings,
   emergency_noted,
-  entries_heard,
   findings_at,
   findings_in,
   heartbeat_findings,
-  is_judged,
+  is_again,
   is_number_kept,
+  is_repeated,
+  late_alone,
+  late_at,
   late_by,
   odd_control_findings,
   odd_emergency_findings,
   after_frame,
-  pdos_by,
-  pdos_heard,
-  shown_beside,
   steady_when_free,
-  pdos_requested,
-  request_findings,
-  channel_heard,
-  exchange_at,
-  late_noted,
   heartbeats_by,
-  exchange_noted,
 };
 
-use crate::answers::{
-    answer_finding, confirmed_finding, held_finding, silence_finding, stopped_finding,
-};
-use crate::clients::is_channel;
+use crate::answers::silence_finding;
 use crate::emergencies::{emergency_finding, length_finding};
-use crate::entries::{Entries, shares_id};
+use crate::entries::Entries;
 use crate::finding::{Finding, NmtState, Remark};
 use crate::heartbeats::Heartbeats;
 use crate::kind::FrameKind;
 use crate::limits::Subject;
 use crate::nmt::{Nmt, is_reset};
+use crate::repeated::Odd;
 use crate::verdict::Findings;
-use co_frame::{Frame, NmtService};
+use co_frame::NmtService;
 use co_sheet::EntryRow;
-use co_value::Key;
 use conode_compare_pdos::Pdos;
-use conode_compare_transfers::{Asked, Dialogue, Exchange, Left, asks_to_write, key_in};
+use conode_compare_transfers::{Dialogue, Exchange, Left};
 use conode_compare_values::Written;
-use conode_explain_transfers::{Ended, Side, What};
+use conode_explain_transfers::Side;
 
 /// What a recording shows of a device.
 #[derive(Drop)]
@@ -91,69 +78,6 @@ pub struct Progress {
     pub exchange: Option<Exchange>,
     /// What else the newest frame shows.
     pub remark: Option<Remark>,
-}
-
-// the entries after a frame of the SDO channel; `other`: the client of another channel has sent
-fn entries_heard(
-    entries: Entries,
-    other: bool,
-    ended: &Option<Ended>,
-    asked: Option<Asked>,
-) -> Entries
-    ensures { result ≡ entries_heard entries (shown_beside other ended.now) asked }
-{
-    let entries = match ended {
-        Some(ended) if !other => entries.ended(ended),
-        _ => entries,
-    };
-    match asked {
-        Some(asked) if asked.writes => entries.asked_to_write(asked.key),
-        _ => entries,
-    }
-}
-
-// the TPDOs after a request to write an entry
-fn request_pdos(pdos: &mut Pdos, key: Key, micros: u64)
-    ensures { pdos.new ≡ pdos_requested pdos.old key micros }
-{
-    if is_channel(key) {
-        *pdos = Pdos::unknown();
-    } else {
-        pdos.request(key, micros);
-    }
-}
-
-// the TPDOs after a frame of the SDO channel; `other` as in `entries_heard`
-fn hear_pdos(pdos: &mut Pdos, other: bool, ended: &Option<Ended>, asked: Option<Asked>, micros: u64)
-    ensures { pdos.new ≡ pdos_heard pdos.old (shown_beside other ended.now) asked micros }
-{
-    match ended {
-        Some(ended) if !other => pdos.transfer(ended, micros),
-        _ => {}
-    }
-    match asked {
-        Some(asked) if asked.writes => request_pdos(pdos, asked.key, micros),
-        _ => {}
-    }
-}
-
-// the TPDOs by what a client's frame asks to write, whatever it is in the transfers of the channel
-fn hear_pdos_by(pdos: &mut Pdos, side: Side, frame: &Frame, micros: u64)
-    ensures { pdos.new ≡ pdos_by side frame.now pdos.old micros }
-{
-    match side {
-        Side::Client if frame.bytes().len() == 8 && asks_to_write(frame) => {
-            request_pdos(pdos, key_in(frame), micros)
-        }
-        _ => {}
-    }
-}
-
-// whether an answer is judged: it follows its initiate request, and answers that
-fn is_judged(exchange: &Exchange) -> bool
-    ensures { result ≡ is_judged exchange.now }
-{
-    exchange.certain && exchange.asked.is_some() && matches!(exchange.heard.what, What::Part)
 }
 
 impl Progress {
@@ -186,6 +110,7 @@ impl Progress {
         ensures { self.new ≡ after_command self.old service own micros }
     {
         self.nmt = self.nmt.after_command(service, own, micros);
+        self.heartbeats.slow = None;
         self.pdos.command();
         if is_reset(service) {
             self.break_off(micros);
@@ -264,29 +189,70 @@ impl Progress {
             .is_settled(&subject.limits, self.started, self.free)
     }
 
-    // what is found at a heartbeat
+    // the difference of a heartbeat that is late, whether the last one was late, too, or not
+    fn late_alone(&self, subject: &Subject, micros: u64) -> Option<Finding>
+        ensures { result ≡ late_alone subject.now self.now micros }
+    {
+        self.heartbeats
+            .late_finding(&subject.limits, &self.entries, self.free, micros)
+    }
+
+    // whether a heartbeat that is late takes no longer than the last ones, which were late, too
+    fn is_again(&self, subject: &Subject) -> bool
+        ensures { result ≡ is_again subject.now self.now }
+    {
+        self.heartbeats
+            .is_late_again(&subject.limits, &self.entries, self.free)
+    }
+
+    /// The difference of a heartbeat that is late, where that isn't said already.
+    pub(crate) fn late_at(&self, subject: &Subject, micros: u64) -> Option<Finding>
+        ensures { result ≡ late_at subject.now self.now micros }
+    {
+        if self.is_again(subject) {
+            None
+        } else {
+            self.late_alone(subject, micros)
+        }
+    }
+
+    // the difference of a heartbeat's byte
+    fn byte_finding(&self, subject: &Subject, micros: u64, byte: u8) -> Option<Finding>
+        ensures { result ≡ byte_finding subject.now self.now micros byte }
+    {
+        let guarded = self.heartbeats.guarded;
+        self.nmt
+            .control_finding(subject, self.started, guarded, self.free, micros, byte)
+    }
+
+    // whether what is wrong about a heartbeat was said of an earlier one
+    fn is_repeated(&self, subject: &Subject, micros: u64, byte: u8) -> bool
+        ensures { result ≡ is_repeated subject.now self.now micros byte }
+    {
+        self.nmt.is_same_byte(byte)
+            || self.is_again(subject) && self.late_alone(subject, micros).is_some()
+    }
+
+    // what is found at a heartbeat; `frame`: the difference of its byte
     #[tactic(auto, unfolding(crate::specs::Progresses::heartbeat_findings))]
     fn heartbeat_findings(
         &self,
         subject: &Subject,
         answer: Option<Finding>,
+        frame: Option<Finding>,
         micros: u64,
         byte: u8,
     ) -> Findings
+        requires { frame ≡ byte_finding subject.now self.now micros byte }
         ensures { result ≡ heartbeat_findings subject.now self.now answer micros byte }
     {
-        let limits = &subject.limits;
-        let guarded = self.heartbeats.guarded;
-        let frame = self
-            .nmt
-            .control_finding(subject, self.started, guarded, self.free, micros, byte);
+        let is_repeated = self.is_repeated(subject, micros, byte);
         Findings::of(
-            self.nmt.boot_finding(limits, micros),
-            self.heartbeats
-                .late_finding(limits, &self.entries, self.free, micros),
+            self.nmt.boot_finding(&subject.limits, micros),
+            self.late_at(subject, micros),
             answer,
             frame,
-            self.control_judged(subject),
+            self.control_judged(subject) && !is_repeated,
         )
     }
 
@@ -307,11 +273,10 @@ impl Progress {
         if !own {
             return None;
         }
-        let limits = &subject.limits;
-        let is_missing = self.heartbeats.is_missing(limits, &self.entries, self.free);
-        let late = self
+        let is_missing = self
             .heartbeats
-            .late_finding(limits, &self.entries, self.free, micros);
+            .is_missing(&subject.limits, &self.entries, self.free);
+        let late = self.late_at(subject, micros);
         if late.is_some() {
             self.heartbeats.note_shown(micros);
         }
@@ -339,14 +304,25 @@ impl Progress {
             micros,
             byte,
         );
-        let findings = self.heartbeat_findings(subject, answer, micros, byte);
+        let frame = self.byte_finding(subject, micros, byte);
+        let findings = self.heartbeat_findings(subject, answer, frame, micros, byte);
+        let slow = self
+            .heartbeats
+            .slow_after(limits, &self.entries, self.free, micros);
         self.remark = self
             .heartbeats
             .early_remark(limits, &self.entries, micros, byte);
-        self.nmt = self
+        let odd = self.nmt.odd_after(frame, byte);
+        let next = self
             .nmt
             .after_control(limits, self.started, self.free, micros, byte);
+        let guarded = self.heartbeats.guarded;
+        self.nmt = self
+            .nmt
+            .after_turn(subject, self.started, guarded, self.free, byte, next);
+        self.nmt.odd = odd;
         self.heartbeats = self.heartbeats.after_control(self.free, micros, byte);
+        self.heartbeats.slow = slow;
         if byte != 5 {
             self.pdos.command();
         }
@@ -360,18 +336,18 @@ impl Progress {
     #[tactic(auto, unfolding(crate::specs::Progresses::after_odd_control))]
     fn take_odd_control(&mut self, subject: &Subject, micros: u64, length: u8) -> Findings
         ensures findings { result ≡ odd_control_findings subject.now self.old micros length }
-        ensures progress { self.new ≡ after_odd_control subject.now self.old micros }
+        ensures progress { self.new ≡ after_length subject.now self.old micros length }
     {
         let limits = &subject.limits;
         let boot = self.nmt.boot_finding(limits, micros);
-        let heartbeat = self
-            .heartbeats
-            .late_finding(limits, &self.entries, self.free, micros);
+        let heartbeat = self.late_at(subject, micros);
+        let frame = self.nmt.odd_finding(length);
+        let is_repeated = self.nmt.is_same_length(length);
         self.nmt = self.nmt.after_other(limits, micros);
+        self.nmt.odd = Some(Odd::Length(length));
         self.heartbeats.since = Some(micros);
         self.heartbeats.sent = None;
-        let frame = Some(Finding::HeartbeatLength(length));
-        Findings::of(boot, heartbeat, None, frame, true)
+        Findings::of(boot, heartbeat, None, frame, !is_repeated)
     }
 
     #[tactic(auto, unfolding(crate::specs::Progresses::after_emergency))]
@@ -395,6 +371,7 @@ impl Progress {
         ensures progress { self.new ≡ emergency_noted subject.now self.old micros }
     {
         let steady = self.steady_when_free(subject);
+        let follows = self.follows_by_emergency(subject);
         let late = self.notice_late(subject, self.entries.emergencies, micros);
         let frame = emergency_finding(
             &subject.limits,
@@ -406,6 +383,9 @@ impl Progress {
             code,
             register,
         );
+        if follows {
+            self.nmt.note_followed(micros);
+        }
         self.note_emergency(micros);
         Findings::of(None, late, None, frame, self.entries.emergencies)
     }
@@ -419,115 +399,6 @@ impl Progress {
         let frame = length_finding(&self.entries, length);
         self.note_emergency(micros);
         Findings::of(None, None, None, frame, self.entries.emergencies)
-    }
-
-    // a frame of the SDO channel is heard
-    #[tactic(auto, unfolding(crate::specs::Progresses::exchange_at, crate::specs::Progresses::channel_heard))]
-    fn hear(&mut self, subject: &Subject, micros: u64, side: Side, frame: &Frame) -> Exchange
-        ensures exchange { result ≡ exchange_at subject.now self.old micros side frame.now }
-        ensures progress { self.new ≡ channel_heard subject.now self.old micros side frame.now }
-        ensures written { self.new.written ≡ self.old.written }
-    {
-        let exchange = self
-            .dialogue
-            .hear(subject.limits.answer, self.started, micros, side, frame);
-        let entries = entries_heard(
-            self.entries,
-            self.other_client,
-            &exchange.heard.ended,
-            self.dialogue.asked,
-        );
-        self.entries = entries.asked_by(side, frame);
-        if shares_id(subject.node, side, frame) {
-            self.entries.emergencies = false;
-        }
-        self.heartbeats = self.heartbeats.heard(&exchange.heard.ended, micros);
-        hear_pdos(
-            &mut self.pdos,
-            self.other_client,
-            &exchange.heard.ended,
-            self.dialogue.asked,
-            micros,
-        );
-        hear_pdos_by(&mut self.pdos, side, frame, micros);
-        exchange
-    }
-
-    // what a frame is that was heard, and what was written to the entries that are held
-    #[tactic(auto, unfolding(crate::specs::Progresses::exchange_noted))]
-    fn note_exchange(&mut self, subject: &Subject, exchange: Exchange)
-        ensures { self.new ≡ exchange_noted subject.now self.old exchange }
-    {
-        let (certain, asked) = (exchange.certain, self.dialogue.asked);
-        self.written
-            .hear(&subject.held, certain, &exchange.heard.ended, asked);
-        self.exchange = Some(exchange);
-    }
-
-    // an answer comes: where a heartbeat was late, it isn't said again
-    #[tactic(auto, unfolding(crate::specs::Progresses::late_noted))]
-    fn note_answer(&mut self, subject: &Subject, late: bool, micros: u64)
-        ensures { self.new ≡ late_noted subject.now self.old late micros }
-    {
-        self.nmt = self.nmt.after_other(&subject.limits, micros);
-        if late {
-            self.heartbeats.since = None;
-        }
-    }
-
-    // an answer
-    #[tactic(auto, unfolding(crate::specs::Progresses::answer_findings))]
-    fn take_answer(
-        &mut self,
-        subject: &Subject,
-        rows: &[EntryRow<'_>],
-        micros: u64,
-        frame: &Frame,
-    ) -> Findings
-        requires { AllPairs (λ e f. is_key_before e.key f.key ≡ true) rows.now }
-        ensures findings { result
-            ≡ answer_findings subject.now (map row_view rows.now) self.old micros frame.now }
-        ensures progress { self.new ≡ after_answer subject.now self.old micros frame.now }
-    {
-        let boot = self.nmt.boot_finding(&subject.limits, micros);
-        let heartbeat = self
-            .heartbeats
-            .late_finding(&subject.limits, &self.entries, self.free, micros);
-        self.note_answer(subject, heartbeat.is_some(), micros);
-        let nmt = self.nmt;
-        let started = self.started;
-        let exchange = self.hear(subject, micros, Side::Server, frame);
-        let held = held_finding(subject, &self.written, &exchange);
-        let difference = stopped_finding(&subject.limits, started, &nmt, &exchange).or(
-            answer_finding(subject, rows, micros, &exchange, frame).or(held),
-        );
-        let judged = is_judged(&exchange);
-        self.note_exchange(subject, exchange);
-        Findings::of(boot, heartbeat, None, difference, judged)
-    }
-
-    // a request, or another frame of the client
-    #[tactic(auto, unfolding(crate::specs::Progresses::request_findings))]
-    fn take_request(
-        &mut self,
-        subject: &Subject,
-        rows: &[EntryRow<'_>],
-        micros: u64,
-        frame: &Frame,
-    ) -> Findings
-        requires { AllPairs (λ e f. is_key_before e.key f.key ≡ true) rows.now }
-        ensures findings { result
-            ≡ request_findings subject.now (map row_view rows.now) self.old micros frame.now }
-        ensures progress { self.new ≡ after_sdo subject.now self.old micros Client frame.now }
-    {
-        let written = self.written;
-        let exchange = self.hear(subject, micros, Side::Client, frame);
-        let finding = confirmed_finding(subject, rows, &written, &exchange, frame);
-        self.note_exchange(subject, exchange);
-        match finding {
-            Some(finding) => Findings::of(None, None, None, Some(finding), false),
-            None => Findings::none(),
-        }
     }
 
     // a frame, once the recording is begun

@@ -220,6 +220,11 @@ fn finding_said(value_type: ValueType, finding: Finding) -> Said
             Value::Words(state_name(shown)),
             Value::Words(state_name(held)),
         ),
+        Finding::TwoStates(shown, held) => Said::Two(
+            "second-sender: %, again from % without a command",
+            Value::Words(state_name(shown)),
+            Value::Words(state_name(held)),
+        ),
         Finding::HeartbeatLate(passed, period) => Said::Two(
             "heartbeat-late: % since the last one, 1017:00 has % ms",
             Value::Millis(passed),

@@ -1,0 +1,255 @@
+-- Recordings of a device that ignores a command, of two devices with one node-ID, and of one that makes a
+-- mistake again and again: what is found at each frame, on both sides of each edge.
+use Rattle.std.proofs.Common.{◌≡◌, ℕ, true, false, List, [], ◌∷◌, Option, Some, None, refl}
+use Rattle.co_frame.specs.declared.nmt.NmtService.TheVariants.{Start, Stop, EnterPreOperational}
+use Rattle.conode_compare_pdos.specs.declared.deviation.Deviation.TheVariants.{NotOperational}
+use Rattle.conode_compare_pdos.specs.declared.parameters.Parameters.{Parameters}
+use Rattle.conode_compare_pdos.specs.declared.pdos.Pdos.{Pdos}
+use Rattle.conode_compare_pdos.specs.Followed.{framed, sighting, unknown_pdos}
+use Rattle.conode_compare_pdos.specs.Tpdos.{booted_tpdo, deviation_at, time_deviation}
+use Rattle.conode_compare_rules.specs.declared.entries.Entries.{Entries}
+use Rattle.conode_compare_rules.specs.declared.finding.Finding.{Finding}
+use Rattle.conode_compare_rules.specs.declared.finding.Finding.TheVariants.{EmergencyStopped, HeartbeatLate, HeartbeatLength, NoState, Pdo as PdoFinding, TwoStates, WrongState}
+use Rattle.conode_compare_rules.specs.declared.finding.NmtState.TheVariants.{PreOperational, Operational, Stopped}
+use Rattle.conode_compare_rules.specs.declared.kind.FrameKind.{FrameKind}
+use Rattle.conode_compare_rules.specs.declared.kind.FrameKind.TheVariants.{Command, Control, Emergency, OddControl, Process}
+use Rattle.conode_compare_rules.specs.declared.limits.Subject.{Subject}
+use Rattle.conode_compare_rules.specs.declared.progress.Progress.{Progress}
+use Rattle.conode_compare_rules.specs.declared.verdict.Verdict.{Verdict}
+use Rattle.conode_compare_rules.specs.declared.verdict.Verdict.TheVariants.{Prescribed, Different, Unjudged}
+use Rattle.conode_compare_rules.specs.EmergencyRules.{emergency_finding, inhibit_finding}
+use Rattle.conode_compare_rules.specs.Heartbeats.{late_finding, overdue_by}
+use Rattle.conode_compare_rules.specs.Progresses as progresses
+use Rattle.conode_compare_rules.specs.Progresses.{
+  after_emergency,
+  after_process,
+  before_recording,
+  begun,
+  booted,
+  control_findings,
+  control_judged,
+  emergency_findings,
+  findings_at,
+  heartbeat_findings,
+  moment_at,
+  process_findings,
+  progress_with,
+}
+use Rattle.conode_compare_rules.specs.States as states
+use Rattle.conode_compare_rules.specs.States.{after_boot_up, after_other, awaits_boot_up, boot_finding, control_finding, is_settled, second_boot_up, state_finding}
+use Rattle.conode_compare_rules.specs.Verdicts.{found}
+use Rattle.conode_compare_rules.specs.OtherClients.{no_clients}
+use Rattle.conode_compare_rules.proofs.Examples.{limits}
+
+-- ---- node 5, whose first TPDO is on 185h, of four bytes and event-driven; 1017:00 has 1000 ms
+
+abbrev event_driven : Parameters
+event_driven = record { id = Some 0x185; kind = Some 255; inhibit = Some 0; timer = Some 0; length = Some 4 }
+
+abbrev sheet : Entries
+sheet = record { period = Some 1000; emergencies = true; inhibit = Some 0; inhibit_shown = None }
+
+abbrev pdos : Pdos
+pdos = record unknown_pdos { first = booted_tpdo event_driven }
+
+abbrev subject : Subject
+subject = record {
+  node = 5;
+  limits = limits;
+  facts = record { before = sheet; booted = sheet; pdos = pdos; clients = no_clients; starts_itself = false; modular = false; stores = false; as_sheet = true };
+  held = record { entries = record { items = [] } };
+  rooms = record { strings = None; domains = None };
+}
+
+-- frames with their stamps, one after another, and what is found of each; the last one's alone
+abbrev after : Progress → List (ℕ × FrameKind) → Progress
+after progress [] = progress
+after progress (frame ∷ later) = after (progress_with subject progress frame.0 frame.1) later
+
+abbrev last_found : List (ℕ × FrameKind) → ℕ → FrameKind → Option Finding
+last_found before micros kind = (findings_at subject [] (after (before_recording subject) before) micros kind).frame
+
+abbrev last_verdict : List (ℕ × FrameKind) → ℕ → FrameKind → Option Verdict
+last_verdict before micros kind = (findings_at subject [] (after (before_recording subject) before) micros kind).verdict
+
+abbrev last_late : List (ℕ × FrameKind) → ℕ → FrameKind → Option Finding
+last_late before micros kind = (findings_at subject [] (after (before_recording subject) before) micros kind).heartbeat
+
+abbrev tpdo : FrameKind
+tpdo = Process 0x185 4
+
+-- ---- a Start that the device ignores: it sends TPDOs, and its heartbeats go on with pre-operational
+
+abbrev ignores : List (ℕ × FrameKind)
+ignores = (0, Control 0) ∷ (100000, Command Start) ∷ (500000, Control 127) ∷ (600000, tpdo) ∷ []
+
+-- it may have followed the command meanwhile
+follows : last_found ((0, Control 0) ∷ (100000, Command Start) ∷ (500000, Control 127) ∷ []) 600000 tpdo ≡ None
+unfolding findings_at progress_with begun booted found progresses.after_control states.after_control after_boot_up after_other awaits_boot_up progresses.after_command states.after_command after_process process_findings moment_at sighting framed deviation_at time_deviation is_settled
+follows = refl
+
+-- and fall back by itself: from the heartbeat that shows that on it sends none
+falls_back : last_found ignores 610001 (Control 127) ≡ None
+unfolding findings_at progress_with begun booted found progresses.after_control states.after_control after_boot_up after_other awaits_boot_up progresses.after_command states.after_command after_process process_findings moment_at sighting framed deviation_at time_deviation is_settled control_findings heartbeat_findings control_finding state_finding
+falls_back = refl
+
+sends_on : last_found ((0, Control 0) ∷ (100000, Command Start) ∷ (500000, Control 127) ∷ (600000, tpdo) ∷ (610001, Control 127) ∷ []) 620002 tpdo ≡ Some (PdoFinding 1 NotOperational)
+unfolding findings_at progress_with begun booted found progresses.after_control states.after_control after_boot_up after_other awaits_boot_up progresses.after_command states.after_command after_process process_findings moment_at sighting framed deviation_at time_deviation is_settled
+sends_on = refl
+
+-- one that was on its way
+on_its_way : last_found ((0, Control 0) ∷ (100000, Command Start) ∷ (500000, Control 127) ∷ (600000, tpdo) ∷ (610001, Control 127) ∷ []) 620001 tpdo ≡ None
+unfolding findings_at progress_with begun booted found progresses.after_control states.after_control after_boot_up after_other awaits_boot_up progresses.after_command states.after_command after_process process_findings moment_at sighting framed deviation_at time_deviation is_settled
+on_its_way = refl
+
+-- a heartbeat within the tolerance after the TPDO may have been on its way
+too_soon : last_found ((0, Control 0) ∷ (100000, Command Start) ∷ (500000, Control 127) ∷ (600000, tpdo) ∷ (610000, Control 127) ∷ []) 700000 tpdo ≡ None
+unfolding findings_at progress_with begun booted found progresses.after_control states.after_control after_boot_up after_other awaits_boot_up progresses.after_command states.after_command after_process process_findings moment_at sighting framed deviation_at time_deviation is_settled
+too_soon = refl
+
+-- a device that is slow sends no TPDO before it follows the command, however late
+slow : last_found ((0, Control 0) ∷ (100000, Command Start) ∷ (500000, Control 127) ∷ (1500000, Control 127) ∷ (2500000, Control 127) ∷ []) 3500000 (Control 5) ≡ None
+unfolding findings_at progress_with begun booted found progresses.after_control states.after_control after_boot_up after_other awaits_boot_up progresses.after_command states.after_command is_settled control_findings heartbeat_findings control_finding state_finding
+slow = refl
+
+-- TPDOs before the first heartbeat say nothing, since the state before the command isn't shown then
+not_shown : last_found ((0, Control 0) ∷ (100000, Command Start) ∷ (400000, tpdo) ∷ (500000, Control 127) ∷ []) 600000 tpdo ≡ None
+unfolding findings_at progress_with begun booted found progresses.after_control states.after_control after_boot_up after_other awaits_boot_up progresses.after_command states.after_command after_process process_findings moment_at sighting framed deviation_at time_deviation is_settled
+not_shown = refl
+
+-- the next Start may be followed, too
+commanded_again : last_found ((0, Control 0) ∷ (100000, Command Start) ∷ (500000, Control 127) ∷ (600000, tpdo) ∷ (700000, Control 127) ∷ (800000, Command Start) ∷ (900000, Control 127) ∷ []) 950000 tpdo ≡ None
+unfolding findings_at progress_with begun booted found progresses.after_control states.after_control after_boot_up after_other awaits_boot_up progresses.after_command states.after_command after_process process_findings moment_at sighting framed deviation_at time_deviation is_settled
+commanded_again = refl
+
+-- from stopped: an EMCY shows that it has left that
+abbrev leaves : List (ℕ × FrameKind)
+leaves = (0, Control 0) ∷ (100000, Command Stop) ∷ (200000, Control 4) ∷ (300000, Command EnterPreOperational) ∷ (400000, Control 4) ∷ (500000, Emergency 0x8130 0x11) ∷ []
+
+stops_again : last_found ((0, Control 0) ∷ (100000, Command Stop) ∷ (200000, Control 4) ∷ (300000, Command EnterPreOperational) ∷ (400000, Control 4) ∷ (500000, Emergency 0x8130 0x11) ∷ (600000, Control 4) ∷ []) 700000 (Emergency 0 0) ≡ Some EmergencyStopped
+unfolding findings_at progress_with begun booted found progresses.after_control states.after_control after_boot_up after_other awaits_boot_up progresses.after_command states.after_command after_emergency emergency_findings emergency_finding inhibit_finding is_settled late_finding overdue_by
+stops_again = refl
+
+still_slow : last_found ((0, Control 0) ∷ (100000, Command Stop) ∷ (200000, Control 4) ∷ (300000, Command EnterPreOperational) ∷ (400000, Control 4) ∷ (600000, Control 4) ∷ []) 700000 (Emergency 0 0) ≡ None
+unfolding findings_at progress_with begun booted found progresses.after_control states.after_control after_boot_up after_other awaits_boot_up progresses.after_command states.after_command after_emergency emergency_findings emergency_finding inhibit_finding is_settled late_finding overdue_by
+still_slow = refl
+
+-- ---- two devices with one node-ID: their heartbeats come in turn
+
+-- the first change may be a device's own mistake
+changes : last_found ((0, Control 0) ∷ []) 500000 (Control 5) ≡ Some (WrongState Operational PreOperational)
+unfolding findings_at progress_with begun booted found after_boot_up states.after_control control_findings heartbeat_findings control_finding state_finding is_settled
+changes = refl
+
+-- it returned, and does so again
+abbrev in_turn : List (ℕ × FrameKind)
+in_turn = (0, Control 0) ∷ (500000, Control 5) ∷ (1000000, Control 127) ∷ []
+
+second : last_found ((0, Control 0) ∷ (500000, Control 5) ∷ (1000000, Control 127) ∷ []) 1500000 (Control 5) ≡ Some (TwoStates Operational PreOperational)
+unfolding findings_at progress_with begun booted found progresses.after_control states.after_control after_boot_up after_other awaits_boot_up control_findings heartbeat_findings control_finding state_finding is_settled
+second = refl
+
+-- said once, and no state is known any more
+said : last_found ((0, Control 0) ∷ (500000, Control 5) ∷ (1000000, Control 127) ∷ (1500000, Control 5) ∷ (2000000, Control 127) ∷ []) 2500000 (Control 5) ≡ None
+unfolding findings_at progress_with begun booted found progresses.after_control states.after_control after_boot_up after_other awaits_boot_up control_findings heartbeat_findings control_finding state_finding is_settled
+said = refl
+
+unjudged : last_verdict ((0, Control 0) ∷ (500000, Control 5) ∷ (1000000, Control 127) ∷ (1500000, Control 5) ∷ []) 2000000 (Control 127) ≡ Some Unjudged
+unfolding findings_at progress_with begun booted found progresses.after_control states.after_control after_boot_up after_other awaits_boot_up boot_finding control_findings heartbeat_findings control_finding control_judged state_finding is_settled late_finding overdue_by
+unjudged = refl
+
+-- a command begins anew
+known_again : last_found ((0, Control 0) ∷ (500000, Control 5) ∷ (1000000, Control 127) ∷ (1500000, Control 5) ∷ (1600000, Command Stop) ∷ (2000000, Control 4) ∷ []) 2500000 (Control 5) ≡ Some (WrongState Operational Stopped)
+unfolding findings_at progress_with begun booted found progresses.after_control states.after_control after_boot_up after_other awaits_boot_up progresses.after_command states.after_command control_findings heartbeat_findings control_finding state_finding is_settled
+known_again = refl
+
+-- a device that falls back by itself, and is started again by commands, does as it is prescribed
+started_again : last_found ((0, Control 0) ∷ (100000, Command Start) ∷ (500000, Control 5) ∷ (1000000, Control 127) ∷ (1100000, Command Start) ∷ (1500000, Control 5) ∷ (2000000, Control 127) ∷ (2100000, Command Start) ∷ []) 2500000 (Control 5) ≡ None
+unfolding findings_at progress_with begun booted found progresses.after_control states.after_control after_boot_up after_other awaits_boot_up progresses.after_command states.after_command control_findings heartbeat_findings control_finding state_finding is_settled
+started_again = refl
+
+-- a command between the two changes
+commanded_between : last_found ((0, Control 0) ∷ (500000, Control 5) ∷ (1000000, Control 127) ∷ (1100000, Command EnterPreOperational) ∷ []) 1500000 (Control 5) ≡ Some (WrongState Operational PreOperational)
+unfolding findings_at progress_with begun booted found progresses.after_control states.after_control after_boot_up after_other awaits_boot_up progresses.after_command states.after_command control_findings heartbeat_findings control_finding state_finding is_settled
+commanded_between = refl
+
+-- out of stopped, and then out of pre-operational: no return
+without_return : last_found ((0, Control 0) ∷ (100000, Command Stop) ∷ (500000, Control 127) ∷ []) 1000000 (Control 5) ≡ Some (WrongState Operational PreOperational)
+unfolding findings_at progress_with begun booted found progresses.after_control states.after_control after_boot_up after_other awaits_boot_up progresses.after_command states.after_command control_findings heartbeat_findings control_finding state_finding is_settled
+without_return = refl
+
+-- ---- the same mistake again
+
+-- a byte that is no state
+no_state : last_found ((0, Control 0) ∷ []) 500000 (Control 3) ≡ Some (NoState 3)
+unfolding findings_at progress_with begun booted found after_boot_up states.after_control control_findings heartbeat_findings control_finding state_finding is_settled
+no_state = refl
+
+same_byte : last_found ((0, Control 0) ∷ (500000, Control 3) ∷ (1000000, Control 3) ∷ []) 1500000 (Control 3) ≡ None
+unfolding findings_at progress_with begun booted found progresses.after_control states.after_control after_boot_up after_other awaits_boot_up control_findings heartbeat_findings control_finding state_finding is_settled
+same_byte = refl
+
+same_byte_unjudged : last_verdict ((0, Control 0) ∷ (500000, Control 3) ∷ []) 1000000 (Control 3) ≡ Some Unjudged
+unfolding findings_at progress_with begun booted found progresses.after_control states.after_control after_boot_up after_other awaits_boot_up boot_finding control_findings heartbeat_findings control_finding control_judged state_finding is_settled late_finding overdue_by
+same_byte_unjudged = refl
+
+other_byte : last_found ((0, Control 0) ∷ (500000, Control 3) ∷ []) 1000000 (Control 6) ≡ Some (NoState 6)
+unfolding findings_at progress_with begun booted found progresses.after_control states.after_control after_boot_up after_other awaits_boot_up control_findings heartbeat_findings control_finding state_finding is_settled
+other_byte = refl
+
+byte_between : last_found ((0, Control 0) ∷ (500000, Control 3) ∷ (1000000, Control 127) ∷ []) 1500000 (Control 3) ≡ Some (NoState 3)
+unfolding findings_at progress_with begun booted found progresses.after_control states.after_control after_boot_up after_other awaits_boot_up control_findings heartbeat_findings control_finding state_finding is_settled
+byte_between = refl
+
+boot_up_between : last_found ((0, Control 0) ∷ (500000, Control 3) ∷ (1600000, Control 0) ∷ []) 2000000 (Control 3) ≡ Some (NoState 3)
+unfolding findings_at progress_with begun booted found progresses.after_control states.after_control after_boot_up after_other awaits_boot_up control_findings heartbeat_findings control_finding state_finding is_settled second_boot_up
+boot_up_between = refl
+
+-- a number of bytes
+wrong_length : last_found ((0, Control 0) ∷ []) 500000 (OddControl 2) ≡ Some (HeartbeatLength 2)
+unfolding findings_at progress_with begun booted found after_boot_up states.after_control
+wrong_length = refl
+
+same_length : last_found ((0, Control 0) ∷ (500000, OddControl 2) ∷ []) 1000000 (OddControl 2) ≡ None
+unfolding findings_at progress_with begun booted found after_boot_up states.after_control
+same_length = refl
+
+other_length : last_found ((0, Control 0) ∷ (500000, OddControl 2) ∷ []) 1000000 (OddControl 3) ≡ Some (HeartbeatLength 3)
+unfolding findings_at progress_with begun booted found after_boot_up states.after_control
+other_length = refl
+
+length_between : last_found ((0, Control 0) ∷ (500000, OddControl 2) ∷ (1000000, Control 127) ∷ []) 1500000 (OddControl 2) ≡ Some (HeartbeatLength 2)
+unfolding findings_at progress_with begun booted found progresses.after_control states.after_control after_boot_up control_finding state_finding is_settled
+length_between = refl
+
+-- ---- heartbeats that come late one after another: each 1100 ms, and not each 1000 ms
+
+abbrev late_pair : List (ℕ × FrameKind)
+late_pair = (0, Control 0) ∷ (1100000, Control 127) ∷ []
+
+late_first : last_late ((0, Control 0) ∷ []) 1100000 (Control 127) ≡ Some (HeartbeatLate 1100000 1000)
+unfolding findings_at progress_with begun booted found control_findings heartbeat_findings late_finding overdue_by
+late_first = refl
+
+-- so is the next one, up to 10 ms and 1 % longer
+late_again : last_late ((0, Control 0) ∷ (1100000, Control 127) ∷ []) 2220000 (Control 127) ≡ None
+unfolding findings_at progress_with begun booted found control_findings heartbeat_findings progresses.after_control late_finding overdue_by
+late_again = refl
+
+late_longer : last_late ((0, Control 0) ∷ (1100000, Control 127) ∷ []) 2220001 (Control 127) ≡ Some (HeartbeatLate 1120001 1000)
+unfolding findings_at progress_with begun booted found control_findings heartbeat_findings progresses.after_control late_finding overdue_by
+late_longer = refl
+
+late_unjudged : last_verdict ((0, Control 0) ∷ (1100000, Control 127) ∷ []) 2200000 (Control 127) ≡ Some Unjudged
+unfolding findings_at progress_with begun booted found progresses.after_control states.after_control after_boot_up after_other awaits_boot_up boot_finding control_findings heartbeat_findings control_finding control_judged state_finding is_settled late_finding overdue_by
+late_unjudged = refl
+
+-- one in time ends the row
+in_time : last_late ((0, Control 0) ∷ (1100000, Control 127) ∷ (2100000, Control 127) ∷ []) 3200000 (Control 127) ≡ Some (HeartbeatLate 1100000 1000)
+unfolding findings_at progress_with begun booted found control_findings heartbeat_findings progresses.after_control late_finding overdue_by
+in_time = refl
+
+-- so does a command
+commanded_late : last_late ((0, Control 0) ∷ (1100000, Control 127) ∷ (1200000, Command Start) ∷ []) 2200000 (Control 5) ≡ Some (HeartbeatLate 1100000 1000)
+unfolding findings_at progress_with begun booted found control_findings heartbeat_findings progresses.after_control progresses.after_command late_finding overdue_by
+commanded_late = refl
