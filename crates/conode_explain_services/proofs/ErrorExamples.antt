@@ -1,6 +1,7 @@
 -- What error frames say, computed from the definitions on both sides of each edge; the numbers are those of linux/can/error.h.
 use Rattle.std.proofs.Common.{◌≡◌, ℕ, List, [], ◌∷◌, refl, map}
 use Rattle.std.specs.Prelude.{codes}
+use Rattle.std.specs.Fmt.{digits}
 use Rattle.conode_text.specs.Filled.{filled}
 use Rattle.conode_explain_services.specs.ErrorFrames.{class_text, classes_text, controller_words, counter_words, detail_words, error_words, flag_text, place_words, violation_words, wire_words}
 
@@ -14,13 +15,13 @@ each_class : map plain (0x001 ∷ 0x002 ∷ 0x004 ∷ 0x008 ∷ 0x010 ∷ 0x020 
     ∷ codes "error frame: bus off" ∷ codes "error frame: bus error" ∷ codes "error frame: controller restarted"
     ∷ codes "error frame: error counters (transmit 0, receive 0)" ∷ codes "error frame" ∷ codes "error frame: bus error"
     ∷ codes "error frame" ∷ codes "error frame" ∷ []
-unfolding error_words classes_text class_text flag_text detail_words controller_words violation_words place_words wire_words counter_words filled
+unfolding error_words classes_text class_text flag_text detail_words controller_words violation_words place_words wire_words counter_words filled digits
 each_class = refl
 
 -- several, the lowest first, each with its own byte; the counters of a transmitter that nobody acknowledges
 several : error_words 0x2A4 (0x05 ∷ 0x30 ∷ 0x04 ∷ 0x19 ∷ 0x40 ∷ 0xFF ∷ 0x80 ∷ 0x07 ∷ [])
     ≡ codes "error frame: controller problem (receive error passive, transmit error passive), no acknowledgement, bus error, error counters (transmit 128, receive 7)"
-unfolding error_words classes_text class_text flag_text detail_words controller_words violation_words place_words wire_words counter_words filled
+unfolding error_words classes_text class_text flag_text detail_words controller_words violation_words place_words wire_words counter_words filled digits
 several = refl
 
 -- each byte
@@ -29,7 +30,7 @@ bytes_of_each : map (λ class. error_words class (0x05 ∷ 0x08 ∷ 0x84 ∷ 0x1
     ∷ codes "error frame: protocol violation (stuff error, on transmission) at the CRC delimiter" ∷ codes "error frame: transceiver problem (CANL not connected)"
     ∷ codes "error frame: no acknowledgement" ∷ codes "error frame: bus off" ∷ codes "error frame: bus error" ∷ codes "error frame: controller restarted"
     ∷ codes "error frame: error counters (transmit 96, receive 97)" ∷ []
-unfolding error_words classes_text class_text flag_text detail_words controller_words violation_words place_words wire_words counter_words filled
+unfolding error_words classes_text class_text flag_text detail_words controller_words violation_words place_words wire_words counter_words filled digits
 bytes_of_each = refl
 
 -- of another number of bytes only the class counts

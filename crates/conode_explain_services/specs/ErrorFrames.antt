@@ -96,9 +96,9 @@ classes =
 unfoldable pub classes_text : ℕ → List ℕ → List ℕ
 classes_text reported bytes = flat_map (class_text reported bytes) classes
 
--- what an error frame says; bits above those of the classes mean nothing
-abbrev pub error_by : ℕ → List ℕ → List ℕ
-error_by reported bytes = if reported == 0 then codes "error frame" else codes "error frame: " ++ classes_text reported bytes
+abbrev pub reported_text : ℕ → List ℕ → List ℕ
+reported_text reported bytes = if reported == 0 then [] else codes ": " ++ classes_text reported bytes
 
+-- what an error frame says; bits above those of the classes mean nothing
 unfoldable pub error_words : ℕ → List ℕ → List ℕ
-error_words class bytes = error_by (class % 0x400) bytes
+error_words class bytes = codes "error frame" ++ reported_text (class % 0x400) bytes

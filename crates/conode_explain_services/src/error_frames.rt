@@ -8,13 +8,13 @@ ghost use Rattle.conode_explain_services.specs.ErrorFrames.{
   controller_words,
   counter_words,
   detail_words,
-  error_by,
   error_words,
   flag_text,
   flags_in_brackets,
   flags_text,
   lost_words,
   place_words,
+  reported_text,
   violation_words,
   wire_words,
 };
@@ -237,12 +237,12 @@ fn push_classes(text: &mut String, reported: u16, bytes: &[u8]) -> Result<(), Al
 
 fn push_reported(text: &mut String, reported: u16, bytes: &[u8]) -> Result<(), AllocError>
     ensures { OnOk result
-        (string_bytes text.new ≡ string_bytes text.old ++ error_by reported bytes.now) }
+        (string_bytes text.new ≡ string_bytes text.old ++ reported_text reported bytes.now) }
 {
     if reported == 0 {
-        return text.push_str("error frame");
+        return Ok(());
     }
-    attempt!(text.push_str("error frame: "));
+    attempt!(text.push_str(": "));
     push_classes(text, reported, bytes)
 }
 
@@ -254,5 +254,6 @@ pub fn push_error(text: &mut String, class: u32, bytes: &[u8]) -> Result<(), All
     ensures { OnOk result
         (string_bytes text.new ≡ string_bytes text.old ++ error_words class bytes.now) }
 {
+    attempt!(text.push_str("error frame"));
     push_reported(text, (class % 0x400) as u16, bytes)
 }
