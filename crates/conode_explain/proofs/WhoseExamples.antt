@@ -1,10 +1,16 @@
 -- Whose a frame is, as what it is read, and which frames have a mark, evaluated on both sides of each edge.
 use Rattle.std.proofs.Common.{◌≡◌, ℕ, Bool, true, false, List, [], ◌∷◌, Some, None, refl, map}
 use Rattle.std.specs.Prelude.{codes}
-use Rattle.conode_record.specs.declared.content.Content.TheVariants.{Data}
-use Rattle.conode_record.specs.declared.fields.Identifier.TheVariants.{Base}
+use Rattle.std.specs.Fmt.{digits}
+use Rattle.conode_record.specs.declared.content.Content.TheVariants.{Data, Fd, Remote}
+use Rattle.conode_record.specs.declared.fields.Identifier.TheVariants.{Base, Extended}
 use Rattle.conode_record.specs.declared.line.Record.{Record}
+use Rattle.conode_explain_entries.specs.declared.entries.ShownPdo.{ShownPdo}
 use Rattle.conode_explain_entries.specs.declared.further.Place.{Place}
+use Rattle.conode_explain_entries.specs.declared.moved.MovedId.{MovedId}
+use Rattle.conode_explain_entries.specs.declared.state.Value.TheVariants.{Seen}
+use Rattle.conode_explain_entries.specs.Histories.{nothing_shown}
+use Rattle.conode_explain_entries.specs.MovedIds.{index_for, moved_in, moved_words}
 use Rattle.conode_explain_filter.specs.declared.kind.Kind.TheVariants as kinds
 use Rattle.conode_explain_filter.specs.declared.subject.Subject.{Subject}
 use Rattle.conode_explain_filter.specs.Subjects.{subject_at, subject_of}
@@ -12,8 +18,11 @@ use Rattle.conode_explain_pdo.specs.declared.claim.Claim.{Claim}
 use Rattle.conode_explain_pdo.specs.declared.service_ids.NamedService.{NamedService}
 use Rattle.conode_explain_pdo.specs.declared.service_ids.NamedService.TheVariants.{Sync, Time, Emergency}
 use Rattle.conode_explain_pdo.specs.Buses.{Bus}
+use Rattle.conode_explain_pdo.specs.ServiceIds.{service_by_shown, service_with}
+use Rattle.conode_text.specs.Filled.{filled}
 use Rattle.conode_explain_transfers.specs.declared.kinds.Side.TheVariants.{Server}
-use Rattle.conode_explain.specs.declared.whose.Whose.TheVariants.{Channel, Service, Unnamed}
+use Rattle.conode_explain.specs.declared.whose.Whose.TheVariants.{Channel, Moved, Service, Unnamed}
+use Rattle.conode_explain.specs.Explained.{words_at}
 use Rattle.conode_explain.specs.Filtered.{subject_by}
 use Rattle.conode_explain.specs.FrameWords.{assumed_mark}
 use Rattle.conode_explain.specs.Whose.{default_id, read_by, whose_of}
@@ -44,6 +53,54 @@ of_a_pdo = refl
 of_a_channel : whose_of bus (Some place) (claim ∷ []) frame ≡ Channel place
 unfolding whose_of
 of_a_channel = refl
+
+-- ---- identifiers that a node's COB-ID was moved away from
+
+abbrev shown : ℕ → ℕ → ShownPdo
+shown index word = record {
+  index = index;
+  node = 5;
+  interface = record { items = codes "can0" };
+  state = record nothing_shown { now = record { cob_id = Seen word; mapping = Seen word ∷ [] } };
+}
+
+-- TPDO1 of node 5 has 190h, its emergencies have 1C5h
+abbrev moved_bus : Bus
+moved_bus = record { sheets = []; entries = shown 0x1800 0x190 ∷ shown 0x1014 0x1C5 ∷ []; interface = codes "can0" }
+
+abbrev moved : ℕ → MovedId
+moved index = record { node = 5; index = index }
+
+by_recording : map (λ id. whose_of moved_bus None [] (record frame { id = Base id })) (0x085 ∷ 0x1C5 ∷ 0x185 ∷ 0x205 ∷ 0x186 ∷ [])
+    ≡ Moved (moved 0x1014) ∷ Service (Emergency 5) ∷ Moved (moved 0x1800) ∷ Unnamed ∷ Unnamed ∷ []
+unfolding whose_of service_with service_by_shown moved_in index_for
+by_recording = refl
+
+-- a PDO that has the identifier comes before, and so does a channel
+moved_to_another : whose_of moved_bus None (claim ∷ []) (record frame { id = Base 0x185 }) ≡ Unnamed
+unfolding whose_of
+moved_to_another = refl
+
+-- of other frames nothing is said
+not_data : map (λ has. whose_of moved_bus None [] (record frame { id = Base 0x185; content = has })) (Remote 8 ∷ Fd 0 [] ∷ []) ≡ Unnamed ∷ Unnamed ∷ []
+unfolding whose_of
+not_data = refl
+
+of_29_bits : whose_of moved_bus None [] (record frame { id = Extended 0x185 }) ≡ Unnamed
+unfolding whose_of
+of_29_bits = refl
+
+-- such a frame says only that, and nothing of its node
+says_that : words_at moved_bus [] (Moved (moved 0x1800)) [] (record frame { id = Base 0x185 }) None ≡ codes "not TPDO1 node 5 (by its COB-ID)"
+unfolding words_at moved_words filled digits
+says_that = refl
+
+read_as_none : read_by (Moved (moved 0x1014)) (Base 0x085) ≡ Extended 0
+read_as_none = refl
+
+of_no_node : subject_by (Moved (moved 0x1800)) [] (record frame { id = Base 0x185 }) ≡ record { id = record { wide = false; number = 0x185 }; kind = kinds.Other; node = None }
+unfolding subject_by subject_of subject_at
+of_no_node = refl
 
 -- ---- kinds and nodes
 

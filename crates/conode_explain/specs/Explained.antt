@@ -24,6 +24,7 @@ use Rattle.conode_explain_entries.specs.declared.further.ChannelIds.{ChannelIds}
 use Rattle.conode_explain_entries.specs.declared.further.FurtherChannel.{FurtherChannel}
 use Rattle.conode_explain_entries.specs.declared.further.Place.{Place}
 use Rattle.conode_explain_entries.specs.Further.{FurtherTelling, booted_all, further_telling, is_at}
+use Rattle.conode_explain_entries.specs.MovedIds.{moved_words}
 use Rattle.conode_explain_entries.specs.Tables.{entries_with}
 use Rattle.conode_explain_pdo.specs.Buses.{Bus}
 use Rattle.conode_explain_pdo.specs.declared.claim.Claim.{Claim}
@@ -52,6 +53,7 @@ use Rattle.conode_explain.specs.Filtered.{is_news, lasts_told, shows_end, shows_
 use Rattle.conode_explain.specs.Nodes.{last_at, nodes_with, packed_of}
 use Rattle.conode_explain.specs.ToldWords.{ended_words, told_words}
 use Rattle.conode_explain.specs.declared.whose.Whose.{Whose}
+use Rattle.conode_explain.specs.declared.whose.Whose.TheVariants.{Moved}
 use Rattle.conode_explain.specs.Whose.{is_named, read_by, whose_of}
 use Rattle.conode_explain_forms.specs.declared.tones.Tone.{Tone}
 use Rattle.conode_explain_forms.specs.Places.{place_of, read_as}
@@ -135,8 +137,9 @@ signal_lines form so_far bus claims frame told =
     then signal_line form.stamps (times_at so_far frame.micros) value form.signals.now ∷ [] else []
 
 -- what a frame says: on a channel other than a default one what it would on the default one, and so
--- of a service that has another identifier
-abbrev pub words_at : Bus → List Claim → Whose → List Node → Record → Option Told → List ℕ
+-- of a service that has another identifier; of an identifier that was moved away from only that
+unfoldable pub words_at : Bus → List Claim → Whose → List Node → Record → Option Told → List ℕ
+words_at bus claims (Moved moved) nodes frame told = moved_words moved
 words_at bus claims whose nodes frame told =
     let id = read_by whose frame.id in
     told_words bus claims (is_named whose) (last_at nodes id frame) id frame.content told

@@ -18,7 +18,7 @@ use Rattle.conode_explain_text.specs.declared.so_far.Times.{Times}
 use Rattle.conode_explain_text.specs.SoFar.{SoFar, times_at}
 use Rattle.conode_explain.specs.declared.progress.Layout.{Layout}
 use Rattle.conode_explain.specs.declared.whose.Whose.{Whose}
-use Rattle.conode_explain.specs.declared.whose.Whose.TheVariants.{Channel, Service, Unnamed}
+use Rattle.conode_explain.specs.declared.whose.Whose.TheVariants.{Channel, Moved, Service, Unnamed}
 
 -- the node of the first of the PDOs that a frame is
 abbrev pub first_node : List Claim → Option ℕ
@@ -55,10 +55,11 @@ service_subject services.Sync subject = record subject { kind = Sync; node = Non
 service_subject services.Time subject = record subject { kind = Other; node = None }
 service_subject (services.Emergency node) subject = record subject { kind = Emergency; node = Some node }
 
--- on an SDO channel other than a default one: of its server
+-- on an SDO channel other than a default one: of its server; of an identifier that was moved away from: of no node
 unfoldable pub subject_by : Whose → List Claim → Record → Subject
 subject_by (Channel place) claims frame = record (subject_in claims frame) { kind = Sdo; node = Some place.node }
 subject_by (Service service) claims frame = service_subject service (subject_in claims frame)
+subject_by (Moved moved) claims frame = record (subject_in claims frame) { kind = Other; node = None }
 subject_by Unnamed claims frame = subject_in claims frame
 
 -- a frame passes a filter as a PDO of a node

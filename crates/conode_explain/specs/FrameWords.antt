@@ -14,6 +14,7 @@ use Rattle.conode_explain_pdo.specs.Buses.{Bus, names_at}
 use Rattle.conode_explain_pdo.specs.InForce.{is_drive_at}
 use Rattle.conode_explain_pdo.specs.Pdos.{pdos_text}
 use Rattle.conode_explain_services.specs.declared.last.Last.{Last}
+use Rattle.conode_explain_services.specs.ErrorFrames.{error_words}
 use Rattle.conode_explain_services.specs.Nodes.{is_emergency}
 use Rattle.conode_explain_services.specs.Services.{remote_words, service_words, state_words}
 
@@ -71,7 +72,7 @@ assumed_words id = assumed_front (id / 128) ++ decimal (id % 128)
 abbrev pub data_words : Bus → List Claim → Bool → Last → Identifier → List ℕ → List ℕ
 data_words bus claims named last (Base id) bytes = frame_words bus claims named last (record { id = id; bytes = bytes })
 data_words bus claims named last (Extended id) bytes = codes "frame with an identifier of 29 bits"
-data_words bus claims named last (Error class) bytes = codes "error frame"
+data_words bus claims named last (Error class) bytes = error_words class bytes
 
 -- what a remote frame says, by the identifier
 abbrev pub remote_content : Identifier → List ℕ

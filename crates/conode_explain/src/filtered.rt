@@ -110,7 +110,7 @@ fn service_subject(service: NamedService, subject: Subject) -> Subject
 
 /// The kind and the node of a frame that is these PDOs; no node, where it isn't known which of
 /// several sends it; on an SDO channel other than a default one of its server; of a service that a
-/// COB-ID names by that.
+/// COB-ID names by that; no node where its identifier was moved away from.
 #[tactic(auto, unfolding(crate::specs::Filtered::subject_by))]
 pub(crate) fn subject_by(whose: Whose, claims: &[Claim], frame: &Record<'_>) -> Subject
     requires { IsIdentifier frame.now.id }
@@ -127,6 +127,11 @@ pub(crate) fn subject_by(whose: Whose, claims: &[Claim], frame: &Record<'_>) -> 
             node: Some(place.node),
         },
         Whose::Service(service) => service_subject(service, subject),
+        Whose::Moved(_) => Subject {
+            id: subject.id,
+            kind: Kind::Other,
+            node: None,
+        },
         Whose::Unnamed => subject,
     }
 }

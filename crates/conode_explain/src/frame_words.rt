@@ -3,6 +3,7 @@
 ghost use Rattle.std.specs.Prelude.{◌≡◌, ◌++◌, ◌<◌, true, OnOk, string_bytes};
 ghost use Rattle.co_sheet_changes.specs.Names.{names_view};
 ghost use Rattle.conode_explain_pdo.specs.Buses.{bus_view};
+ghost use Rattle.conode_explain_services.specs.ErrorFrames.{error_words};
 ghost use Rattle.conode_record.specs.Grammar.{IsIdentifier};
 ghost use Rattle.conode_record.specs.declared.fields.Identifier.TheVariants.{Base};
 ghost use Rattle.conode_explain.specs.Nodes.{last_at};
@@ -29,7 +30,9 @@ use co_text::push_decimal;
 use co_value::PackedBytes;
 use conode_decode::push_text;
 use conode_explain_pdo::{Bus, Claim, push_pdos};
-use conode_explain_services::{Last, Nodes, is_emergency, push_remote, push_service, push_state};
+use conode_explain_services::{
+    Last, Nodes, is_emergency, push_error, push_remote, push_service, push_state,
+};
 use conode_record::{Content, Identifier, Record};
 use std::alloc::AllocError;
 
@@ -191,6 +194,15 @@ fn push_base_words(
     }
 }
 
+// what an error frame says; apart from the words of most frames, which need less room on the stack
+#[inline(never)]
+fn push_error_frame(said: &mut String, class: u32, bytes: &PackedBytes) -> Result<(), AllocError>
+    ensures { OnOk result
+        (string_bytes said.new ≡ string_bytes said.old ++ error_words class bytes.now) }
+{
+    push_error(said, class, bytes.to_list().as_slice())
+}
+
 /// Sets `said` to what a frame says that is read as one with this identifier; `claims` are the PDOs
 /// that it is, `named` is whether a COB-ID of a channel or of a service has its identifier, `nodes`
 /// have what the last frames of its node had. On an `Err` memory ran out, and it is incomplete.
@@ -219,7 +231,7 @@ pub(crate) fn set_words(
         (Content::Data(_), Identifier::Extended(_)) => {
             said.push_str("frame with an identifier of 29 bits")
         }
-        (Content::Data(_), Identifier::Error(_)) => said.push_str("error frame"),
+        (Content::Data(bytes), Identifier::Error(class)) => push_error_frame(said, class, bytes),
         (Content::Remote(_), Identifier::Base(id)) => push_remote(said, id),
         (Content::Remote(_), Identifier::Extended(_) | Identifier::Error(_)) => {
             said.push_str("remote frame")

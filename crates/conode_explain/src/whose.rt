@@ -2,18 +2,20 @@
 
 ghost use Rattle.std.specs.Prelude.{◌≡◌, ◌<◌};
 ghost use Rattle.conode_record.specs.Grammar.{IsIdentifier};
+ghost use Rattle.conode_explain_entries.specs.MovedIds.{moved_in};
 ghost use Rattle.conode_explain_pdo.specs.Buses.{bus_view};
+ghost use Rattle.conode_explain_pdo.specs.ServiceIds.{service_with};
 ghost use Rattle.conode_explain.specs.Whose.{
   by_service,
   default_id,
   is_named,
   read_by,
-  service_in,
   whose_free,
+  whose_in,
   whose_of,
 };
 
-use conode_explain_entries::Place;
+use conode_explain_entries::{MovedId, Place};
 use conode_explain_forms::read_as;
 use conode_explain_pdo::{Bus, Claim, NamedService, service_with};
 use conode_record::{Content, Identifier, Record};
@@ -25,29 +27,32 @@ pub(crate) enum Whose {
     Channel(Place),
     /// Of a service whose COB-ID has its identifier.
     Service(NamedService),
+    /// Not of the node that has its identifier in the pre-defined connection set: the recording
+    /// shows that this has another COB-ID.
+    Moved(MovedId),
     /// No such COB-ID has its identifier: it is of the pre-defined connection set, or of none.
     Unnamed,
 }
 
-fn service_in(
-    bus: Bus<'_, '_, '_, '_, '_>,
-    id: Identifier,
-    content: &Content<'_>,
-) -> Option<NamedService>
-    ensures { result ≡ service_in (bus_view bus.entry) id content.now }
+fn whose_at(bus: Bus<'_, '_, '_, '_, '_>, id: u16) -> Whose
+    ensures { result ≡ by_service (service_with (bus_view bus.entry) id)
+        (moved_in (bus_view bus.entry).entries (bus_view bus.entry).interface id) }
 {
-    match (id, content) {
-        (Identifier::Base(id), Content::Data(_)) => service_with(bus, id),
-        _ => None,
+    if let Some(service) = service_with(bus, id) {
+        return Whose::Service(service);
+    }
+    match bus.entries.moved(bus.interface, id) {
+        Some(moved) => Whose::Moved(moved),
+        None => Whose::Unnamed,
     }
 }
 
-fn by_service(service: Option<NamedService>) -> Whose
-    ensures { result ≡ by_service service }
+fn whose_in(bus: Bus<'_, '_, '_, '_, '_>, id: Identifier, content: &Content<'_>) -> Whose
+    ensures { result ≡ whose_in (bus_view bus.entry) id content.now }
 {
-    match service {
-        Some(service) => Whose::Service(service),
-        None => Whose::Unnamed,
+    match (id, content) {
+        (Identifier::Base(id), Content::Data(_)) => whose_at(bus, id),
+        _ => Whose::Unnamed,
     }
 }
 
@@ -60,7 +65,7 @@ fn whose_free(
     ensures { result ≡ whose_free (bus_view bus.entry) claims.now id content.now }
 {
     match claims {
-        [] => by_service(service_in(bus, id, content)),
+        [] => whose_in(bus, id, content),
         _ => Whose::Unnamed,
     }
 }
@@ -88,7 +93,7 @@ pub(crate) fn is_named(whose: Whose) -> bool
 {
     match whose {
         Whose::Channel(_) | Whose::Service(_) => true,
-        Whose::Unnamed => false,
+        Whose::Moved(_) | Whose::Unnamed => false,
     }
 }
 
@@ -104,7 +109,7 @@ fn default_id(service: NamedService) -> u16
 }
 
 /// The identifier as which a frame is read: that of its channel or service in the pre-defined
-/// connection set.
+/// connection set; one of 29 bits where it is moved away from, since it says nothing of a node.
 pub(crate) fn read_by(whose: Whose, id: Identifier) -> Identifier
     requires { IsIdentifier id }
     ensures id { result ≡ read_by whose id }
@@ -113,6 +118,7 @@ pub(crate) fn read_by(whose: Whose, id: Identifier) -> Identifier
     match whose {
         Whose::Channel(place) => read_as(Some(place), id),
         Whose::Service(service) => Identifier::Base(default_id(service)),
+        Whose::Moved(_) => Identifier::Extended(0),
         Whose::Unnamed => id,
     }
 }

@@ -30,7 +30,7 @@ use crate::progress::{Layout, LineFormat, Progress, may_be_told};
 use crate::settings::Settings;
 use crate::told_words::set_told_words;
 use crate::whose::{Whose, is_named, read_by, whose_of};
-use conode_explain_entries::{Entries, Place};
+use conode_explain_entries::{Entries, Place, push_moved};
 use conode_explain_filter::Lasts;
 use conode_explain_forms::{
     data_of, frame_tone, header, json_line, place_of, put_tone, read_as, set_signal_line,
@@ -156,6 +156,36 @@ fn set_frame_line(
     }
 }
 
+// Sets `said` to what a frame says; `claims` are the PDOs that it is, `whose` it is, if it is none,
+// `nodes` have what the last frames of its node had.
+// inlined, so that no copy of `bus` is made for the words of most frames
+#[inline(always)]
+#[tactic(auto, unfolding(crate::specs::Explained::words_at))]
+fn set_words_at(
+    said: &mut String,
+    bus: Bus<'_, '_, '_, '_, '_>,
+    claims: &[Claim],
+    whose: Whose,
+    nodes: &Nodes,
+    frame: &Record<'_>,
+    told: &Option<Told>,
+) -> Result<(), AllocError>
+    requires { IsIdentifier frame.now.id }
+    ensures { OnOk result (string_bytes said.new
+        ≡ words_at (bus_view bus.entry) claims.now whose nodes.now frame.now told.now) }
+{
+    match whose {
+        Whose::Moved(moved) => {
+            said.clear();
+            push_moved(said, moved)
+        }
+        Whose::Channel(_) | Whose::Service(_) | Whose::Unnamed => {
+            let id = read_by(whose, frame.id);
+            set_told_words(said, bus, claims, is_named(whose), nodes, id, frame, told)
+        }
+    }
+}
+
 // Writes the line of a frame that is asked for, if it says something new; `claims` are the PDOs
 // that it is, `whose` it is, if it is none, `nodes` have what the last frames of its node had.
 #[tactic(auto, using(crate::proofs::WriteSets::one_line))]
@@ -180,16 +210,8 @@ fn write_news<W: Write>(
         (subject_by whose claims.now frame.now) frame.now
         (words_at (bus_view bus.entry) claims.now whose nodes.now frame.now told.now)) }
 {
-    attempt_in_memory!(set_told_words(
-        &mut room.said,
-        bus,
-        claims,
-        is_named(whose),
-        nodes,
-        read_by(whose, frame.id),
-        frame,
-        told,
-    ));
+    let said = &mut room.said;
+    attempt_in_memory!(set_words_at(said, bus, claims, whose, nodes, frame, told));
     let words = room.said.as_bytes();
     if !attempt_value_in_memory!(is_news(lasts, form, whose, claims, frame, words)) {
         return Ok(());

@@ -1,4 +1,5 @@
 pub mod Changes
 pub mod Examples
+mod MovedExamples
 pub mod Shown
 mod TextExamples

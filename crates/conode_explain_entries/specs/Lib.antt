@@ -3,6 +3,7 @@ pub mod Events
 pub mod Frames
 pub mod Further
 pub mod Histories
+pub mod MovedIds
 pub mod Numbers
 pub mod Parts
 pub mod Tables

@@ -1,5 +1,6 @@
 pub mod Changes
 mod DriveExamples
+mod ErrorExamples
 mod Examples
 mod NodeExamples
 mod Nothing

@@ -1,6 +1,7 @@
 pub mod Codes
 pub mod Drives
 pub mod Emergencies
+pub mod ErrorFrames
 pub mod Guardings
 pub mod Lengths
 pub mod Lss

@@ -1,5 +1,5 @@
-//! What frames say by their service: emergencies, LSS, node guarding, TIME, and identifiers that
-//! the standard reserves.
+//! What frames say by their service: emergencies, LSS, node guarding, TIME, identifiers that the
+//! standard reserves, and error frames.
 #![tactic(auto)]
 
 // As `?` of a result without a value, and without a conversion of the error: a `match` is one step
@@ -16,6 +16,7 @@ macro_rules! attempt {
 mod codes;
 mod drives;
 mod emergencies;
+mod error_frames;
 mod guarding;
 mod guardings;
 mod last;
@@ -33,6 +34,7 @@ mod texts;
 mod times;
 
 pub use drives::{has_meaning, is_drive, push_drive};
+pub use error_frames::push_error;
 pub use guarding::Guarding;
 pub use last::Last;
 pub use nmt_state::{KnownState, NmtState};
