@@ -47,7 +47,6 @@ use Rattle.co_sheet_warnings.specs.declared.warning.WarningKind.TheVariants.{
   DateFormat,
   LineEnds,
 }
-use Rattle.co_sheet_text.specs.declared.section_kind.SectionKind.{SectionKind}
 use Rattle.co_sheet_text.specs.Sections.{TextSection, property_at}
 use Rattle.co_sheet.specs.Listings.{named_by}
 use Rattle.co_sheet.specs.ObjectLists.{Listing, is_listed}
