@@ -8,6 +8,8 @@ mod KeyExamples
 mod InfoExamples
 mod RepeatExamples
 mod LineExamples
+mod LimitExamples
+mod SectionNameExamples
 mod PieceLemmas
 mod ByLineLemmas
 pub mod NameLemmas

@@ -1,7 +1,7 @@
 -- Objects and their lists, on both sides of each edge.
 use Rattle.std.proofs.Common.{◌≡◌, ℕ, List, [], ◌∷◌, ◌++◌, true, false, refl, codes, map}
 use Rattle.co_sheet_text.specs.declared.section_kind.SectionKind.TheVariants.{MandatoryObjects, OptionalObjects, ManufacturerObjects}
-use Rattle.co_sheet_warnings.specs.declared.warning.WarningKind.TheVariants.{WrongList, Unlisted, NoErrorControl, ListOrder}
+use Rattle.co_sheet_warnings.specs.declared.warning.WarningKind.TheVariants.{WrongList, UncountedKey, Unlisted, NoErrorControl, ListOrder}
 use Rattle.co_sheet_warnings.specs.Lists.{is_right_list}
 use Rattle.co_sheet_warnings.specs.declared.known_key.KnownKey.TheVariants.{SupportedObjects}
 use Rattle.co_sheet_warnings.specs.Warnings.{few_places, place_in_text, places_in, places_of}
@@ -27,6 +27,26 @@ wrong = refl
 no_list : places WrongList (codes "[OptionalObjects]" ∷ codes "1=0x1000" ∷ []) ≡ []
 unfolding places_of few_places place_in_text places_in
 no_list = refl
+
+-- the first key past the count of a list, in the order of its lines; a number with a leading zero is no place
+abbrev counted : List ℕ → List (List ℕ)
+counted count =
+    codes "[OptionalObjects]" ∷ count ∷ codes "1=0x1008" ∷ codes "4=0x1016" ∷ codes "3=0x1017" ∷ codes "2=0x1009" ∷ codes "05=0x2002" ∷ []
+
+uncounted : map (λ count. places UncountedKey (counted count)) (codes "SupportedObjects=4" ∷ codes "SupportedObjects=3" ∷ codes "SupportedObjects=0x2" ∷ codes "SupportedObjects=0" ∷ codes "SupportedObjects=5" ∷ codes "SupportedObjects=x" ∷ codes "1=0x1010" ∷ [])
+    ≡ [] ∷ (4 ∷ []) ∷ (4 ∷ []) ∷ (3 ∷ []) ∷ [] ∷ [] ∷ [] ∷ []
+unfolding places_of few_places place_in_text places_in
+uncounted = refl
+
+-- of a bad list the count is at fault, or an index
+bad_list : places UncountedKey (codes "[OptionalObjects]" ∷ codes "SupportedObjects=2" ∷ codes "1=0x1008" ∷ codes "3=0x1016" ∷ codes "[ManufacturerObjects]" ∷ codes "SupportedObjects=1" ∷ codes "1=0x20000" ∷ codes "2=0x2000" ∷ []) ≡ []
+unfolding places_of few_places place_in_text places_in
+bad_list = refl
+
+-- each list; the keys of other sections are no places
+each_count : places UncountedKey (codes "[MandatoryObjects]" ∷ codes "SupportedObjects=0" ∷ codes "1=0x1000" ∷ codes "[ManufacturerObjects]" ∷ codes "SupportedObjects=1" ∷ codes "2=0x2001" ∷ codes "1=0x2000" ∷ codes "[Comments]" ∷ codes "SupportedObjects=0" ∷ codes "1=a" ∷ []) ≡ 3 ∷ 6 ∷ []
+unfolding places_of few_places place_in_text places_in
+each_count = refl
 
 abbrev listed : List ℕ → List ℕ → List ℕ → List (List ℕ)
 listed first second third =

@@ -1,6 +1,6 @@
 -- What an object says of its sub-indices, on both sides of each edge.
 use Rattle.std.proofs.Common.{◌≡◌, ℕ, List, [], ◌∷◌, ◌++◌, true, false, refl, codes, map}
-use Rattle.co_sheet_warnings.specs.declared.warning.WarningKind.TheVariants.{SubNumber, SubIndex0, MissingName}
+use Rattle.co_sheet_warnings.specs.declared.warning.WarningKind.TheVariants.{SubNumber, SubIndex0, VarSubIndices, MissingName}
 use Rattle.co_sheet_warnings.specs.SubIndices.{is_highest_by_rule, counted}
 use Rattle.co_sheet_warnings.specs.declared.keys.Topic.TheVariants.{FileInfo}
 use Rattle.co_sheet_warnings.specs.declared.known_key.KnownKey.TheVariants.{AccessType}
@@ -73,6 +73,22 @@ description = refl
 by_rule : map is_highest_by_rule (0x1002 ∷ 0x1003 ∷ 0x1004 ∷ 0x1026 ∷ 0x1027 ∷ 0x1028 ∷ 0x15FF ∷ 0x1600 ∷ 0x17FF ∷ 0x1800 ∷ 0x19FF ∷ 0x1A00 ∷ 0x1BFF ∷ 0x1C00 ∷ [])
     ≡ true ∷ false ∷ true ∷ true ∷ false ∷ true ∷ true ∷ false ∷ false ∷ true ∷ true ∷ false ∷ false ∷ true ∷ []
 by_rule = refl
+
+-- ---- VarSubIndices
+
+abbrev with_type : List ℕ → List (List ℕ)
+with_type line = codes "[2000sub0]" ∷ codes "[2001]" ∷ codes "[2000]" ∷ line ∷ codes "[2000sub1]" ∷ []
+
+-- without an ObjectType an object is a VAR; of another code or none it isn't known
+vars : map (λ line. places VarSubIndices (with_type line)) (codes "ObjectType=0x7" ∷ codes "DataType=7" ∷ codes "ObjectType=" ∷ codes "ObjectType=2" ∷ codes "ObjectType=8" ∷ codes "ObjectType=9" ∷ codes "ObjectType=5" ∷ codes "ObjectType=VAR" ∷ [])
+    ≡ (3 ∷ []) ∷ (3 ∷ []) ∷ (3 ∷ []) ∷ (3 ∷ []) ∷ [] ∷ [] ∷ [] ∷ [] ∷ []
+unfolding places_of few_places place_in_text places_in
+vars = refl
+
+-- the description of the object, FFh, is a sub-index; one of another object isn't its own
+one_sub : places VarSubIndices (codes "[2000]" ∷ codes "[2001subFF]" ∷ codes "[2001]" ∷ []) ≡ 3 ∷ []
+unfolding places_of few_places place_in_text places_in
+one_sub = refl
 
 -- ---- MissingName
 

@@ -1,7 +1,7 @@
 -- The tables of words have each kind's words in its row.
 use Rattle.std.proofs.Common.{◌≡◌, ◌<◌, ℕ, List, [], get_or, map, refl, arith}
 use Rattle.co_sheet_warnings.specs.declared.warning.WarningKind.{WarningKind}
-use Rattle.co_sheet_warnings.specs.declared.warning.WarningKind.TheVariants.{SubNumber, SubIndex0, FileInfoKeys, DeviceInfoKeys, PdoCount, WrongList, Unlisted, IdentityNumber, FixedCobId, NodeIdPlace, MisspeltKey, SharedCobId, InhibitTime, OwnHeartbeat, HeartbeatTwice, NoErrorControl, LongLine, Utf8, NotAscii, NodeId, ListOrder, EqualNames, MissingName, UnknownKey, DateFormat, LineEnds}
+use Rattle.co_sheet_warnings.specs.declared.warning.WarningKind.TheVariants.{SubNumber, SubIndex0, VarSubIndices, FileInfoKeys, DeviceInfoKeys, PdoCount, WrongList, UncountedKey, Unlisted, IdentityNumber, FixedCobId, NodeIdPlace, NegativeLimit, MisspeltSection, MisspeltKey, SharedCobId, InhibitTime, OwnHeartbeat, HeartbeatTwice, NoErrorControl, LongLine, Utf8, NotAscii, NodeId, ListOrder, EqualNames, MissingName, UnknownKey, DateFormat, LineEnds}
 use Rattle.co_sheet_warnings.specs.declared.words.TheConstants.{NAMES, MEANINGS, FIXES, SUBJECTS}
 use Rattle.co_sheet_warnings.specs.WarningWords.{name_of, meaning_of, fix_of, subject_of}
 use Rattle.co_sheet_warnings.specs.private.Views.{kind_row}
@@ -21,14 +21,18 @@ subjects = map (λ text. text.now) SUBJECTS
 pub named : (kind : WarningKind) → get_or names (kind_row kind) [] ≡ name_of kind
 named SubNumber = refl
 named SubIndex0 = refl
+named VarSubIndices = refl
 named (FileInfoKeys missing) = refl
 named (DeviceInfoKeys missing) = refl
 named PdoCount = refl
 named WrongList = refl
+named UncountedKey = refl
 named Unlisted = refl
 named (IdentityNumber sub) = refl
 named FixedCobId = refl
 named NodeIdPlace = refl
+named NegativeLimit = refl
+named MisspeltSection = refl
 named (MisspeltKey key) = refl
 named (SharedCobId node) = refl
 named InhibitTime = refl
@@ -49,14 +53,18 @@ named LineEnds = refl
 pub meant : (kind : WarningKind) → get_or meanings (kind_row kind) [] ≡ meaning_of kind
 meant SubNumber = refl
 meant SubIndex0 = refl
+meant VarSubIndices = refl
 meant (FileInfoKeys missing) = refl
 meant (DeviceInfoKeys missing) = refl
 meant PdoCount = refl
 meant WrongList = refl
+meant UncountedKey = refl
 meant Unlisted = refl
 meant (IdentityNumber sub) = refl
 meant FixedCobId = refl
 meant NodeIdPlace = refl
+meant NegativeLimit = refl
+meant MisspeltSection = refl
 meant (MisspeltKey key) = refl
 meant (SharedCobId node) = refl
 meant InhibitTime = refl
@@ -77,14 +85,18 @@ meant LineEnds = refl
 pub ruled : (kind : WarningKind) → get_or subjects (kind_row kind) [] ≡ subject_of kind
 ruled SubNumber = refl
 ruled SubIndex0 = refl
+ruled VarSubIndices = refl
 ruled (FileInfoKeys missing) = refl
 ruled (DeviceInfoKeys missing) = refl
 ruled PdoCount = refl
 ruled WrongList = refl
+ruled UncountedKey = refl
 ruled Unlisted = refl
 ruled (IdentityNumber sub) = refl
 ruled FixedCobId = refl
 ruled NodeIdPlace = refl
+ruled NegativeLimit = refl
+ruled MisspeltSection = refl
 ruled (MisspeltKey key) = refl
 ruled (SharedCobId node) = refl
 ruled InhibitTime = refl
@@ -105,14 +117,18 @@ ruled LineEnds = refl
 pub fixed : (kind : WarningKind) → get_or fixes (kind_row kind) [] ≡ fix_of kind
 fixed SubNumber = refl
 fixed SubIndex0 = refl
+fixed VarSubIndices = refl
 fixed (FileInfoKeys missing) = refl
 fixed (DeviceInfoKeys missing) = refl
 fixed PdoCount = refl
 fixed WrongList = refl
+fixed UncountedKey = refl
 fixed Unlisted = refl
 fixed (IdentityNumber sub) = refl
 fixed FixedCobId = refl
 fixed NodeIdPlace = refl
+fixed NegativeLimit = refl
+fixed MisspeltSection = refl
 fixed (MisspeltKey key) = refl
 fixed (SharedCobId node) = refl
 fixed InhibitTime = refl
@@ -131,17 +147,21 @@ fixed DateFormat = refl
 fixed LineEnds = refl
 
 -- no row past the last
-pub few_rows : (kind : WarningKind) → kind_row kind < 26
+pub few_rows : (kind : WarningKind) → kind_row kind < 30
 few_rows SubNumber = omega arith
 few_rows SubIndex0 = omega arith
+few_rows VarSubIndices = omega arith
 few_rows (FileInfoKeys missing) = omega arith
 few_rows (DeviceInfoKeys missing) = omega arith
 few_rows PdoCount = omega arith
 few_rows WrongList = omega arith
+few_rows UncountedKey = omega arith
 few_rows Unlisted = omega arith
 few_rows (IdentityNumber sub) = omega arith
 few_rows FixedCobId = omega arith
 few_rows NodeIdPlace = omega arith
+few_rows NegativeLimit = omega arith
+few_rows MisspeltSection = omega arith
 few_rows (MisspeltKey key) = omega arith
 few_rows (SharedCobId node) = omega arith
 few_rows InhibitTime = omega arith

@@ -4,6 +4,8 @@ pub mod NodeIds
 pub mod ReadTexts
 pub mod SubIndices
 pub mod Lists
+pub mod Limits
+pub mod SectionNames
 pub mod CobIds
 pub mod Lines
 pub mod Communication

@@ -2,6 +2,7 @@
 use Rattle.std.specs.Prelude.{
   ℕ,
   Bool,
+  false,
   not,
   ◌&&◌,
   ◌||◌,
@@ -13,21 +14,25 @@ use Rattle.std.specs.Prelude.{
   [],
   ◌∷◌,
   map,
+  find,
   flat_map,
   filter_map,
   Option,
   Some,
   None,
 }
+use Rattle.std.specs.Option.{option_map_or}
 use Rattle.co_sheet_text.specs.declared.section_kind.SectionKind.{SectionKind}
 use Rattle.co_sheet_text.specs.declared.section_kind.SectionKind.TheVariants.{
   MandatoryObjects,
   ManufacturerObjects,
   Object,
 }
-use Rattle.co_sheet_text.specs.Sections.{TextSection}
-use Rattle.co_sheet.specs.ObjectLists.{Listing, is_listed}
-use Rattle.co_sheet.specs.Listings.{named_by}
+use Rattle.co_sheet_text.specs.Names.{is_list, number_in}
+use Rattle.co_sheet_text.specs.Numerals.{is_number_in}
+use Rattle.co_sheet_text.specs.Sections.{Property, TextSection}
+use Rattle.co_sheet.specs.ObjectLists.{Listing, count_of, is_listed}
+use Rattle.co_sheet.specs.Listings.{is_bad_section, named_by}
 use Rattle.co_sheet.specs.Notes.{unlisted_note}
 use Rattle.co_sheet_warnings.specs.SubIndices.{is_within}
 
@@ -64,6 +69,30 @@ list_order s = first_fall 0 (named_by s)
 
 abbrev pub list_orders : List TextSection → List ℕ
 list_orders sections = flat_map list_order sections
+
+-- a place past the count of a list, which nothing reads; a number with a leading zero is no place
+abbrev pub begins_with_0 : List ℕ → Bool
+begins_with_0 [] = false
+begins_with_0 (b ∷ bs) = b == 48
+
+abbrev pub is_past : ℕ → Property → Bool
+is_past count k =
+    not (begins_with_0 k.name) && is_number_in 10 k.name && nat_lt count (number_in 10 k.name)
+
+-- the first of a list, if the list isn't bad
+abbrev pub first_past : List Property → ℕ → List ℕ
+first_past properties count =
+    option_map_or (λ k. k.line ∷ []) (find (is_past count) properties) []
+
+abbrev pub is_good_list : TextSection → Bool
+is_good_list s = is_list s.kind && not (is_bad_section s)
+
+abbrev pub uncounted_key : TextSection → List ℕ
+uncounted_key s =
+    if is_good_list s then option_map_or (first_past s.properties) (count_of s) [] else []
+
+abbrev pub uncounted_keys : List TextSection → List ℕ
+uncounted_keys sections = flat_map uncounted_key sections
 
 -- an object section that no list names
 abbrev pub unlisted : List TextSection → TextSection → SectionKind → List ℕ

@@ -30,7 +30,8 @@ use Rattle.co_sheet_text.specs.declared.section_kind.SectionKind.TheVariants.{Ob
 use Rattle.co_sheet_text.specs.Text.{same_name}
 use Rattle.co_sheet_text.specs.Sections.{Property, TextSection, property_at}
 use Rattle.co_sheet_text.specs.Properties.{property_number}
-use Rattle.co_sheet.specs.Entries.{Entry, sub_indices}
+use Rattle.co_sheet.specs.ObjectLists.{is_one_of}
+use Rattle.co_sheet.specs.Entries.{Entry, object_code, single_codes, sub_indices}
 use Rattle.co_sheet.specs.Limits.{value_property}
 use Rattle.co_sheet.specs.Notes.{sub_number_note}
 
@@ -43,6 +44,16 @@ abbrev pub sub_number : List TextSection → TextSection → SectionKind → Lis
 sub_number sections s (Object index) =
     map (λ n. n.line) (sub_number_note s (length (sub_indices sections index)))
 sub_number sections s kind = []
+
+-- a VAR or a DOMAIN with sub-index sections: it has one entry, in its own section (CiA 301, object
+-- types)
+abbrev pub is_single : TextSection → Bool
+is_single s = is_one_of single_codes (object_code s)
+
+abbrev pub var_sub_indices : List TextSection → TextSection → SectionKind → List ℕ
+var_sub_indices sections s (Object index) =
+    if is_single s && nat_lt 0 (length (sub_indices sections index)) then s.line ∷ [] else []
+var_sub_indices sections s kind = []
 
 -- an object or a sub-index without a name
 abbrev pub is_entry_kind : SectionKind → Bool

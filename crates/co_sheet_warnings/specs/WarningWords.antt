@@ -5,14 +5,18 @@ use Rattle.co_sheet_warnings.specs.declared.warning.WarningKind.{WarningKind}
 use Rattle.co_sheet_warnings.specs.declared.warning.WarningKind.TheVariants.{
   SubNumber,
   SubIndex0,
+  VarSubIndices,
   FileInfoKeys,
   DeviceInfoKeys,
   PdoCount,
   WrongList,
+  UncountedKey,
   Unlisted,
   IdentityNumber,
   FixedCobId,
   NodeIdPlace,
+  NegativeLimit,
+  MisspeltSection,
   MisspeltKey,
   SharedCobId,
   InhibitTime,
@@ -35,14 +39,18 @@ use Rattle.co_sheet_warnings.specs.declared.warning.WarningKind.TheVariants.{
 abbrev pub name_of : WarningKind → List ℕ
 name_of SubNumber = codes "SubNumber"
 name_of SubIndex0 = codes "SubIndex0"
+name_of VarSubIndices = codes "VarSubIndices"
 name_of (FileInfoKeys missing) = codes "FileInfoKeys"
 name_of (DeviceInfoKeys missing) = codes "DeviceInfoKeys"
 name_of PdoCount = codes "PdoCount"
 name_of WrongList = codes "WrongList"
+name_of UncountedKey = codes "UncountedKey"
 name_of Unlisted = codes "Unlisted"
 name_of (IdentityNumber sub) = codes "IdentityNumber"
 name_of FixedCobId = codes "FixedCobId"
 name_of NodeIdPlace = codes "NodeIdPlace"
+name_of NegativeLimit = codes "NegativeLimit"
+name_of MisspeltSection = codes "MisspeltSection"
 name_of (MisspeltKey meant) = codes "MisspeltKey"
 name_of (SharedCobId node) = codes "SharedCobId"
 name_of InhibitTime = codes "InhibitTime"
@@ -64,15 +72,22 @@ name_of LineEnds = codes "LineEnds"
 abbrev pub meaning_of : WarningKind → List ℕ
 meaning_of SubNumber = codes "SubNumber isn't the number of the object's sub-index sections"
 meaning_of SubIndex0 = codes "sub-index 0 isn't the highest sub-index of the object"
+meaning_of VarSubIndices =
+    codes "the object is a VAR or a DOMAIN, so its sub-index sections aren't read"
 meaning_of (FileInfoKeys missing) = codes "FileInfo is missing, or a key that it has to have"
 meaning_of (DeviceInfoKeys missing) = codes "DeviceInfo is missing, or a key that it has to have"
 meaning_of PdoCount = codes "this isn't the number of PDOs that the sheet has"
 meaning_of WrongList = codes "the object belongs in another list"
+meaning_of UncountedKey = codes "SupportedObjects doesn't count this key, so it isn't read"
 meaning_of Unlisted = codes "no list names the object, so it isn't read"
 meaning_of (IdentityNumber sub) = codes "the identity object has another number"
 meaning_of FixedCobId =
     codes "the COB-ID doesn't depend on the node-ID, so two such devices disturb each other"
 meaning_of NodeIdPlace = codes "$NODEID comes after the number, which other tools don't read"
+meaning_of NegativeLimit =
+    codes "this HighLimit is -1 at its type, so no number from 0 on is permitted"
+meaning_of MisspeltSection =
+    codes "nothing reads a section of this name, and the standard has one like it"
 meaning_of (MisspeltKey meant) = codes "the standard has no such key, but one like it"
 meaning_of (SharedCobId node) = codes "an entry before it has the same identifier, for this node-ID"
 meaning_of InhibitTime = codes "a synchronous TPDO has an inhibit time, which isn't used"
@@ -96,17 +111,22 @@ meaning_of LineEnds = codes "the line ends otherwise than line 1: CR and LF, or 
 abbrev pub fix_of : WarningKind → List ℕ
 fix_of SubNumber = codes "count the sections; one may be missing, or its name misspelt"
 fix_of SubIndex0 = codes "give it the highest sub-index, or describe the one that is missing"
+fix_of VarSubIndices = codes "give it ObjectType=0x8 or 0x9, or take these sections out"
 fix_of (FileInfoKeys missing) = codes "add the missing section or keys"
 fix_of (DeviceInfoKeys missing) = codes "add the missing section or keys"
 fix_of PdoCount =
     codes "count the objects 1400h to 15FFh for NrOfRXPDO, 1800h to 19FFh for NrOfTXPDO"
 fix_of WrongList =
     codes "list 1000h, 1001h and 1018h as mandatory, 2000h to 5FFFh as the manufacturer's, all others as optional"
+fix_of UncountedKey = codes "count all keys of the list, or take this one out"
 fix_of Unlisted = codes "list it, or take its section out"
 fix_of (IdentityNumber sub) =
     codes "give VendorNumber as in 1018:01, ProductNumber as in 1018:02, RevisionNumber as in 1018:03"
 fix_of FixedCobId = codes "write $NODEID+ and the number of the predefined connection set"
 fix_of NodeIdPlace = codes "write $NODEID first, as $NODEID+0x180"
+fix_of NegativeLimit =
+    codes "give the greatest number of the type, as 0x7FFF, or take the limit out"
+fix_of MisspeltSection = codes "write the name as the standard has it, as [DeviceInfo], [1018sub1]"
 fix_of (MisspeltKey meant) = codes "write the key as the standard has it"
 fix_of (SharedCobId node) =
     codes "give each PDO, SDO channel and EMCY an identifier of its own, or set bit 31"
@@ -129,14 +149,18 @@ fix_of LineEnds = codes "end all lines alike"
 abbrev pub subject_of : WarningKind → List ℕ
 subject_of SubNumber = codes "CiA 306-1, object description"
 subject_of SubIndex0 = codes "CiA 301, sub-index 0 of arrays and records"
+subject_of VarSubIndices = codes "CiA 306-1, object description"
 subject_of (FileInfoKeys missing) = codes "CiA 306-1, file information"
 subject_of (DeviceInfoKeys missing) = codes "CiA 306-1, device information"
 subject_of PdoCount = codes "CiA 306-1, device information"
 subject_of WrongList = codes "CiA 306-1, object lists"
+subject_of UncountedKey = codes "CiA 306-1, object lists"
 subject_of Unlisted = codes "CiA 306-1, object lists"
 subject_of (IdentityNumber sub) = codes "CiA 306-1, device information"
 subject_of FixedCobId = codes "CiA 301, predefined connection set"
 subject_of NodeIdPlace = codes "CiA 306-1, object description"
+subject_of NegativeLimit = codes "CiA 306-1, object description"
+subject_of MisspeltSection = codes "CiA 306-1, structure of an EDS"
 subject_of (MisspeltKey meant) = codes "CiA 306-1, structure of an EDS"
 subject_of (SharedCobId node) = codes "CiA 301, COB-IDs"
 subject_of InhibitTime = codes "CiA 301, TPDO communication parameter"

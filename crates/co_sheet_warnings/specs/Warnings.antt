@@ -28,14 +28,18 @@ use Rattle.co_sheet_warnings.specs.declared.warning.WarningKind.{WarningKind}
 use Rattle.co_sheet_warnings.specs.declared.warning.WarningKind.TheVariants.{
   SubNumber,
   SubIndex0,
+  VarSubIndices,
   FileInfoKeys,
   DeviceInfoKeys,
   PdoCount,
   WrongList,
+  UncountedKey,
   Unlisted,
   IdentityNumber,
   FixedCobId,
   NodeIdPlace,
+  NegativeLimit,
+  MisspeltSection,
   MisspeltKey,
   SharedCobId,
   InhibitTime,
@@ -57,9 +61,11 @@ use Rattle.co_sheet_warnings.specs.declared.warning.Warning.{Warning}
 use Rattle.co_sheet_text.specs.Sections.{TextSection}
 use Rattle.co_sheet.specs.Entries.{sub_indices}
 use Rattle.co_sheet_warnings.specs.ReadTexts.{ReadText, read_text}
-use Rattle.co_sheet_warnings.specs.SubIndices.{sub_number, sub_index_0, missing_name}
-use Rattle.co_sheet_warnings.specs.Lists.{wrong_lists, list_orders, unlisted, no_error_control}
+use Rattle.co_sheet_warnings.specs.SubIndices.{sub_number, sub_index_0, var_sub_indices, missing_name}
+use Rattle.co_sheet_warnings.specs.Lists.{wrong_lists, uncounted_keys, list_orders, unlisted, no_error_control}
 use Rattle.co_sheet_warnings.specs.CobIds.{fixed_cob_id, node_id_place}
+use Rattle.co_sheet_warnings.specs.Limits.{negative_limit}
+use Rattle.co_sheet_warnings.specs.SectionNames.{misspelt_section}
 use Rattle.co_sheet_warnings.specs.Communication.{inhibit_time, own_heartbeat, heartbeat_twice}
 use Rattle.co_sheet_warnings.specs.NodeIds.{no_node_id}
 use Rattle.co_sheet_warnings.specs.Lines.{long_lines, utf8, not_ascii, mixed_line_ends}
@@ -88,9 +94,12 @@ warnings_at kind lines = map (warning_at kind) lines
 unfoldable pub places_in : ReadText → WarningKind → TextSection → List ℕ
 places_in t SubNumber s = sub_number t.sections s s.kind
 places_in t SubIndex0 s = sub_index_0 t.sections s s.kind
+places_in t VarSubIndices s = var_sub_indices t.sections s s.kind
 places_in t Unlisted s = unlisted t.sections s s.kind
 places_in t FixedCobId s = fixed_cob_id s
 places_in t NodeIdPlace s = node_id_place s
+places_in t NegativeLimit s = negative_limit s
+places_in t MisspeltSection s = misspelt_section s
 places_in t InhibitTime s = inhibit_time t.sections s s.kind
 places_in t OwnHeartbeat s = own_heartbeat t.node s s.kind
 places_in t (HeartbeatTwice given) s = heartbeat_twice t.node t.sections s s.kind
@@ -123,6 +132,7 @@ few_places t kind = other_places t kind
 -- the lines of a text where a kind applies
 unfoldable pub places_of : ReadText → WarningKind → List ℕ
 places_of t WrongList = wrong_lists t.sections
+places_of t UncountedKey = uncounted_keys t.sections
 places_of t ListOrder = list_orders t.sections
 places_of t (SharedCobId node) = shared_cob_ids t.node t.sections
 places_of t EqualNames = equal_names t.sections
@@ -133,9 +143,10 @@ places_of t kind = few_places t kind
 -- those after them, and those of taste; what a kind says of a text is still open
 abbrev pub first_kinds : List WarningKind
 first_kinds =
-    SubNumber ∷ SubIndex0 ∷ FileInfoKeys (replicate 10 false) ∷ DeviceInfoKeys (replicate 22 false)
-    ∷ PdoCount ∷ WrongList ∷ Unlisted ∷ IdentityNumber 1 ∷ IdentityNumber 2 ∷ IdentityNumber 3
-    ∷ FixedCobId ∷ NodeIdPlace ∷ []
+    SubNumber ∷ SubIndex0 ∷ VarSubIndices ∷ FileInfoKeys (replicate 10 false)
+    ∷ DeviceInfoKeys (replicate 22 false) ∷ PdoCount ∷ WrongList ∷ UncountedKey ∷ Unlisted
+    ∷ IdentityNumber 1 ∷ IdentityNumber 2 ∷ IdentityNumber 3 ∷ FixedCobId ∷ NodeIdPlace
+    ∷ NegativeLimit ∷ MisspeltSection ∷ []
 
 abbrev pub last_kinds : List WarningKind
 last_kinds =

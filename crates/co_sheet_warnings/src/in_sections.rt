@@ -6,9 +6,11 @@ ghost use Rattle.co_sheet_warnings.specs.Warnings.{places_in};
 
 use crate::cob_ids::{fixed_cob_id, node_id_place};
 use crate::communication::{heartbeat_twice, inhibit_time, own_heartbeat};
+use crate::limits::negative_limit;
 use crate::node_id::no_node_id;
 use crate::read_text::ReadText;
-use crate::sub_indices::{missing_name, sub_index_0, sub_number, unlisted};
+use crate::section_names::misspelt_section;
+use crate::sub_indices::{missing_name, sub_index_0, sub_number, unlisted, var_sub_indices};
 use crate::warning::WarningKind;
 use co_sheet_text::TextSection;
 
@@ -20,9 +22,12 @@ pub(crate) fn place_in(text: &ReadText, kind: WarningKind, section: &TextSection
     match kind {
         WarningKind::SubNumber => sub_number(text, section),
         WarningKind::SubIndex0 => sub_index_0(text, section),
+        WarningKind::VarSubIndices => var_sub_indices(text, section),
         WarningKind::Unlisted => unlisted(text, section),
         WarningKind::FixedCobId => fixed_cob_id(section),
         WarningKind::NodeIdPlace => node_id_place(section),
+        WarningKind::NegativeLimit => negative_limit(section),
+        WarningKind::MisspeltSection => misspelt_section(section),
         WarningKind::InhibitTime => inhibit_time(text, section),
         WarningKind::OwnHeartbeat => own_heartbeat(text.node, section),
         WarningKind::HeartbeatTwice(_) => heartbeat_twice(text, text.node, section),

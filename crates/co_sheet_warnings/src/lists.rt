@@ -4,6 +4,8 @@ ghost use Rattle.std.specs.Prelude.{
   ◌≡◌,
   ◌++◌,
   ◌||◌,
+  ◌&&◌,
+  not,
   ℕ,
   nat_eq,
   map,
@@ -14,30 +16,39 @@ ghost use Rattle.std.specs.Prelude.{
   OnOk,
 };
 ghost use Rattle.indexmap.specs.IndexSet.{contains};
-ghost use Rattle.co_sheet_text.specs.Views.{section_view};
+ghost use Rattle.co_sheet_text.specs.Views.{property_view, section_view};
 ghost use Rattle.co_sheet.specs.ObjectLists.{is_listed};
 ghost use Rattle.co_sheet.specs.Listings.{listing_view, named_by};
-ghost use Rattle.co_sheet_warnings.specs.Lists.{first_fall, is_right_list, wrong_listing};
+ghost use Rattle.co_sheet_warnings.specs.Lists.{
+  first_fall,
+  first_past,
+  is_good_list,
+  is_past,
+  is_right_list,
+  uncounted_key,
+  wrong_listing,
+};
 ghost use Rattle.co_sheet_warnings.specs.Warnings.{warnings_at};
 ghost use Rattle.co_sheet_warnings.specs.private.Views.{list_places, names};
 
 use crate::places::add_one;
 use crate::warning::{Warning, WarningKind};
 use co_sheet::{Listing, read_list};
-use co_sheet_text::{SectionKind, TextSection};
+use co_sheet_text::{Property, SectionKind, TextSection, number_in};
 use indexmap::IndexSet;
 use std::alloc::{AllocError, Global};
 
-// adds what a section names, if it is a list
-fn add_named(listings: &mut Vec<Listing>, section: &TextSection) -> Result<(), AllocError>
-    ensures { OnOk result (map listing_view listings.new.items
+// adds what a section names, if it is a list; returns whether it is one that isn't bad
+fn add_named(listings: &mut Vec<Listing>, section: &TextSection) -> Result<bool, AllocError>
+    ensures good { IfOk result (λ good. good ≡ is_good_list (section_view section.now)) }
+    ensures named { OnOk result (map listing_view listings.new.items
         ≡ map listing_view listings.old.items ++ named_by (section_view section.now)) }
 {
     if !section.kind.is_list() {
-        return Ok(());
+        return Ok(false);
     }
-    let _is_bad = attempt!(read_list(listings, section));
-    Ok(())
+    let is_bad = attempt!(read_list(listings, section));
+    Ok(!is_bad)
 }
 
 // 1000h, 1001h and 1018h are mandatory, 2000h to 5FFFh the manufacturer's, and all others optional
@@ -93,6 +104,44 @@ fn first_fall(listings: &[Listing]) -> Option<usize>
     None
 }
 
+// whether a key is a place past the count of its list
+fn is_past(given: &Property, count: u64) -> bool
+    ensures { result ≡ is_past count (property_view given.now) }
+{
+    match given.name {
+        [b'0', ..] => false,
+        name => match number_in(10, name) {
+            Some(place) => count < place,
+            None => false,
+        },
+    }
+}
+
+fn first_past(properties: &[Property], count: u64) -> Option<usize>
+    ensures { option_to_list result ≡ first_past (map property_view properties.now) count }
+{
+    for given in properties {
+        if is_past(given, count) {
+            return Some(given.line);
+        }
+    }
+    None
+}
+
+// the line of the first key past the count of a list, which is good or not
+fn uncounted_key(section: &TextSection, is_good: bool) -> Option<usize>
+    requires { is_good ≡ is_good_list (section_view section.now) }
+    ensures { option_to_list result ≡ uncounted_key (section_view section.now) }
+{
+    if !is_good {
+        return None;
+    }
+    match section.number_at(b"SupportedObjects") {
+        Some(count) => first_past(section.properties, count),
+        None => None,
+    }
+}
+
 /// A check of each object list.
 #[derive(Clone, Copy)]
 pub(crate) enum ListCheck {
@@ -100,6 +149,8 @@ pub(crate) enum ListCheck {
     Objects,
     /// The first line that names a smaller index than the one before it.
     Order,
+    /// The first key past the count.
+    Count,
 }
 
 // adds warnings at the lines of a section that fail a check
@@ -114,12 +165,13 @@ fn add_places_of_list(
         ≡ warnings.old.items ++ warnings_at kind (list_places check (section_view section.now))) }
 {
     let mut listings = Vec::new(alloc);
-    attempt!(add_named(&mut listings, section));
+    let is_good = attempt!(add_named(&mut listings, section));
     match check {
         ListCheck::Objects => {
             add_wrong_listings(warnings, kind, section.kind, listings.as_slice())
         }
         ListCheck::Order => add_one(warnings, kind, first_fall(listings.as_slice())),
+        ListCheck::Count => add_one(warnings, kind, uncounted_key(section, is_good)),
     }
 }
 
@@ -162,7 +214,7 @@ pub(crate) fn listed_indices(
 {
     let mut all = Vec::new(alloc);
     for section in sections {
-        attempt!(add_named(&mut all, section));
+        let _is_good = attempt!(add_named(&mut all, section));
     }
     indices_of(alloc, all.as_slice())
 }

@@ -8,11 +8,13 @@ ghost use Rattle.co_sheet_warnings.specs.Repeats.{value_in};
 ghost use Rattle.co_sheet_warnings.specs.SubIndices.{
   highest_of,
   is_highest_by_rule,
+  is_single,
   is_within,
   missing_name,
   sub_index_0,
   sub_number,
   value_number,
+  var_sub_indices,
 };
 ghost use Rattle.co_sheet_warnings.specs.private.Views.{is_constant_section};
 
@@ -43,6 +45,29 @@ pub(crate) fn sub_number(text: &ReadText, section: &TextSection) -> Option<usize
             } else {
                 Some(given.line)
             }
+        }
+        _ => None,
+    }
+}
+
+// whether an object is a VAR, which it is without an ObjectType, or a DOMAIN
+fn is_single(section: &TextSection) -> bool
+    ensures { result ≡ is_single (section_view section.now) }
+{
+    match section.property(b"ObjectType") {
+        Some(given) => matches!(given.number(), Some(2 | 7)),
+        None => true,
+    }
+}
+
+/// The line of a VAR or a DOMAIN that has sub-index sections.
+pub(crate) fn var_sub_indices(text: &ReadText, section: &TextSection) -> Option<usize>
+    ensures { option_to_list result
+        ≡ var_sub_indices text.now.sections (section_view section.now) section.now.kind }
+{
+    match section.kind {
+        SectionKind::Object(index) if is_single(section) && 0 < text.parts(index).len() => {
+            Some(section.line)
         }
         _ => None,
     }

@@ -9,6 +9,8 @@ pub enum WarningKind {
     SubNumber,
     /// A constant sub-index 0 isn't the highest sub-index of its object.
     SubIndex0,
+    /// A VAR or a DOMAIN has sub-index sections.
+    VarSubIndices,
     /// FileInfo is missing, or lacks a key that has to be there: of each, in the order of
     /// `FILE_KEYS`, whether it is missing.
     FileInfoKeys([bool; 10]),
@@ -18,6 +20,8 @@ pub enum WarningKind {
     PdoCount,
     /// An object is in another list than the one for its index.
     WrongList,
+    /// A key of a list is past its SupportedObjects.
+    UncountedKey,
     /// An object section that no object list names.
     Unlisted,
     /// VendorNumber, ProductNumber or RevisionNumber isn't that of the identity object, at this
@@ -27,6 +31,10 @@ pub enum WarningKind {
     FixedCobId,
     /// `$NODEID` comes after the number of a formula.
     NodeIdPlace,
+    /// A HighLimit without a LowLimit that is -1 by the sign of its type.
+    NegativeLimit,
+    /// A section that nothing reads, with a name that is like one of the standard.
+    MisspeltSection,
     /// A key that the standard doesn't have, and that is like one of its own.
     MisspeltKey(KnownKey),
     /// A COB-ID has the identifier of another one before it, for this node-ID.

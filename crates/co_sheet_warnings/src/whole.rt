@@ -152,6 +152,9 @@ pub(crate) fn add_warnings_with(
         WarningKind::ListOrder => {
             add_places_of_lists(alloc, warnings, kind, ListCheck::Order, sections)
         }
+        WarningKind::UncountedKey => {
+            add_places_of_lists(alloc, warnings, kind, ListCheck::Count, sections)
+        }
         WarningKind::SharedCobId(_) => match text.node {
             Some(node) => add_repeats_of(alloc, warnings, kind, Once::Identifiers(node), sections),
             None => Ok(()),

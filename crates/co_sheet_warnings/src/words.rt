@@ -18,30 +18,34 @@ fn row(kind: WarningKind) -> usize
     match kind {
         WarningKind::SubNumber => 0,
         WarningKind::SubIndex0 => 1,
-        WarningKind::FileInfoKeys(_) => 2,
-        WarningKind::DeviceInfoKeys(_) => 3,
-        WarningKind::PdoCount => 4,
-        WarningKind::WrongList => 5,
-        WarningKind::Unlisted => 6,
-        WarningKind::IdentityNumber(_) => 7,
-        WarningKind::FixedCobId => 8,
-        WarningKind::NodeIdPlace => 9,
-        WarningKind::MisspeltKey(_) => 10,
-        WarningKind::SharedCobId(_) => 11,
-        WarningKind::InhibitTime => 12,
-        WarningKind::OwnHeartbeat => 13,
-        WarningKind::HeartbeatTwice(_) => 14,
-        WarningKind::NoErrorControl => 15,
-        WarningKind::LongLine => 16,
-        WarningKind::Utf8 => 17,
-        WarningKind::NotAscii => 18,
-        WarningKind::NodeId => 19,
-        WarningKind::ListOrder => 20,
-        WarningKind::EqualNames => 21,
-        WarningKind::MissingName => 22,
-        WarningKind::UnknownKey => 23,
-        WarningKind::DateFormat => 24,
-        WarningKind::LineEnds => 25,
+        WarningKind::VarSubIndices => 2,
+        WarningKind::FileInfoKeys(_) => 3,
+        WarningKind::DeviceInfoKeys(_) => 4,
+        WarningKind::PdoCount => 5,
+        WarningKind::WrongList => 6,
+        WarningKind::UncountedKey => 7,
+        WarningKind::Unlisted => 8,
+        WarningKind::IdentityNumber(_) => 9,
+        WarningKind::FixedCobId => 10,
+        WarningKind::NodeIdPlace => 11,
+        WarningKind::NegativeLimit => 12,
+        WarningKind::MisspeltSection => 13,
+        WarningKind::MisspeltKey(_) => 14,
+        WarningKind::SharedCobId(_) => 15,
+        WarningKind::InhibitTime => 16,
+        WarningKind::OwnHeartbeat => 17,
+        WarningKind::HeartbeatTwice(_) => 18,
+        WarningKind::NoErrorControl => 19,
+        WarningKind::LongLine => 20,
+        WarningKind::Utf8 => 21,
+        WarningKind::NotAscii => 22,
+        WarningKind::NodeId => 23,
+        WarningKind::ListOrder => 24,
+        WarningKind::EqualNames => 25,
+        WarningKind::MissingName => 26,
+        WarningKind::UnknownKey => 27,
+        WarningKind::DateFormat => 28,
+        WarningKind::LineEnds => 29,
     }
 }
 
@@ -54,17 +58,21 @@ fn text_at(texts: &[&'static str], row: usize) -> &'static str
 }
 
 /// The names of all kinds, by row.
-const NAMES: [&str; 26] = [
+const NAMES: [&str; 30] = [
     "SubNumber",
     "SubIndex0",
+    "VarSubIndices",
     "FileInfoKeys",
     "DeviceInfoKeys",
     "PdoCount",
     "WrongList",
+    "UncountedKey",
     "Unlisted",
     "IdentityNumber",
     "FixedCobId",
     "NodeIdPlace",
+    "NegativeLimit",
+    "MisspeltSection",
     "MisspeltKey",
     "SharedCobId",
     "InhibitTime",
@@ -91,17 +99,21 @@ pub fn name_of(kind: WarningKind) -> &'static str
 }
 
 /// What a warning of each kind means, by row.
-const MEANINGS: [&str; 26] = [
+const MEANINGS: [&str; 30] = [
     "SubNumber isn't the number of the object's sub-index sections",
     "sub-index 0 isn't the highest sub-index of the object",
+    "the object is a VAR or a DOMAIN, so its sub-index sections aren't read",
     "FileInfo is missing, or a key that it has to have",
     "DeviceInfo is missing, or a key that it has to have",
     "this isn't the number of PDOs that the sheet has",
     "the object belongs in another list",
+    "SupportedObjects doesn't count this key, so it isn't read",
     "no list names the object, so it isn't read",
     "the identity object has another number",
     "the COB-ID doesn't depend on the node-ID, so two such devices disturb each other",
     "$NODEID comes after the number, which other tools don't read",
+    "this HighLimit is -1 at its type, so no number from 0 on is permitted",
+    "nothing reads a section of this name, and the standard has one like it",
     "the standard has no such key, but one like it",
     "an entry before it has the same identifier, for this node-ID",
     "a synchronous TPDO has an inhibit time, which isn't used",
@@ -128,18 +140,22 @@ pub fn meaning_of(kind: WarningKind) -> &'static str
 }
 
 /// How a warning of each kind is fixed, by row.
-const FIXES: [&str; 26] = [
+const FIXES: [&str; 30] = [
     "count the sections; one may be missing, or its name misspelt",
     "give it the highest sub-index, or describe the one that is missing",
+    "give it ObjectType=0x8 or 0x9, or take these sections out",
     "add the missing section or keys",
     "add the missing section or keys",
     "count the objects 1400h to 15FFh for NrOfRXPDO, 1800h to 19FFh for NrOfTXPDO",
     "list 1000h, 1001h and 1018h as mandatory, 2000h to 5FFFh as the manufacturer's, all others \
     as optional",
+    "count all keys of the list, or take this one out",
     "list it, or take its section out",
     "give VendorNumber as in 1018:01, ProductNumber as in 1018:02, RevisionNumber as in 1018:03",
     "write $NODEID+ and the number of the predefined connection set",
     "write $NODEID first, as $NODEID+0x180",
+    "give the greatest number of the type, as 0x7FFF, or take the limit out",
+    "write the name as the standard has it, as [DeviceInfo], [1018sub1]",
     "write the key as the standard has it",
     "give each PDO, SDO channel and EMCY an identifier of its own, or set bit 31",
     "set it to 0, or take a transmission type from 254 on",
@@ -166,17 +182,21 @@ pub fn fix_of(kind: WarningKind) -> &'static str
 }
 
 /// The subject that has the rule of each kind, by row.
-const SUBJECTS: [&str; 26] = [
+const SUBJECTS: [&str; 30] = [
     "CiA 306-1, object description",
     "CiA 301, sub-index 0 of arrays and records",
+    "CiA 306-1, object description",
     "CiA 306-1, file information",
     "CiA 306-1, device information",
     "CiA 306-1, device information",
     "CiA 306-1, object lists",
     "CiA 306-1, object lists",
+    "CiA 306-1, object lists",
     "CiA 306-1, device information",
     "CiA 301, predefined connection set",
     "CiA 306-1, object description",
+    "CiA 306-1, object description",
+    "CiA 306-1, structure of an EDS",
     "CiA 306-1, structure of an EDS",
     "CiA 301, COB-IDs",
     "CiA 301, TPDO communication parameter",

@@ -12,7 +12,7 @@ use std::alloc::AllocError;
 const KEY: Key = Key { index: 0, sub: 0 };
 
 /// All kinds: another format, the faults of a text, those of a build, and the warnings.
-static SUBJECTS: [Subject; 51] = [
+static SUBJECTS: [Subject; 55] = [
     Subject::Format(OtherFormat::Xml),
     Subject::Fault(FaultKind::TooLarge),
     Subject::Fault(FaultKind::BadLine),
@@ -40,14 +40,18 @@ static SUBJECTS: [Subject; 51] = [
     Subject::Build(BuildFault::TooMany),
     Subject::Warning(WarningKind::SubNumber),
     Subject::Warning(WarningKind::SubIndex0),
+    Subject::Warning(WarningKind::VarSubIndices),
     Subject::Warning(WarningKind::FileInfoKeys([false; 10])),
     Subject::Warning(WarningKind::DeviceInfoKeys([false; 22])),
     Subject::Warning(WarningKind::PdoCount),
     Subject::Warning(WarningKind::WrongList),
+    Subject::Warning(WarningKind::UncountedKey),
     Subject::Warning(WarningKind::Unlisted),
     Subject::Warning(WarningKind::IdentityNumber(1)),
     Subject::Warning(WarningKind::FixedCobId),
     Subject::Warning(WarningKind::NodeIdPlace),
+    Subject::Warning(WarningKind::NegativeLimit),
+    Subject::Warning(WarningKind::MisspeltSection),
     Subject::Warning(WarningKind::MisspeltKey(KnownKey::AccessType)),
     Subject::Warning(WarningKind::SharedCobId(0)),
     Subject::Warning(WarningKind::InhibitTime),

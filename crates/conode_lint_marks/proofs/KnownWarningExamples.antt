@@ -9,7 +9,7 @@ use Rattle.co_sheet_text.specs.declared.section_kind.SectionKind.TheVariants.{De
 use Rattle.co_sheet_text.specs.Sections.{TextSection, form_of}
 use Rattle.co_sheet_warnings.specs.declared.warning.Warning.{Warning}
 use Rattle.co_sheet_warnings.specs.declared.warning.WarningKind.{WarningKind}
-use Rattle.co_sheet_warnings.specs.declared.warning.WarningKind.TheVariants.{SubNumber, SubIndex0, FileInfoKeys, DeviceInfoKeys, PdoCount, Unlisted, IdentityNumber, FixedCobId, NodeIdPlace, SharedCobId, InhibitTime, OwnHeartbeat, HeartbeatTwice, NoErrorControl, LongLine}
+use Rattle.co_sheet_warnings.specs.declared.warning.WarningKind.TheVariants.{SubNumber, SubIndex0, VarSubIndices, FileInfoKeys, DeviceInfoKeys, PdoCount, Unlisted, IdentityNumber, FixedCobId, NodeIdPlace, NegativeLimit, SharedCobId, InhibitTime, OwnHeartbeat, HeartbeatTwice, NoErrorControl, LongLine}
 use Rattle.conode_lint_marks.specs.declared.mark.Subject.TheVariants as mark
 use Rattle.conode_lint_marks.specs.AtFault.{is_complete, kinds_at_fault}
 use Rattle.conode_lint_marks.specs.BuildLines.{value_line}
@@ -105,6 +105,24 @@ cob_id : left_by (fault BadDefault 12 ∷ []) (warning FixedCobId 11 ∷ warning
     ≡ warning FixedCobId 11 ∷ warning LongLine 12 ∷ warning FixedCobId 13 ∷ []
 unfolding known_warnings unknown_of is_complete kinds_at_fault doubts_of whole_line value_line
 cob_id = refl
+
+-- a limit: nothing is said of one at fault
+limit : left_by (fault BadDefault 11 ∷ fault BadNumber 12 ∷ []) (warning NegativeLimit 11 ∷ warning NegativeLimit 12 ∷ warning NegativeLimit 13 ∷ []) ≡ warning NegativeLimit 13 ∷ []
+unfolding known_warnings unknown_of is_complete kinds_at_fault doubts_of whole_line value_line
+limit = refl
+
+-- an object's section: a fault before it, at its line, at its last line, at the next section's line, past that; of the first section
+-- and of the last; and a section line at fault
+var_subs : map (λ line. left_by (fault BadAccess line ∷ []) (warning VarSubIndices 1 ∷ warning VarSubIndices 50 ∷ warning VarSubIndices 60 ∷ [])) (49 ∷ 50 ∷ 59 ∷ 60 ∷ 61 ∷ 1 ∷ 9 ∷ 10 ∷ [])
+    ≡ (warning VarSubIndices 1 ∷ warning VarSubIndices 50 ∷ warning VarSubIndices 60 ∷ []) ∷ (warning VarSubIndices 1 ∷ warning VarSubIndices 60 ∷ []) ∷ (warning VarSubIndices 1 ∷ warning VarSubIndices 60 ∷ [])
+    ∷ (warning VarSubIndices 1 ∷ warning VarSubIndices 50 ∷ []) ∷ (warning VarSubIndices 1 ∷ warning VarSubIndices 50 ∷ []) ∷ (warning VarSubIndices 50 ∷ warning VarSubIndices 60 ∷ [])
+    ∷ (warning VarSubIndices 50 ∷ warning VarSubIndices 60 ∷ []) ∷ (warning VarSubIndices 1 ∷ warning VarSubIndices 50 ∷ warning VarSubIndices 60 ∷ []) ∷ []
+unfolding known_warnings unknown_of is_complete kinds_at_fault doubts_of whole_line value_line
+var_subs = refl
+
+var_sections : left_by (fault BadLine 30 ∷ []) (warning VarSubIndices 50 ∷ []) ≡ []
+unfolding known_warnings unknown_of is_complete kinds_at_fault doubts_of whole_line value_line
+var_sections = refl
 
 -- a bad COB-ID has neither of the two warnings of COB-IDs, and any other
 bad_cob_ids : known_warnings [] sections (12 ∷ 45 ∷ []) [] (warning FixedCobId 11 ∷ warning FixedCobId 12 ∷ warning NodeIdPlace 12 ∷ warning (HeartbeatTwice None) 12 ∷ warning (SharedCobId 5) 44 ∷ warning (SharedCobId 5) 45 ∷ warning FixedCobId 45 ∷ warning FixedCobId 46 ∷ [])

@@ -1,5 +1,5 @@
 -- The warnings of a text that rest on nothing at fault.
-use Rattle.std.specs.Prelude.{ℕ, Bool, false, not, ◌&&◌, ◌||◌, ◌==◌, nat_lt, if◌then◌else◌, List, [], ◌∷◌, ◌++◌, drop, codes, Option, Some, None}
+use Rattle.std.specs.Prelude.{ℕ, Bool, true, false, not, ◌&&◌, ◌||◌, ◌==◌, nat_lt, if◌then◌else◌, List, [], ◌∷◌, ◌++◌, drop, find, codes, Option, Some, None}
 use Rattle.std.specs.List.{flat_map, list_any, prefix_len}
 use Rattle.std.specs.Option.{option_map_or}
 use Rattle.co_dict_build.specs.declared.build_fault.BuildFault.TheVariants.{BadCobId}
@@ -12,7 +12,7 @@ use Rattle.co_sheet_warnings.specs.Repeats.{compared}
 use Rattle.co_sheet_warnings.specs.declared.repeats.ComparedNumber.{ComparedNumber}
 use Rattle.co_sheet_warnings.specs.declared.warning.Warning.{Warning}
 use Rattle.co_sheet_warnings.specs.declared.warning.WarningKind.{WarningKind}
-use Rattle.co_sheet_warnings.specs.declared.warning.WarningKind.TheVariants.{SubNumber, SubIndex0, FileInfoKeys, DeviceInfoKeys, PdoCount, Unlisted, IdentityNumber, FixedCobId, NodeIdPlace, SharedCobId, InhibitTime, OwnHeartbeat, HeartbeatTwice, NoErrorControl}
+use Rattle.co_sheet_warnings.specs.declared.warning.WarningKind.TheVariants.{SubNumber, SubIndex0, VarSubIndices, FileInfoKeys, DeviceInfoKeys, PdoCount, Unlisted, IdentityNumber, FixedCobId, NodeIdPlace, NegativeLimit, SharedCobId, InhibitTime, OwnHeartbeat, HeartbeatTwice, NoErrorControl}
 use Rattle.conode_lint_marks.specs.declared.concerns.Concern.TheVariants.{CompactPdo, Same, SectionLine, SubsOf}
 use Rattle.conode_lint_marks.specs.declared.known_warnings.Unknown.{Unknown}
 use Rattle.conode_lint_marks.specs.declared.mark.Mark.{Mark}
@@ -133,6 +133,16 @@ abbrev pub begins_at : ℕ → List SheetFault → Bool
 begins_at line [] = false
 begins_at line (f ∷ faults) = f.line == line
 
+-- a line comes before the section that begins next after another line
+abbrev pub is_before_next : ℕ → List TextSection → ℕ → Bool
+is_before_next line here n =
+    option_map_or (λ s. nat_lt n s.line) (find (λ s. nat_lt line s.line) here) true
+
+-- the section that begins at a line has a fault, where these are the sections and faults from it on
+abbrev pub has_fault : ℕ → List TextSection → List SheetFault → Bool
+has_fault line here [] = false
+has_fault line here (f ∷ faults) = is_before_next line here f.line
+
 -- a line is one of these: those of COB-IDs with a build fault
 abbrev pub is_one_of : List ℕ → ℕ → Bool
 is_one_of lines line = list_any (λ own. own == line) lines
@@ -145,6 +155,8 @@ rests_on_fault u sections doubts bad here faults line SubNumber =
     u.sections || is_in_compact sections line here
 rests_on_fault u sections doubts bad here faults line SubIndex0 =
     u.sections || begins_at line faults || is_in_compact sections line here
+rests_on_fault u sections doubts bad here faults line VarSubIndices =
+    u.sections || has_fault line here faults
 rests_on_fault u sections doubts bad here faults line (FileInfoKeys missing) =
     (line == 0) && u.sections
 rests_on_fault u sections doubts bad here faults line (DeviceInfoKeys missing) =
@@ -163,6 +175,7 @@ rests_on_fault u sections doubts bad here faults line InhibitTime =
 rests_on_fault u sections doubts bad here faults line FixedCobId =
     is_one_of bad line || begins_at line faults
 rests_on_fault u sections doubts bad here faults line NodeIdPlace = begins_at line faults
+rests_on_fault u sections doubts bad here faults line NegativeLimit = begins_at line faults
 rests_on_fault u sections doubts bad here faults line OwnHeartbeat = begins_at line faults
 rests_on_fault u sections doubts bad here faults line kind = false
 

@@ -10,7 +10,9 @@ ghost use Rattle.conode_lint_marks.specs.KnownWarnings.{
   begins_before,
   comes_before,
   faults_from,
+  has_fault,
   has_number,
+  is_before_next,
   is_either_in_doubt,
   is_first,
   is_in_compact,
@@ -257,6 +259,28 @@ fn begins_at(line: usize, faults: &[SheetFault]) -> bool
     }
 }
 
+// whether a line comes before the section that begins next after another line
+fn is_before_next(line: usize, here: &[TextSection<'_, '_>], number: usize) -> bool
+    ensures { result ≡ is_before_next line (map section_view here.now) number }
+{
+    for section in here {
+        if line < section.line {
+            return number < section.line;
+        }
+    }
+    true
+}
+
+// whether the section that begins at a line has a fault
+fn has_fault(line: usize, here: &[TextSection<'_, '_>], faults: &[SheetFault]) -> bool
+    ensures { result ≡ has_fault line (map section_view here.now) faults.now }
+{
+    match faults {
+        [first, ..] => is_before_next(line, here, first.line),
+        [] => false,
+    }
+}
+
 fn is_one_of(lines: &[usize], line: usize) -> bool
     ensures { result ≡ is_one_of lines.now line }
 {
@@ -288,6 +312,7 @@ fn rests_on_fault(
         WarningKind::SubIndex0 => {
             unknown.sections || begins_at(line, faults) || is_in_compact(forms, line, here)
         }
+        WarningKind::VarSubIndices => unknown.sections || has_fault(line, here, faults),
         WarningKind::FileInfoKeys(_) => line == 0 && unknown.sections,
         WarningKind::DeviceInfoKeys(_) => {
             (line == 0 && unknown.sections) || is_any(Concern::CompactPdo, doubts)
@@ -305,7 +330,9 @@ fn rests_on_fault(
         }
         WarningKind::InhibitTime => is_time_in_doubt(forms.sections(), doubts, line),
         WarningKind::FixedCobId => is_one_of(bad, line) || begins_at(line, faults),
-        WarningKind::NodeIdPlace | WarningKind::OwnHeartbeat => begins_at(line, faults),
+        WarningKind::NodeIdPlace | WarningKind::NegativeLimit | WarningKind::OwnHeartbeat => {
+            begins_at(line, faults)
+        }
         _ => false,
     }
 }

@@ -10,7 +10,7 @@ use Rattle.co_sheet_text.specs.declared.section_kind.SectionKind.TheVariants.{Ma
 use Rattle.co_sheet_text.specs.Sections.{Property, TextSection}
 use Rattle.conode_lint_text.specs.declared.finding.About.TheVariants.{Line, FirstAt, Misspelt, Fact}
 use Rattle.conode_lint_text.specs.declared.fact.Fact.TheVariants as fact
-use Rattle.conode_lint_text.specs.FactTexts.{count_text, fact_text, hexadecimal, identity_text, missing_text, unread_text}
+use Rattle.conode_lint_text.specs.FactTexts.{fact_text, hexadecimal, missing_text, texts_of, words_of}
 use Rattle.conode_lint_text.specs.Facts.{bad_list, bad_number, bad_type, count_fact, device_info, duplicate_key, duplicate_section, file_info, first_at, identity_number, list_fact, listed_twice, missing_key, missing_mandatory, missing_section, pdo_count, sub_index_0, sub_number, too_large}
 use Rattle.conode_lint_text.specs.Bounds.{bad_default, bad_limits}
 use Rattle.conode_lint_text.specs.Findings.{about_message, fix_with}
@@ -20,26 +20,26 @@ use Rattle.conode_lint_text.specs.Findings.{about_message, fix_with}
 lists : fact_text fact.NoCount ∷ fact_text (fact.ListGap 7 6 3) ∷ fact_text (fact.ListCount 3 2) ∷ fact_text (fact.HighIndex 12) ∷ []
     ≡ codes "the list has no SupportedObjects" ∷ codes "the list counts 7 objects and has 6: key 3 is missing"
     ∷ codes "the list counts 3 objects and has 2 of the keys 1 to 3" ∷ codes "the index of line 12 is above 0xFFFF" ∷ []
-unfolding fact_text unread_text count_text filled digits
+unfolding fact_text words_of texts_of filled digits
 lists = refl
 
 keys : fact_text (fact.NoType true) ∷ fact_text (fact.NoAccess true) ∷ fact_text (fact.NoTypeOrAccess false) ∷ []
     ≡ codes "the entry has no DataType" ∷ codes "the entry has no AccessType" ∷ codes "the entry has neither DataType nor AccessType" ∷ []
-unfolding fact_text
+unfolding fact_text words_of texts_of filled
 keys = refl
 
 infos : fact_text (fact.NoFileInfo (replicate 10 true)) ∷ fact_text (fact.FileInfoLacks (true ∷ replicate 8 false ++ true ∷ [])) ∷ fact_text (fact.NoDeviceInfo (replicate 20 false ++ true ∷ true ∷ [])) ∷ fact_text (fact.DeviceInfoLacks (replicate 21 false ++ true ∷ [])) ∷ []
     ≡ codes "there is no section [FileInfo]; it has to have FileName, FileVersion, FileRevision, Description, CreationTime, CreationDate, CreatedBy, ModificationTime, ModificationDate, ModifiedBy"
     ∷ codes "FileInfo lacks FileName, ModifiedBy"
     ∷ codes "there is no section [DeviceInfo]; it has to have NrOfTXPDO, LSS_Supported" ∷ codes "DeviceInfo lacks LSS_Supported" ∷ []
-unfolding fact_text missing_text
+unfolding fact_text words_of texts_of missing_text
 infos = refl
 
 -- each key at its place
 all_missing : fact_text (fact.FileInfoLacks (replicate 10 true)) ∷ fact_text (fact.DeviceInfoLacks (replicate 22 true)) ∷ []
     ≡ codes "FileInfo lacks FileName, FileVersion, FileRevision, Description, CreationTime, CreationDate, CreatedBy, ModificationTime, ModificationDate, ModifiedBy"
     ∷ codes "DeviceInfo lacks VendorName, VendorNumber, ProductName, ProductNumber, RevisionNumber, OrderCode, BaudRate_10, BaudRate_20, BaudRate_50, BaudRate_125, BaudRate_250, BaudRate_500, BaudRate_800, BaudRate_1000, SimpleBootUpMaster, SimpleBootUpSlave, Granularity, DynamicChannelsSupported, GroupMessaging, NrOfRXPDO, NrOfTXPDO, LSS_Supported" ∷ []
-unfolding fact_text missing_text
+unfolding fact_text words_of texts_of missing_text
 all_missing = refl
 
 -- which of the keys to add to an object, and to a sub-index
@@ -58,11 +58,11 @@ sub_index_fixes = refl
 mandatory_objects : map (λ missing. fact_text missing) (fact.NotListed true true true ∷ fact.NotListed true true false ∷ fact.NotListed true false true ∷ fact.NotListed false true true ∷ fact.NotListed true false false ∷ fact.NotListed false true false ∷ fact.NotListed false false true ∷ [])
     ≡ codes "no object list names 1000h, 1001h and 1018h" ∷ codes "no object list names 1000h and 1001h" ∷ codes "no object list names 1000h and 1018h" ∷ codes "no object list names 1001h and 1018h"
     ∷ codes "no object list names 1000h" ∷ codes "no object list names 1001h" ∷ codes "no object list names 1018h" ∷ []
-unfolding fact_text
+unfolding fact_text words_of texts_of filled
 mandatory_objects = refl
 
 whole_texts : fact_text fact.NoMandatoryList ∷ fact_text fact.LargeText ∷ fact_text fact.NoValue ∷ [] ≡ codes "there is no section [MandatoryObjects]" ∷ codes "the text has more than 1,048,576 bytes" ∷ codes "the value is no number" ∷ []
-unfolding fact_text
+unfolding fact_text words_of texts_of filled
 whole_texts = refl
 
 other_fixes : fix_with (Fact (fact.HighIndex 12)) (codes "f") ∷ fix_with (Fact fact.NoMandatoryList) (codes "f") ∷ fix_with (Fact (fact.NotListed true false false)) (codes "f") ∷ fix_with (Fact fact.LargeText) (codes "f") ∷ fix_with (Fact fact.NoValue) (codes "f") ∷ []
@@ -75,24 +75,24 @@ counts : fact_text (fact.SubNumber 3 4) ∷ fact_text (fact.NoSubNumber 4) ∷ f
     ≡ codes "SubNumber is 3, and the number of the object's sub-index sections is 4"
     ∷ codes "SubNumber is no number, and the number of the object's sub-index sections is 4"
     ∷ codes "sub-index 0 is 2, and the highest sub-index of the object is 4" ∷ []
-unfolding fact_text unread_text count_text filled digits
+unfolding fact_text words_of texts_of filled digits
 counts = refl
 
 device : fact_text (fact.RpdoCount 1 0) ∷ fact_text (fact.TpdoCount 2 4) ∷ fact_text (fact.Identity 5 61858) ∷ fact_text (fact.NoRpdoCount 0) ∷ fact_text (fact.NoTpdoCount 4) ∷ fact_text (fact.NoIdentity 61858) ∷ []
     ≡ codes "NrOfRXPDO is 1, and the number of the sheet's RPDOs is 0" ∷ codes "NrOfTXPDO is 2, and the number of the sheet's TPDOs is 4"
     ∷ codes "the number is 0x5, and that of the identity object is 0xF1A2" ∷ codes "NrOfRXPDO is no number, and the number of the sheet's RPDOs is 0"
     ∷ codes "NrOfTXPDO is no number, and the number of the sheet's TPDOs is 4" ∷ codes "the number can't be read, and that of the identity object is 0xF1A2" ∷ []
-unfolding fact_text unread_text count_text identity_text hexadecimal filled digits
+unfolding fact_text words_of texts_of hexadecimal filled digits
 device = refl
 
 bounds : fact_text (fact.BelowLow 7) ∷ fact_text (fact.AboveHigh 8) ∷ fact_text (fact.LimitsCrossed 9) ∷ fact_text (fact.AboveNegative 10) ∷ fact_text (fact.NegativeHigh 11) ∷ []
     ≡ codes "the value is below the LowLimit of line 7" ∷ codes "the value is above the HighLimit of line 8" ∷ codes "HighLimit is below the LowLimit of line 9" ∷ codes "the value is above the HighLimit of line 10, which is a negative number" ∷ codes "HighLimit is a negative number, below the LowLimit of line 11" ∷ []
-unfolding fact_text unread_text count_text filled digits
+unfolding fact_text words_of texts_of filled digits
 bounds = refl
 
 with_meaning : about_message (FirstAt 40) (codes "m") ∷ about_message (Misspelt NrOfRxPdo) (codes "m") ∷ about_message (Fact (fact.NoType true)) (codes "m") ∷ []
     ≡ codes "m, first at line 40" ∷ codes "the standard has no such key: did you mean NrOfRXPDO" ∷ codes "the entry has no DataType" ∷ []
-unfolding about_message fact_text filled digits
+unfolding about_message fact_text words_of texts_of filled digits
 with_meaning = refl
 
 -- ---- the sections of a sheet, each with its line, and their properties at the lines after it
@@ -159,7 +159,7 @@ right_types : bad_type 35 sections (codes "DataType = 0x0007") ∷ bad_type 45 s
 right_types = refl
 
 type_text : fact_text (fact.FixedType 7) ∷ fix_with (Fact (fact.FixedType 7)) (codes "f") ∷ [] ≡ codes "CiA 301 has DataType=0x0007 here" ∷ codes "give that type, or take the object out of its list" ∷ []
-unfolding fact_text unread_text count_text fix_with filled digits digits_text
+unfolding fact_text words_of texts_of fix_with filled digits digits_text
 type_text = refl
 
 bad_numbers : bad_number (codes " defaultvalue = x") ∷ bad_number (codes "ParameterValue=x") ∷ bad_number (codes "LowLimit=x") ∷ [] ≡ Fact fact.NoValue ∷ Fact fact.NoValue ∷ Line ∷ []

@@ -7,22 +7,19 @@ use Rattle.co_sheet_warnings.specs.KnownKeys.{key_text}
 use Rattle.co_text.specs.Printed.{digits_text}
 use Rattle.conode_text.specs.Filled.{filled}
 use Rattle.conode_lint_text.specs.declared.fact.Fact.{Fact}
+use Rattle.conode_lint_text.specs.declared.fact.Part.{Part}
+use Rattle.conode_lint_text.specs.declared.fact.Part.TheVariants.{Number, Code, Hexadecimal}
 use Rattle.conode_lint_text.specs.declared.fact.Fact.TheVariants.{NoCount, ListCount, ListGap, HighIndex, NoMandatoryList, NotListed, LargeText, NoValue, FixedType, NoType, NoAccess, NoTypeOrAccess, NoFileInfo, FileInfoLacks, NoDeviceInfo, DeviceInfoLacks, NoSubNumber, SubNumber, SubIndex0, RpdoCount, TpdoCount, NoRpdoCount, NoTpdoCount, Identity, NoIdentity, BelowLow, AboveHigh, AboveNegative, LimitsCrossed, NegativeHigh}
-
--- words with numbers in their places; those past the last place aren't written
-abbrev pub with_numbers : List ℕ → ℕ → ℕ → ℕ → List ℕ
-with_numbers words first second third =
-    filled words (decimal first ∷ decimal second ∷ decimal third ∷ [])
 
 -- a number as sheets have it, in hexadecimal digits
 unfoldable pub hexadecimal : ℕ → List ℕ
 hexadecimal number = codes "0x" ++ digits 16 true number
 
--- of the identity
-unfoldable pub identity_text : ℕ → ℕ → List ℕ
-identity_text number other =
-    codes "the number is " ++ hexadecimal number
-    ++ codes ", and that of the identity object is " ++ hexadecimal other
+-- a value in a sentence: a number in decimal digits, the code of a type, a number as sheets have it
+abbrev pub part_text : Part → List ℕ
+part_text (Number number) = decimal number
+part_text (Code code) = digits_text 16 4 code
+part_text (Hexadecimal number) = hexadecimal number
 
 -- of keys those that are missing, after these words, with commas between them
 unfoldable pub missing_text : List ℕ → List KnownKey → List Bool → List ℕ
@@ -41,73 +38,81 @@ not_listed true false false = codes "no object list names 1000h"
 not_listed false true false = codes "no object list names 1001h"
 not_listed false false identity = codes "no object list names 1018h"
 
--- of a fact with numbers
-unfoldable pub count_text : Fact → List ℕ
-count_text (ListCount counted has) =
-    with_numbers (codes "the list counts % objects and has % of the keys 1 to %")
-    counted has counted
-count_text (ListGap counted has missing) =
-    with_numbers (codes "the list counts % objects and has %: key % is missing")
-    counted has missing
-count_text (SubNumber number has) =
-    with_numbers (codes "SubNumber is %, and the number of the object's sub-index sections is %")
-    number has 0
-count_text (SubIndex0 number highest) =
-    with_numbers (codes "sub-index 0 is %, and the highest sub-index of the object is %")
-    number highest 0
-count_text (RpdoCount number has) =
-    with_numbers (codes "NrOfRXPDO is %, and the number of the sheet's RPDOs is %") number has 0
-count_text (TpdoCount number has) =
-    with_numbers (codes "NrOfTXPDO is %, and the number of the sheet's TPDOs is %") number has 0
-count_text (Identity number other) = identity_text number other
-count_text (BelowLow line) =
-    with_numbers (codes "the value is below the LowLimit of line %") line 0 0
-count_text (AboveHigh line) =
-    with_numbers (codes "the value is above the HighLimit of line %") line 0 0
-count_text (AboveNegative line) =
-    with_numbers (codes "the value is above the HighLimit of line %, which is a negative number")
-    line 0 0
-count_text (FixedType code) =
-    filled (codes "CiA 301 has DataType=0x% here") (digits_text 16 4 code ∷ [])
-count_text (HighIndex line) =
-    with_numbers (codes "the index of line % is above 0xFFFF") line 0 0
-count_text (LimitsCrossed line) =
-    with_numbers (codes "HighLimit is below the LowLimit of line %") line 0 0
-count_text (NegativeHigh line) =
-    with_numbers (codes "HighLimit is a negative number, below the LowLimit of line %") line 0 0
-count_text other = []
+-- the words of a fact, with places for its values; those before the keys that are missing
+unfoldable pub words_of : Fact → List ℕ
+words_of NoCount = codes "the list has no SupportedObjects"
+words_of (ListCount number other) = codes "the list counts % objects and has % of the keys 1 to %"
+words_of (ListGap number other third) =
+    codes "the list counts % objects and has %: key % is missing"
+words_of (HighIndex number) = codes "the index of line % is above 0xFFFF"
+words_of NoMandatoryList = codes "there is no section [MandatoryObjects]"
+words_of (NotListed device error identity) = not_listed device error identity
+words_of LargeText = codes "the text has more than 1,048,576 bytes"
+words_of NoValue = codes "the value is no number"
+words_of (FixedType number) = codes "CiA 301 has DataType=0x% here"
+words_of (NoType is_sub) = codes "the entry has no DataType"
+words_of (NoAccess is_sub) = codes "the entry has no AccessType"
+words_of (NoTypeOrAccess is_sub) = codes "the entry has neither DataType nor AccessType"
+words_of (NoFileInfo missing) = codes "there is no section [FileInfo]; it has to have "
+words_of (FileInfoLacks missing) = codes "FileInfo lacks "
+words_of (NoDeviceInfo missing) = codes "there is no section [DeviceInfo]; it has to have "
+words_of (DeviceInfoLacks missing) = codes "DeviceInfo lacks "
+words_of (NoSubNumber number) =
+    codes "SubNumber is no number, and the number of the object's sub-index sections is %"
+words_of (SubNumber number other) =
+    codes "SubNumber is %, and the number of the object's sub-index sections is %"
+words_of (SubIndex0 number other) =
+    codes "sub-index 0 is %, and the highest sub-index of the object is %"
+words_of (RpdoCount number other) = codes "NrOfRXPDO is %, and the number of the sheet's RPDOs is %"
+words_of (TpdoCount number other) = codes "NrOfTXPDO is %, and the number of the sheet's TPDOs is %"
+words_of (NoRpdoCount number) =
+    codes "NrOfRXPDO is no number, and the number of the sheet's RPDOs is %"
+words_of (NoTpdoCount number) =
+    codes "NrOfTXPDO is no number, and the number of the sheet's TPDOs is %"
+words_of (Identity number other) = codes "the number is %, and that of the identity object is %"
+words_of (NoIdentity number) =
+    codes "the number can't be read, and that of the identity object is %"
+words_of (BelowLow number) = codes "the value is below the LowLimit of line %"
+words_of (AboveHigh number) = codes "the value is above the HighLimit of line %"
+words_of (AboveNegative number) =
+    codes "the value is above the HighLimit of line %, which is a negative number"
+words_of (LimitsCrossed number) = codes "HighLimit is below the LowLimit of line %"
+words_of (NegativeHigh number) =
+    codes "HighLimit is a negative number, below the LowLimit of line %"
 
--- of the number of the identity object alone
-abbrev pub no_identity_text : ℕ → List ℕ
-no_identity_text other =
-    codes "the number can't be read, and that of the identity object is " ++ hexadecimal other
+-- three numbers in the places of words; those past the last place aren't written
+abbrev pub numbers : ℕ → ℕ → ℕ → List (List ℕ)
+numbers first second third = decimal first ∷ decimal second ∷ decimal third ∷ []
 
--- of a number that can't be read, or of another fact with numbers
-unfoldable pub unread_text : Fact → List ℕ
-unread_text (NoSubNumber has) =
-    with_numbers
-    (codes "SubNumber is no number, and the number of the object's sub-index sections is %") has 0 0
-unread_text (NoRpdoCount has) =
-    with_numbers (codes "NrOfRXPDO is no number, and the number of the sheet's RPDOs is %") has 0 0
-unread_text (NoTpdoCount has) =
-    with_numbers (codes "NrOfTXPDO is no number, and the number of the sheet's TPDOs is %") has 0 0
-unread_text (NoIdentity other) = no_identity_text other
-unread_text fact = count_text fact
+-- the texts in the places of a fact's words
+unfoldable pub texts_of : Fact → List (List ℕ)
+texts_of (ListCount counted has) = numbers counted has counted
+texts_of (ListGap counted has missing) = numbers counted has missing
+texts_of (SubNumber number has) = numbers number has 0
+texts_of (RpdoCount number has) = numbers number has 0
+texts_of (TpdoCount number has) = numbers number has 0
+texts_of (SubIndex0 number highest) = numbers number highest 0
+texts_of (NoSubNumber has) = numbers has 0 0
+texts_of (NoRpdoCount has) = numbers has 0 0
+texts_of (NoTpdoCount has) = numbers has 0 0
+texts_of (BelowLow line) = numbers line 0 0
+texts_of (AboveHigh line) = numbers line 0 0
+texts_of (AboveNegative line) = numbers line 0 0
+texts_of (HighIndex line) = numbers line 0 0
+texts_of (LimitsCrossed line) = numbers line 0 0
+texts_of (NegativeHigh line) = numbers line 0 0
+texts_of (Identity number other) = hexadecimal number ∷ hexadecimal other ∷ decimal 0 ∷ []
+texts_of (NoIdentity other) = hexadecimal other ∷ decimal 0 ∷ decimal 0 ∷ []
+texts_of (FixedType code) = digits_text 16 4 code ∷ decimal 0 ∷ decimal 0 ∷ []
+texts_of other = numbers 0 0 0
 
 -- of any fact
 unfoldable pub fact_text : Fact → List ℕ
-fact_text NoCount = codes "the list has no SupportedObjects"
-fact_text NoMandatoryList = codes "there is no section [MandatoryObjects]"
-fact_text (NotListed device error identity) = not_listed device error identity
-fact_text LargeText = codes "the text has more than 1,048,576 bytes"
-fact_text NoValue = codes "the value is no number"
-fact_text (NoType is_sub) = codes "the entry has no DataType"
-fact_text (NoAccess is_sub) = codes "the entry has no AccessType"
-fact_text (NoTypeOrAccess is_sub) = codes "the entry has neither DataType nor AccessType"
-fact_text (NoFileInfo missing) =
-    missing_text (codes "there is no section [FileInfo]; it has to have ") file_keys missing
-fact_text (FileInfoLacks missing) = missing_text (codes "FileInfo lacks ") file_keys missing
+fact_text (NoFileInfo missing) = missing_text (words_of (NoFileInfo missing)) file_keys missing
+fact_text (FileInfoLacks missing) =
+    missing_text (words_of (FileInfoLacks missing)) file_keys missing
 fact_text (NoDeviceInfo missing) =
-    missing_text (codes "there is no section [DeviceInfo]; it has to have ") device_keys missing
-fact_text (DeviceInfoLacks missing) = missing_text (codes "DeviceInfo lacks ") device_keys missing
-fact_text fact = unread_text fact
+    missing_text (words_of (NoDeviceInfo missing)) device_keys missing
+fact_text (DeviceInfoLacks missing) =
+    missing_text (words_of (DeviceInfoLacks missing)) device_keys missing
+fact_text fact = filled (words_of fact) (texts_of fact)

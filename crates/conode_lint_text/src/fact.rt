@@ -1,20 +1,20 @@
 //! What a sheet has at a finding, as numbers, and its sentence.
 
-ghost use Rattle.std.specs.Prelude.{◌≡◌, ◌++◌, [], ◌∷◌, decimal, OnOk, string_bytes};
-ghost use Rattle.conode_text.specs.Filled.{filled};
+ghost use Rattle.std.specs.Prelude.{◌≡◌, ◌++◌, map, OnOk, string_bytes};
 ghost use Rattle.conode_lint_text.specs.FactTexts.{
-  count_text,
   fact_text,
   hexadecimal,
-  identity_text,
   missing_text,
-  no_identity_text,
   not_listed,
-  unread_text,
+  numbers,
+  part_text,
+  texts_of,
+  words_of,
 };
 
 use co_sheet_warnings::{KnownKey, device_keys, file_keys};
-use conode_text::{Value, push_filled};
+use co_text::{push_decimal, push_u16};
+use conode_text::{HasText, push_filled};
 use std::alloc::AllocError;
 
 /// What a sheet has where a finding is: what its line alone doesn't show.
@@ -83,194 +83,136 @@ pub enum Fact {
     NegativeHigh(usize),
 }
 
-// words with numbers in their places
-fn push_numbers(
-    text: &mut String,
-    words: &str,
-    first: u64,
-    second: u64,
-    third: u64,
-) -> Result<(), AllocError>
-    ensures { OnOk result (string_bytes text.new ≡ string_bytes text.old
-        ++ filled words.now (decimal first ∷ decimal second ∷ decimal third ∷ [])) }
-{
-    push_filled(
-        text,
-        words,
-        &[
-            Value::Number(first),
-            Value::Number(second),
-            Value::Number(third),
-        ],
-    )
+/// A value in the sentence of a fact.
+#[derive(Clone, Copy)]
+pub(crate) enum Part {
+    /// A number in decimal digits.
+    Number(u64),
+    /// The code of a type, in four hexadecimal digits.
+    Code(u16),
+    /// A number as sheets have it, in hexadecimal digits after `0x`.
+    Hexadecimal(u64),
 }
 
-// words and a number as sheets have it, in hexadecimal digits
 #[tactic(auto, unfolding(crate::specs::FactTexts::hexadecimal))]
-fn push_hexadecimal(text: &mut String, words: &str, number: u64) -> Result<(), AllocError>
-    ensures { OnOk result
-        (string_bytes text.new ≡ string_bytes text.old ++ words.now ++ hexadecimal number) }
+fn push_hexadecimal(text: &mut String, number: u64) -> Result<(), AllocError>
+    ensures { OnOk result (string_bytes text.new ≡ string_bytes text.old ++ hexadecimal number) }
 {
-    write!(text, "{words}0x{number:X}")
+    write!(text, "0x{number:X}")
 }
 
-#[tactic(auto, unfolding(crate::specs::FactTexts::identity_text))]
-fn push_identity(text: &mut String, number: u64, other: u64) -> Result<(), AllocError>
-    ensures { OnOk result
-        (string_bytes text.new ≡ string_bytes text.old ++ identity_text number other) }
-{
-    attempt!(push_hexadecimal(text, "the number is ", number));
-    push_hexadecimal(text, ", and that of the identity object is ", other)
-}
+impl HasText for Part {
+    ghost text_of = { part_text };
 
-#[tactic(auto, unfolding(crate::specs::FactTexts::count_text))]
-fn push_count(text: &mut String, fact: Fact) -> Result<(), AllocError>
-    ensures { OnOk result (string_bytes text.new ≡ string_bytes text.old ++ count_text fact) }
-{
-    match fact {
-        Fact::ListCount(counted, has) => push_numbers(
-            text,
-            "the list counts % objects and has % of the keys 1 to %",
-            counted,
-            has as u64,
-            counted,
-        ),
-        Fact::ListGap(counted, has, missing) => push_numbers(
-            text,
-            "the list counts % objects and has %: key % is missing",
-            counted,
-            has as u64,
-            missing as u64,
-        ),
-        Fact::SubNumber(number, has) => push_numbers(
-            text,
-            "SubNumber is %, and the number of the object's sub-index sections is %",
-            number,
-            has as u64,
-            0,
-        ),
-        Fact::SubIndex0(number, highest) => push_numbers(
-            text,
-            "sub-index 0 is %, and the highest sub-index of the object is %",
-            number,
-            u64::from(highest),
-            0,
-        ),
-        Fact::RpdoCount(number, has) => push_numbers(
-            text,
-            "NrOfRXPDO is %, and the number of the sheet's RPDOs is %",
-            number,
-            has as u64,
-            0,
-        ),
-        Fact::TpdoCount(number, has) => push_numbers(
-            text,
-            "NrOfTXPDO is %, and the number of the sheet's TPDOs is %",
-            number,
-            has as u64,
-            0,
-        ),
-        Fact::Identity(number, other) => push_identity(text, number, other),
-        Fact::BelowLow(line) => {
-            push_numbers(
-                text,
-                "the value is below the LowLimit of line %",
-                line as u64,
-                0,
-                0,
-            )
+    fn push(&self, text: &mut String) -> Result<(), AllocError> {
+        match *self {
+            Part::Number(number) => push_decimal(text, number),
+            Part::Code(code) => push_u16(text, code),
+            Part::Hexadecimal(number) => push_hexadecimal(text, number),
         }
-        Fact::AboveHigh(line) => {
-            push_numbers(
-                text,
-                "the value is above the HighLimit of line %",
-                line as u64,
-                0,
-                0,
-            )
-        }
-        Fact::FixedType(code) => {
-            push_filled(text, "CiA 301 has DataType=0x% here", &[Value::Short(code)])
-        }
-        Fact::HighIndex(line) => {
-            push_numbers(
-                text,
-                "the index of line % is above 0xFFFF",
-                line as u64,
-                0,
-                0,
-            )
-        }
-        Fact::AboveNegative(line) => {
-            push_numbers(
-                text,
-                "the value is above the HighLimit of line %, which is a negative number",
-                line as u64,
-                0,
-                0,
-            )
-        }
-        Fact::LimitsCrossed(line) => {
-            push_numbers(
-                text,
-                "HighLimit is below the LowLimit of line %",
-                line as u64,
-                0,
-                0,
-            )
-        }
-        Fact::NegativeHigh(line) => {
-            push_numbers(
-                text,
-                "HighLimit is a negative number, below the LowLimit of line %",
-                line as u64,
-                0,
-                0,
-            )
-        }
-        _ => Ok(()),
     }
 }
 
-fn push_no_identity(text: &mut String, other: u64) -> Result<(), AllocError>
-    ensures { OnOk result (string_bytes text.new ≡ string_bytes text.old ++ no_identity_text other) }
+// which of 1000h, 1001h and 1018h no object list names
+fn not_listed(device: bool, error: bool, identity: bool) -> &'static str
+    ensures { result.now ≡ not_listed device error identity }
 {
-    push_hexadecimal(
-        text,
-        "the number can't be read, and that of the identity object is ",
-        other,
-    )
+    match (device, error, identity) {
+        (true, true, true) => "no object list names 1000h, 1001h and 1018h",
+        (true, true, false) => "no object list names 1000h and 1001h",
+        (true, false, true) => "no object list names 1000h and 1018h",
+        (false, true, true) => "no object list names 1001h and 1018h",
+        (true, false, false) => "no object list names 1000h",
+        (false, true, false) => "no object list names 1001h",
+        (false, false, _) => "no object list names 1018h",
+    }
 }
 
-// of a number that can't be read, or of another fact with numbers
-#[tactic(auto, unfolding(crate::specs::FactTexts::unread_text))]
-fn push_unread(text: &mut String, fact: Fact) -> Result<(), AllocError>
-    ensures { OnOk result (string_bytes text.new ≡ string_bytes text.old ++ unread_text fact) }
+// the words of a fact, with places for its values; those before the keys that are missing
+#[tactic(auto, unfolding(crate::specs::FactTexts::words_of))]
+fn words_of(fact: Fact) -> &'static str
+    ensures { result.now ≡ words_of fact }
 {
     match fact {
-        Fact::NoSubNumber(has) => push_numbers(
-            text,
-            "SubNumber is no number, and the number of the object's sub-index sections is %",
-            has as u64,
-            0,
-            0,
-        ),
-        Fact::NoRpdoCount(has) => push_numbers(
-            text,
-            "NrOfRXPDO is no number, and the number of the sheet's RPDOs is %",
-            has as u64,
-            0,
-            0,
-        ),
-        Fact::NoTpdoCount(has) => push_numbers(
-            text,
-            "NrOfTXPDO is no number, and the number of the sheet's TPDOs is %",
-            has as u64,
-            0,
-            0,
-        ),
-        Fact::NoIdentity(other) => push_no_identity(text, other),
-        _ => push_count(text, fact),
+        Fact::NoCount => "the list has no SupportedObjects",
+        Fact::ListCount(_, _) => "the list counts % objects and has % of the keys 1 to %",
+        Fact::ListGap(_, _, _) => "the list counts % objects and has %: key % is missing",
+        Fact::HighIndex(_) => "the index of line % is above 0xFFFF",
+        Fact::NoMandatoryList => "there is no section [MandatoryObjects]",
+        Fact::NotListed(device, error, identity) => not_listed(device, error, identity),
+        Fact::LargeText => "the text has more than 1,048,576 bytes",
+        Fact::NoValue => "the value is no number",
+        Fact::FixedType(_) => "CiA 301 has DataType=0x% here",
+        Fact::NoType(_) => "the entry has no DataType",
+        Fact::NoAccess(_) => "the entry has no AccessType",
+        Fact::NoTypeOrAccess(_) => "the entry has neither DataType nor AccessType",
+        Fact::NoFileInfo(_) => "there is no section [FileInfo]; it has to have ",
+        Fact::FileInfoLacks(_) => "FileInfo lacks ",
+        Fact::NoDeviceInfo(_) => "there is no section [DeviceInfo]; it has to have ",
+        Fact::DeviceInfoLacks(_) => "DeviceInfo lacks ",
+        Fact::NoSubNumber(_) => {
+            "SubNumber is no number, and the number of the object's sub-index sections is %"
+        }
+        Fact::SubNumber(_, _) => {
+            "SubNumber is %, and the number of the object's sub-index sections is %"
+        }
+        Fact::SubIndex0(_, _) => "sub-index 0 is %, and the highest sub-index of the object is %",
+        Fact::RpdoCount(_, _) => "NrOfRXPDO is %, and the number of the sheet's RPDOs is %",
+        Fact::TpdoCount(_, _) => "NrOfTXPDO is %, and the number of the sheet's TPDOs is %",
+        Fact::NoRpdoCount(_) => "NrOfRXPDO is no number, and the number of the sheet's RPDOs is %",
+        Fact::NoTpdoCount(_) => "NrOfTXPDO is no number, and the number of the sheet's TPDOs is %",
+        Fact::Identity(_, _) => "the number is %, and that of the identity object is %",
+        Fact::NoIdentity(_) => "the number can't be read, and that of the identity object is %",
+        Fact::BelowLow(_) => "the value is below the LowLimit of line %",
+        Fact::AboveHigh(_) => "the value is above the HighLimit of line %",
+        Fact::AboveNegative(_) => {
+            "the value is above the HighLimit of line %, which is a negative number"
+        }
+        Fact::LimitsCrossed(_) => "HighLimit is below the LowLimit of line %",
+        Fact::NegativeHigh(_) => "HighLimit is a negative number, below the LowLimit of line %",
+    }
+}
+
+// words with numbers have these in their places
+fn numbers(first: u64, second: u64, third: u64) -> [Part; 3]
+    ensures { map part_text result ≡ numbers first second third }
+{
+    [
+        Part::Number(first),
+        Part::Number(second),
+        Part::Number(third),
+    ]
+}
+
+// the values of a fact; those past the last place aren't written
+#[tactic(auto, unfolding(crate::specs::FactTexts::texts_of))]
+fn values_of(fact: Fact) -> [Part; 3]
+    ensures { map part_text result ≡ texts_of fact }
+{
+    match fact {
+        Fact::ListCount(counted, has) => numbers(counted, has as u64, counted),
+        Fact::ListGap(counted, has, missing) => numbers(counted, has as u64, missing as u64),
+        Fact::SubNumber(number, has)
+        | Fact::RpdoCount(number, has)
+        | Fact::TpdoCount(number, has) => numbers(number, has as u64, 0),
+        Fact::SubIndex0(number, highest) => numbers(number, highest as u64, 0),
+        Fact::NoSubNumber(number)
+        | Fact::NoRpdoCount(number)
+        | Fact::NoTpdoCount(number)
+        | Fact::BelowLow(number)
+        | Fact::AboveHigh(number)
+        | Fact::AboveNegative(number)
+        | Fact::HighIndex(number)
+        | Fact::LimitsCrossed(number)
+        | Fact::NegativeHigh(number) => numbers(number as u64, 0, 0),
+        Fact::Identity(number, other) => [
+            Part::Hexadecimal(number),
+            Part::Hexadecimal(other),
+            Part::Number(0),
+        ],
+        Fact::NoIdentity(other) => [Part::Hexadecimal(other), Part::Number(0), Part::Number(0)],
+        Fact::FixedType(code) => [Part::Code(code), Part::Number(0), Part::Number(0)],
+        _ => numbers(0, 0, 0),
     }
 }
 
@@ -306,55 +248,19 @@ fn push_missing(
     push_missing(text, ", ", keys, missing)
 }
 
-// which of 1000h, 1001h and 1018h no object list names
-fn not_listed(device: bool, error: bool, identity: bool) -> &'static str
-    ensures { result.now ≡ not_listed device error identity }
-{
-    match (device, error, identity) {
-        (true, true, true) => "no object list names 1000h, 1001h and 1018h",
-        (true, true, false) => "no object list names 1000h and 1001h",
-        (true, false, true) => "no object list names 1000h and 1018h",
-        (false, true, true) => "no object list names 1001h and 1018h",
-        (true, false, false) => "no object list names 1000h",
-        (false, true, false) => "no object list names 1001h",
-        (false, false, _) => "no object list names 1018h",
-    }
-}
-
 /// Appends the sentence of a fact. `Err`: out of memory; a part of the text may be there.
 #[tactic(auto, unfolding(crate::specs::FactTexts::fact_text))]
 pub(crate) fn push_fact(text: &mut String, fact: Fact) -> Result<(), AllocError>
     ensures { OnOk result (string_bytes text.new ≡ string_bytes text.old ++ fact_text fact) }
 {
+    let words = words_of(fact);
     match fact {
-        Fact::NoCount => text.push_str("the list has no SupportedObjects"),
-        Fact::NoMandatoryList => text.push_str("there is no section [MandatoryObjects]"),
-        Fact::NotListed(device, error, identity) => {
-            text.push_str(not_listed(device, error, identity))
+        Fact::NoFileInfo(missing) | Fact::FileInfoLacks(missing) => {
+            push_missing(text, words, file_keys(), &missing)
         }
-        Fact::LargeText => text.push_str("the text has more than 1,048,576 bytes"),
-        Fact::NoValue => text.push_str("the value is no number"),
-        Fact::NoType(_) => text.push_str("the entry has no DataType"),
-        Fact::NoAccess(_) => text.push_str("the entry has no AccessType"),
-        Fact::NoTypeOrAccess(_) => text.push_str("the entry has neither DataType nor AccessType"),
-        Fact::NoFileInfo(missing) => push_missing(
-            text,
-            "there is no section [FileInfo]; it has to have ",
-            file_keys(),
-            &missing,
-        ),
-        Fact::FileInfoLacks(missing) => {
-            push_missing(text, "FileInfo lacks ", file_keys(), &missing)
+        Fact::NoDeviceInfo(missing) | Fact::DeviceInfoLacks(missing) => {
+            push_missing(text, words, device_keys(), &missing)
         }
-        Fact::NoDeviceInfo(missing) => push_missing(
-            text,
-            "there is no section [DeviceInfo]; it has to have ",
-            device_keys(),
-            &missing,
-        ),
-        Fact::DeviceInfoLacks(missing) => {
-            push_missing(text, "DeviceInfo lacks ", device_keys(), &missing)
-        }
-        _ => push_unread(text, fact),
+        _ => push_filled(text, words, &values_of(fact)),
     }
 }

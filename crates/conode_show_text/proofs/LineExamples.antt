@@ -20,7 +20,7 @@ use Rattle.conode_show_text.specs.CobIds.{cob_id_text, identifier_text, pdo_cob_
 use Rattle.conode_show_text.specs.Meanings.{consumer_text, millis_text, said, time_text, word_text}
 use Rattle.conode_show_text.specs.declared.meaning.Meaning.TheVariants.{Consumer, PdoCobId}
 use Rattle.conode_show_text.specs.Entries.{entry_line, entry_type, has_sub_indices, is_split, mappable_text, object_heading, object_line, one_line, section_text, two_lines, type_name, type_text}
-use Rattle.conode_show_text.specs.Services.{channel_name, service_name, service_of}
+use Rattle.conode_show_text.specs.Services.{service_name, service_of}
 use Rattle.conode_show_text.specs.Pdos.{inhibit_text, is_counted, is_pdo_cob_id, mapped_lines, mapped_name, mapping_count, multiplexed_line, multiplexed_words, pdo_line, pdo_lines, pdo_name, pdo_text, said_at}
 use Rattle.conode_show_text.specs.Document.{rank}
 
@@ -234,11 +234,15 @@ after_channels : service_of (key 0x1300 1) ≡ None
 after_channels = refl
 
 server_name : service_name (SdoRequests 1) ≡ codes "SDO 1, client to server"
-unfolding service_name channel_name digits
+unfolding service_name digits
 server_name = refl
 
+other_names : map service_name (SdoResponses 2 ∷ ClientRequests 1 ∷ SyncOverflow ∷ HeartbeatProducer ∷ []) ≡ codes "SDO 2, server to client" ∷ codes "SDO client 1, client to server" ∷ codes "SYNC counter overflow" ∷ codes "Heartbeat producer" ∷ []
+unfolding service_name digits
+other_names = refl
+
 client_name : service_name (ClientResponses 128) ≡ codes "SDO client 128, server to client"
-unfolding service_name channel_name digits
+unfolding service_name digits
 client_name = refl
 
 -- ---- PDOs

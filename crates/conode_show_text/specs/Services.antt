@@ -32,25 +32,40 @@ service_of key =
     else if nat_le 0x1280 key.index && nat_le key.index 0x12FF && key.sub == 2 then Some (ClientResponses (key.index - 0x1280 + 1))
     else None
 
--- one direction of an SDO channel, of which the device is the server or the client
-unfoldable pub channel_name : List ℕ → ℕ → List ℕ → List ℕ
-channel_name end channel way = end ++ decimal channel ++ way
+-- the words of a service, of an SDO channel those before its number
+abbrev pub service_words : Service → List ℕ
+service_words Sync = codes "SYNC"
+service_words SyncPeriod = codes "SYNC period"
+service_words SyncWindow = codes "SYNC window"
+service_words SyncOverflow = codes "SYNC counter overflow"
+service_words Time = codes "TIME"
+service_words Emcy = codes "EMCY"
+service_words EmcyInhibitTime = codes "EMCY inhibit time"
+service_words HeartbeatConsumer = codes "Heartbeat consumer"
+service_words HeartbeatProducer = codes "Heartbeat producer"
+service_words (SdoRequests channel) = codes "SDO "
+service_words (SdoResponses channel) = codes "SDO "
+service_words (ClientRequests channel) = codes "SDO client "
+service_words (ClientResponses channel) = codes "SDO client "
+
+-- the number of an SDO channel, of which the device is the server or the client, and its direction
+abbrev pub channel_of : Service → Option ℕ
+channel_of (SdoRequests channel) = Some channel
+channel_of (SdoResponses channel) = Some channel
+channel_of (ClientRequests channel) = Some channel
+channel_of (ClientResponses channel) = Some channel
+channel_of service = None
+
+abbrev pub way_of : Service → List ℕ
+way_of (SdoRequests channel) = codes ", client to server"
+way_of (ClientRequests channel) = codes ", client to server"
+way_of service = codes ", server to client"
 
 -- the name of a service
 unfoldable pub service_name : Service → List ℕ
-service_name Sync = codes "SYNC"
-service_name SyncPeriod = codes "SYNC period"
-service_name SyncWindow = codes "SYNC window"
-service_name SyncOverflow = codes "SYNC counter overflow"
-service_name Time = codes "TIME"
-service_name Emcy = codes "EMCY"
-service_name EmcyInhibitTime = codes "EMCY inhibit time"
-service_name HeartbeatConsumer = codes "Heartbeat consumer"
-service_name HeartbeatProducer = codes "Heartbeat producer"
-service_name (SdoRequests channel) = channel_name (codes "SDO ") channel (codes ", client to server")
-service_name (SdoResponses channel) = channel_name (codes "SDO ") channel (codes ", server to client")
-service_name (ClientRequests channel) = channel_name (codes "SDO client ") channel (codes ", client to server")
-service_name (ClientResponses channel) = channel_name (codes "SDO client ") channel (codes ", server to client")
+service_name service =
+    option_map_or (λ channel. service_words service ++ decimal channel ++ way_of service)
+    (channel_of service) (service_words service)
 
 -- the meaning of its number
 abbrev pub service_meaning : Service → Meaning

@@ -3,18 +3,20 @@
 ghost use Rattle.std.specs.Prelude.{◌≡◌, ◌++◌, OnOk, string_bytes};
 ghost use Rattle.co_sheet_text.specs.Views.{section_view};
 ghost use Rattle.conode_show_text.specs.Services.{
-  channel_name,
+  channel_of,
   key_of,
   service_meaning,
   service_name,
   service_of,
   service_text,
+  service_words,
+  way_of,
 };
 
 use crate::cells::{Cell, Content, push_line};
 use crate::format::Format;
 use crate::meaning::Meaning;
-use crate::numbers::{push_between, push_words};
+use crate::numbers::push_between;
 use co_sheet_text::{SectionKind, TextSection};
 use co_value::Key;
 use std::alloc::AllocError;
@@ -90,12 +92,45 @@ impl Service {
     }
 }
 
-#[tactic(auto, unfolding(crate::specs::Services::channel_name))]
-fn push_channel(text: &mut String, end: &str, channel: u16, way: &str) -> Result<(), AllocError>
-    ensures { OnOk result
-        (string_bytes text.new ≡ string_bytes text.old ++ channel_name end.now channel way.now) }
+// the words of a service, of an SDO channel those before its number
+fn service_words(service: Service) -> &'static str
+    ensures { result.now ≡ service_words service }
 {
-    push_between(text, end, channel as u64, way)
+    match service {
+        Service::Sync => "SYNC",
+        Service::SyncPeriod => "SYNC period",
+        Service::SyncWindow => "SYNC window",
+        Service::SyncOverflow => "SYNC counter overflow",
+        Service::Time => "TIME",
+        Service::Emcy => "EMCY",
+        Service::EmcyInhibitTime => "EMCY inhibit time",
+        Service::HeartbeatConsumer => "Heartbeat consumer",
+        Service::HeartbeatProducer => "Heartbeat producer",
+        Service::SdoRequests(_) | Service::SdoResponses(_) => "SDO ",
+        Service::ClientRequests(_) | Service::ClientResponses(_) => "SDO client ",
+    }
+}
+
+fn channel_of(service: Service) -> Option<u16>
+    ensures { result ≡ channel_of service }
+{
+    match service {
+        Service::SdoRequests(channel)
+        | Service::SdoResponses(channel)
+        | Service::ClientRequests(channel)
+        | Service::ClientResponses(channel) => Some(channel),
+        _ => None,
+    }
+}
+
+// the direction of an SDO channel
+fn way_of(service: Service) -> &'static str
+    ensures { result.now ≡ way_of service }
+{
+    match service {
+        Service::SdoRequests(_) | Service::ClientRequests(_) => ", client to server",
+        _ => ", server to client",
+    }
 }
 
 /// Appends the name of a service. `Err`: out of memory; a part of the text may be there.
@@ -103,28 +138,14 @@ fn push_channel(text: &mut String, end: &str, channel: u16, way: &str) -> Result
 pub(crate) fn push_service_name(text: &mut String, service: Service) -> Result<(), AllocError>
     ensures { OnOk result (string_bytes text.new ≡ string_bytes text.old ++ service_name service) }
 {
-    match service {
-        Service::Sync => push_words(text, "SYNC"),
-        Service::SyncPeriod => push_words(text, "SYNC period"),
-        Service::SyncWindow => push_words(text, "SYNC window"),
-        Service::SyncOverflow => push_words(text, "SYNC counter overflow"),
-        Service::Time => push_words(text, "TIME"),
-        Service::Emcy => push_words(text, "EMCY"),
-        Service::EmcyInhibitTime => push_words(text, "EMCY inhibit time"),
-        Service::HeartbeatConsumer => push_words(text, "Heartbeat consumer"),
-        Service::HeartbeatProducer => push_words(text, "Heartbeat producer"),
-        Service::SdoRequests(channel) => {
-            push_channel(text, "SDO ", channel, ", client to server")
-        }
-        Service::SdoResponses(channel) => {
-            push_channel(text, "SDO ", channel, ", server to client")
-        }
-        Service::ClientRequests(channel) => {
-            push_channel(text, "SDO client ", channel, ", client to server")
-        }
-        Service::ClientResponses(channel) => {
-            push_channel(text, "SDO client ", channel, ", server to client")
-        }
+    match channel_of(service) {
+        Some(channel) => push_between(
+            text,
+            service_words(service),
+            channel as u64,
+            way_of(service),
+        ),
+        None => text.push_str(service_words(service)),
     }
 }
 

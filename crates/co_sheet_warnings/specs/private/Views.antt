@@ -7,7 +7,7 @@ use Rattle.co_sheet_warnings.specs.declared.infos.Format.{Format}
 use Rattle.co_sheet_warnings.specs.declared.infos.Format.TheVariants.{Date, Time}
 use Rattle.co_sheet_warnings.specs.declared.keys.WrittenKey.{WrittenKey as CodeKey}
 use Rattle.co_sheet_warnings.specs.declared.lists.ListCheck.{ListCheck}
-use Rattle.co_sheet_warnings.specs.declared.lists.ListCheck.TheVariants.{Objects, Order}
+use Rattle.co_sheet_warnings.specs.declared.lists.ListCheck.TheVariants.{Objects, Order, Count}
 use Rattle.co_sheet_warnings.specs.declared.repeats.Once.{Once}
 use Rattle.co_sheet_warnings.specs.declared.repeats.Once.TheVariants.{Identifiers, Consumed, Names}
 use Rattle.co_sheet_warnings.specs.declared.repeats.PlacedName.{PlacedName}
@@ -18,14 +18,18 @@ use Rattle.co_sheet_warnings.specs.declared.warning.WarningKind.{WarningKind}
 use Rattle.co_sheet_warnings.specs.declared.warning.WarningKind.TheVariants.{
   SubNumber,
   SubIndex0,
+  VarSubIndices,
   FileInfoKeys,
   DeviceInfoKeys,
   PdoCount,
   WrongList,
+  UncountedKey,
   Unlisted,
   IdentityNumber,
   FixedCobId,
   NodeIdPlace,
+  NegativeLimit,
+  MisspeltSection,
   MisspeltKey,
   SharedCobId,
   InhibitTime,
@@ -43,14 +47,13 @@ use Rattle.co_sheet_warnings.specs.declared.warning.WarningKind.TheVariants.{
   DateFormat,
   LineEnds,
 }
-use Rattle.co_sheet_text.specs.declared.section_kind.SectionKind.{SectionKind}
 use Rattle.co_sheet_text.specs.Sections.{TextSection, property_at}
 use Rattle.co_sheet.specs.Listings.{named_by}
 use Rattle.co_sheet.specs.ObjectLists.{Listing, is_listed}
 use Rattle.co_sheet_warnings.specs.Infos.{is_date, is_time}
 use Rattle.co_sheet_warnings.specs.Keys.{WrittenKey}
 use Rattle.co_sheet_warnings.specs.Lines.{first_other, numbered}
-use Rattle.co_sheet_warnings.specs.Lists.{first_fall, wrong_listing}
+use Rattle.co_sheet_warnings.specs.Lists.{first_fall, uncounted_key, wrong_listing}
 use Rattle.co_sheet_warnings.specs.ReadTexts.{ReadText}
 use Rattle.co_sheet_warnings.specs.Repeats.{Placed, ScopedName, consumed_in, equal_names, identifier_name, is_at, is_before, name_in, repeats, same_scoped, shared_cob_ids}
 use Rattle.co_sheet_warnings.specs.SubIndices.{is_constant_word}
@@ -59,38 +62,40 @@ use Rattle.co_sheet_warnings.specs.SubIndices.{is_constant_word}
 abbrev pub kind_row : WarningKind → ℕ
 kind_row SubNumber = 0
 kind_row SubIndex0 = 1
-kind_row (FileInfoKeys missing) = 2
-kind_row (DeviceInfoKeys missing) = 3
-kind_row PdoCount = 4
-kind_row WrongList = 5
-kind_row Unlisted = 6
-kind_row (IdentityNumber sub) = 7
-kind_row FixedCobId = 8
-kind_row NodeIdPlace = 9
-kind_row (MisspeltKey meant) = 10
-kind_row (SharedCobId node) = 11
-kind_row InhibitTime = 12
-kind_row OwnHeartbeat = 13
-kind_row (HeartbeatTwice given) = 14
-kind_row NoErrorControl = 15
-kind_row LongLine = 16
-kind_row Utf8 = 17
-kind_row NotAscii = 18
-kind_row NodeId = 19
-kind_row ListOrder = 20
-kind_row EqualNames = 21
-kind_row MissingName = 22
-kind_row UnknownKey = 23
-kind_row DateFormat = 24
-kind_row LineEnds = 25
+kind_row VarSubIndices = 2
+kind_row (FileInfoKeys missing) = 3
+kind_row (DeviceInfoKeys missing) = 4
+kind_row PdoCount = 5
+kind_row WrongList = 6
+kind_row UncountedKey = 7
+kind_row Unlisted = 8
+kind_row (IdentityNumber sub) = 9
+kind_row FixedCobId = 10
+kind_row NodeIdPlace = 11
+kind_row NegativeLimit = 12
+kind_row MisspeltSection = 13
+kind_row (MisspeltKey meant) = 14
+kind_row (SharedCobId node) = 15
+kind_row InhibitTime = 16
+kind_row OwnHeartbeat = 17
+kind_row (HeartbeatTwice given) = 18
+kind_row NoErrorControl = 19
+kind_row LongLine = 20
+kind_row Utf8 = 21
+kind_row NotAscii = 22
+kind_row NodeId = 23
+kind_row ListOrder = 24
+kind_row EqualNames = 25
+kind_row MissingName = 26
+kind_row UnknownKey = 27
+kind_row DateFormat = 28
+kind_row LineEnds = 29
 
--- the lines of a list's listings that fail a check, and of a section
-abbrev pub failing : ListCheck → SectionKind → List Listing → List ℕ
-failing Objects list listings = filter_map (wrong_listing list) listings
-failing Order list listings = first_fall 0 listings
-
+-- the lines of a list that fail a check
 abbrev pub list_places : ListCheck → TextSection → List ℕ
-list_places check s = failing check s.kind (named_by s)
+list_places Objects s = filter_map (wrong_listing s.kind) (named_by s)
+list_places Order s = first_fall 0 (named_by s)
+list_places Count s = uncounted_key s
 
 -- an entry that nobody writes, by its section
 abbrev pub is_constant_section : TextSection → Bool

@@ -12,7 +12,7 @@ use Rattle.co_sheet_warnings.proofs.lists.listed_indices.Goals as goal
 pub loop-section-preserved : goal.loop-section-preserved
 loop-section-preserved c =
     pieces-turn (λ sections. flat_map named_by (map section_view sections)) (λ section. named_by (section_view section)) (λ section sections. refl) c.args.sections.now c.loop-section.section-index _
-    (map listing_view c.loop-section.all.items) (map listing_view c.add_named.new.listings.items) _ c.loop-section-test.true c.in-Ok.ensures c.loop-section.invariant
+    (map listing_view c.loop-section.all.items) (map listing_view c.add_named.new.listings.items) _ c.loop-section-test.true c.in-Ok.ensures.named c.loop-section.invariant
 
 pub returns : goal.returns
 returns c =
