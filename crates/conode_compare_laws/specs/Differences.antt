@@ -31,7 +31,8 @@ differences_in these subject rows recording = differences_from these subject row
 
 -- ---- NMT and error control (CiA 301, 7.2.8.2 and 7.2.8.3)
 
--- of a frame of error control: `second-sender` of boot-ups, `heartbeat-state`, `heartbeat-length`
+-- of a frame of error control: `second-sender` of boot-ups and heartbeats, `heartbeat-state`,
+-- `heartbeat-length`
 abbrev pub control_differences : FrameKind → Findings → List Finding
 control_differences (Control byte) found = option_to_list found.frame
 control_differences (OddControl length) found = option_to_list found.frame

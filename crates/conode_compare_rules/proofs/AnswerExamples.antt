@@ -24,6 +24,7 @@ use Rattle.conode_compare_rules.specs.declared.limits.Subject.{Subject}
 use Rattle.conode_compare_rules.specs.declared.nmt.Nmt.{Nmt}
 use Rattle.conode_compare_rules.specs.Answers.{answer_finding, confirmed_finding, ended_finding, held_finding, is_exact, stopped_finding, what_finding}
 use Rattle.conode_compare_rules.specs.EntriesInForce.{facts_of}
+use Rattle.conode_compare_rules.specs.Progresses.{follows_by_answer}
 use Rattle.conode_compare_rules.specs.States.{is_settled}
 use Rattle.conode_compare_rules.proofs.Examples.{limits, key, row}
 
@@ -72,6 +73,22 @@ stopped_just_now = refl
 leaves_stopped : map (λ due. stopped_finding limits 0 (record (stopped_at 0) { due = due }) (answered_in true)) (Operational ∷ PreOperational ∷ []) ≡ None ∷ None ∷ []
 unfolding stopped_finding is_settled
 leaves_stopped = refl
+
+-- the answer shows that it has, once the tolerance after the command and after the heartbeat that showed stopped was over
+follows : map (λ due. follows_by_answer limits 0 (record (stopped_at 100000) { due = due }) (answered_in true)) (Operational ∷ PreOperational ∷ Stopped ∷ Unknown ∷ []) ≡ true ∷ true ∷ false ∷ false ∷ []
+unfolding is_settled
+follows = refl
+
+follows_perhaps : map (λ changed. follows_by_answer limits 0 (record (stopped_at 0) { due = PreOperational; changed = Some changed }) (answered_in true)) (100000 ∷ 100001 ∷ []) ≡ true ∷ false ∷ []
+unfolding is_settled
+follows_perhaps = refl
+
+follows_command : map (λ micros. follows_by_answer limits 0 (record (stopped_at micros) { due = PreOperational }) (answered_in true)) (100000 ∷ 100001 ∷ []) ≡ true ∷ false ∷ []
+unfolding is_settled
+follows_command = refl
+
+uncertain_answer : follows_by_answer limits 0 (record (stopped_at 0) { due = PreOperational }) (answered_in false) ≡ false
+uncertain_answer = refl
 
 -- a request that came before may be answered
 perhaps_earlier : stopped_finding limits 0 (stopped_at 100000) (answered_in false) ≡ None

@@ -14,20 +14,7 @@ use Rattle.conode_compare_rules.specs.declared.kind.FrameKind.TheVariants.{Contr
 use Rattle.conode_compare_rules.specs.declared.limits.Subject.{Subject}
 use Rattle.conode_compare_rules.specs.declared.progress.Progress.{Progress}
 use Rattle.conode_compare_rules.specs.Heartbeats.{is_missing, late_finding, overdue_by}
-use Rattle.conode_compare_rules.specs.Progresses.{
-  after_control,
-  after_emergency,
-  after_process,
-  before_recording,
-  begun,
-  control_findings,
-  emergency_findings,
-  findings_at,
-  heartbeat_findings,
-  moment_at,
-  process_findings,
-  progress_with,
-}
+use Rattle.conode_compare_rules.specs.Progresses.{after_emergency, after_process, before_recording, begun, control_findings, emergency_findings, findings_at, heartbeat_findings, moment_at, process_findings, progress_with}
 use Rattle.conode_compare_rules.specs.States.{nothing_commanded}
 use Rattle.conode_compare_rules.specs.Verdicts.{found}
 use Rattle.conode_compare_rules.specs.OtherClients.{no_clients}

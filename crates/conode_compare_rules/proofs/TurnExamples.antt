@@ -1,12 +1,13 @@
 -- Recordings of a device that ignores a command, of two devices with one node-ID, and of one that makes a
 -- mistake again and again: what is found at each frame, on both sides of each edge.
-use Rattle.std.proofs.Common.{◌≡◌, ℕ, true, false, List, [], ◌∷◌, Option, Some, None, refl}
+use Rattle.std.proofs.Common.{◌≡◌, ℕ, true, false, List, [], ◌∷◌, ◌++◌, Option, Some, None, refl}
 use Rattle.co_frame.specs.declared.nmt.NmtService.TheVariants.{Start, Stop, EnterPreOperational}
 use Rattle.conode_compare_pdos.specs.declared.deviation.Deviation.TheVariants.{NotOperational}
 use Rattle.conode_compare_pdos.specs.declared.parameters.Parameters.{Parameters}
 use Rattle.conode_compare_pdos.specs.declared.pdos.Pdos.{Pdos}
 use Rattle.conode_compare_pdos.specs.Followed.{framed, sighting, unknown_pdos}
-use Rattle.conode_compare_pdos.specs.Tpdos.{booted_tpdo, deviation_at, time_deviation}
+use Rattle.conode_compare_pdos.specs.Deviations.{deviation_at, time_deviation}
+use Rattle.conode_compare_pdos.specs.Tpdos.{booted_tpdo}
 use Rattle.conode_compare_rules.specs.declared.entries.Entries.{Entries}
 use Rattle.conode_compare_rules.specs.declared.finding.Finding.{Finding}
 use Rattle.conode_compare_rules.specs.declared.finding.Finding.TheVariants.{EmergencyStopped, HeartbeatLate, HeartbeatLength, NoState, Pdo as PdoFinding, TwoStates, WrongState}
@@ -16,12 +17,14 @@ use Rattle.conode_compare_rules.specs.declared.kind.FrameKind.TheVariants.{Comma
 use Rattle.conode_compare_rules.specs.declared.limits.Subject.{Subject}
 use Rattle.conode_compare_rules.specs.declared.progress.Progress.{Progress}
 use Rattle.conode_compare_rules.specs.declared.verdict.Verdict.{Verdict}
-use Rattle.conode_compare_rules.specs.declared.verdict.Verdict.TheVariants.{Prescribed, Different, Unjudged}
+use Rattle.conode_compare_rules.specs.declared.verdict.Verdict.TheVariants.{Unjudged}
+use Rattle.conode_compare_rules.specs.Answers.{silence_finding}
 use Rattle.conode_compare_rules.specs.EmergencyRules.{emergency_finding, inhibit_finding}
 use Rattle.conode_compare_rules.specs.Heartbeats.{late_finding, overdue_by}
 use Rattle.conode_compare_rules.specs.Progresses as progresses
 use Rattle.conode_compare_rules.specs.Progresses.{
   after_emergency,
+  after_odd_control,
   after_process,
   before_recording,
   begun,
@@ -93,17 +96,17 @@ falls_back : last_found ignores 610001 (Control 127) ≡ None
 unfolding findings_at progress_with begun booted found progresses.after_control states.after_control after_boot_up after_other awaits_boot_up progresses.after_command states.after_command after_process process_findings moment_at sighting framed deviation_at time_deviation is_settled control_findings heartbeat_findings control_finding state_finding
 falls_back = refl
 
-sends_on : last_found ((0, Control 0) ∷ (100000, Command Start) ∷ (500000, Control 127) ∷ (600000, tpdo) ∷ (610001, Control 127) ∷ []) 620002 tpdo ≡ Some (PdoFinding 1 NotOperational)
+sends_on : last_found (ignores ++ (610001, Control 127) ∷ []) 620002 tpdo ≡ Some (PdoFinding 1 NotOperational)
 unfolding findings_at progress_with begun booted found progresses.after_control states.after_control after_boot_up after_other awaits_boot_up progresses.after_command states.after_command after_process process_findings moment_at sighting framed deviation_at time_deviation is_settled
 sends_on = refl
 
 -- one that was on its way
-on_its_way : last_found ((0, Control 0) ∷ (100000, Command Start) ∷ (500000, Control 127) ∷ (600000, tpdo) ∷ (610001, Control 127) ∷ []) 620001 tpdo ≡ None
+on_its_way : last_found (ignores ++ (610001, Control 127) ∷ []) 620001 tpdo ≡ None
 unfolding findings_at progress_with begun booted found progresses.after_control states.after_control after_boot_up after_other awaits_boot_up progresses.after_command states.after_command after_process process_findings moment_at sighting framed deviation_at time_deviation is_settled
 on_its_way = refl
 
 -- a heartbeat within the tolerance after the TPDO may have been on its way
-too_soon : last_found ((0, Control 0) ∷ (100000, Command Start) ∷ (500000, Control 127) ∷ (600000, tpdo) ∷ (610000, Control 127) ∷ []) 700000 tpdo ≡ None
+too_soon : last_found (ignores ++ (610000, Control 127) ∷ []) 700000 tpdo ≡ None
 unfolding findings_at progress_with begun booted found progresses.after_control states.after_control after_boot_up after_other awaits_boot_up progresses.after_command states.after_command after_process process_findings moment_at sighting framed deviation_at time_deviation is_settled
 too_soon = refl
 
@@ -118,19 +121,19 @@ unfolding findings_at progress_with begun booted found progresses.after_control 
 not_shown = refl
 
 -- the next Start may be followed, too
-commanded_again : last_found ((0, Control 0) ∷ (100000, Command Start) ∷ (500000, Control 127) ∷ (600000, tpdo) ∷ (700000, Control 127) ∷ (800000, Command Start) ∷ (900000, Control 127) ∷ []) 950000 tpdo ≡ None
+commanded_again : last_found (ignores ++ (700000, Control 127) ∷ (800000, Command Start) ∷ (900000, Control 127) ∷ []) 950000 tpdo ≡ None
 unfolding findings_at progress_with begun booted found progresses.after_control states.after_control after_boot_up after_other awaits_boot_up progresses.after_command states.after_command after_process process_findings moment_at sighting framed deviation_at time_deviation is_settled
 commanded_again = refl
 
 -- from stopped: an EMCY shows that it has left that
 abbrev leaves : List (ℕ × FrameKind)
-leaves = (0, Control 0) ∷ (100000, Command Stop) ∷ (200000, Control 4) ∷ (300000, Command EnterPreOperational) ∷ (400000, Control 4) ∷ (500000, Emergency 0x8130 0x11) ∷ []
+leaves = (0, Control 0) ∷ (100000, Command Stop) ∷ (200000, Control 4) ∷ (300000, Command EnterPreOperational) ∷ (400000, Control 4) ∷ []
 
-stops_again : last_found ((0, Control 0) ∷ (100000, Command Stop) ∷ (200000, Control 4) ∷ (300000, Command EnterPreOperational) ∷ (400000, Control 4) ∷ (500000, Emergency 0x8130 0x11) ∷ (600000, Control 4) ∷ []) 700000 (Emergency 0 0) ≡ Some EmergencyStopped
+stops_again : last_found (leaves ++ (500000, Emergency 0x8130 0x11) ∷ (600000, Control 4) ∷ []) 700000 (Emergency 0 0) ≡ Some EmergencyStopped
 unfolding findings_at progress_with begun booted found progresses.after_control states.after_control after_boot_up after_other awaits_boot_up progresses.after_command states.after_command after_emergency emergency_findings emergency_finding inhibit_finding is_settled late_finding overdue_by
 stops_again = refl
 
-still_slow : last_found ((0, Control 0) ∷ (100000, Command Stop) ∷ (200000, Control 4) ∷ (300000, Command EnterPreOperational) ∷ (400000, Control 4) ∷ (600000, Control 4) ∷ []) 700000 (Emergency 0 0) ≡ None
+still_slow : last_found (leaves ++ (600000, Control 4) ∷ []) 700000 (Emergency 0 0) ≡ None
 unfolding findings_at progress_with begun booted found progresses.after_control states.after_control after_boot_up after_other awaits_boot_up progresses.after_command states.after_command after_emergency emergency_findings emergency_finding inhibit_finding is_settled late_finding overdue_by
 still_slow = refl
 
@@ -145,21 +148,21 @@ changes = refl
 abbrev in_turn : List (ℕ × FrameKind)
 in_turn = (0, Control 0) ∷ (500000, Control 5) ∷ (1000000, Control 127) ∷ []
 
-second : last_found ((0, Control 0) ∷ (500000, Control 5) ∷ (1000000, Control 127) ∷ []) 1500000 (Control 5) ≡ Some (TwoStates Operational PreOperational)
+second : last_found in_turn 1500000 (Control 5) ≡ Some (TwoStates Operational PreOperational)
 unfolding findings_at progress_with begun booted found progresses.after_control states.after_control after_boot_up after_other awaits_boot_up control_findings heartbeat_findings control_finding state_finding is_settled
 second = refl
 
 -- said once, and no state is known any more
-said : last_found ((0, Control 0) ∷ (500000, Control 5) ∷ (1000000, Control 127) ∷ (1500000, Control 5) ∷ (2000000, Control 127) ∷ []) 2500000 (Control 5) ≡ None
+said : last_found (in_turn ++ (1500000, Control 5) ∷ (2000000, Control 127) ∷ []) 2500000 (Control 5) ≡ None
 unfolding findings_at progress_with begun booted found progresses.after_control states.after_control after_boot_up after_other awaits_boot_up control_findings heartbeat_findings control_finding state_finding is_settled
 said = refl
 
-unjudged : last_verdict ((0, Control 0) ∷ (500000, Control 5) ∷ (1000000, Control 127) ∷ (1500000, Control 5) ∷ []) 2000000 (Control 127) ≡ Some Unjudged
-unfolding findings_at progress_with begun booted found progresses.after_control states.after_control after_boot_up after_other awaits_boot_up boot_finding control_findings heartbeat_findings control_finding control_judged state_finding is_settled late_finding overdue_by
+unjudged : last_verdict (in_turn ++ (1500000, Control 5) ∷ []) 2000000 (Control 127) ≡ Some Unjudged
+unfolding findings_at progress_with begun booted found progresses.after_control states.after_control after_boot_up after_other awaits_boot_up boot_finding control_findings heartbeat_findings control_finding control_judged state_finding is_settled late_finding overdue_by silence_finding
 unjudged = refl
 
 -- a command begins anew
-known_again : last_found ((0, Control 0) ∷ (500000, Control 5) ∷ (1000000, Control 127) ∷ (1500000, Control 5) ∷ (1600000, Command Stop) ∷ (2000000, Control 4) ∷ []) 2500000 (Control 5) ≡ Some (WrongState Operational Stopped)
+known_again : last_found (in_turn ++ (1500000, Control 5) ∷ (1600000, Command Stop) ∷ (2000000, Control 4) ∷ []) 2500000 (Control 5) ≡ Some (WrongState Operational Stopped)
 unfolding findings_at progress_with begun booted found progresses.after_control states.after_control after_boot_up after_other awaits_boot_up progresses.after_command states.after_command control_findings heartbeat_findings control_finding state_finding is_settled
 known_again = refl
 
@@ -169,7 +172,7 @@ unfolding findings_at progress_with begun booted found progresses.after_control 
 started_again = refl
 
 -- a command between the two changes
-commanded_between : last_found ((0, Control 0) ∷ (500000, Control 5) ∷ (1000000, Control 127) ∷ (1100000, Command EnterPreOperational) ∷ []) 1500000 (Control 5) ≡ Some (WrongState Operational PreOperational)
+commanded_between : last_found (in_turn ++ (1100000, Command EnterPreOperational) ∷ []) 1500000 (Control 5) ≡ Some (WrongState Operational PreOperational)
 unfolding findings_at progress_with begun booted found progresses.after_control states.after_control after_boot_up after_other awaits_boot_up progresses.after_command states.after_command control_findings heartbeat_findings control_finding state_finding is_settled
 commanded_between = refl
 
@@ -190,7 +193,7 @@ unfolding findings_at progress_with begun booted found progresses.after_control 
 same_byte = refl
 
 same_byte_unjudged : last_verdict ((0, Control 0) ∷ (500000, Control 3) ∷ []) 1000000 (Control 3) ≡ Some Unjudged
-unfolding findings_at progress_with begun booted found progresses.after_control states.after_control after_boot_up after_other awaits_boot_up boot_finding control_findings heartbeat_findings control_finding control_judged state_finding is_settled late_finding overdue_by
+unfolding findings_at progress_with begun booted found progresses.after_control states.after_control after_boot_up after_other awaits_boot_up boot_finding control_findings heartbeat_findings control_finding control_judged state_finding is_settled late_finding overdue_by silence_finding
 same_byte_unjudged = refl
 
 other_byte : last_found ((0, Control 0) ∷ (500000, Control 3) ∷ []) 1000000 (Control 6) ≡ Some (NoState 6)
@@ -211,45 +214,45 @@ unfolding findings_at progress_with begun booted found after_boot_up states.afte
 wrong_length = refl
 
 same_length : last_found ((0, Control 0) ∷ (500000, OddControl 2) ∷ []) 1000000 (OddControl 2) ≡ None
-unfolding findings_at progress_with begun booted found after_boot_up states.after_control
+unfolding findings_at progress_with begun booted found after_boot_up states.after_control after_odd_control
 same_length = refl
 
 other_length : last_found ((0, Control 0) ∷ (500000, OddControl 2) ∷ []) 1000000 (OddControl 3) ≡ Some (HeartbeatLength 3)
-unfolding findings_at progress_with begun booted found after_boot_up states.after_control
+unfolding findings_at progress_with begun booted found after_boot_up states.after_control after_odd_control
 other_length = refl
 
 length_between : last_found ((0, Control 0) ∷ (500000, OddControl 2) ∷ (1000000, Control 127) ∷ []) 1500000 (OddControl 2) ≡ Some (HeartbeatLength 2)
-unfolding findings_at progress_with begun booted found progresses.after_control states.after_control after_boot_up control_finding state_finding is_settled
+unfolding findings_at progress_with begun booted found progresses.after_control states.after_control after_boot_up control_finding state_finding is_settled after_odd_control after_other awaits_boot_up
 length_between = refl
 
 -- ---- heartbeats that come late one after another: each 1100 ms, and not each 1000 ms
 
-abbrev late_pair : List (ℕ × FrameKind)
-late_pair = (0, Control 0) ∷ (1100000, Control 127) ∷ []
+abbrev late_once : List (ℕ × FrameKind)
+late_once = (0, Control 0) ∷ (1100000, Control 127) ∷ []
 
 late_first : last_late ((0, Control 0) ∷ []) 1100000 (Control 127) ≡ Some (HeartbeatLate 1100000 1000)
 unfolding findings_at progress_with begun booted found control_findings heartbeat_findings late_finding overdue_by
 late_first = refl
 
 -- so is the next one, up to 10 ms and 1 % longer
-late_again : last_late ((0, Control 0) ∷ (1100000, Control 127) ∷ []) 2220000 (Control 127) ≡ None
+late_again : last_late late_once 2220000 (Control 127) ≡ None
 unfolding findings_at progress_with begun booted found control_findings heartbeat_findings progresses.after_control late_finding overdue_by
 late_again = refl
 
-late_longer : last_late ((0, Control 0) ∷ (1100000, Control 127) ∷ []) 2220001 (Control 127) ≡ Some (HeartbeatLate 1120001 1000)
+late_longer : last_late late_once 2220001 (Control 127) ≡ Some (HeartbeatLate 1120001 1000)
 unfolding findings_at progress_with begun booted found control_findings heartbeat_findings progresses.after_control late_finding overdue_by
 late_longer = refl
 
-late_unjudged : last_verdict ((0, Control 0) ∷ (1100000, Control 127) ∷ []) 2200000 (Control 127) ≡ Some Unjudged
-unfolding findings_at progress_with begun booted found progresses.after_control states.after_control after_boot_up after_other awaits_boot_up boot_finding control_findings heartbeat_findings control_finding control_judged state_finding is_settled late_finding overdue_by
+late_unjudged : last_verdict late_once 2200000 (Control 127) ≡ Some Unjudged
+unfolding findings_at progress_with begun booted found progresses.after_control states.after_control after_boot_up after_other awaits_boot_up boot_finding control_findings heartbeat_findings control_finding control_judged state_finding is_settled late_finding overdue_by silence_finding
 late_unjudged = refl
 
 -- one in time ends the row
-in_time : last_late ((0, Control 0) ∷ (1100000, Control 127) ∷ (2100000, Control 127) ∷ []) 3200000 (Control 127) ≡ Some (HeartbeatLate 1100000 1000)
+in_time : last_late (late_once ++ (2100000, Control 127) ∷ []) 3200000 (Control 127) ≡ Some (HeartbeatLate 1100000 1000)
 unfolding findings_at progress_with begun booted found control_findings heartbeat_findings progresses.after_control late_finding overdue_by
 in_time = refl
 
 -- so does a command
-commanded_late : last_late ((0, Control 0) ∷ (1100000, Control 127) ∷ (1200000, Command Start) ∷ []) 2200000 (Control 5) ≡ Some (HeartbeatLate 1100000 1000)
+commanded_late : last_late (late_once ++ (1200000, Command Start) ∷ []) 2200000 (Control 5) ≡ Some (HeartbeatLate 1100000 1000)
 unfolding findings_at progress_with begun booted found control_findings heartbeat_findings progresses.after_control progresses.after_command late_finding overdue_by
 commanded_late = refl
