@@ -1,11 +1,11 @@
 -- The cells of a line.
-use Rattle.std.specs.Prelude.{ℕ, List, ◌++◌, Option}
+use Rattle.std.specs.Prelude.{ℕ, List, [], ◌++◌, Option}
 use Rattle.co_text.specs.Printed.{digits_text}
 use Rattle.co_value.specs.KeyTexts.{key_text}
 use Rattle.co_sheet_text.specs.Views.{section_view}
 use Rattle.conode_show_text.specs.declared.cells.Cell.{Cell}
 use Rattle.conode_show_text.specs.declared.cells.Content.{Content}
-use Rattle.conode_show_text.specs.declared.cells.Content.TheVariants.{Words, Key, Index, Property, TypeOf, Value, Default, Limits, Pdo, Service, Said}
+use Rattle.conode_show_text.specs.declared.cells.Content.TheVariants.{Nothing, Words, Key, Index, Property, TypeOf, Value, Default, Limits, Pdo, Service, Said}
 use Rattle.conode_show_text.specs.Entries.{type_text}
 use Rattle.conode_show_text.specs.Layout.{Part}
 use Rattle.conode_show_text.specs.Meanings.{said}
@@ -16,6 +16,7 @@ use Rattle.conode_show_text.specs.Values.{default_text, limits_text, value_at}
 
 -- the text of what a cell has
 abbrev pub cell_text : Option ℕ → Content → List ℕ
+cell_text given Nothing = []
 cell_text given (Words words) = words.now
 cell_text given (Key key) = key_text key
 cell_text given (Index index) = digits_text 16 4 index

@@ -45,6 +45,22 @@ unfoldable pub millis_text : Bool → ℕ → List ℕ
 millis_text in_tenths n =
     if in_tenths then decimal (n / 10) ++ codes "." ++ decimal (n % 10) else decimal n
 
+-- the words for a time of 0, and those before another one
+abbrev pub off_words : Meaning → List ℕ
+off_words EmcyInhibit = codes "none"
+off_words Producer = codes "off"
+off_words meaning = []
+
+abbrev pub before_words : Meaning → List ℕ
+before_words Producer = codes "every "
+before_words meaning = []
+
+-- an inhibit time: in 100 µs
+abbrev pub is_in_tenths : Meaning → Bool
+is_in_tenths PdoInhibit = true
+is_in_tenths EmcyInhibit = true
+is_in_tenths meaning = false
+
 -- a time after the words `before`, or the words `off` for 0
 unfoldable pub time_text : List ℕ → List ℕ → Bool → ℕ → List ℕ
 time_text off before in_tenths n =

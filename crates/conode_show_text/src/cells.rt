@@ -21,6 +21,7 @@ use std::alloc::AllocError;
 /// What a cell has.
 #[derive(Clone, Copy)]
 pub enum Content<'p> {
+    Nothing,
     Words(&'static str),
     Key(Key),
     Index(u16),
@@ -54,6 +55,7 @@ pub fn push_content(
         (string_bytes text.new ≡ string_bytes text.old ++ cell_text node content.now) }
 {
     match *content {
+        Content::Nothing => Ok(()),
         Content::Words(words) => push_words(text, words),
         Content::Key(key) => push_words(text, key.text().as_str()),
         Content::Index(index) => push_u16(text, index),

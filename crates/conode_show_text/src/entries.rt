@@ -277,10 +277,10 @@ fn push_object_line<'p>(
             Cell(0, Content::Index(index)),
             Cell(8, Content::Property(b"ParameterName", section)),
             Cell(38, compound_type(section)),
-            Cell(53, Content::Words("")),
-            Cell(60, Content::Words("")),
-            Cell(64, Content::Words("")),
-            Cell(87, Content::Words("")),
+            Cell(53, Content::Nothing),
+            Cell(60, Content::Nothing),
+            Cell(64, Content::Nothing),
+            Cell(87, Content::Nothing),
         ],
     )
 }

@@ -5,15 +5,18 @@ ghost use Rattle.std.specs.Prelude.{◌≡◌, ◌++◌, OnOk, string_bytes};
 ghost use Rattle.std.specs.Option.{option_copied};
 ghost use Rattle.co_sheet_text.specs.Views.{section_view};
 ghost use Rattle.conode_show_text.specs.Meanings.{
+  before_words,
   bits_name,
   consumer_reserved,
   consumer_text,
   is_cob_id,
   is_consumer_used,
+  is_in_tenths,
   mapped_key,
   mapped_text,
   meaning_text,
   micros_text,
+  off_words,
   overflow_text,
   reception_text,
   relative_text,
@@ -114,23 +117,44 @@ fn push_reception(text: &mut String, number: u64) -> Result<(), AllocError>
     push_between(text, "", number, ": reserved")
 }
 
-// a time after the words `before`, or the words `off` for 0; in ms, with tenths if the number is in
-// 100 µs
+// the words for a time of 0, and those before another one
+fn off_words(meaning: Meaning) -> &'static str
+    ensures { result.now ≡ off_words meaning }
+{
+    match meaning {
+        Meaning::EmcyInhibit => "none",
+        Meaning::Producer => "off",
+        _ => "",
+    }
+}
+
+fn before_words(meaning: Meaning) -> &'static str
+    ensures { result.now ≡ before_words meaning }
+{
+    match meaning {
+        Meaning::Producer => "every ",
+        _ => "",
+    }
+}
+
+// an inhibit time: in 100 µs
+fn is_in_tenths(meaning: Meaning) -> bool
+    ensures { result ≡ is_in_tenths meaning }
+{
+    matches!(meaning, Meaning::PdoInhibit | Meaning::EmcyInhibit)
+}
+
+// a time in ms, with tenths if the number is in 100 µs
 #[tactic(auto, unfolding(crate::specs::Meanings::time_text, crate::specs::Meanings::millis_text))]
-fn push_time(
-    text: &mut String,
-    off: &str,
-    before: &str,
-    in_tenths: bool,
-    number: u64,
-) -> Result<(), AllocError>
-    ensures { OnOk result (string_bytes text.new
-        ≡ string_bytes text.old ++ time_text off.now before.now in_tenths number) }
+fn push_time(text: &mut String, meaning: Meaning, number: u64) -> Result<(), AllocError>
+    ensures { OnOk result (string_bytes text.new ≡ string_bytes text.old
+        ++ time_text (off_words meaning) (before_words meaning) (is_in_tenths meaning) number) }
 {
     if number == 0 {
-        return push_words(text, off);
+        return push_words(text, off_words(meaning));
     }
-    if in_tenths {
+    let before = before_words(meaning);
+    if is_in_tenths(meaning) {
         let whole = number / 10;
         let tenths = number % 10;
         write!(text, "{before}{whole}.{tenths} ms")
@@ -241,11 +265,9 @@ fn push_meaning(text: &mut String, meaning: Meaning, word: Word) -> Result<(), A
         Meaning::TimeCobId => push_identifier(text, word.number, time_name(word)),
         Meaning::Transmission => push_transmission(text, word.number),
         Meaning::Reception => push_reception(text, word.number),
-        Meaning::PdoInhibit => push_time(text, "", "", true, word.number),
-        Meaning::EventTimer => push_time(text, "", "", false, word.number),
-        Meaning::EmcyInhibit => push_time(text, "none", "", true, word.number),
+        Meaning::PdoInhibit | Meaning::EventTimer | Meaning::EmcyInhibit | Meaning::Producer =>
+            push_time(text, meaning, word.number),
         Meaning::Consumer => push_consumer(text, word.number),
-        Meaning::Producer => push_time(text, "off", "every ", false, word.number),
         Meaning::Mapped => push_mapped(text, word.number),
     }
 }

@@ -79,7 +79,7 @@ fn said_at<'p>(meaning: Meaning, sections: &'p [TextSection<'p, 'p>], key: Key) 
 {
     match section_at(sections, SectionKind::SubIndex(key)) {
         Some(section) => Content::Said(meaning, section),
-        None => Content::Words(""),
+        None => Content::Nothing,
     }
 }
 
@@ -99,7 +99,7 @@ fn inhibit_time<'p>(sections: &'p [TextSection<'p, 'p>], index: u16) -> Content<
     if has_inhibit_time(index) {
         said_at(Meaning::PdoInhibit, sections, Key { index, sub: 3 })
     } else {
-        Content::Words("")
+        Content::Nothing
     }
 }
 
@@ -149,11 +149,11 @@ fn mapped_name<'p>(
         (section_view section.now) }
 {
     let Some(word) = known_word(node, section) else {
-        return Content::Words("");
+        return Content::Nothing;
     };
     match entry_section(sections, mapped_key(word.number)) {
         Some(entry) => Content::Property(b"ParameterName", entry),
-        None => Content::Words(""),
+        None => Content::Nothing,
     }
 }
 
@@ -221,11 +221,11 @@ fn push_multiplexed(
         format,
         None,
         &[
-            Cell(0, Content::Words("")),
+            Cell(0, Content::Nothing),
             Cell(8, Content::Words(words)),
-            Cell(38, Content::Words("")),
-            Cell(72, Content::Words("")),
-            Cell(83, Content::Words("")),
+            Cell(38, Content::Nothing),
+            Cell(72, Content::Nothing),
+            Cell(83, Content::Nothing),
         ],
     )
 }
@@ -268,11 +268,11 @@ fn push_if_counted<'p>(
         format,
         node,
         &[
-            Cell(0, Content::Words("")),
+            Cell(0, Content::Nothing),
             Cell(8, Content::Said(Meaning::Mapped, section)),
             Cell(38, mapped_name(node, sections, section)),
-            Cell(72, Content::Words("")),
-            Cell(83, Content::Words("")),
+            Cell(72, Content::Nothing),
+            Cell(83, Content::Nothing),
         ],
     )
 }
