@@ -32,6 +32,7 @@ pub mod BlockDevice
 pub mod AnswerExchange
 pub mod AnswerCalm
 pub mod BlockExchange
+pub mod BlockIgnored
 pub mod AnswerInputs
 pub mod AnswerWords
 pub mod AnswerSending
