@@ -61,13 +61,13 @@ calm_kind node frame calm =
     by false false false false true p q r s = absurd (false≢true (sym s))
     by false false false false false p q r s = refl
 
-pub calm_runs : (Idle : Type 0) (subject : Subject) (rows : List Row) (micros : ℕ) (frames : List FrameContent) (stage : Stage) (p : Progress) → AreCalm subject.node frames → Holds Idle stage p
-    → AllRun answer_differences subject rows micros p frames (Holds Idle stage)
-calm_runs Idle subject rows micros [] stage p calm h = h
-calm_runs Idle subject rows micros (frame ∷ later) stage p calm h =
-    cons_runs subject rows micros p frame later (data_kind subject.node frame) (Holds Idle stage) (Holds Idle stage) refl
-    (apart_quiet Idle subject rows (begun subject p micros) micros (data_kind subject.node frame) stage (calm_kind subject.node frame calm.0) (begun_holds Idle subject p micros stage h))
-    (λ q g. calm_runs Idle subject rows micros later stage q calm.1 g)
+pub calm_runs : (Idle Inside : Type 0) (subject : Subject) (rows : List Row) (micros : ℕ) (frames : List FrameContent) (stage : Stage) (p : Progress) → AreCalm subject.node frames → Holds Idle Inside stage p
+    → AllRun answer_differences subject rows micros p frames (Holds Idle Inside stage)
+calm_runs Idle Inside subject rows micros [] stage p calm h = h
+calm_runs Idle Inside subject rows micros (frame ∷ later) stage p calm h =
+    cons_runs subject rows micros p frame later (data_kind subject.node frame) (Holds Idle Inside stage) (Holds Idle Inside stage) refl
+    (apart_quiet Idle Inside subject rows (begun subject p micros) micros (data_kind subject.node frame) stage (calm_kind subject.node frame calm.0) (begun_holds Idle Inside subject p micros stage h))
+    (λ q g. calm_runs Idle Inside subject rows micros later stage q calm.1 g)
 
 pub both_calm : (node : ℕ) (frames : List FrameContent) → AreAside node frames → AreOther node frames → AreCalm node frames
 both_calm node [] aside other = tt

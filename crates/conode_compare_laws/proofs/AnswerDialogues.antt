@@ -44,11 +44,11 @@ module _ (answer started : ℕ) (d : Dialogue) (micros : ℕ) (side : Side) (fra
   pub doubted_by : leaves_request_open side (reads d.channel micros side frame.bytes).says frame ≡ true → (dialogue_heard answer started d micros side frame).doubted ≡ Some micros
   doubted_by leaves = doubted_is ∙ ap (λ b. if b || may_be_segment d.sub_block (reads d.channel micros side frame.bytes).says.what then Some micros else d.doubted) leaves
 
-none_asked : (w : What) (micros : ℕ) (frame : FrameContent) → is_initiate w ≡ false → asked_after w micros frame ≡ None
+pub none_asked : (w : What) (micros : ℕ) (frame : FrameContent) → is_initiate w ≡ false → asked_after w micros frame ≡ None
 none_asked what.Initiate micros frame h = absurd (false≢true (sym h))
 none_asked _ micros frame h = refl
 
-doubt_stays : (b : Bool) (micros : ℕ) (doubted : Option ℕ) → doubted ≡ Some micros → (if b then Some micros else doubted) ≡ Some micros
+pub doubt_stays : (b : Bool) (micros : ℕ) (doubted : Option ℕ) → doubted ≡ Some micros → (if b then Some micros else doubted) ≡ Some micros
 doubt_stays true micros doubted h = refl
 doubt_stays false micros doubted h = h
 

@@ -17,9 +17,9 @@ use Rattle.co_frame.specs.declared.sdo_request.ExpeditedData.TheVariants.{Indica
 use Rattle.co_frame.specs.declared.sdo_request.SdoRequest.{SdoRequest}
 use Rattle.co_frame.specs.declared.sdo_request.SdoRequest.TheVariants.{DownloadExpedited, DownloadInitiate, DownloadSegment, Upload as UploadInitiate, UploadSegment as NextSegment, Abort as Abandon, BlockUploadInitiate, BlockUploadEnd as UploadEnd, BlockUploadAcknowledge, BlockUploadStart, BlockDownloadInitiate, BlockDownloadEnd}
 use Rattle.co_frame.specs.declared.sdo_response.SdoResponse.{SdoResponse}
-use Rattle.co_frame.specs.declared.sdo_response.SdoResponse.TheVariants.{Abort as Refuse, DownloadDone, UploadExpedited, UploadInitiated, BlockUploadInitiated}
+use Rattle.co_frame.specs.declared.sdo_response.SdoResponse.TheVariants.{Abort as Refuse, DownloadDone, UploadExpedited, UploadInitiated, BlockDownloadInitiated, BlockUploadInitiated}
 use Rattle.co_sdo.specs.OpenTransfers.{is_initiate as initiates}
-use Rattle.co_sdo_laws.proofs.Frames.{done_read, expedited_sent_read}
+use Rattle.co_sdo_laws.proofs.Frames.{block_initiated_read, done_read, expedited_sent_read}
 use Rattle.conode_explain_transfers.specs.declared.ended.Ended.{Ended}
 use Rattle.conode_explain_transfers.specs.declared.kinds.Direction.{Direction}
 use Rattle.conode_explain_transfers.specs.declared.kinds.Direction.TheVariants.{Download, Upload}
@@ -37,7 +37,7 @@ use Rattle.conode_explain_transfers.specs.Endings.{ended, verdict}
 use Rattle.conode_explain_transfers.specs.Followed.{Followed, Following, abort_ending, followed, one_more, turns_at, with_frame}
 use Rattle.conode_explain_transfers.specs.Readings.{awaits_segment, is_sender, may_have_segment, is_in_sub_block}
 use Rattle.conode_explain_transfers.specs.Stages.{confirmed_with}
-use Rattle.conode_explain_transfers.specs.Initiates.{initiate_of}
+use Rattle.conode_explain_transfers.specs.Initiates.{first_segment, initiate_of}
 use Rattle.conode_explain_transfers.specs.Transfers.{Turn, after, begun}
 use Rattle.conode_explain_laws.specs.Downloads.{is_block_begin}
 use Rattle.conode_explain_transfers.specs.Turns.{request_turn, response_turn}
@@ -414,6 +414,11 @@ pub block_upload : (heard on crc : Bool) (key : Key) (block_size size : ℕ) (mi
 block_upload heard on crc key block_size size micros frame small =
     part_read heard (went_on_as on (begun (record (initiate_of key Upload Block) { crc = crc; block_size = block_size }) micros frame)) (response_bytes (BlockUploadInitiated key (Some size))) (BlockUploadInitiated key (Some (unsigned_of (low_bytes 4 size)))) micros refl refl
     (block_upload_read key size small) (rw (same_key-refl key) refl)
+
+pub block_download : (heard on crc : Bool) (key : Key) (size : Option ℕ) (block_size : ℕ) (micros : ℕ) (frame : List ℕ) → key.index < 65536
+    → says_of heard (went_on_as on (begun (record (initiate_of key Download Block) { size = size; crc = crc; block_size = first_segment }) micros frame)) micros (response_bytes (BlockDownloadInitiated key block_size)) ≡ what.Part
+block_download heard on crc key size block_size micros frame small =
+    part_by heard (went_on_as on (begun (record (initiate_of key Download Block) { size = size; crc = crc; block_size = first_segment }) micros frame)) (BlockDownloadInitiated key block_size) micros refl refl (block_initiated_read key block_size small) (rw (same_key-refl key) refl)
 
 -- an abort
 abort_what : (heard : Bool) (t : Transfer) (reading : Reading) (micros : ℕ) (bytes : List ℕ) → is_abort_reading reading ≡ true → (follows_by heard (Some t) reading micros Server bytes).says.what ≡ what.Part

@@ -187,7 +187,7 @@ none_awaited limits started nmt dialogue micros byte none = by (shows_stopped by
     by true = refl
     by false = ap (λ o. silence_of limits started nmt dialogue o micros) none
 
-unsettled_after : (from millis micros : ℕ) → micros ≤ from → is_past from millis micros ≡ false
+pub unsettled_after : (from millis micros : ℕ) → micros ≤ from → is_past from millis micros ≡ false
 unsettled_after from millis micros h = grind (arith, nat_tests)
 
 unsettled : (limits : Limits) (started micros : ℕ) (commanded : Option Commanded) (c : Commanded) → commanded ≡ Some c → micros ≤ c.micros → is_settled limits started commanded micros ≡ false
@@ -218,3 +218,60 @@ commanded_since limits started nmt dialogue micros byte a c is commanded h = by 
     by false =
         ap (λ o. silence_of limits started nmt dialogue o micros) is
         ∙ off (answers_in nmt.state) (is_settled limits started nmt.commanded a.micros) (unsettled limits started a.micros nmt.commanded c commanded h)
+
+-- what was asked in doubt
+pub doubted_silent : (limits : Limits) (started : ℕ) (nmt : Nmt) (dialogue : Dialogue) (micros byte : ℕ) (a : Asked) → dialogue.asked ≡ Some a → is_certain limits.answer started dialogue.slow dialogue.doubted a.micros ≡ false
+    → silence_finding limits started nmt dialogue micros byte ≡ None
+unfolding silence_finding
+doubted_silent limits started nmt dialogue micros byte a is h = by (shows_stopped byte)
+  where
+    off : (answers settled steady certain : Bool) → certain ≡ false → (if answers && (settled && (steady && certain)) then late_after limits a micros else None) ≡ None
+    off true true true certain e = rw e refl
+    off true true false certain e = refl
+    off true false steady certain e = refl
+    off false settled steady certain e = refl
+
+    by : (b : Bool) → (if b then None else silence_of limits started nmt dialogue dialogue.asked micros) ≡ None
+    by true = refl
+    by false =
+        ap (λ o. silence_of limits started nmt dialogue o micros) is
+        ∙ off (answers_in nmt.state) (is_settled limits started nmt.commanded a.micros) (is_steady limits nmt a.micros) (is_certain limits.answer started dialogue.slow dialogue.doubted a.micros) h
+
+-- ---- an abort, where what was asked in doubt isn't answered
+
+-- what an abort is, whichever transfer is open
+abbrev pub IsEnding : What → Type 0
+IsEnding what.Overtaken = ⊥
+IsEnding what.Unexpected = ⊥
+IsEnding _ = Unit {0}
+
+abort_finds : (subject : Subject) (rows : List Row) (x : Exchange) (frame : FrameContent) (w : What) → is_abort frame ≡ true → IsEnding w → of_answers (finding_of subject rows x frame w) ≡ []
+abort_finds subject rows x frame what.Stray abort e = rw abort refl
+abort_finds subject rows x frame what.Overtaken abort e = absurd e
+abort_finds subject rows x frame what.Unexpected abort e = absurd e
+abort_finds subject rows x frame what.Part abort e = no_end subject rows frame x.heard.ended
+abort_finds subject rows x frame _ abort e = refl
+
+abort_found : (subject : Subject) (rows : List Row) (x : Exchange) (frame : FrameContent) → is_abort frame ≡ true → IsEnding x.heard.what → of_answers (what_finding subject rows x frame) ≡ []
+unfolding what_finding
+abort_found subject rows x frame abort e = abort_finds subject rows x frame x.heard.what abort e
+
+none_owed : (limits : Limits) (x : Exchange) (micros : ℕ) → x.owed ≡ false → of_answers (overdue_answer limits x micros) ≡ []
+none_owed limits x micros off = ap (λ b. of_answers (if b then late_answer limits x.asked micros else None)) off
+
+abort_answer : (subject : Subject) (rows : List Row) (micros : ℕ) (x : Exchange) (frame : FrameContent) → x.owed ≡ false → is_abort frame ≡ true → IsEnding x.heard.what → of_answers (answer_finding subject rows micros x frame) ≡ []
+unfolding answer_finding
+abort_answer subject rows micros x frame off abort e = by x.certain
+  where
+    by : (certain : Bool) → of_answers (if certain then option_or (overdue_answer subject.limits x micros) (known_answer subject rows x frame) else None) ≡ []
+    by true =
+        only_or (overdue_answer subject.limits x micros) (known_answer subject rows x frame) (none_owed subject.limits x micros off)
+        (only_or (what_finding subject rows x frame) (breach_finding (transfer_breach subject.limits x)) (abort_found subject rows x frame abort e) (no_breach (transfer_breach subject.limits x)))
+    by false = refl
+
+pub doubted_abort : (subject : Subject) (rows : List Row) (written : Written) (started micros : ℕ) (nmt : Nmt) (x : Exchange) (frame : FrameContent) (a : Asked) → x.asked ≡ Some a → x.owed ≡ false
+    → is_stopped nmt.state ≡ false → is_abort frame ≡ true → IsEnding x.heard.what
+    → of_answers (option_or (stopped_finding subject.limits started nmt x) (option_or (answer_finding subject rows micros x frame) (held_finding subject written x))) ≡ []
+doubted_abort subject rows written started micros nmt x frame a is owed off abort e =
+    only_or (stopped_finding subject.limits started nmt x) _ (asked_stopped subject.limits started nmt x a is off)
+    (only_or (answer_finding subject rows micros x frame) (held_finding subject written x) (abort_answer subject rows micros x frame owed abort e) (held_none subject written x))

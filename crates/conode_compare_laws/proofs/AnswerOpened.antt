@@ -56,7 +56,7 @@ opened_same _ t u key o e h = absurd (no_some o e)
 
 -- ---- an initiate request
 
-not_inside : (r : Option SdoRequest) (later : List (List ℕ)) → is_block_begin r ≡ false → is_inside_after r later ≡ false
+pub not_inside : (r : Option SdoRequest) (later : List (List ℕ)) → is_block_begin r ≡ false → is_inside_after r later ≡ false
 not_inside (Some (BlockDownloadInitiate key size)) later n = absurd (false≢true (sym n))
 not_inside _ later n = refl
 
@@ -84,7 +84,7 @@ module _ (x : Exchange) (log : Log) (clean : IfSome (since_initiate log) (λ s. 
 
 -- ---- a request that goes on: where nothing is open it is refused
 
-refused_any : (d : Description) (contents : Contents) (r : Option SdoRequest) → initiates r ≡ false
+pub refused_any : (d : Description) (contents : Contents) (r : Option SdoRequest) → initiates r ≡ false
     → (is_abort_request r || list_any is_abort (request_answers d contents None r)) ≡ true
 refused_any d contents None n = refl
 refused_any d contents (Some (Abandon key code)) n = refl

@@ -1,6 +1,6 @@
 -- What holds of what compare knows of the channel, frame by frame: which transfer is open, and why an initiate request isn't answered.
-use Rattle.std.proofs.Common.{◌≡◌, ℕ, ◌-◌, ◌*◌, ◌≤◌, Bool, true, false, List, [], ◌∷◌, Option, Some, None, refl, sym, ap, ◌∙◌, subst, arith}
-use Rattle.std.specs.Prelude.{◌==◌, ◌||◌, if◌then◌else◌, is_some, IfSome, nat_lt}
+use Rattle.std.proofs.Common.{◌≡◌, ℕ, ◌-◌, ◌*◌, ◌≤◌, Bool, true, false, not, List, [], ◌∷◌, Option, Some, None, refl, sym, ap, ◌∙◌, ◌⊎◌, inl, inr, subst, arith}
+use Rattle.std.specs.Prelude.{◌==◌, ◌&&◌, ◌||◌, if◌then◌else◌, is_some, IfSome, nat_lt}
 use Rattle.std.specs.Option.{option_map_or, option_or, option_to_list}
 use Rattle.std.proofs.lemmas.Bool.{false≢true}
 use Rattle.std.proofs.lemmas.Bool.Decides.{nat_tests}
@@ -18,7 +18,8 @@ use Rattle.conode_explain_transfers.specs.declared.kinds.Side.TheVariants.{Clien
 use Rattle.conode_compare_transfers.specs.declared.dialogue.Asked.{Asked}
 use Rattle.conode_compare_transfers.specs.declared.dialogue.Dialogue.{Dialogue}
 use Rattle.conode_compare_transfers.specs.declared.dialogue.Exchange.{Exchange}
-use Rattle.conode_compare_transfers.specs.Dialogues.{dialogue_heard, exchange_in, given_up, interrupted}
+use Rattle.conode_compare_transfers.specs.Dialogues.{dialogue_heard, exchange_in, given_up, interrupted, is_awaited, is_certain}
+use Rattle.conode_compare_transfers.specs.declared.left.Left.{Left}
 use Rattle.conode_compare_transfers.specs.Times.{is_past, micros_of}
 use Rattle.conode_compare_rules.specs.declared.finding.Finding.{Finding}
 use Rattle.conode_compare_rules.specs.declared.kind.FrameKind.{FrameKind}
@@ -69,8 +70,9 @@ use Rattle.conode_compare_rules.specs.States.{after_other, shows_state}
 use Rattle.conode_compare_rules.specs.Verdicts.{found}
 use Rattle.conode_compare_laws.specs.AnswerFindings.{answer_differences, of_answers}
 use Rattle.conode_compare_laws.proofs.LongCommands.{long_such}
-use Rattle.conode_compare_laws.proofs.AnswerTurns.{Sound}
-use Rattle.conode_compare_laws.proofs.AnswerFound.{commanded_since, held_none, never_past, no_end, none_awaited, none_confirmed, only_or, silent}
+use Rattle.conode_compare_laws.proofs.BlockTurns.{Live}
+use Rattle.conode_compare_laws.proofs.BlockCovers.{Covers, covers_interrupted, interrupted_kept}
+use Rattle.conode_compare_laws.proofs.AnswerFound.{commanded_since, doubted_silent, held_none, never_past, no_end, none_awaited, none_confirmed, only_or, silent, unsettled_after}
 use Rattle.conode_compare_laws.proofs.Runs.{AllRun}
 use Rattle.conode_compare_laws.proofs.Shown.{Stage, boots, runs, stage_after}
 
@@ -93,18 +95,24 @@ Excused (runs node.Stopped) micros commanded = Unit {0}
 Excused (runs node.PreOperational) micros commanded = Since micros commanded
 Excused (runs node.Operational) micros commanded = Since micros commanded
 
--- an initiate request that isn't answered, where the channel is idle
-pub record Awaits (Idle : Type 0) (stage : Stage) (newest : Option ℕ) (commanded : Option Commanded) (a : Asked) : Type 0 where
+-- an earlier request could be answered then
+abbrev pub InDoubt : ℕ → Option ℕ → Type 0
+InDoubt micros None = ⊥
+InDoubt micros (Some doubted) = micros ≤ doubted
+
+-- an initiate request that isn't answered: the channel is idle; or it may be a segment of a sub-block
+pub record Awaits (Idle : Type 0) (stage : Stage) (newest : Option ℕ) (commanded : Option Commanded) (doubted : Option ℕ) (a : Asked) : Type 0 where
   pub by : IsBy a.micros newest
-  pub excused : Excused stage a.micros commanded
-  pub idle : Idle
+  pub why : (Excused stage a.micros commanded × Idle) ⊎ InDoubt a.micros doubted
 
-pub record HoldsOf (Idle : Type 0) (stage : Stage) (newest : Option ℕ) (commanded : Option Commanded) (d : Dialogue) : Type 0 where
-  pub sound : IfSome d.channel.transfer Sound
-  pub asked : IfSome d.asked (Awaits Idle stage newest commanded)
+-- `Inside`: the device is inside a sub-block of a download
+pub record HoldsOf (Idle Inside : Type 0) (stage : Stage) (newest : Option ℕ) (commanded : Option Commanded) (d : Dialogue) : Type 0 where
+  pub live : IfSome d.channel.transfer Live
+  pub asked : IfSome d.asked (Awaits Idle stage newest commanded d.doubted)
+  pub covers : Inside → Covers d
 
-abbrev pub Holds : Type 0 → Stage → Progress → Type 0
-Holds Idle stage p = HoldsOf Idle stage p.newest p.nmt.commanded p.dialogue
+abbrev pub Holds : Type 0 → Type 0 → Stage → Progress → Type 0
+Holds Idle Inside stage p = HoldsOf Idle Inside stage p.newest p.nmt.commanded p.dialogue
 
 pub some_map : {A : Type 0} (o : Option A) (P Q : A → Type 0) → ((x : A) → P x → Q x) → IfSome o P → IfSome o Q
 some_map None P Q f h = tt
@@ -115,15 +123,16 @@ if_none None P h = tt
 if_none (Some x) P h = absurd (let no : is_some (Some x) ≡ false = ap is_some h in false≢true (sym no))
 
 -- nothing is asked
-pub none_holds : (Idle : Type 0) (stage : Stage) (newest : Option ℕ) (commanded : Option Commanded) (d : Dialogue) → IfSome d.channel.transfer Sound → d.asked ≡ None → HoldsOf Idle stage newest commanded d
-none_holds Idle stage newest commanded d s none = record { sound = s; asked = if_none d.asked (Awaits Idle stage newest commanded) none }
+pub none_holds : (Idle Inside : Type 0) (stage : Stage) (newest : Option ℕ) (commanded : Option Commanded) (d : Dialogue) → IfSome d.channel.transfer Live → d.asked ≡ None → (Inside → Covers d)
+    → HoldsOf Idle Inside stage newest commanded d
+none_holds Idle Inside stage newest commanded d s none c = record { live = s; asked = if_none d.asked (Awaits Idle stage newest commanded d.doubted) none; covers = c }
 
 -- ---- a recording that begins anew at a frame, and one that was quiet
 
-quiet_holds : (Idle : Type 0) (stage : Stage) (newest : Option ℕ) (commanded : Option Commanded) (d : Dialogue) (micros : ℕ) (quiet : Bool) → HoldsOf Idle stage newest commanded d
-    → HoldsOf Idle stage newest commanded (if quiet then interrupted d micros else d)
-quiet_holds Idle stage newest commanded d micros true h = record { sound = tt; asked = tt }
-quiet_holds Idle stage newest commanded d micros false h = h
+quiet_holds : (Idle Inside : Type 0) (stage : Stage) (newest : Option ℕ) (commanded : Option Commanded) (d : Dialogue) (micros : ℕ) (quiet : Bool) → HoldsOf Idle Inside stage newest commanded d
+    → HoldsOf Idle Inside stage newest commanded (if quiet then interrupted d micros else d)
+quiet_holds Idle Inside stage newest commanded d micros true h = record { live = tt; asked = tt; covers = λ i. covers_interrupted d micros (h.covers i) }
+quiet_holds Idle Inside stage newest commanded d micros false h = h
 
 up_to_now : (period : Option ℕ) (limits : Limits) (t micros : ℕ) (newest : Option ℕ) → anew_after limits period newest micros ≡ false → IsBy t newest → IsBy t (Some micros)
 up_to_now period limits t micros None e h = absurd h
@@ -133,23 +142,24 @@ up_to_now period limits t micros (Some n) e h = by (nat_lt micros n) (is_gap lim
     by true gap b off = absurd (false≢true (sym off))
     by false gap b off = grind (arith, nat_tests)
 
-newer : (Idle : Type 0) (stage : Stage) (limits : Limits) (period : Option ℕ) (micros : ℕ) (newest : Option ℕ) (commanded : Option Commanded) (d : Dialogue) → anew_after limits period newest micros ≡ false
-    → HoldsOf Idle stage newest commanded d → HoldsOf Idle stage (Some micros) commanded d
-newer Idle stage limits period micros newest commanded d e h = record {
-  sound = h.sound;
-  asked = some_map d.asked (Awaits Idle stage newest commanded) (Awaits Idle stage (Some micros) commanded)
-      (λ a w. record { by = up_to_now period limits a.micros micros newest e w.by; excused = w.excused; idle = w.idle }) h.asked;
+newer : (Idle Inside : Type 0) (stage : Stage) (limits : Limits) (period : Option ℕ) (micros : ℕ) (newest : Option ℕ) (commanded : Option Commanded) (d : Dialogue) → anew_after limits period newest micros ≡ false
+    → HoldsOf Idle Inside stage newest commanded d → HoldsOf Idle Inside stage (Some micros) commanded d
+newer Idle Inside stage limits period micros newest commanded d e h = record {
+  live = h.live;
+  asked = some_map d.asked (Awaits Idle stage newest commanded d.doubted) (Awaits Idle stage (Some micros) commanded d.doubted)
+      (λ a w. record { by = up_to_now period limits a.micros micros newest e w.by; why = w.why }) h.asked;
+  covers = h.covers;
 }
 
-begun_either : (Idle : Type 0) (stage : Stage) (b : Bool) (x y : Progress) → Holds Idle stage x → (b ≡ false → Holds Idle stage y) → Holds Idle stage (if b then x else y)
-begun_either Idle stage true x y p q = p
-begun_either Idle stage false x y p q = q refl
+begun_either : (Idle Inside : Type 0) (stage : Stage) (b : Bool) (x y : Progress) → Holds Idle Inside stage x → (b ≡ false → Holds Idle Inside stage y) → Holds Idle Inside stage (if b then x else y)
+begun_either Idle Inside stage true x y p q = p
+begun_either Idle Inside stage false x y p q = q refl
 
-pub begun_holds : (Idle : Type 0) (subject : Subject) (p : Progress) (micros : ℕ) (stage : Stage) → Holds Idle stage p → Holds Idle stage (begun subject p micros)
+pub begun_holds : (Idle Inside : Type 0) (subject : Subject) (p : Progress) (micros : ℕ) (stage : Stage) → Holds Idle Inside stage p → Holds Idle Inside stage (begun subject p micros)
 unfolding begun
-begun_holds Idle subject p micros stage h =
-    begun_either Idle stage (begins_anew subject.limits p micros) _ _ (record { sound = tt; asked = tt })
-    (λ e. quiet_holds Idle stage (Some micros) p.nmt.commanded p.dialogue micros (was_quiet subject.limits p micros) (newer Idle stage subject.limits p.entries.period micros p.newest p.nmt.commanded p.dialogue e h))
+begun_holds Idle Inside subject p micros stage h =
+    begun_either Idle Inside stage (begins_anew subject.limits p micros) _ _ (record { live = tt; asked = tt; covers = λ i. record { apart = tt; covered = inl (interrupted_kept p.dialogue micros (h.covers i)) } })
+    (λ e. quiet_holds Idle Inside stage (Some micros) p.nmt.commanded p.dialogue micros (was_quiet subject.limits p micros) (newer Idle Inside stage subject.limits p.entries.period micros p.newest p.nmt.commanded p.dialogue e h))
 
 newest_either : (b : Bool) (x y : Progress) (n : Option ℕ) → x.newest ≡ n → y.newest ≡ n → (if b then x else y).newest ≡ n
 newest_either true x y n p q = p
@@ -202,12 +212,13 @@ frame_runs subject rows micros p frame kind after is q =
 now_by : (t micros : ℕ) (newest : Option ℕ) → newest ≡ Some micros → IsBy t newest → t ≤ micros
 now_by t micros newest e h = subst (IsBy t) e h
 
-commanded_holds : (Idle : Type 0) (state : NodeState) (actual : Stage) (micros : ℕ) (newest : Option ℕ) (old : Option Commanded) (service : NmtService) (d : Dialogue) → newest ≡ Some micros → HoldsOf Idle actual newest old d
-    → HoldsOf Idle (runs state) newest (Some (record { service = service; micros = micros })) d
-commanded_holds Idle state actual micros newest old service d now h = record {
-  sound = h.sound;
-  asked = some_map d.asked (Awaits Idle actual newest old) (Awaits Idle (runs state) newest (Some (record { service = service; micros = micros })))
-      (λ a w. record { by = w.by; excused = by state (now_by a.micros micros newest now w.by); idle = w.idle }) h.asked;
+commanded_holds : (Idle Inside : Type 0) (state : NodeState) (actual : Stage) (micros : ℕ) (newest : Option ℕ) (old : Option Commanded) (service : NmtService) (d : Dialogue) → newest ≡ Some micros → HoldsOf Idle Inside actual newest old d
+    → HoldsOf Idle Inside (runs state) newest (Some (record { service = service; micros = micros })) d
+commanded_holds Idle Inside state actual micros newest old service d now h = record {
+  live = h.live;
+  asked = some_map d.asked (Awaits Idle actual newest old d.doubted) (Awaits Idle (runs state) newest (Some (record { service = service; micros = micros })) d.doubted)
+      (λ a w. record { by = w.by; why = excuse a.micros (now_by a.micros micros newest now w.by) w.why }) h.asked;
+  covers = h.covers;
 }
   where
     by : {t : ℕ} (state : NodeState) → t ≤ micros → Excused (runs state) t (Some (record { service = service; micros = micros }))
@@ -215,37 +226,46 @@ commanded_holds Idle state actual micros newest old service d now h = record {
     by node.PreOperational h = h
     by node.Operational h = h
 
-service_holds : (Idle : Type 0) (p : Progress) (micros : ℕ) (service : NmtService) (own : Bool) (actual : NodeState) → p.newest ≡ Some micros → Holds Idle (runs actual) p
-    → Holds Idle (stage_after (Some service) actual) (after_command p service own micros)
+    excuse : (t : ℕ) → t ≤ micros → (Excused actual t old × Idle) ⊎ InDoubt t d.doubted → (Excused (runs state) t (Some (record { service = service; micros = micros })) × Idle) ⊎ InDoubt t d.doubted
+    excuse t now (inl e) = inl (by state now, e.1)
+    excuse t now (inr doubt) = inr doubt
+
+-- a reset breaks off what is open
+reset_holds : (Idle Inside : Type 0) {next : Stage} {newest : Option ℕ} {commanded : Option Commanded} (stage : Stage) (p : Progress) (micros : ℕ) → Holds Idle Inside stage p
+    → HoldsOf Idle Inside next newest commanded (interrupted p.dialogue micros)
+reset_holds Idle Inside stage p micros h = record { live = tt; asked = tt; covers = λ i. covers_interrupted p.dialogue micros (h.covers i) }
+
+service_holds : (Idle Inside : Type 0) (p : Progress) (micros : ℕ) (service : NmtService) (own : Bool) (actual : NodeState) → p.newest ≡ Some micros → Holds Idle Inside (runs actual) p
+    → Holds Idle Inside (stage_after (Some service) actual) (after_command p service own micros)
 unfolding after_command states.after_command with_gap
-service_holds Idle p micros Start own actual now h = commanded_holds Idle node.Operational (runs actual) micros p.newest p.nmt.commanded Start p.dialogue now h
-service_holds Idle p micros Stop own actual now h = commanded_holds Idle node.Stopped (runs actual) micros p.newest p.nmt.commanded Stop p.dialogue now h
-service_holds Idle p micros EnterPreOperational own actual now h = commanded_holds Idle node.PreOperational (runs actual) micros p.newest p.nmt.commanded EnterPreOperational p.dialogue now h
-service_holds Idle p micros ResetNode own actual now h = record { sound = tt; asked = tt }
-service_holds Idle p micros ResetCommunication own actual now h = record { sound = tt; asked = tt }
+service_holds Idle Inside p micros Start own actual now h = commanded_holds Idle Inside node.Operational (runs actual) micros p.newest p.nmt.commanded Start p.dialogue now h
+service_holds Idle Inside p micros Stop own actual now h = commanded_holds Idle Inside node.Stopped (runs actual) micros p.newest p.nmt.commanded Stop p.dialogue now h
+service_holds Idle Inside p micros EnterPreOperational own actual now h = commanded_holds Idle Inside node.PreOperational (runs actual) micros p.newest p.nmt.commanded EnterPreOperational p.dialogue now h
+service_holds Idle Inside p micros ResetNode own actual now h = reset_holds Idle Inside (runs actual) p micros h
+service_holds Idle Inside p micros ResetCommunication own actual now h = reset_holds Idle Inside (runs actual) p micros h
 
 -- with more than two bytes: the device doesn't take it
-long_holds : (Idle : Type 0) (p : Progress) (micros : ℕ) (service : NmtService) (actual : NodeState) → p.newest ≡ Some micros → Holds Idle (runs actual) p → Holds Idle (runs actual) (after_command p service true micros)
+long_holds : (Idle Inside : Type 0) (p : Progress) (micros : ℕ) (service : NmtService) (actual : NodeState) → p.newest ≡ Some micros → Holds Idle Inside (runs actual) p → Holds Idle Inside (runs actual) (after_command p service true micros)
 unfolding after_command states.after_command with_gap
-long_holds Idle p micros Start actual now h = commanded_holds Idle actual (runs actual) micros p.newest p.nmt.commanded Start p.dialogue now h
-long_holds Idle p micros Stop actual now h = commanded_holds Idle actual (runs actual) micros p.newest p.nmt.commanded Stop p.dialogue now h
-long_holds Idle p micros EnterPreOperational actual now h = commanded_holds Idle actual (runs actual) micros p.newest p.nmt.commanded EnterPreOperational p.dialogue now h
-long_holds Idle p micros ResetNode actual now h = record { sound = tt; asked = tt }
-long_holds Idle p micros ResetCommunication actual now h = record { sound = tt; asked = tt }
+long_holds Idle Inside p micros Start actual now h = commanded_holds Idle Inside actual (runs actual) micros p.newest p.nmt.commanded Start p.dialogue now h
+long_holds Idle Inside p micros Stop actual now h = commanded_holds Idle Inside actual (runs actual) micros p.newest p.nmt.commanded Stop p.dialogue now h
+long_holds Idle Inside p micros EnterPreOperational actual now h = commanded_holds Idle Inside actual (runs actual) micros p.newest p.nmt.commanded EnterPreOperational p.dialogue now h
+long_holds Idle Inside p micros ResetNode actual now h = reset_holds Idle Inside (runs actual) p micros h
+long_holds Idle Inside p micros ResetCommunication actual now h = reset_holds Idle Inside (runs actual) p micros h
 
-pub command_quiet : (Idle : Type 0) (subject : Subject) (rows : List Row) (p : Progress) (micros : ℕ) (long command : Option NmtCommand) (actual : NodeState) → p.newest ≡ Some micros → Holds Idle (runs actual) p
-    → Quiet subject rows p micros (command_to subject.node long command) (Holds Idle (stage_after (service_for subject.node command) actual))
-command_quiet Idle subject rows p micros long None actual now h =
-    long_such (λ kind. Quiet subject rows p micros kind (Holds Idle (runs actual))) subject.node long
-    (λ service. record { none = refl; next = long_holds Idle p micros service actual now h })
+pub command_quiet : (Idle Inside : Type 0) (subject : Subject) (rows : List Row) (p : Progress) (micros : ℕ) (long command : Option NmtCommand) (actual : NodeState) → p.newest ≡ Some micros → Holds Idle Inside (runs actual) p
+    → Quiet subject rows p micros (command_to subject.node long command) (Holds Idle Inside (stage_after (service_for subject.node command) actual))
+command_quiet Idle Inside subject rows p micros long None actual now h =
+    long_such (λ kind. Quiet subject rows p micros kind (Holds Idle Inside (runs actual))) subject.node long
+    (λ service. record { none = refl; next = long_holds Idle Inside p micros service actual now h })
     (record { none = refl; next = h })
-command_quiet Idle subject rows p micros long (Some command) actual now h = by (command.node == 0) (command.node == subject.node)
+command_quiet Idle Inside subject rows p micros long (Some command) actual now h = by (command.node == 0) (command.node == subject.node)
   where
     by : (all this : Bool)
         → Quiet subject rows p micros (if all then CommandToAll command.service else (if this then Command command.service else Other))
-        (Holds Idle (stage_after (if all || this then Some command.service else None) actual))
-    by true this = record { none = refl; next = service_holds Idle p micros command.service subject.facts.starts_itself actual now h }
-    by false true = record { none = refl; next = service_holds Idle p micros command.service false actual now h }
+        (Holds Idle Inside (stage_after (if all || this then Some command.service else None) actual))
+    by true this = record { none = refl; next = service_holds Idle Inside p micros command.service subject.facts.starts_itself actual now h }
+    by false true = record { none = refl; next = service_holds Idle Inside p micros command.service false actual now h }
     by false false = record { none = refl; next = h }
 
 -- ---- frames that are neither of the channel nor of error control nor commands
@@ -256,34 +276,35 @@ is_apart (OddEmergency length) = true
 is_apart (Process id length) = true
 is_apart _ = false
 
-emergency_quiet : (Idle : Type 0) (subject : Subject) (rows : List Row) (p : Progress) (micros code register : ℕ) (stage : Stage) → Holds Idle stage p → Quiet subject rows p micros (Emcy code register) (Holds Idle stage)
+emergency_quiet : (Idle Inside : Type 0) (subject : Subject) (rows : List Row) (p : Progress) (micros code register : ℕ) (stage : Stage) → Holds Idle Inside stage p → Quiet subject rows p micros (Emcy code register) (Holds Idle Inside stage)
 unfolding emergency_findings after_emergency found
-emergency_quiet Idle subject rows p micros code register stage h = record { none = refl; next = record { sound = h.sound; asked = h.asked } }
+emergency_quiet Idle Inside subject rows p micros code register stage h = record { none = refl; next = record { live = h.live; asked = h.asked; covers = h.covers } }
 
-odd_emergency_quiet : (Idle : Type 0) (subject : Subject) (rows : List Row) (p : Progress) (micros length : ℕ) (stage : Stage) → Holds Idle stage p → Quiet subject rows p micros (OddEmergency length) (Holds Idle stage)
+odd_emergency_quiet : (Idle Inside : Type 0) (subject : Subject) (rows : List Row) (p : Progress) (micros length : ℕ) (stage : Stage) → Holds Idle Inside stage p → Quiet subject rows p micros (OddEmergency length) (Holds Idle Inside stage)
 unfolding after_emergency found
-odd_emergency_quiet Idle subject rows p micros length stage h = record { none = refl; next = record { sound = h.sound; asked = h.asked } }
+odd_emergency_quiet Idle Inside subject rows p micros length stage h = record { none = refl; next = record { live = h.live; asked = h.asked; covers = h.covers } }
 
 sighted_none : (late : Option Finding) (id length : ℕ) (o : Option Sighting) → answer_differences (Process id length) (sighting_findings late o) ≡ []
 unfolding found
 sighted_none late id length None = refl
 sighted_none late id length (Some sighting) = refl
 
-process_quiet : (Idle : Type 0) (subject : Subject) (rows : List Row) (p : Progress) (micros id length : ℕ) (stage : Stage) → Holds Idle stage p → Quiet subject rows p micros (Process id length) (Holds Idle stage)
+process_quiet : (Idle Inside : Type 0) (subject : Subject) (rows : List Row) (p : Progress) (micros id length : ℕ) (stage : Stage) → Holds Idle Inside stage p → Quiet subject rows p micros (Process id length) (Holds Idle Inside stage)
 unfolding process_findings after_process
-process_quiet Idle subject rows p micros id length stage h = record { none = sighted_none (late_by_tpdo subject p micros id length) id length (tpdos.sighting _ p.pdos id length); next = record { sound = h.sound; asked = h.asked } }
+process_quiet Idle Inside subject rows p micros id length stage h = record { none = sighted_none (late_by_tpdo subject p micros id length) id length (tpdos.sighting _ p.pdos id length); next = record { live = h.live; asked = h.asked; covers = h.covers } }
 
-pub apart_quiet : (Idle : Type 0) (subject : Subject) (rows : List Row) (p : Progress) (micros : ℕ) (kind : FrameKind) (stage : Stage) → is_apart kind ≡ true → Holds Idle stage p → Quiet subject rows p micros kind (Holds Idle stage)
-apart_quiet Idle subject rows p micros (Emcy code register) stage is h = emergency_quiet Idle subject rows p micros code register stage h
-apart_quiet Idle subject rows p micros (OddEmergency length) stage is h = odd_emergency_quiet Idle subject rows p micros length stage h
-apart_quiet Idle subject rows p micros (Process id length) stage is h = process_quiet Idle subject rows p micros id length stage h
-apart_quiet Idle subject rows p micros _ stage is h = absurd (false≢true is)
+pub apart_quiet : (Idle Inside : Type 0) (subject : Subject) (rows : List Row) (p : Progress) (micros : ℕ) (kind : FrameKind) (stage : Stage) → is_apart kind ≡ true → Holds Idle Inside stage p → Quiet subject rows p micros kind (Holds Idle Inside stage)
+apart_quiet Idle Inside subject rows p micros (Emcy code register) stage is h = emergency_quiet Idle Inside subject rows p micros code register stage h
+apart_quiet Idle Inside subject rows p micros (OddEmergency length) stage is h = odd_emergency_quiet Idle Inside subject rows p micros length stage h
+apart_quiet Idle Inside subject rows p micros (Process id length) stage is h = process_quiet Idle Inside subject rows p micros id length stage h
+apart_quiet Idle Inside subject rows p micros _ stage is h = absurd (false≢true is)
 
 -- ---- the boot-up, and heartbeats
 
-pub boot_quiet : (Idle : Type 0) (subject : Subject) (rows : List Row) (p : Progress) (micros : ℕ) (stage : Stage) → Quiet subject rows p micros (Control 0) (Holds Idle stage)
+pub boot_quiet : (Idle Inside : Type 0) (subject : Subject) (rows : List Row) (p : Progress) (micros : ℕ) (stage : Stage) → (Inside → ⊥)
+    → Quiet subject rows p micros (Control 0) (Holds Idle Inside stage)
 unfolding found booted
-boot_quiet Idle subject rows p micros stage = record { none = refl; next = record { sound = tt; asked = tt } }
+boot_quiet Idle Inside subject rows p micros stage never = record { none = refl; next = record { live = tt; asked = tt; covers = λ i. absurd (never i) } }
 
 same_command : (limits : Limits) (started : ℕ) (nmt : Nmt) (free micros : ℕ) (final : NodeState) → (states.after_control limits started nmt free micros (state_byte (heartbeat_of final))).commanded ≡ nmt.commanded
 unfolding states.after_control after_other
@@ -303,6 +324,17 @@ same_command limits started nmt free micros node.Stopped = by (shows_state limit
     by true = refl
     by false = refl
 
+-- what was asked in doubt isn't certain
+pub uncertain_since : (answer started : ℕ) (slow : Left) (doubted : Option ℕ) (micros : ℕ) → InDoubt micros doubted → is_certain answer started slow doubted micros ≡ false
+unfolding is_certain
+uncertain_since answer started slow None micros h = absurd h
+uncertain_since answer started slow (Some doubted) micros h = by (not (is_awaited slow micros)) (is_past started answer micros) (is_past doubted answer micros) (unsettled_after doubted answer micros h)
+  where
+    by : (a b c : Bool) → c ≡ false → (a && (b && c)) ≡ false
+    by true true c h = h
+    by true false c h = refl
+    by false b c h = refl
+
 -- a request that isn't answered is no difference
 excused_by : (limits : Limits) (started : ℕ) (nmt : Nmt) (d : Dialogue) (micros byte : ℕ) (a : Asked) (o : Option Commanded) → d.asked ≡ Some a → nmt.commanded ≡ o → Since a.micros o → silence_finding limits started nmt d micros byte ≡ None
 excused_by limits started nmt d micros byte a None is commanded h = absurd h
@@ -314,37 +346,40 @@ excused_none limits started nmt d micros a node.Stopped is h = silent limits sta
 excused_none limits started nmt d micros a node.PreOperational is h = excused_by limits started nmt d micros 127 a nmt.commanded is refl h
 excused_none limits started nmt d micros a node.Operational is h = excused_by limits started nmt d micros 5 a nmt.commanded is refl h
 
-none_silent : (Idle : Type 0) (subject : Subject) (p : Progress) (micros : ℕ) (final : NodeState) → Holds Idle (runs final) p → silence_at subject p micros (state_byte (heartbeat_of final)) ≡ None
-none_silent Idle subject p micros final h = by p.dialogue.asked refl h.asked
+none_silent : (Idle Inside : Type 0) (subject : Subject) (p : Progress) (micros : ℕ) (final : NodeState) → Holds Idle Inside (runs final) p → silence_at subject p micros (state_byte (heartbeat_of final)) ≡ None
+none_silent Idle Inside subject p micros final h = by p.dialogue.asked refl h.asked
   where
-    by : (o : Option Asked) → p.dialogue.asked ≡ o → IfSome o (Awaits Idle (runs final) p.newest p.nmt.commanded) → silence_at subject p micros (state_byte (heartbeat_of final)) ≡ None
+    by : (o : Option Asked) → p.dialogue.asked ≡ o → IfSome o (Awaits Idle (runs final) p.newest p.nmt.commanded p.dialogue.doubted) → silence_at subject p micros (state_byte (heartbeat_of final)) ≡ None
     by None is w = none_awaited subject.limits p.started p.nmt p.dialogue micros (state_byte (heartbeat_of final)) is
-    by (Some a) is w = excused_none subject.limits p.started p.nmt p.dialogue micros a final is w.excused
+    by (Some a) is w = elim w.why [
+      | inl e ↦ excused_none subject.limits p.started p.nmt p.dialogue micros a final is e.0
+      | inr doubt ↦ doubted_silent subject.limits p.started p.nmt p.dialogue micros (state_byte (heartbeat_of final)) a is (uncertain_since subject.limits.answer p.started p.dialogue.slow p.dialogue.doubted a.micros doubt)
+    ]
 
-given_up_holds : (Idle : Type 0) (stage : Stage) (newest : Option ℕ) (commanded : Option Commanded) (d : Dialogue) (micros : ℕ) (late : Bool) → HoldsOf Idle stage newest commanded d
-    → HoldsOf Idle stage newest commanded (if late then given_up d micros else d)
-given_up_holds Idle stage newest commanded d micros true h = record { sound = h.sound; asked = tt }
-given_up_holds Idle stage newest commanded d micros false h = h
+given_up_holds : (Idle Inside : Type 0) (stage : Stage) (newest : Option ℕ) (commanded : Option Commanded) (d : Dialogue) (micros : ℕ) (late : Bool) → HoldsOf Idle Inside stage newest commanded d
+    → HoldsOf Idle Inside stage newest commanded (if late then given_up d micros else d)
+given_up_holds Idle Inside stage newest commanded d micros true h = record { live = h.live; asked = tt; covers = λ i. let c = h.covers i in record { apart = c.apart; covered = c.covered } }
+given_up_holds Idle Inside stage newest commanded d micros false h = h
 
-life_none : (Idle : Type 0) (subject : Subject) (rows : List Row) (p : Progress) (micros : ℕ) (final : NodeState) → Holds Idle (runs final) p
+life_none : (Idle Inside : Type 0) (subject : Subject) (rows : List Row) (p : Progress) (micros : ℕ) (final : NodeState) → Holds Idle Inside (runs final) p
     → answer_differences (Control (state_byte (heartbeat_of final))) (findings_in subject rows p micros (Control (state_byte (heartbeat_of final)))) ≡ []
 unfolding found control_findings heartbeat_findings
-life_none Idle subject rows p micros node.PreOperational h = ap option_to_list (none_silent Idle subject p micros node.PreOperational h)
-life_none Idle subject rows p micros node.Operational h = ap option_to_list (none_silent Idle subject p micros node.Operational h)
-life_none Idle subject rows p micros node.Stopped h = ap option_to_list (none_silent Idle subject p micros node.Stopped h)
+life_none Idle Inside subject rows p micros node.PreOperational h = ap option_to_list (none_silent Idle Inside subject p micros node.PreOperational h)
+life_none Idle Inside subject rows p micros node.Operational h = ap option_to_list (none_silent Idle Inside subject p micros node.Operational h)
+life_none Idle Inside subject rows p micros node.Stopped h = ap option_to_list (none_silent Idle Inside subject p micros node.Stopped h)
 
-life_holds : (Idle : Type 0) (subject : Subject) (p : Progress) (micros : ℕ) (final : NodeState) → Holds Idle (runs final) p → Holds Idle (runs final) (progresses.after_control subject p micros (state_byte (heartbeat_of final)))
+life_holds : (Idle Inside : Type 0) (subject : Subject) (p : Progress) (micros : ℕ) (final : NodeState) → Holds Idle Inside (runs final) p → Holds Idle Inside (runs final) (progresses.after_control subject p micros (state_byte (heartbeat_of final)))
 unfolding progresses.after_control
-life_holds Idle subject p micros final h =
-    subst (λ c. HoldsOf Idle (runs final) p.newest c (if is_some (silence_at subject p micros (state_byte (heartbeat_of final))) then given_up p.dialogue micros else p.dialogue))
+life_holds Idle Inside subject p micros final h =
+    subst (λ c. HoldsOf Idle Inside (runs final) p.newest c (if is_some (silence_at subject p micros (state_byte (heartbeat_of final))) then given_up p.dialogue micros else p.dialogue))
     (sym (same_command subject.limits p.started p.nmt p.free micros final))
-    (given_up_holds Idle (runs final) p.newest p.nmt.commanded p.dialogue micros (is_some (silence_at subject p micros (state_byte (heartbeat_of final)))) h)
+    (given_up_holds Idle Inside (runs final) p.newest p.nmt.commanded p.dialogue micros (is_some (silence_at subject p micros (state_byte (heartbeat_of final)))) h)
 
-pub life_quiet : (Idle : Type 0) (subject : Subject) (rows : List Row) (p : Progress) (micros : ℕ) (final : NodeState) → Holds Idle (runs final) p
-    → Quiet subject rows p micros (Control (state_byte (heartbeat_of final))) (Holds Idle (runs final))
-life_quiet Idle subject rows p micros node.PreOperational h = record { none = life_none Idle subject rows p micros node.PreOperational h; next = life_holds Idle subject p micros node.PreOperational h }
-life_quiet Idle subject rows p micros node.Operational h = record { none = life_none Idle subject rows p micros node.Operational h; next = life_holds Idle subject p micros node.Operational h }
-life_quiet Idle subject rows p micros node.Stopped h = record { none = life_none Idle subject rows p micros node.Stopped h; next = life_holds Idle subject p micros node.Stopped h }
+pub life_quiet : (Idle Inside : Type 0) (subject : Subject) (rows : List Row) (p : Progress) (micros : ℕ) (final : NodeState) → Holds Idle Inside (runs final) p
+    → Quiet subject rows p micros (Control (state_byte (heartbeat_of final))) (Holds Idle Inside (runs final))
+life_quiet Idle Inside subject rows p micros node.PreOperational h = record { none = life_none Idle Inside subject rows p micros node.PreOperational h; next = life_holds Idle Inside subject p micros node.PreOperational h }
+life_quiet Idle Inside subject rows p micros node.Operational h = record { none = life_none Idle Inside subject rows p micros node.Operational h; next = life_holds Idle Inside subject p micros node.Operational h }
+life_quiet Idle Inside subject rows p micros node.Stopped h = record { none = life_none Idle Inside subject rows p micros node.Stopped h; next = life_holds Idle Inside subject p micros node.Stopped h }
 
 -- ---- a frame of the client
 

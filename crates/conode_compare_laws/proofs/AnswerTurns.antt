@@ -118,11 +118,11 @@ block_upload_turned t size crc false true d p b = record { what = refl; blocks =
 
 -- ---- segments
 
-out_of_blocks : (toggle last : Bool) → in_blocks (download_stage toggle last) ≡ false
+pub out_of_blocks : (toggle last : Bool) → in_blocks (download_stage toggle last) ≡ false
 out_of_blocks toggle true = refl
 out_of_blocks toggle false = refl
 
-still_out : (toggle last : Bool) → in_blocks (upload_stage toggle last) ≡ false
+pub still_out : (toggle last : Bool) → in_blocks (upload_stage toggle last) ≡ false
 still_out toggle true = refl
 still_out toggle false = refl
 

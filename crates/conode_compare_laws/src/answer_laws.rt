@@ -61,16 +61,15 @@ pub fn begins_other()
 /// these: `no-answer`, `answer-state`, `answer-key`, `second-sender` of answers, and
 /// `answer-form` of the answer to an initiate request (CiA 301, 7.2.4.3). Requests may come while
 /// the device is stopped, on other channels, out of turn, and of any length; transfers may time
-/// out; events of the application may come. Conditions: `compare` has its node-ID; frames have
-/// bytes (`HaveBytes`), and none begins a block download on the default channel
-/// (`BeginNoBlocks`); no other node sends on the identifiers of its answers and of its error
-/// control (`AreElsewhere`); and the COB-IDs with which it is built are apart from that channel,
-/// from NMT and from its error control (`BeginsApart`, `BeginsAside`, `BeginsOther`). This is a
-/// law: a call of it changes nothing.
+/// out; transfers may be in blocks, up and down, and a segment may look like any request; events
+/// of the application may come. Conditions: `compare` has its node-ID; frames have bytes
+/// (`HaveBytes`); no other node sends on the identifiers of its answers and of its error control
+/// (`AreElsewhere`); and the COB-IDs with which it is built are apart from that channel, from NMT
+/// and from its error control (`BeginsApart`, `BeginsAside`, `BeginsOther`). This is a law: a call
+/// of it changes nothing.
 pub fn no_answer_differences()
     ensures { (k : Constants) (subject : Subject) (rows : List Row) (inputs : List Stamped) →
         subject.node ≡ k.description.node → HaveBytes inputs →
-        BeginNoBlocks k.description.node inputs →
         AreElsewhere (0x580 + k.description.node) inputs →
         AreElsewhere (0x700 + k.description.node) inputs → BeginsApart k → BeginsAside k →
         BeginsOther k →
@@ -86,8 +85,7 @@ pub fn no_answer_differences()
 pub fn built_no_answer_differences()
     ensures { (plan : Plan) (k : Constants) (subject : Subject) (rows : List Row)
         (inputs : List Stamped) → IsBuilt plan k → subject.node ≡ k.description.node →
-        HaveBytes inputs → BeginNoBlocks k.description.node inputs →
-        AreElsewhere (0x580 + k.description.node) inputs →
+        HaveBytes inputs → AreElsewhere (0x580 + k.description.node) inputs →
         AreElsewhere (0x700 + k.description.node) inputs →
         differences_in answer_differences subject rows (recording k inputs) ≡ [] }
 {
