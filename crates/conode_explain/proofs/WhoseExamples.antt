@@ -1,7 +1,6 @@
 -- Whose a frame is, as what it is read, and which frames have a mark, evaluated on both sides of each edge.
 use Rattle.std.proofs.Common.{◌≡◌, ℕ, Bool, true, false, List, [], ◌∷◌, Some, None, refl, map}
 use Rattle.std.specs.Prelude.{codes}
-use Rattle.std.specs.Fmt.{digits}
 use Rattle.conode_record.specs.declared.content.Content.TheVariants.{Data, Fd, Remote}
 use Rattle.conode_record.specs.declared.fields.Identifier.TheVariants.{Base, Extended}
 use Rattle.conode_record.specs.declared.line.Record.{Record}
@@ -19,7 +18,6 @@ use Rattle.conode_explain_pdo.specs.declared.service_ids.NamedService.{NamedServ
 use Rattle.conode_explain_pdo.specs.declared.service_ids.NamedService.TheVariants.{Sync, Time, Emergency}
 use Rattle.conode_explain_pdo.specs.Buses.{Bus}
 use Rattle.conode_explain_pdo.specs.ServiceIds.{service_by_shown, service_with}
-use Rattle.conode_text.specs.Filled.{filled}
 use Rattle.conode_explain_transfers.specs.declared.kinds.Side.TheVariants.{Server}
 use Rattle.conode_explain.specs.declared.whose.Whose.TheVariants.{Channel, Moved, Service, Unnamed}
 use Rattle.conode_explain.specs.Explained.{words_at}
@@ -91,8 +89,8 @@ unfolding whose_of
 of_29_bits = refl
 
 -- such a frame says only that, and nothing of its node
-says_that : words_at moved_bus [] (Moved (moved 0x1800)) [] (record frame { id = Base 0x185 }) None ≡ codes "not TPDO1 node 5 (by its COB-ID)"
-unfolding words_at moved_words filled digits
+says_that : words_at moved_bus [] (Moved (moved 0x1800)) [] (record frame { id = Base 0x185 }) None ≡ moved_words (moved 0x1800)
+unfolding words_at
 says_that = refl
 
 read_as_none : read_by (Moved (moved 0x1014)) (Base 0x085) ≡ Extended 0
