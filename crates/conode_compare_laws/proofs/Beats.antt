@@ -219,13 +219,17 @@ none_with : (limits : Limits) (known : Option ℕ) (p : Progress) (micros period
 none_with limits None p micros period ago same since few free = refl
 none_with limits (Some n) p micros period ago same since few free = none_since limits p.heartbeats.guarded n p.heartbeats.since p.free micros period ago same few free since
 
-none_late : (subject : Subject) (p : Progress) (micros period ago : ℕ) → (period ≡ 0) ⊎ (ago ≤ period * 1000) → Begun period micros ago p → late_at subject p micros ≡ None
+none_alone : (subject : Subject) (p : Progress) (micros period ago : ℕ) → (period ≡ 0) ⊎ (ago ≤ period * 1000) → Begun period micros ago p → late_alone subject p micros ≡ None
 unfolding late_finding overdue_by
-none_late subject p micros period ago few h = by (is_again subject p)
-  where
-    by : (again : Bool) → (if again then None else late_alone subject p micros) ≡ None
-    by true = refl
-    by false = ap (λ o. option_map (λ (late : ℕ × ℕ). HeartbeatLate late.0 late.1) o) (none_with subject.limits p.entries.period p micros period ago h.known h.since few h.free)
+none_alone subject p micros period ago few h = ap (λ o. option_map (λ (late : ℕ × ℕ). HeartbeatLate late.0 late.1) o) (none_with subject.limits p.entries.period p micros period ago h.known h.since few h.free)
+
+unless_again : (again : Bool) (late : Option Finding) → late ≡ None → (if again then None else late) ≡ None
+unless_again true late none = refl
+unless_again false late none = none
+
+-- whether the last one was late, too, or not
+none_late : (subject : Subject) (p : Progress) (micros period ago : ℕ) → (period ≡ 0) ⊎ (ago ≤ period * 1000) → Begun period micros ago p → late_at subject p micros ≡ None
+none_late subject p micros period ago few h = unless_again (is_again subject p) (late_alone subject p micros) (none_alone subject p micros period ago few h)
 
 -- ---- one frame
 

@@ -53,7 +53,7 @@ abbrev sheet : Entries
 sheet = record { period = Some 1000; emergencies = true; inhibit = Some 0; inhibit_shown = None }
 
 abbrev pdos : Pdos
-pdos = record unknown_pdos { first = booted_tpdo event_driven }
+pdos = record unknown_pdos { first = booted_tpdo None event_driven }
 
 abbrev subject : Subject
 subject = record {
