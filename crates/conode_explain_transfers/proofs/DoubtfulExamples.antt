@@ -59,6 +59,11 @@ aborts : map (frees (codes "4000100000000000")) (codes "8000100000000206" ∷ co
 unfolding request_row_in response_row_in shifted crc_with
 aborts = refl
 
+-- a segment of zeros isn't the request of 0000:00 that an abort without an entry ends; an answer of 0000:00 is one to it
+zeros : map (frees (codes "4000000000000000")) (codes "8000000003000405" ∷ codes "4300000094010200" ∷ []) ≡ false ∷ true ∷ []
+unfolding request_row_in response_row_in shifted crc_with
+zeros = refl
+
 -- the frames that may be one
 odd : map is_odd (Initiate ∷ Part ∷ Segment 64 ∷ OutOfSequence 64 2 ∷ []) ≡ false ∷ false ∷ false ∷ true ∷ []
 odd = refl
@@ -138,9 +143,19 @@ accepted : map (λ answer. unclear (one_segment ++ c (codes "2300100001020304") 
 unfolding request_row_in response_row_in shifted crc_with
 accepted = refl
 
--- nor outside a sub-block, and before a segment that looks like a request
+-- also where no request was heard, while another entry is read, and in a sub-block
 elsewhere : map unclear
     ((s (codes "6001180200000000") ∷ []) ∷ (c (codes "4000100000000000") ∷ s (codes "6001180200000000") ∷ []) ∷ (one_segment ++ s (codes "6001180200000000") ∷ []) ∷ [])
-    ≡ [] ∷ [] ∷ [] ∷ []
+    ≡ (record { index = 0x1801; sub = 2 } ∷ []) ∷ (record { index = 0x1801; sub = 2 } ∷ []) ∷ (record { index = 0x1801; sub = 2 } ∷ []) ∷ []
 unfolding request_row_in response_row_in shifted crc_with
 elsewhere = refl
+
+-- of the entry that is written, again after that is done, and a segment of a block upload
+expected : map unclear
+    ((c (codes "2301180201000000") ∷ s (codes "6001180200000000") ∷ s (codes "6001180200000000") ∷ [])
+    ∷ (c (codes "2101180209000000") ∷ s (codes "6001180200000000") ∷ s (codes "6001180200000000") ∷ [])
+    ∷ (c (codes "A00010007F000000") ∷ s (codes "C200100009000000") ∷ c (codes "A300000000000000") ∷ s (codes "6001180200000000") ∷ [])
+    ∷ [])
+    ≡ [] ∷ [] ∷ [] ∷ []
+unfolding request_row_in response_row_in shifted crc_with
+expected = refl

@@ -61,10 +61,14 @@ asks_for request (UploadInitiated key size) = not (is_download request.direction
 asks_for request (BlockUploadInitiated key size) = not (is_download request.direction) && is_block request.protocol
 asks_for request _ = false
 
+-- an entry that isn't this one; many devices send 0000:00 in each abort
+abbrev pub names_other : Key → Key → Bool
+names_other named key = not (same_key named key) && not (same_key named (record { index = 0; sub = 0 }))
+
 -- a server answers it: such a response, or an abort, which is of the open transfer where that has the
--- same entry
+-- same entry, or the abort 0000:00
 abbrev pub answers : Key → Transfer → SdoResponse → Bool
-answers entry request (Abort key code) = not (same_key request.key entry)
+answers entry request (Abort key code) = names_other request.key entry
 answers entry request response = asks_for request response
 
 -- the entry of the request is named in bytes 1 to 3

@@ -1,6 +1,6 @@
 -- What is heard on a channel of a recording. Not each frame is of the transfer that is open, and some
 -- of its frames may be missing in the recording.
-use Rattle.std.specs.Prelude.{ℕ, ◌==◌, ◌&&◌, ◌||◌, nat_lt, not, Bool, true, false, if◌then◌else◌, List, length, slice_index, Option, Some, None}
+use Rattle.std.specs.Prelude.{ℕ, ◌==◌, ◌&&◌, ◌||◌, ◌%◌, nat_le, nat_lt, not, Bool, true, false, if◌then◌else◌, List, length, slice_index, Option, Some, None}
 use Rattle.co_frame.specs.SdoResponses.{response_in}
 use Rattle.co_frame.specs.declared.sdo_response.SdoResponse.{SdoResponse}
 use Rattle.co_frame.specs.declared.sdo_response.SdoResponse.TheVariants.{Abort, UploadSegment, BlockDownloadInitiated}
@@ -19,7 +19,7 @@ use Rattle.conode_explain_transfers.specs.declared.stage.Stage.{Stage}
 use Rattle.conode_explain_transfers.specs.declared.stage.Stage.TheVariants.{BlockInitiated, SubBlock, AllAcknowledged}
 use Rattle.conode_explain_transfers.specs.declared.transfer.Transfer.{Transfer}
 use Rattle.conode_explain_transfers.specs.BlockTurns.{is_block, most_segments}
-use Rattle.conode_explain_transfers.specs.Doubtful.{freed, noted}
+use Rattle.conode_explain_transfers.specs.Doubtful.{freed, names_other, noted}
 use Rattle.conode_explain_transfers.specs.Followed.{Following, Followed, after_boot, ends_as, followed}
 use Rattle.conode_explain_transfers.specs.Readings.{answers_key, is_in_sub_block, is_sender, plain_reading}
 use Rattle.conode_explain_transfers.specs.Stages.{is_initiated}
@@ -43,10 +43,6 @@ is_low_last bytes = is_low_segment bytes && nat_lt 128 (slice_index bytes 0)
 -- the response to initiate is awaited, and nothing came since a request that is one
 abbrev pub awaits_first : Transfer → Bool
 awaits_first transfer = is_initiated transfer.stage && not (transfer.irregular || transfer.went_on)
-
--- an entry that isn't this one; many devices send 0000:00 in each abort
-abbrev pub names_other : Key → Key → Bool
-names_other named key = not (same_key named key) && not (same_key named (record { index = 0; sub = 0 }))
 
 abbrev pub is_block_upload : Transfer → Bool
 is_block_upload transfer = is_block transfer.protocol && not (is_download transfer.direction)
@@ -101,10 +97,19 @@ is_after_last _ = false
 abbrev pub awaits_last_acknowledge : Transfer → Bool
 awaits_last_acknowledge transfer = not transfer.irregular && is_after_last transfer.stage
 
--- A segment with a number of 32 or more begins as an initiate request may (20h to 2Fh, 40h, A0h to A7h,
--- C0h to C7h). After a regular last segment none is read, and a request is taken for none.
+-- The last segment begins with 128 more than its number, which is the one before `next`: so it may itself
+-- begin as the request of a block upload (A0h, A4h, .., BCh) or of a block download (C0h, C2h, .., DEh).
+abbrev pub begins_as_last : ℕ → Bool
+begins_as_last next =
+    (nat_lt 32 next && (nat_lt next 64 && (next % 4 == 1)))
+    || (nat_lt 64 next && (nat_le next 96 && (next % 2 == 1)))
+
+-- A segment with a number of 32 or more begins as an initiate request may (20h to 3Fh, 40h to 5Fh, and as
+-- the last one). After a regular last segment none is read, and a request is taken for none, unless that
+-- segment may be one.
 abbrev pub may_have_request : Transfer → Bool
-may_have_request transfer = nat_lt 32 transfer.next_number && not (awaits_last_acknowledge transfer)
+may_have_request transfer =
+    nat_lt 32 transfer.next_number && (not (awaits_last_acknowledge transfer) || begins_as_last transfer.next_number)
 
 -- a response to another initiate request than that of a block download of this entry, which may be in
 -- the recording twice

@@ -61,7 +61,7 @@ pub struct Heard {
 /// come, in any order.
 #[derive(Drop)]
 pub struct Channel {
-    heard: bool,
+    pub(crate) heard: bool,
     pub(crate) transfer: Option<Transfer>,
 }
 

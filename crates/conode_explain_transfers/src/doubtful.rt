@@ -12,6 +12,7 @@ ghost use Rattle.conode_explain_transfers.specs.Doubtful.{
   is_odd,
   left_behind,
   left_for,
+  names_other,
   odd_bytes,
   shown_by,
   with_newest,
@@ -50,6 +51,14 @@ fn odd_frame(what: What, frame: &Frame) -> Frame
     } else {
         Frame::default()
     }
+}
+
+/// Whether an abort names another entry; 0000:00 is none.
+pub(crate) fn names_other(named: Key, key: Key) -> bool
+    ensures { result ≡ names_other named key }
+{
+    let none = Key { index: 0, sub: 0 };
+    !named.comparisons(key).0 && !named.comparisons(none).0
 }
 
 impl Transfer {
@@ -103,7 +112,7 @@ impl Transfer {
         ensures { result ≡ answers entry self.now response.now }
     {
         match response {
-            SdoResponse::Abort { key: _, code: _ } => !self.key.comparisons(entry).0,
+            SdoResponse::Abort { key: _, code: _ } => names_other(self.key, entry),
             response => self.asks_for(response),
         }
     }

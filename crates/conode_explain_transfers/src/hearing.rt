@@ -12,6 +12,7 @@ ghost use Rattle.conode_explain_transfers.specs.Hearings.{
   awaits_first,
   awaits_last_acknowledge,
   begins_any,
+  begins_as_last,
   cut,
   earlier,
   earlier_abort,
@@ -31,7 +32,6 @@ ghost use Rattle.conode_explain_transfers.specs.Hearings.{
   leaves_after_last,
   made_up,
   may_have_request,
-  names_other,
   overtaken_if,
   passed,
   sure_end,
@@ -44,6 +44,7 @@ ghost use Rattle.conode_explain_transfers.specs.Transfers.{is_download};
 
 use crate::block::MOST_SEGMENTS;
 use crate::channel::{Channel, Heard};
+use crate::doubtful::names_other;
 use crate::ended::{Ended, Ending};
 use crate::kinds::{Side, What};
 use crate::reading::{Reading, answers_key, plain_reading};
@@ -64,19 +65,20 @@ fn is_low_segment(frame: &Frame) -> bool
     frame.bytes().len() == 8 && (0 < number && number < FIRST_SERVICE)
 }
 
+// Whether the last segment, the one before this number, begins as a request for a block transfer does.
+fn begins_as_last(next: u8) -> bool
+    ensures { result ≡ begins_as_last next }
+{
+    let is_upload = 32 < next && next < 64 && next % 4 == 1;
+    let is_download = 64 < next && next <= 96 && next % 2 == 1;
+    is_upload || is_download
+}
+
 // Whether it begins as the last one of its transfer does.
 fn is_low_last(frame: &Frame) -> bool
     ensures { result ≡ is_low_last frame.now.bytes }
 {
     is_low_segment(frame) && ABORT < byte_at(frame.bytes(), 0)
-}
-
-// Whether an abort names another entry; 0000:00 is none.
-fn names_other(named: Key, key: Key) -> bool
-    ensures { result ≡ names_other named key }
-{
-    let none = Key { index: 0, sub: 0 };
-    !named.comparisons(key).0 && !named.comparisons(none).0
 }
 
 fn overtaken_if(earlier: bool) -> Option<What>
@@ -157,7 +159,8 @@ impl Transfer {
         self.stage.is_initiated() && !(self.irregular || self.went_on)
     }
 
-    fn is_block_upload(&self) -> bool
+    /// Whether it is an upload in blocks.
+    pub(crate) fn is_block_upload(&self) -> bool
         ensures { result ≡ is_block_upload self.now }
     {
         self.is_block() && !self.is_download()
@@ -224,7 +227,8 @@ impl Transfer {
     fn may_have_request(&self) -> bool
         ensures { result ≡ may_have_request self.now }
     {
-        FIRST_SERVICE < self.next_number && !self.awaits_last_acknowledge()
+        FIRST_SERVICE < self.next_number
+            && (!self.awaits_last_acknowledge() || begins_as_last(self.next_number))
     }
 
     // Whether a frame of the server answers another initiate request than that of this block

@@ -1,7 +1,14 @@
 //! What a frame reveals of those before it.
 
 ghost use Rattle.std.specs.Prelude.{◌≡◌};
-ghost use Rattle.conode_explain_transfers.specs.Reveals.{accepted, revealed, unclear_by};
+ghost use Rattle.conode_explain_transfers.specs.Reveals.{
+  accepted,
+  is_expected,
+  is_expected_by,
+  revealed,
+  unclear_by,
+  unexpected,
+};
 ghost use Rattle.co_frame.specs.SdoResponses.{response_in};
 
 use crate::channel::Channel;
@@ -17,8 +24,8 @@ pub struct Revealed {
     /// The block download that the client has left: the frame answers a request that was taken for
     /// one of its segments. The transfer of that is heard from here on.
     pub left: Option<Ended>,
-    /// The entry of a download that the server has accepted within a sub-block of another one,
-    /// where the request isn't known: nothing is known of the entry's value.
+    /// The entry of a download that the server has accepted, where the request isn't known, as
+    /// within a sub-block of another one: nothing is known of the entry's value.
     pub unclear: Option<Key>,
 }
 
@@ -33,12 +40,48 @@ fn accepted(frame: &Frame) -> Option<Key>
     }
 }
 
-impl Channel {
-    fn unclear_by(&self, request: &Option<Transfer>, side: Side, frame: &Frame) -> Option<Key>
-        ensures { result ≡ unclear_by request.now self.now.transfer side frame.now.bytes }
+impl Transfer {
+    // Whether it is a download of this entry, or may have a segment that looks like an acceptance.
+    fn is_expected(&self, key: Key) -> bool
+        ensures { result ≡ is_expected_by key self.now }
     {
-        match request {
-            None if self.is_over(side, frame) => accepted(frame),
+        self.is_block_upload() || (self.is_download() && self.has_key(key))
+    }
+}
+
+impl Channel {
+    // Whether the server may accept a download of this entry here.
+    fn is_expected(&self, key: Key) -> bool
+        ensures { result ≡ is_expected self.now key }
+    {
+        match &self.transfer {
+            Some(transfer) => transfer.is_expected(key),
+            None => self.heard,
+        }
+    }
+
+    // The entry of a download that is accepted, if that isn't expected.
+    fn unexpected(&self, accepted: Option<Key>) -> Option<Key>
+        ensures { result ≡ unexpected self.now accepted }
+    {
+        match accepted {
+            Some(key) if !self.is_expected(key) => Some(key),
+            _ => None,
+        }
+    }
+
+    fn unclear_by(&self, request: &Option<Transfer>, side: Side, frame: &Frame) -> Option<Key>
+        ensures { result ≡ unclear_by request.now self.now side frame.now.bytes }
+    {
+        match (request, side) {
+            (None, Side::Server) => {
+                let accepted = accepted(frame);
+                if self.is_over(side, frame) {
+                    accepted
+                } else {
+                    self.unexpected(accepted)
+                }
+            }
             _ => None,
         }
     }
