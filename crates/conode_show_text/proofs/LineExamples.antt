@@ -1,6 +1,6 @@
 -- What sections give, evaluated: each kind of line, and both sides of each edge.
 use Rattle.std.proofs.Common.{◌≡◌, ℕ, [], ◌∷◌, List, Option, Some, None, refl, false, true}
-use Rattle.std.specs.Prelude.{codes, nat_lt, replicate}
+use Rattle.std.specs.Prelude.{codes, map, nat_lt, replicate}
 use Rattle.std.specs.Fmt.{digits}
 use Rattle.std.specs.Str.{is_utf8, chars}
 use lib.Utf8.{encode}
