@@ -77,7 +77,7 @@ few_of is None cycle h = refl
 few_of is (Some n) cycle h = few_in is n cycle h
 
 pub few_none : (is : Deviation → Bool) (moment : Moment) (has_sync : Bool) (pdo : Tpdo) → ((s m : ℕ) → is (FewSyncs s m) ≡ false) → is_of is (cycle_deviation moment has_sync pdo) ≡ false
-few_none is moment has_sync pdo h = if_none is (has_sync && is_certain moment pdo.changed) (few_syncs_of pdo.parameters.kind pdo.cycle) (few_of is pdo.parameters.kind pdo.cycle h)
+few_none is moment has_sync pdo h = if_none is (has_sync && (is_certain moment pdo.changed && is_apart moment pdo.sent)) (few_syncs_of pdo.parameters.kind pdo.cycle) (few_of is pdo.parameters.kind pdo.cycle h)
 
 pub inhibit_none : (is : Deviation → Bool) (moment : Moment) (inhibit : ℕ) (sent : Sent) → ((passed n : ℕ) → is (Inhibit passed n) ≡ false) → is_of is (inhibit_deviation moment inhibit sent) ≡ false
 inhibit_none is moment inhibit sent h = if_none is (nat_lt (moment.micros - sent.free) (least_gap moment inhibit)) (Some (Inhibit (moment.micros - sent.micros) inhibit)) (h (moment.micros - sent.micros) inhibit)

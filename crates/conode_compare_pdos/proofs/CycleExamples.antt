@@ -1,5 +1,5 @@
 -- Which frames of a TPDO that answers each n-th SYNC come too early, on both sides of each edge, computed from the definitions.
-use Rattle.std.proofs.Common.{◌≡◌, ℕ, ◌+◌, Bool, true, false, List, [], ◌∷◌, map, Option, Some, None, refl}
+use Rattle.std.proofs.Common.{◌≡◌, ℕ, ◌+◌, ◌++◌, Bool, true, false, List, [], ◌∷◌, map, Option, Some, None, refl}
 use Rattle.std.specs.Prelude.{pos}
 use Rattle.co_profile.specs.declared.access.Access.TheVariants.{Rw}
 use Rattle.co_sheet.specs.Content.{Row}
@@ -71,23 +71,34 @@ unfolding early_in
 missing = refl
 
 -- n - 1, n, 2n - 1, 2n and 2n + 1 SYNCs since the one that the last frame answered
-spares : map (λ since. cycle_sent true (Some 4) (record { syncs = since; spare = 0 })) (3 ∷ 4 ∷ 7 ∷ 8 ∷ 9 ∷ [])
-    ≡ record { syncs = 0; spare = 4 } ∷ record { syncs = 0; spare = 0 } ∷ record { syncs = 0; spare = 3 } ∷ record { syncs = 0; spare = 4 } ∷ record { syncs = 0; spare = 4 } ∷ []
+spares : map (λ since. cycle_sent true (Some 4) (record { syncs = since; spare = 0; frames = 0 })) (3 ∷ 4 ∷ 7 ∷ 8 ∷ 9 ∷ [])
+    ≡ record { syncs = 0; spare = 4; frames = 1 } ∷ record { syncs = 0; spare = 0; frames = 1 } ∷ record { syncs = 0; spare = 3; frames = 1 } ∷ record { syncs = 0; spare = 4; frames = 1 } ∷ record { syncs = 0; spare = 4; frames = 1 } ∷ []
 spares = refl
 
+-- after n + 3 frames the count begins anew; and with an early one
+counted_out : map (λ frames. cycle_sent true (Some 4) (record { syncs = 3; spare = 1; frames = frames })) (6 ∷ 7 ∷ [])
+    ++ cycle_sent true (Some 4) (record { syncs = 3; spare = 0; frames = 6 }) ∷ []
+    ≡ record { syncs = 0; spare = 0; frames = 7 } ∷ record { syncs = 0; spare = 4; frames = 1 } ∷ record { syncs = 0; spare = 4; frames = 1 } ∷ []
+counted_out = refl
+
+-- SYNCs that the recorder lost now and then don't add up
+lost : early_in 2 new_cycle (2 ∷ 1 ∷ 2 ∷ 2 ∷ 2 ∷ 1 ∷ 1 ∷ 1 ∷ []) ≡ false ∷ false ∷ false ∷ false ∷ false ∷ false ∷ false ∷ false ∷ []
+unfolding early_in
+lost = refl
+
 -- it isn't certain that it is of this type; it is of another type, or of one that isn't known
-uncounted : cycle_sent false (Some 4) (record { syncs = 4; spare = 0 }) ∷ cycle_sent true (Some 1) (record { syncs = 4; spare = 0 }) ∷ cycle_sent true None (record { syncs = 4; spare = 0 }) ∷ []
+uncounted : cycle_sent false (Some 4) (record { syncs = 4; spare = 0; frames = 0 }) ∷ cycle_sent true (Some 1) (record { syncs = 4; spare = 0; frames = 0 }) ∷ cycle_sent true None (record { syncs = 4; spare = 0; frames = 0 }) ∷ []
     ≡ new_cycle ∷ new_cycle ∷ new_cycle ∷ []
 uncounted = refl
 
 -- ---- SYNCs
 
-counted : map (λ syncs. cycle_synced 0 (record { syncs = syncs; spare = 3 })) (0 ∷ 479 ∷ 480 ∷ [])
-    ≡ record { syncs = 1; spare = 3 } ∷ record { syncs = 480; spare = 3 } ∷ record { syncs = 480; spare = 3 } ∷ []
+counted : map (λ syncs. cycle_synced 0 (record { syncs = syncs; spare = 3; frames = 0 })) (0 ∷ 479 ∷ 480 ∷ [])
+    ≡ record { syncs = 1; spare = 3; frames = 0 } ∷ record { syncs = 480; spare = 3; frames = 0 } ∷ record { syncs = 480; spare = 3; frames = 0 } ∷ []
 counted = refl
 
 -- one with a counter
-with_counter : cycle_synced 1 (record { syncs = 0; spare = 3 }) ≡ new_cycle
+with_counter : cycle_synced 1 (record { syncs = 0; spare = 3; frames = 0 }) ≡ new_cycle
 with_counter = refl
 
 -- ---- a difference
@@ -100,13 +111,13 @@ parameters kind = record { id = Some 0x188; kind = Some kind; inhibit = Some 0; 
 
 -- of type 4; one SYNC came since its last frame, and since the one that this answered up to three
 abbrev early : Tpdo
-early = record (booted_tpdo (Some (record { syncs = 1; spare = 2 })) (parameters 4)) { syncs = 1 }
+early = record (booted_tpdo (Some (record { syncs = 1; spare = 2; frames = 0 })) (parameters 4)) { syncs = 1 }
 
 found_early : deviation_at at true early 4 ≡ Some (FewSyncs 1 4)
 unfolding deviation_at time_deviation
 found_early = refl
 
-in_time : deviation_at at true (record early { cycle = Some (record { syncs = 1; spare = 3 }) }) 4 ≡ None
+in_time : deviation_at at true (record early { cycle = Some (record { syncs = 1; spare = 3; frames = 0 }) }) 4 ≡ None
 unfolding deviation_at time_deviation
 in_time = refl
 
@@ -125,6 +136,12 @@ written_before : deviation_at at true (record early { changed = Some 889999 }) 4
 unfolding deviation_at time_deviation
 written_before = refl
 
+-- within the tolerance after the frame before, which may have been late
+close : map (λ micros. deviation_at at true (record early { sent = Some (record { free = micros; micros = micros }) }) 4) (890000 ∷ 889999 ∷ [])
+    ≡ None ∷ Some (FewSyncs 1 4) ∷ []
+unfolding deviation_at time_deviation
+close = refl
+
 while_idle : deviation_at (record at { idle = true }) true early 4 ≡ Some NotOperational
 unfolding deviation_at time_deviation
 while_idle = refl
@@ -140,7 +157,7 @@ of_types = refl
 abbrev sent : Tpdo
 sent = after_frame at 0x188 4 (booted_tpdo (Some new_cycle) (parameters 4))
 
-frame : sent.cycle ≡ Some (record { syncs = 0; spare = 4 })
+frame : sent.cycle ≡ Some (record { syncs = 0; spare = 4; frames = 1 })
 frame = refl
 
 -- while the state isn't known, or it isn't operational; within the tolerance after a parameter is written; of another one
@@ -174,7 +191,7 @@ asked_for = refl
 
 -- a SYNC without a counter, and one with it
 synced : map (λ length. (framed (record unknown_pdos { sync = Some 0x80; first = sent }) at 0x80 length).first.cycle) (0 ∷ 1 ∷ [])
-    ≡ Some (record { syncs = 1; spare = 4 }) ∷ Some new_cycle ∷ []
+    ≡ Some (record { syncs = 1; spare = 4; frames = 1 }) ∷ Some new_cycle ∷ []
 unfolding framed
 synced = refl
 

@@ -14,7 +14,7 @@ most_counted = 480
 
 -- nothing is known of the frames before: the next one may come at once
 abbrev pub new_cycle : Cycle
-new_cycle = record { syncs = most_counted; spare = 0 }
+new_cycle = record { syncs = most_counted; spare = 0; frames = 0 }
 
 -- how many SYNCs came since the one that its last frame answered, at most
 abbrev pub syncs_since : Cycle → ℕ
@@ -31,12 +31,25 @@ cycle_synced length cycle =
 abbrev pub is_early : ℕ → Cycle → Bool
 is_early n cycle = nat_lt (syncs_since cycle) n
 
+-- A device that sends one SYNC too soon each time is early at frame n + 2. After one more the count begins
+-- anew, so that SYNCs that the recorder lost don't add up.
+abbrev pub is_counted_out : ℕ → Cycle → Bool
+is_counted_out n cycle = nat_lt (n + 2) cycle.frames
+
+-- with an early frame the count begins anew too
+abbrev pub begins_anew : ℕ → Cycle → Bool
+begins_anew n cycle = is_early n cycle || is_counted_out n cycle
+
 -- It answers the n-th SYNC after the one that the frame before answered, or a later one: so many SYNCs
--- came since that, at most. With an early one the count begins anew.
+-- came since that, at most.
 abbrev pub spare_after : ℕ → Cycle → ℕ
-spare_after n cycle = if is_early n cycle || nat_le (n + n) (syncs_since cycle) then n else syncs_since cycle - n
+spare_after n cycle = if begins_anew n cycle || nat_le (n + n) (syncs_since cycle) then n else syncs_since cycle - n
+
+-- so many frames are counted with it
+abbrev pub frames_after : ℕ → Cycle → ℕ
+frames_after n cycle = if is_early n cycle then 1 else (if is_counted_out n cycle then 1 else cycle.frames + 1)
 
 -- It was sent. That counts where it is certain that it is of the type that is known.
 abbrev pub cycle_sent : Bool → Option ℕ → Cycle → Cycle
-cycle_sent true (Some n) cycle = if is_cyclic n then record { syncs = 0; spare = spare_after n cycle } else new_cycle
+cycle_sent true (Some n) cycle = if is_cyclic n then record { syncs = 0; spare = spare_after n cycle; frames = frames_after n cycle } else new_cycle
 cycle_sent certain kind cycle = new_cycle

@@ -50,6 +50,11 @@ sync_deviation has_sync pdo =
 abbrev pub is_certain : Moment → Option ℕ → Bool
 is_certain moment changed = (moment.known && not moment.idle) && is_settled moment changed
 
+-- The tolerance is over since its frame before: that one may have been so much later than prescribed.
+abbrev pub is_apart : Moment → Option Sent → Bool
+is_apart moment None = true
+is_apart moment (Some sent) = nat_lt (micros_of moment.tolerance) (moment.free - sent.micros)
+
 abbrev pub few_syncs : ℕ → Option Cycle → Option Deviation
 few_syncs n None = None
 few_syncs n (Some cycle) = if is_cyclic n && is_early n cycle then Some (FewSyncs cycle.syncs n) else None
@@ -61,7 +66,7 @@ few_syncs_of (Some kind) cycle = few_syncs kind cycle
 -- `pdo-sync`: a TPDO of type n = 2 to 240 that comes after fewer SYNCs than it may
 abbrev pub cycle_deviation : Moment → Bool → Tpdo → Option Deviation
 cycle_deviation moment has_sync pdo =
-    if has_sync && is_certain moment pdo.changed then few_syncs_of pdo.parameters.kind pdo.cycle else None
+    if has_sync && (is_certain moment pdo.changed && is_apart moment pdo.sent) then few_syncs_of pdo.parameters.kind pdo.cycle else None
 
 -- how many microseconds two frames are apart at least, with an inhibit time in 100 µs
 abbrev pub least_gap : Moment → ℕ → ℕ

@@ -2,8 +2,10 @@
 
 ghost use Rattle.std.specs.Prelude.{◌≡◌, option_map};
 ghost use Rattle.conode_compare_pdos.specs.Cycles.{
+  begins_anew,
   cycle_sent,
   cycle_synced,
+  frames_after,
   is_cyclic,
   is_early,
   new_cycle,
@@ -19,6 +21,8 @@ pub struct Cycle {
     pub syncs: u16,
     /// How many came before that frame, and after the SYNC that it answered, at most.
     pub spare: u16,
+    /// How many frames are counted.
+    pub frames: u16,
 }
 
 // twice the greatest type: any frame may come after so many
@@ -45,15 +49,33 @@ pub(crate) fn is_early(kind: u8, cycle: Cycle) -> bool
     syncs_since(cycle) < kind as u32
 }
 
+// whether the count begins anew with a frame of this type that comes now
+fn begins_anew(kind: u8, cycle: Cycle) -> bool
+    ensures { result ≡ begins_anew kind cycle }
+{
+    is_early(kind, cycle) || cycle.frames as u32 > kind as u32 + 2
+}
+
 // how many SYNCs came since the one that a frame answers that comes now, at most
 fn spare_after(kind: u8, cycle: Cycle) -> u16
     ensures { result ≡ spare_after kind cycle }
 {
     let since = syncs_since(cycle);
-    if is_early(kind, cycle) || kind as u32 + kind as u32 <= since {
+    if begins_anew(kind, cycle) || kind as u32 + kind as u32 <= since {
         kind as u16
     } else {
         (since - kind as u32) as u16
+    }
+}
+
+// how many frames are counted with one that comes now
+fn frames_after(kind: u8, cycle: Cycle) -> u16
+    ensures { result ≡ frames_after kind cycle }
+{
+    if is_early(kind, cycle) || cycle.frames as u32 > kind as u32 + 2 {
+        1
+    } else {
+        cycle.frames + 1
     }
 }
 
@@ -65,6 +87,7 @@ impl Cycle {
         Cycle {
             syncs: MOST_COUNTED,
             spare: 0,
+            frames: 0,
         }
     }
 
@@ -82,6 +105,7 @@ impl Cycle {
                 self.syncs + 1
             },
             spare: self.spare,
+            frames: self.frames,
         }
     }
 
@@ -93,6 +117,7 @@ impl Cycle {
             Some(kind) if certain && is_cyclic(kind) => Cycle {
                 syncs: 0,
                 spare: spare_after(kind, self),
+                frames: frames_after(kind, self),
             },
             _ => Self::new(),
         }

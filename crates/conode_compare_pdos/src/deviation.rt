@@ -8,6 +8,7 @@ ghost use Rattle.conode_compare_pdos.specs.Deviations.{
   few_syncs_of,
   greatest_gap,
   inhibit_deviation,
+  is_apart,
   is_certain,
   is_event_driven,
   is_judged,
@@ -155,11 +156,21 @@ fn few_syncs_of(kind: Option<u8>, cycle: Option<Cycle>) -> Option<Deviation>
     }
 }
 
+// whether the tolerance is over since its frame before
+fn is_apart(moment: &Moment, sent: Option<Sent>) -> bool
+    ensures { result ≡ is_apart moment.now sent }
+{
+    match sent {
+        Some(sent) => moment.free.saturating_sub(sent.micros) > micros_of(moment.tolerance),
+        None => true,
+    }
+}
+
 // of a TPDO of type 2 to 240
 fn cycle_deviation(moment: &Moment, has_sync: bool, pdo: &Tpdo) -> Option<Deviation>
     ensures { result ≡ cycle_deviation moment.now has_sync pdo.now }
 {
-    if has_sync && is_certain(moment, pdo.changed) {
+    if has_sync && is_certain(moment, pdo.changed) && is_apart(moment, pdo.sent) {
         few_syncs_of(pdo.parameters.kind, pdo.cycle)
     } else {
         None

@@ -8,7 +8,7 @@ use Rattle.conode_explain_transfers.specs.declared.kinds.Protocol.TheVariants.{U
 use Rattle.conode_explain_transfers.specs.declared.kinds.Side.TheVariants.{Client, Server}
 use Rattle.conode_explain_transfers.specs.declared.kinds.What.TheVariants.{Initiate, Part, Segment, OutOfSequence, Overtaken, Unexpected, Stray, BegunBefore}
 use Rattle.conode_explain_transfers.specs.Crc.{shifted, crc_with}
-use Rattle.conode_explain_transfers.specs.Hearings.{is_low_segment, is_low_last}
+use Rattle.conode_explain_transfers.specs.Hearings.{begins_as_last, is_low_last, is_low_segment}
 use Rattle.conode_explain_transfers.proofs.Dialogues.{End, Sent, Told, c, hex, s, shown}
 
 -- a segment of a block download, of a block upload
@@ -211,12 +211,17 @@ looks_like_request = refl
 abbrev segments_to_31 : List Sent
 segments_to_31 = map segment (1 ∷ 2 ∷ 3 ∷ 4 ∷ 5 ∷ 6 ∷ 7 ∷ 8 ∷ 9 ∷ 10 ∷ 11 ∷ 12 ∷ 13 ∷ 14 ∷ 15 ∷ 16 ∷ 17 ∷ 18 ∷ 19 ∷ 20 ∷ 21 ∷ 22 ∷ 23 ∷ 24 ∷ 25 ∷ 26 ∷ 27 ∷ 28 ∷ 29 ∷ 30 ∷ 31 ∷ [])
 
--- the last one is A0h: none is missing; and 31 comes twice
+-- the last one is A0h, which begins as a request does, or A1h: none is missing; and 31 comes twice
 over_after_last : map (λ frames. (shown (c (codes "C000210000000000") ∷ s (codes "A00021007F000000") ∷ segments_to_31 ++ frames ++ s (codes "4300100094010200") ∷ [])).ends)
-    ((segment 0xA0 ∷ []) ∷ (segment 31 ∷ segment 0xA0 ∷ []) ∷ [])
-    ≡ [] ∷ left 35 ∷ []
+    ((segment 0xA0 ∷ []) ∷ (segment 32 ∷ segment 0xA1 ∷ []) ∷ (segment 31 ∷ segment 0xA1 ∷ []) ∷ [])
+    ≡ left 34 ∷ [] ∷ left 35 ∷ []
 unfolding request_row_in response_row_in shifted crc_with
 over_after_last = refl
+
+-- the numbers of last segments that begin as the request of a block transfer does: 32, 36, .., 60, and 64, 66, .., 94
+last_requests : map begins_as_last (32 ∷ 33 ∷ 34 ∷ 36 ∷ 37 ∷ 61 ∷ 62 ∷ 64 ∷ 65 ∷ 66 ∷ 67 ∷ 95 ∷ 96 ∷ 97 ∷ 113 ∷ [])
+    ≡ false ∷ true ∷ false ∷ false ∷ true ∷ true ∷ false ∷ false ∷ true ∷ false ∷ true ∷ true ∷ false ∷ false ∷ false ∷ []
+last_requests = refl
 
 -- an answer to a request before the download is late, or comes twice: the download isn't left
 late_in_sub_block : shown (c (codes "C600210015000000") ∷ s (codes "A40021007F000000") ∷ s (codes "4300100092010200") ∷ segment 1 ∷ segment 2 ∷ segment 0x83 ∷ s (codes "A2037F0000000000") ∷ c (codes "C15C8B0000000000") ∷ s (codes "A100000000000000") ∷ [])
