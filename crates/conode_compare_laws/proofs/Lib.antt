@@ -126,4 +126,5 @@ pub mod ValueWrites
 pub mod ValueExpedited
 pub mod ValueUploads
 pub mod ValueLengths
+pub mod ValueExamples
 pub mod ValueLaws

@@ -29,11 +29,11 @@ use co_node_laws::stays_apart;
 /// stamps, has no `access-write` by that sheet: no download of an entry that it has as `ro` or
 /// `const` is acknowledged, expedited, in segments and in blocks (CiA 301, 7.2.4.3). Requests may
 /// come while the device is stopped, out of turn, with wrong toggle bits and numbers, and of any
-/// length; transfers may time out, and end when the recording begins anew; events of the application
-/// may come. Conditions: `compare` has the device's node-ID and the rows of its sheet; frames have
-/// bytes (`HaveBytes`); the entries are those of a dictionary (`AllAreHeld`); and no other node
-/// sends on the identifier of the answers (`AreElsewhere`). This is a law: a call of it changes
-/// nothing.
+/// length; transfers may time out, and end when the recording begins anew; events of the
+/// application may come. Conditions: `compare` has the device's node-ID and the rows of its sheet;
+/// frames have bytes (`HaveBytes`); the entries are those of a dictionary (`AllAreHeld`); and no
+/// other node sends on the identifier of the answers (`AreElsewhere`). This is a law: a call of it
+/// changes nothing.
 pub fn built_no_write_differences()
     ensures { (plan : Plan) (k : Constants) (subject : Subject) (inputs : List Stamped) →
         IsBuilt plan k → subject.node ≡ k.description.node → HaveBytes inputs →
@@ -49,8 +49,8 @@ pub fn built_no_write_differences()
 
 /// Nor has it `access-limits` of numbers: no download of a number above the HighLimit of the sheet,
 /// or below its LowLimit, is acknowledged (CiA 301, 7.2.4.3.17). Of an expedited download without a
-/// size as many bytes count as the type has. Conditions: those of `built_no_write_differences`. This
-/// is a law: a call of it changes nothing.
+/// size as many bytes count as the type has. Conditions: those of `built_no_write_differences`.
+/// This is a law: a call of it changes nothing.
 pub fn built_no_limit_differences()
     ensures { (plan : Plan) (k : Constants) (subject : Subject) (inputs : List Stamped) →
         IsBuilt plan k → subject.node ≡ k.description.node → HaveBytes inputs →
@@ -64,12 +64,12 @@ pub fn built_no_limit_differences()
     stays_apart();
 }
 
-/// So the recording of each device that `Node::build` of `co_node` makes has no `access-write` by its
-/// data sheet, without a condition on its entries: they are those of a dictionary
+/// So the recording of each device that `Node::build` of `co_node` makes has no `access-write` by
+/// its data sheet, without a condition on its entries: they are those of a dictionary
 /// (`stays_dictionary`). Conditions: `compare` has the device's node-ID and the rows of its sheet;
 /// frames, and what the application writes, have bytes (`HaveBytes`, `WriteBytes`); and no other
-/// node sends on the identifier of the answers (`AreElsewhere`). This is a law: a call of it changes
-/// nothing.
+/// node sends on the identifier of the answers (`AreElsewhere`). This is a law: a call of it
+/// changes nothing.
 pub fn node_no_write_differences()
     ensures { (plan : Plan) (k : Constants) (node : Node) (subject : Subject)
         (inputs : List Stamped) → IsBuilt plan k → Stands k node [] →
@@ -82,8 +82,8 @@ pub fn node_no_write_differences()
     built_no_write_differences();
 }
 
-/// Nor has it `access-limits` of numbers: `built_no_limit_differences` of it, under the conditions of
-/// `node_no_write_differences`. This is a law: a call of it changes nothing.
+/// Nor has it `access-limits` of numbers: `built_no_limit_differences` of it, under the conditions
+/// of `node_no_write_differences`. This is a law: a call of it changes nothing.
 pub fn node_no_limit_differences()
     ensures { (plan : Plan) (k : Constants) (node : Node) (subject : Subject)
         (inputs : List Stamped) → IsBuilt plan k → Stands k node [] →
@@ -98,9 +98,9 @@ pub fn node_no_limit_differences()
 
 /// The recording of a device that is built from a data sheet, over whatever inputs with whatever
 /// stamps, has no `value-length` by that sheet: each number that is uploaded has as many bytes as
-/// its type, expedited, in segments and in blocks (CiA 301, 7.2.4.3), also where it is written while
-/// it is uploaded. Conditions: those of `built_no_write_differences`. This is a law: a call of it
-/// changes nothing.
+/// its type, expedited, in segments and in blocks (CiA 301, 7.2.4.3), also where it is written
+/// while it is uploaded. Conditions: those of `built_no_write_differences`. This is a law: a call
+/// of it changes nothing.
 pub fn built_no_length_differences()
     ensures { (plan : Plan) (k : Constants) (subject : Subject) (inputs : List Stamped) →
         IsBuilt plan k → subject.node ≡ k.description.node → HaveBytes inputs →
@@ -115,8 +115,8 @@ pub fn built_no_length_differences()
 }
 
 /// So has the recording of each device that `Node::build` of `co_node` makes:
-/// `built_no_length_differences` of it, under the conditions of `node_no_write_differences`. This is
-/// a law: a call of it changes nothing.
+/// `built_no_length_differences` of it, under the conditions of `node_no_write_differences`. This
+/// is a law: a call of it changes nothing.
 pub fn node_no_length_differences()
     ensures { (plan : Plan) (k : Constants) (node : Node) (subject : Subject)
         (inputs : List Stamped) → IsBuilt plan k → Stands k node [] →
