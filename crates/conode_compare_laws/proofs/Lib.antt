@@ -122,3 +122,16 @@ pub mod TpdoSheets
 pub mod RoomsOfDevices
 pub mod RpdoDifferences
 mod RpdoExamples
+pub mod ValueOnly
+pub mod ValueFrames
+pub mod ValueInputs
+pub mod ValueShown
+pub mod ValueDownloads
+pub mod ValueMismatches
+pub mod ValueAllowed
+pub mod ValueWrites
+pub mod ValueExpedited
+pub mod ValueUploads
+pub mod ValueLengths
+pub mod ValueExamples
+pub mod ValueLaws

@@ -15,3 +15,4 @@ pub mod AnswerEntries
 pub mod WrittenEntries
 pub mod GivenRooms
 pub mod ShownWords
+pub mod ValueFindings

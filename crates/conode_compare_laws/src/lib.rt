@@ -16,6 +16,7 @@ mod rooms;
 mod states;
 mod tpdo_built;
 mod tpdo_laws;
+mod value_laws;
 
 pub use answer_laws::{
     begins_other, built_no_answer_differences, built_no_data_differences,
@@ -45,3 +46,7 @@ pub use rooms::rooms_of_device;
 pub use states::no_state_differences;
 pub use tpdo_built::{built_no_pdo_length, keeps_tpdos, tpdos_of_sheet};
 pub use tpdo_laws::{no_pdo_inhibit, no_pdo_late, no_pdo_length, no_pdo_state, no_pdo_sync};
+pub use value_laws::{
+    built_no_length_differences, built_no_limit_differences, built_no_write_differences,
+    node_no_length_differences, node_no_limit_differences, node_no_write_differences,
+};

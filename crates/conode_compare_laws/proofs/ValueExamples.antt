@@ -1,0 +1,97 @@
+-- What compare finds of the values and access of an entry, where another device answers too: each law has its condition on 580h + node-ID.
+use Rattle.std.proofs.Common.{◌≡◌, ℕ, true, false, List, [], ◌∷◌, Option, Some, None, refl}
+use Rattle.std.specs.Prelude.{ℤ, pos}
+use Rattle.co_frame.specs.SdoRequests.{request_row_in}
+use Rattle.co_frame.specs.SdoResponses.{response_row_in}
+use Rattle.co_profile.specs.declared.access.Access.{Access}
+use Rattle.co_profile.specs.declared.access.Access.TheVariants.{Constant, Ro, Rw}
+use Rattle.co_node_model.proofs.ExampleNode.{frame}
+use Rattle.co_sheet.specs.Content.{Row}
+use Rattle.co_sheet.specs.Limits.{absent}
+use Rattle.co_value.specs.declared.data_type.DataType.TheVariants.{Unsigned8}
+use Rattle.co_value.specs.declared.key.Key.{Key}
+use Rattle.conode_compare_pdos.specs.Followed.{unknown_pdos}
+use Rattle.conode_compare_values.specs.HeldNumbers.{held_mismatch}
+use Rattle.conode_compare_values.specs.SheetValues.{mismatch_at, row_mismatch, value_mismatch}
+use Rattle.conode_compare_values.specs.declared.mismatch.Mismatch.TheVariants.{AboveLimit, BelowLimit, ValueLength, Written}
+use Rattle.conode_compare_transfers.specs.Breaches.{breach_at}
+use Rattle.conode_compare_transfers.specs.Dialogues.{dialogue_heard, exchange_in, is_certain}
+use Rattle.conode_compare_transfers.specs.NewestFrames.{newest_after, newest_with}
+use Rattle.conode_compare_rules.specs.declared.entries.Entries.{Entries}
+use Rattle.conode_compare_rules.specs.declared.finding.Finding.TheVariants.{Value}
+use Rattle.conode_compare_rules.specs.declared.limits.Subject.{Subject}
+use Rattle.conode_compare_rules.specs.Answers.{answer_finding, confirmed_finding, held_finding, silence_finding, stopped_finding, what_finding}
+use Rattle.conode_compare_rules.specs.EntriesInForce.{asked_to_write, shown_inhibit, shown_period}
+use Rattle.conode_compare_rules.specs.Progresses as progresses
+use Rattle.conode_compare_rules.specs.Progresses.{answer_findings, begun, booted, channel_heard, control_findings, exchange_at, exchange_noted, findings_at, heartbeat_findings, late_noted, progress_with, request_findings}
+use Rattle.conode_compare_rules.specs.States as states
+use Rattle.conode_compare_rules.specs.States.{after_boot_up, after_other, awaits_boot_up, is_settled}
+use Rattle.conode_compare_rules.specs.Verdicts.{found}
+use Rattle.conode_compare_rules.specs.OtherClients.{no_clients}
+use Rattle.conode_compare_laws.specs.ValueFindings.{length_differences, limit_differences, write_differences}
+use Rattle.conode_compare_laws.specs.Differences.{differences_in}
+use Rattle.conode_compare_laws.specs.Recordings.{Recorded, with_stamp}
+
+abbrev sheet : Entries
+sheet = record { period = Some 0; emergencies = true; inhibit = Some 0; inhibit_shown = None }
+
+abbrev subject : Subject
+subject = record {
+  node = 5;
+  limits = record { tolerance = 10; drift = 1; answer = 1000; boot = 10000; time = None };
+  facts = record { before = sheet; booted = sheet; pdos = unknown_pdos; clients = no_clients; starts_itself = false; modular = false; stores = false; as_sheet = true };
+  held = record { entries = record { items = [] } };
+  rooms = record { strings = None; domains = None };
+}
+
+-- 2000:00, of UNSIGNED8
+abbrev entry : Key
+entry = record { index = 0x2000; sub = 0 }
+
+abbrev rows : Access → Option ℤ → Option ℤ → List Row
+rows access low high = record { key = entry; data_type = Unsigned8; access = access; low = low; high = high; default = absent; mappable = false; name = None; line = 1 } ∷ []
+
+abbrev answered : ℕ → ℕ → List Recorded
+answered asked answer = with_stamp 0 (frame 0x705 1 0)
+    ∷ with_stamp 900000 (frame 0x705 1 127)
+    ∷ with_stamp 1700000 (frame 0x605 8 asked)
+    ∷ with_stamp 1800000 (frame 0x585 8 answer)
+    ∷ []
+
+-- it takes a write of 5, which this device refuses
+read_only : differences_in write_differences subject (rows Ro None None) (answered 0x2F00_2000_0500_0000 0x6000_2000_0000_0000) ≡ Value (Written entry) ∷ []
+unfolding findings_at progress_with begun booted found states.after_control after_boot_up after_other awaits_boot_up is_settled progresses.after_control control_findings heartbeat_findings silence_finding channel_heard exchange_at exchange_noted late_noted
+    request_findings confirmed_finding answer_findings answer_finding stopped_finding held_finding what_finding held_mismatch dialogue_heard exchange_in is_certain newest_with newest_after breach_at shown_period shown_inhibit asked_to_write mismatch_at row_mismatch value_mismatch request_row_in response_row_in
+read_only = refl
+
+constant : differences_in write_differences subject (rows Constant None None) (answered 0x2F00_2000_0500_0000 0x6000_2000_0000_0000) ≡ Value (Written entry) ∷ []
+unfolding findings_at progress_with begun booted found states.after_control after_boot_up after_other awaits_boot_up is_settled progresses.after_control control_findings heartbeat_findings silence_finding channel_heard exchange_at exchange_noted late_noted
+    request_findings confirmed_finding answer_findings answer_finding stopped_finding held_finding what_finding held_mismatch dialogue_heard exchange_in is_certain newest_with newest_after breach_at shown_period shown_inhibit asked_to_write mismatch_at row_mismatch value_mismatch request_row_in response_row_in
+constant = refl
+
+above : differences_in limit_differences subject (rows Rw None (Some (pos 4))) (answered 0x2F00_2000_0500_0000 0x6000_2000_0000_0000) ≡ Value (AboveLimit entry) ∷ []
+unfolding findings_at progress_with begun booted found states.after_control after_boot_up after_other awaits_boot_up is_settled progresses.after_control control_findings heartbeat_findings silence_finding channel_heard exchange_at exchange_noted late_noted
+    request_findings confirmed_finding answer_findings answer_finding stopped_finding held_finding what_finding held_mismatch dialogue_heard exchange_in is_certain newest_with newest_after breach_at shown_period shown_inhibit asked_to_write mismatch_at row_mismatch value_mismatch request_row_in response_row_in
+above = refl
+
+below : differences_in limit_differences subject (rows Rw (Some (pos 6)) None) (answered 0x2F00_2000_0500_0000 0x6000_2000_0000_0000) ≡ Value (BelowLimit entry) ∷ []
+unfolding findings_at progress_with begun booted found states.after_control after_boot_up after_other awaits_boot_up is_settled progresses.after_control control_findings heartbeat_findings silence_finding channel_heard exchange_at exchange_noted late_noted
+    request_findings confirmed_finding answer_findings answer_finding stopped_finding held_finding what_finding held_mismatch dialogue_heard exchange_in is_certain newest_with newest_after breach_at shown_period shown_inhibit asked_to_write mismatch_at row_mismatch value_mismatch request_row_in response_row_in
+below = refl
+
+-- as this device does
+within : differences_in limit_differences subject (rows Rw (Some (pos 5)) (Some (pos 5))) (answered 0x2F00_2000_0500_0000 0x6000_2000_0000_0000) ≡ []
+unfolding findings_at progress_with begun booted found states.after_control after_boot_up after_other awaits_boot_up is_settled progresses.after_control control_findings heartbeat_findings silence_finding channel_heard exchange_at exchange_noted late_noted
+    request_findings confirmed_finding answer_findings answer_finding stopped_finding held_finding what_finding held_mismatch dialogue_heard exchange_in is_certain newest_with newest_after breach_at shown_period shown_inhibit asked_to_write mismatch_at row_mismatch value_mismatch request_row_in response_row_in
+within = refl
+
+-- it has two bytes there
+other_length : differences_in length_differences subject (rows Rw None None) (answered 0x4000_2000_0000_0000 0x4B00_2000_0500_0000) ≡ Value (ValueLength entry 2 1) ∷ []
+unfolding findings_at progress_with begun booted found states.after_control after_boot_up after_other awaits_boot_up is_settled progresses.after_control control_findings heartbeat_findings silence_finding channel_heard exchange_at exchange_noted late_noted
+    request_findings confirmed_finding answer_findings answer_finding stopped_finding held_finding what_finding held_mismatch dialogue_heard exchange_in is_certain newest_with newest_after breach_at shown_period shown_inhibit asked_to_write mismatch_at row_mismatch value_mismatch request_row_in response_row_in
+other_length = refl
+
+one_byte : differences_in length_differences subject (rows Rw None None) (answered 0x4000_2000_0000_0000 0x4F00_2000_0500_0000) ≡ []
+unfolding findings_at progress_with begun booted found states.after_control after_boot_up after_other awaits_boot_up is_settled progresses.after_control control_findings heartbeat_findings silence_finding channel_heard exchange_at exchange_noted late_noted
+    request_findings confirmed_finding answer_findings answer_finding stopped_finding held_finding what_finding held_mismatch dialogue_heard exchange_in is_certain newest_with newest_after breach_at shown_period shown_inhibit asked_to_write mismatch_at row_mismatch value_mismatch request_row_in response_row_in
+one_byte = refl

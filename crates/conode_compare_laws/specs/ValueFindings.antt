@@ -1,0 +1,42 @@
+-- What `compare` finds of the values and the access of entries, by the end of a transfer on a device's default SDO channel.
+use Rattle.std.specs.Prelude.{List, [], ◌∷◌, Option, Some}
+use Rattle.conode_compare_values.specs.declared.mismatch.Mismatch.TheVariants.{Written, AboveLimit, BelowLimit, ValueLength}
+use Rattle.conode_compare_rules.specs.declared.finding.Finding.{Finding}
+use Rattle.conode_compare_rules.specs.declared.finding.Finding.TheVariants.{Value}
+use Rattle.conode_compare_rules.specs.declared.kind.FrameKind.{FrameKind}
+use Rattle.conode_compare_rules.specs.declared.kind.FrameKind.TheVariants.{Sdo}
+use Rattle.conode_compare_rules.specs.declared.verdict.Findings.{Findings}
+
+-- these of what is found at frames of the channel
+abbrev pub on_channel : (Option Finding → List Finding) → FrameKind → Findings → List Finding
+on_channel only (Sdo side frame) found = only found.frame
+on_channel only kind found = []
+
+-- ---- downloads
+
+-- `access-write`
+abbrev pub of_writes : Option Finding → List Finding
+of_writes (Some (Value (Written key))) = Value (Written key) ∷ []
+of_writes finding = []
+
+abbrev pub write_differences : FrameKind → Findings → List Finding
+write_differences = on_channel of_writes
+
+-- `access-limits` of numbers
+abbrev pub of_limits : Option Finding → List Finding
+of_limits (Some (Value (AboveLimit key))) = Value (AboveLimit key) ∷ []
+of_limits (Some (Value (BelowLimit key))) = Value (BelowLimit key) ∷ []
+of_limits finding = []
+
+abbrev pub limit_differences : FrameKind → Findings → List Finding
+limit_differences = on_channel of_limits
+
+-- ---- uploads
+
+-- `value-length`
+abbrev pub of_lengths : Option Finding → List Finding
+of_lengths (Some (Value (ValueLength key came width))) = Value (ValueLength key came width) ∷ []
+of_lengths finding = []
+
+abbrev pub length_differences : FrameKind → Findings → List Finding
+length_differences = on_channel of_lengths
