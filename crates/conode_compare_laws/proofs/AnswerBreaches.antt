@@ -38,7 +38,7 @@ use Rattle.conode_explain_laws.proofs.Readings.{Reading, Begin, Abort, Response,
 use Rattle.conode_compare_transfers.specs.declared.breach.Breach.TheVariants.{AbortKey, Size}
 use Rattle.conode_compare_transfers.specs.declared.newest.Newest.{Newest}
 use Rattle.conode_compare_transfers.specs.declared.newest.Newest.TheVariants.{Request, Answer, Data, LastData, Acknowledge, LaterData, LaterAcknowledge, AllAcknowledged}
-use Rattle.conode_compare_transfers.specs.Breaches.{breach_at, ended_breach, ending_breach, is_padded, key_in, names_none, server_breach}
+use Rattle.conode_compare_transfers.specs.Breaches.{breach_at, ended_breach, ending_breach, is_padded, key_in, may_refuse_next, names_none, server_breach}
 use Rattle.conode_compare_rules.specs.Answers.{breach_finding}
 use Rattle.conode_compare_laws.specs.AnswerFindings.{of_transfers}
 use Rattle.conode_compare_laws.proofs.AnswerFollowed.{reads}
@@ -149,7 +149,7 @@ IsFit named key code = (same_key named key || (code.0 == unknown_command)) ≡ t
 
 abort_end : (frame : FrameContent) (e : Ended) (direction : Direction) (code : AbortCode) → (same_key (key_in frame) e.key || (code.0 == unknown_command)) ≡ true
     → (newest : Newest) → of_transfers (breach_finding (ending_breach newest frame e direction (Aborted Server code))) ≡ []
-abort_end frame e direction code fit newest = ap (λ b. of_transfers (breach_finding (if b || names_none newest (key_in frame) e.frames then None else Some (AbortKey e.key)))) fit
+abort_end frame e direction code fit newest = ap (λ b. of_transfers (breach_finding (if (b || names_none newest (key_in frame) e.frames) || may_refuse_next newest e then None else Some (AbortKey e.key)))) fit
 
 pub abort_fine : (heard : Bool) (t : Transfer) (code : AbortCode) (micros : ℕ) (frame : FrameContent) → (same_key (key_in frame) t.key || (code.0 == unknown_command)) ≡ true
     → Fine frame (follows_by heard (Some t) (Abort code) micros Server frame.bytes).says

@@ -27,7 +27,7 @@ use Rattle.conode_compare_transfers.specs.declared.breach.Breach.TheVariants.{Ab
 use Rattle.conode_compare_transfers.specs.declared.dialogue.Dialogue.{Dialogue}
 use Rattle.conode_compare_transfers.specs.declared.newest.Newest.{Newest}
 use Rattle.conode_compare_transfers.specs.declared.newest.Newest.TheVariants.{Acknowledge, AllAcknowledged, Data, LastData, LaterAcknowledge, LaterData, Request}
-use Rattle.conode_compare_transfers.specs.Breaches.{breach_at, ending_breach, key_in, keyed_breach, names_none, server_breach}
+use Rattle.conode_compare_transfers.specs.Breaches.{breach_at, ending_breach, key_in, keyed_breach, may_refuse_next, names_none, server_breach}
 use Rattle.conode_compare_transfers.specs.Dialogues.{dialogue_heard, exchange_in}
 use Rattle.conode_compare_rules.specs.declared.finding.Finding.{Finding}
 use Rattle.conode_compare_rules.specs.declared.finding.Finding.TheVariants.{Transfer}
@@ -59,7 +59,7 @@ key_breach true key = refl
 key_breach false key = refl
 
 whole_end : (newest : Newest) (frame : FrameContent) (e : Ended) (direction : Direction) (ending : Ending) → is_partial direction ending ≡ false → of_data (breach_finding (ending_breach newest frame e direction ending)) ≡ []
-whole_end newest frame e direction (Aborted Server code) h = key_breach ((same_key (key_in frame) e.key || (code.0 == unknown_command)) || names_none newest (key_in frame) e.frames) e.key
+whole_end newest frame e direction (Aborted Server code) h = key_breach (((same_key (key_in frame) e.key || (code.0 == unknown_command)) || names_none newest (key_in frame) e.frames) || may_refuse_next newest e) e.key
 whole_end newest frame e Upload (SizeDiffers indicated) h = absurd (cc)
 whole_end newest frame e Upload (CrcDiffers came computed) h = absurd (cc)
 whole_end newest frame e direction ending h = refl

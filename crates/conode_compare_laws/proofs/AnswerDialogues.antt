@@ -19,8 +19,8 @@ use Rattle.conode_compare_transfers.specs.declared.dialogue.Dialogue.{Dialogue}
 use Rattle.conode_compare_transfers.specs.declared.left.Left.{Left}
 use Rattle.conode_compare_transfers.specs.Dialogues.{asked_after, dialogue_heard, exchange_in, is_awaited, is_certain, is_initiate, is_late_answer, leaves_request_open, may_be_segment}
 use Rattle.conode_compare_transfers.specs.Times.{is_past}
-use Rattle.conode_compare_laws.proofs.AnswerTurns.{Lasts, Sound, is_turned}
-use Rattle.conode_compare_laws.proofs.AnswerFollowed.{GoesOn, GoesOpen, LastsOn, asks_in, client_open, client_reading, goes_on, leaves_is, next_is, no_begin, reads, server_goes, server_lasts, what_is}
+use Rattle.conode_compare_laws.proofs.AnswerTurns.{Sound}
+use Rattle.conode_compare_laws.proofs.AnswerFollowed.{GoesOn, GoesOpen, client_open, client_reading, goes_on, leaves_is, next_is, no_begin, reads, server_goes, what_is}
 use Rattle.conode_compare_laws.proofs.AnswerFound.{never_past}
 
 module _ (answer started : ℕ) (d : Dialogue) (micros : ℕ) (side : Side) (frame : FrameContent) where
@@ -66,13 +66,6 @@ server_heard answer started d micros frame s =
       asked = asked_is answer started d micros Server frame ∙ none_asked (reads d.channel micros Server frame.bytes).says.what micros frame g.what;
     }
 
--- what it is, where a transfer is open
-pub server_turned : (answer started : ℕ) (d : Dialogue) (micros : ℕ) (frame : FrameContent) → IfSome d.channel.transfer Sound → is_some d.channel.transfer ≡ true
-    → is_turned (exchange_in answer started d micros Server frame).heard.what ≡ true
-unfolding exchange_in
-server_turned answer started d micros frame s live =
-    ap is_turned (what_is d.channel micros Server frame.bytes) ∙ (server_goes d.channel micros frame.bytes s).turned live
-
 pub what_heard : (answer started : ℕ) (d : Dialogue) (micros : ℕ) (frame : FrameContent) → (exchange_in answer started d micros Server frame).heard.what ≡ (reads d.channel micros Server frame.bytes).says.what
 unfolding exchange_in
 what_heard answer started d micros frame = what_is d.channel micros Server frame.bytes
@@ -99,76 +92,32 @@ unfolding exchange_in
 in_doubt answer started d micros frame is =
     ap (λ b. b && not (is_late_answer Server (followed d.channel micros Server frame.bytes).says frame)) (never_certain answer started d.slow d.doubted micros is)
 
--- ---- while segments are sent: none is asked for, and the upload lasts or there is a doubt
-
--- an upload in blocks is open, or nothing is certain at this time
-pub record Sends (micros : ℕ) (d : Dialogue) : Type 0 where
-  pub sound : IfSome d.channel.transfer Sound
-  pub asked : d.asked ≡ None
-  pub live : (d.doubted ≡ Some micros) ⊎ ((is_some d.channel.transfer ≡ true) × IfSome d.channel.transfer Lasts)
-
-lasting : (answer started : ℕ) (d : Dialogue) (micros : ℕ) (frame : FrameContent) (t : Transfer) → d.channel.transfer ≡ Some t → Lasts t
-    → LastsOn (reads d.channel micros Server frame.bytes) frame
-lasting answer started d micros frame t is l =
-    subst (λ o. LastsOn (reads (record { heard = d.channel.heard; transfer = o }) micros Server frame.bytes) frame) (sym is) (server_lasts d.channel.heard t micros frame l)
-
-open_after : (answer started : ℕ) (d : Dialogue) (micros : ℕ) (frame : FrameContent) → LastsOn (reads d.channel micros Server frame.bytes) frame
-    → ((dialogue_heard answer started d micros Server frame).doubted ≡ Some micros)
-    ⊎ ((is_some (dialogue_heard answer started d micros Server frame).channel.transfer ≡ true) × IfSome (dialogue_heard answer started d micros Server frame).channel.transfer Lasts)
-open_after answer started d micros frame l = elim l.lasts [
-  | inl doubt ↦ inl (doubted_by answer started d micros Server frame doubt)
-  | inr live ↦ inr (
-    ap (λ (f : Following). is_some f.transfer) (channel_is answer started d micros Server frame) ∙ live,
-    subst (λ (f : Following). IfSome f.transfer Lasts) (sym (channel_is answer started d micros Server frame)) l.upload,
-  )
-]
-
-pub sends_on : (answer started : ℕ) (d : Dialogue) (micros : ℕ) (frame : FrameContent) → Sends micros d → Sends micros (dialogue_heard answer started d micros Server frame)
-sends_on answer started d micros frame h =
-    let s : ServerHeard d.channel.transfer (dialogue_heard answer started d micros Server frame) = server_heard answer started d micros frame h.sound in
-    record {
-      sound = s.sound;
-      asked = s.asked;
-      live = elim h.live [
-        | inl doubt ↦ inl (doubted_is answer started d micros Server frame ∙ doubt_stays (leaves_request_open Server (reads d.channel micros Server frame.bytes).says frame || may_be_segment d.sub_block (reads d.channel micros Server frame.bytes).says.what) micros d.doubted doubt)
-        | inr live ↦ by d.channel.transfer refl live.0 live.1
-      ];
-    }
-  where
-    by : (o : Option Transfer) → d.channel.transfer ≡ o → is_some o ≡ true → IfSome o Lasts
-        → ((dialogue_heard answer started d micros Server frame).doubted ≡ Some micros)
-        ⊎ ((is_some (dialogue_heard answer started d micros Server frame).channel.transfer ≡ true) × IfSome (dialogue_heard answer started d micros Server frame).channel.transfer Lasts)
-    by None is some l = absurd (false≢true some)
-    by (Some t) is some l = open_after answer started d micros frame (lasting answer started d micros frame t is l)
-
 -- ---- a frame of the client that begins nothing
 
-pub record LaterHeard (blocks : Bool) (micros : ℕ) (d : Dialogue) : Type 0 where
+pub record LaterHeard (micros : ℕ) (d : Dialogue) : Type 0 where
   pub sound : IfSome d.channel.transfer Sound
   pub asked : d.asked ≡ None
   pub live : (d.doubted ≡ Some micros) ⊎ (is_some d.channel.transfer ≡ true)
-  pub upload : blocks ≡ true → (d.doubted ≡ Some micros) ⊎ IfSome d.channel.transfer Lasts
 
 pub client_is : (d : Dialogue) (micros : ℕ) (frame : FrameContent) → IfSome d.channel.transfer Sound
     → reads d.channel micros Client frame.bytes ≡ follows_by d.channel.heard d.channel.transfer (request_reading (request_in frame.bytes) micros frame.bytes) micros Client frame.bytes
 client_is d micros frame s = ap (λ r. follows_by d.channel.heard d.channel.transfer r micros Client frame.bytes) (client_reading d.channel.transfer micros frame.bytes s)
 
 pub later_heard : (answer started : ℕ) (d : Dialogue) (micros : ℕ) (frame : FrameContent) → IfSome d.channel.transfer Sound → initiates (request_in frame.bytes) ≡ false
-    → LaterHeard (asks_in (request_in frame.bytes)) micros (dialogue_heard answer started d micros Client frame)
+    → LaterHeard micros (dialogue_heard answer started d micros Client frame)
 later_heard answer started d micros frame s n =
     let r : Option SdoRequest = request_in frame.bytes in
     let f : Followed = follows_by d.channel.heard d.channel.transfer (request_reading r micros frame.bytes) micros Client frame.bytes in
     let same : reads d.channel micros Client frame.bytes ≡ f = client_is d micros frame s in
     let g : GoesOn d.channel.transfer f = goes_on d.channel.heard d.channel.transfer (request_reading r micros frame.bytes) micros Client frame.bytes s (no_begin r micros frame.bytes n) in
-    let o : GoesOpen (asks_in r) f frame = client_open d.channel.heard d.channel.transfer r micros frame s n in
+    let o : GoesOpen f frame = client_open d.channel.heard d.channel.transfer r micros frame s n in
     let channel : (dialogue_heard answer started d micros Client frame).channel ≡ f.next = channel_is answer started d micros Client frame ∙ ap (λ (x : Followed). x.next) same in
     let doubts : leaves_request_open Client f.says frame ≡ true → (dialogue_heard answer started d micros Client frame).doubted ≡ Some micros =
     λ h. doubted_by answer started d micros Client frame (ap (λ (x : Followed). leaves_request_open Client x.says frame) same ∙ h) in
     record {
       sound = subst (λ (x : Following). IfSome x.transfer Sound) (sym channel) g.sound;
       asked = asked_is answer started d micros Client frame ∙ ap (λ (x : Followed). asked_after x.says.what micros frame) same ∙ none_asked f.says.what micros frame g.what;
-      live = elim o.live [ inl doubt ↦ inl (doubts doubt) | inr live ↦ inr (ap (λ (x : Following). is_some x.transfer) channel ∙ live) ];
-      upload = λ b. elim (o.upload b) [ inl doubt ↦ inl (doubts doubt) | inr lasts ↦ inr (subst (λ (x : Following). IfSome x.transfer Lasts) (sym channel) lasts) ];
+      live = elim o [ inl doubt ↦ inl (doubts doubt) | inr live ↦ inr (ap (λ (x : Following). is_some x.transfer) channel ∙ live) ];
     }
 
 -- ---- an initiate request

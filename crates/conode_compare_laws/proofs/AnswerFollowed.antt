@@ -48,7 +48,7 @@ use Rattle.conode_explain_laws.proofs.Kept.{Keeps, keeps}
 use Rattle.conode_explain_laws.proofs.Readings.{Reading, Segment, Begin, Abort, Request, Response, Nothing, request_reading, response_reading, plain_reading, beginning, segment_reading, reading_of, turn_of, follows_by, same as same_reading, begun_on, went_on_as}
 use Rattle.conode_explain_laws.proofs.Views.{abort_is, is_abort_reading, is_begin, server_no_begin}
 use Rattle.conode_compare_transfers.specs.Dialogues.{continues, ends_in_doubt, is_initiate, is_known_end, is_odd, leaves_request_open}
-use Rattle.conode_compare_laws.proofs.AnswerTurns.{Asked, Blocks, Lasts, Plain, Sound, Turned, asked, asks_for_blocks, in_blocks, is_request, is_turned, lasts, turned, unconfirmed}
+use Rattle.conode_compare_laws.proofs.AnswerTurns.{Asked, Blocks, Plain, Sound, Turned, asked, asks_for_blocks, in_blocks, is_request, is_turned, turned}
 
 -- ---- explain's frames, by the readings of conode_explain_laws
 
@@ -159,47 +159,6 @@ server_no_request (Some t) micros bytes = by (awaits_segment t Server) (is_abort
     by true false = segment_no_request t.block_size (block_segment_in bytes) _ (no_request (plain_reading Server micros bytes))
     by false abort = response_no_request (response_in bytes)
 
--- ---- the server's frames in blocks: the upload lasts, or its end leaves a doubt
-
-pub record LastsOn (f : Followed) (frame : FrameContent) : Type 0 where
-  pub lasts : (leaves_request_open Server f.says frame ≡ true) ⊎ (is_some f.next.transfer ≡ true)
-  pub upload : IfSome f.next.transfer Lasts
-
-lasts_frame : (w : What) (u : Transfer) (micros : ℕ) (side : Side) → Lasts u → Lasts (with_frame w u micros side)
-lasts_frame what.Overtaken u micros side l = l
-lasts_frame _ u micros side l = record { stage = l.stage; upload = record { direction = l.upload.direction; protocol = l.upload.protocol } }
-
-turn_lasts : (x : Option (Option ℕ)) (heard : Bool) (w : What) (u : Transfer) (micros : ℕ) (side : Side) (frame : FrameContent) → x ≡ None → Lasts u → LastsOn (turns_at x heard w u micros side) frame
-turn_lasts (Some crc) heard w u micros side frame e l = absurd (let no : is_some (Some crc) ≡ false = ap is_some e in false≢true (sym no))
-turn_lasts None heard w u micros side frame e l = record { lasts = inr refl; upload = lasts_frame w u micros side l }
-
-by_block_turn : (heard : Bool) (t : Transfer) (reading : Reading) (micros : ℕ) (frame : FrameContent) → is_request reading ≡ false → Lasts t
-    → LastsOn (turns_at (confirmed_with (turn_of t reading frame.bytes).transfer.stage) heard (turn_of t reading frame.bytes).what (after t (turn_of t reading frame.bytes)) micros Server) frame
-by_block_turn heard t reading micros frame n l =
-    let h : Lasts (turn_of t reading frame.bytes).transfer = lasts t reading frame.bytes n l in
-    turn_lasts (confirmed_with (turn_of t reading frame.bytes).transfer.stage) heard (turn_of t reading frame.bytes).what (after t (turn_of t reading frame.bytes)) micros Server frame
-    (unconfirmed (turn_of t reading frame.bytes).transfer.stage h.stage)
-    (record { stage = h.stage; upload = record { direction = h.upload.direction; protocol = h.upload.protocol } })
-
--- a block transfer that the server aborts
-aborted_in_doubt : (heard : Bool) (t : Transfer) (code : AbortCode) (micros : ℕ) (frame : FrameContent) (block : Bool) → is_block t.protocol ≡ block → block ≡ true
-    → leaves_request_open Server (follows_by heard (Some t) (Abort code) micros Server frame.bytes).says frame ≡ true
-aborted_in_doubt heard t code micros frame true e on = rw e refl
-aborted_in_doubt heard t code micros frame false e on = absurd (false≢true on)
-
-lasts_by : (heard : Bool) (t : Transfer) (reading : Reading) (micros : ℕ) (frame : FrameContent) → is_begin reading ≡ false → is_request reading ≡ false → Lasts t
-    → LastsOn (follows_by heard (Some t) reading micros Server frame.bytes) frame
-lasts_by heard t (Begin new) micros frame n r l = absurd (false≢true (sym n))
-lasts_by heard t (Abort code) micros frame n r l = record { lasts = inl (aborted_in_doubt heard t code micros frame true l.upload.protocol refl); upload = tt }
-lasts_by heard t (Segment segment) micros frame n r l = by_block_turn heard t (Segment segment) micros frame r l
-lasts_by heard t (Request request) micros frame n r l = absurd (false≢true (sym r))
-lasts_by heard t (Response response) micros frame n r l = by_block_turn heard t (Response response) micros frame r l
-lasts_by heard t Nothing micros frame n r l = by_block_turn heard t Nothing micros frame r l
-
-pub server_lasts : (heard : Bool) (t : Transfer) (micros : ℕ) (frame : FrameContent) → Lasts t → LastsOn (reads (record { heard = heard; transfer = Some t }) micros Server frame.bytes) frame
-server_lasts heard t micros frame l =
-    lasts_by heard t (reading_of (Some t) Server micros frame.bytes) micros frame (server_no_begin (Some t) micros frame.bytes) (server_no_request (Some t) micros frame.bytes) l
-
 -- ---- the client's frames
 
 none_sent : (stage : Stage) (direction : Direction) (protocol : Protocol) → (in_blocks stage ≡ true → direction ≡ Upload) → (direction ≡ Download → is_block protocol ≡ false)
@@ -217,14 +176,9 @@ pub client_reading : (current : Option Transfer) (micros : ℕ) (bytes : List �
 client_reading None micros bytes s = refl
 client_reading (Some t) micros bytes s = rw (no_segment t s) refl
 
--- after a frame of the client that begins nothing, an earlier request may be answered; or the transfer is open, and in blocks where
--- segments are asked for
-pub record GoesOpen (blocks : Bool) (f : Followed) (frame : FrameContent) : Type 0 where
-  pub live : (leaves_request_open Client f.says frame ≡ true) ⊎ (is_some f.next.transfer ≡ true)
-  pub upload : blocks ≡ true → (leaves_request_open Client f.says frame ≡ true) ⊎ IfSome f.next.transfer Lasts
-
-doubted : (blocks : Bool) (f : Followed) (frame : FrameContent) → leaves_request_open Client f.says frame ≡ true → GoesOpen blocks f frame
-doubted blocks f frame h = record { live = inl h; upload = λ on. inl h }
+-- after a frame of the client that begins nothing, an earlier request may be answered; or the transfer is open
+abbrev pub GoesOpen : Followed → FrameContent → Type 0
+GoesOpen f frame = (leaves_request_open Client f.says frame ≡ true) ⊎ (is_some f.next.transfer ≡ true)
 
 or_last : (a b : Bool) → b ≡ true → (a || b) ≡ true
 or_last true b h = refl
@@ -240,9 +194,9 @@ confirmed_in_doubt crc heard w u micros frame true e on =
     or_last (is_odd Client w) (ends_in_doubt (Some (ended (one_more u) micros (verdict u crc))) frame) (block_ends (ended (one_more u) micros (verdict u crc)) frame e)
 confirmed_in_doubt crc heard w u micros frame false e on = absurd (false≢true on)
 
-open_turn : (blocks : Bool) (x : Option (Option ℕ)) (heard : Bool) (w : What) (u : Transfer) (micros : ℕ) (frame : FrameContent) (go : Bool) → continues w ≡ go → is_turned w ≡ true
-    → (is_some x ≡ true → is_block u.protocol ≡ true) → (blocks ≡ true → go ≡ true → Lasts u) → GoesOpen blocks (turns_at x heard w u micros Client) frame
-open_turn blocks x heard w u micros frame false c on ends goes = doubted blocks _ frame (odd x w c on)
+open_turn : (x : Option (Option ℕ)) (heard : Bool) (w : What) (u : Transfer) (micros : ℕ) (frame : FrameContent) (go : Bool) → continues w ≡ go → is_turned w ≡ true
+    → (is_some x ≡ true → is_block u.protocol ≡ true) → GoesOpen (turns_at x heard w u micros Client) frame
+open_turn x heard w u micros frame false c on ends = inl (odd x w c on)
   where
     odd : (x : Option (Option ℕ)) (w : What) → continues w ≡ false → is_turned w ≡ true → leaves_request_open Client (turns_at x heard w u micros Client).says frame ≡ true
     odd None what.Initiate c on = absurd (false≢true on)
@@ -253,34 +207,32 @@ open_turn blocks x heard w u micros frame false c on ends goes = doubted blocks 
     odd (Some crc) what.Part c on = absurd (false≢true (sym c))
     odd (Some crc) (what.Segment n) c on = absurd (false≢true (sym c))
     odd (Some crc) _ c on = refl
-open_turn blocks (Some crc) heard w u micros frame true c on ends goes =
-    doubted blocks _ frame (confirmed_in_doubt crc heard w u micros frame true (ends refl) refl)
-open_turn blocks None heard w u micros frame true c on ends goes = record { live = inr refl; upload = λ b. inr (lasts_frame w u micros Client (goes b refl)) }
+open_turn (Some crc) heard w u micros frame true c on ends = inl (confirmed_in_doubt crc heard w u micros frame true (ends refl) refl)
+open_turn None heard w u micros frame true c on ends = inr refl
 
 request_open : (heard : Bool) (t : Transfer) (request : SdoRequest) (micros : ℕ) (frame : FrameContent) → Sound t
-    → GoesOpen (asks_for_blocks request) (follows_by heard (Some t) (Request request) micros Client frame.bytes) frame
+    → GoesOpen (follows_by heard (Some t) (Request request) micros Client frame.bytes) frame
 request_open heard t request micros frame s =
     let turn : Turn = request_turn t request frame.bytes in
     let h : Turned turn = turned t (Request request) frame.bytes s in
     let a : Asked (asks_for_blocks request) turn = asked t request frame.bytes s.unconfirmed in
-    open_turn (asks_for_blocks request) (confirmed_with turn.transfer.stage) heard turn.what (after t turn) micros frame (continues turn.what) refl h.what a.ends
-    (λ b c. let i : in_blocks turn.transfer.stage ≡ true = a.goes b c in let u = h.blocks i in record { stage = i; upload = record { direction = u.direction; protocol = u.protocol } })
+    open_turn (confirmed_with turn.transfer.stage) heard turn.what (after t turn) micros frame (continues turn.what) refl h.what a.ends
 
-stray_open : (blocks heard : Bool) (reading : Reading) (micros : ℕ) (frame : FrameContent) → is_begin reading ≡ false → GoesOpen blocks (follows_by heard None reading micros Client frame.bytes) frame
-stray_open blocks heard (Begin new) micros frame n = absurd (false≢true (sym n))
-stray_open blocks true _ micros frame n = doubted blocks _ frame refl
-stray_open blocks false _ micros frame n = doubted blocks _ frame refl
+stray_open : (heard : Bool) (reading : Reading) (micros : ℕ) (frame : FrameContent) → is_begin reading ≡ false → GoesOpen (follows_by heard None reading micros Client frame.bytes) frame
+stray_open heard (Begin new) micros frame n = absurd (false≢true (sym n))
+stray_open true _ micros frame n = inl refl
+stray_open false _ micros frame n = inl refl
 
-abort_open : (blocks heard : Bool) (t : Transfer) (code : AbortCode) (micros : ℕ) (frame : FrameContent) → GoesOpen blocks (follows_by heard (Some t) (Abort code) micros Client frame.bytes) frame
-abort_open blocks heard t code micros frame = doubted blocks _ frame (by (is_block t.protocol) (not_followed_by Client t frame.bytes))
+abort_open : (heard : Bool) (t : Transfer) (code : AbortCode) (micros : ℕ) (frame : FrameContent) → GoesOpen (follows_by heard (Some t) (Abort code) micros Client frame.bytes) frame
+abort_open heard t code micros frame = inl (by (is_block t.protocol) (not_followed_by Client t frame.bytes))
   where
     by : (block : Bool) (segment : Option (Option ℕ)) → not (not block && is_known_end (abort_ending Client segment code) t.key frame) ≡ true
     by true segment = refl
     by false None = refl
     by false (Some next) = refl
 
-nothing_open : (blocks heard : Bool) (t : Transfer) (micros : ℕ) (frame : FrameContent) → Sound t → GoesOpen blocks (follows_by heard (Some t) Nothing micros Client frame.bytes) frame
-nothing_open blocks heard t micros frame s = doubted blocks _ frame (by (confirmed_with t.stage))
+nothing_open : (heard : Bool) (t : Transfer) (micros : ℕ) (frame : FrameContent) → Sound t → GoesOpen (follows_by heard (Some t) Nothing micros Client frame.bytes) frame
+nothing_open heard t micros frame s = inl (by (confirmed_with t.stage))
   where
     by : (x : Option (Option ℕ)) → leaves_request_open Client (turns_at x heard what.Unexpected (after t (turn_of t Nothing frame.bytes)) micros Client).says frame ≡ true
     by None = refl
@@ -292,20 +244,20 @@ asks_in None = false
 asks_in (Some request) = asks_for_blocks request
 
 by_request : (heard : Bool) (current : Option Transfer) (request : SdoRequest) (micros : ℕ) (frame : FrameContent) → IfSome current Sound
-    → GoesOpen (asks_for_blocks request) (follows_by heard current (Request request) micros Client frame.bytes) frame
-by_request heard None request micros frame s = stray_open (asks_for_blocks request) heard (Request request) micros frame refl
+    → GoesOpen (follows_by heard current (Request request) micros Client frame.bytes) frame
+by_request heard None request micros frame s = stray_open heard (Request request) micros frame refl
 by_request heard (Some t) request micros frame s = request_open heard t request micros frame s
 
-by_nothing : (heard : Bool) (current : Option Transfer) (micros : ℕ) (frame : FrameContent) → IfSome current Sound → GoesOpen false (follows_by heard current Nothing micros Client frame.bytes) frame
-by_nothing heard None micros frame s = stray_open false heard Nothing micros frame refl
-by_nothing heard (Some t) micros frame s = nothing_open false heard t micros frame s
+by_nothing : (heard : Bool) (current : Option Transfer) (micros : ℕ) (frame : FrameContent) → IfSome current Sound → GoesOpen (follows_by heard current Nothing micros Client frame.bytes) frame
+by_nothing heard None micros frame s = stray_open heard Nothing micros frame refl
+by_nothing heard (Some t) micros frame s = nothing_open heard t micros frame s
 
-by_abort : (heard : Bool) (current : Option Transfer) (code : AbortCode) (micros : ℕ) (frame : FrameContent) → GoesOpen false (follows_by heard current (Abort code) micros Client frame.bytes) frame
-by_abort heard None code micros frame = stray_open false heard (Abort code) micros frame refl
-by_abort heard (Some t) code micros frame = abort_open false heard t code micros frame
+by_abort : (heard : Bool) (current : Option Transfer) (code : AbortCode) (micros : ℕ) (frame : FrameContent) → GoesOpen (follows_by heard current (Abort code) micros Client frame.bytes) frame
+by_abort heard None code micros frame = stray_open heard (Abort code) micros frame refl
+by_abort heard (Some t) code micros frame = abort_open heard t code micros frame
 
 pub client_open : (heard : Bool) (current : Option Transfer) (r : Option SdoRequest) (micros : ℕ) (frame : FrameContent) → IfSome current Sound → initiates r ≡ false
-    → GoesOpen (asks_in r) (follows_by heard current (request_reading r micros frame.bytes) micros Client frame.bytes) frame
+    → GoesOpen (follows_by heard current (request_reading r micros frame.bytes) micros Client frame.bytes) frame
 client_open heard current None micros frame s n = by_nothing heard current micros frame s
 client_open heard current (Some (Abandon key code)) micros frame s n = by_abort heard current code micros frame
 client_open heard current (Some (DownloadSegment toggle segment last)) micros frame s n = by_request heard current (DownloadSegment toggle segment last) micros frame s

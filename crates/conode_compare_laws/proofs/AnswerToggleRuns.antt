@@ -72,7 +72,7 @@ use Rattle.conode_compare_transfers.specs.declared.breach.Breach.TheVariants.{Ab
 use Rattle.conode_compare_transfers.specs.declared.dialogue.Dialogue.{Dialogue}
 use Rattle.conode_compare_transfers.specs.declared.newest.Newest.{Newest}
 use Rattle.conode_compare_transfers.specs.declared.newest.Newest.TheVariants.{Acknowledge, AllAcknowledged, Data, LastData, LaterAcknowledge, LaterData, Request}
-use Rattle.conode_compare_transfers.specs.Breaches.{breach_at, ending_breach, is_padded, key_in, keyed_breach, names_none, server_breach}
+use Rattle.conode_compare_transfers.specs.Breaches.{breach_at, ending_breach, is_padded, key_in, keyed_breach, may_refuse_next, names_none, server_breach}
 use Rattle.conode_compare_transfers.specs.Dialogues.{dialogue_heard, exchange_in, newest_heard}
 use Rattle.conode_compare_transfers.specs.NewestFrames.{newest_after, newest_with}
 use Rattle.conode_compare_rules.specs.declared.finding.Finding.{Finding}
@@ -117,7 +117,7 @@ either_breach true x y p q = p
 either_breach false x y p q = q
 
 no_end : (newest : Newest) (frame : FrameContent) (e : Ended) (direction : Direction) (ending : Ending) → of_toggles (breach_finding (ending_breach newest frame e direction ending)) ≡ []
-no_end newest frame e direction (Aborted Server code) = either_breach ((same_key (key_in frame) e.key || (code.0 == unknown_command)) || names_none newest (key_in frame) e.frames) None (Some (AbortKey e.key)) refl refl
+no_end newest frame e direction (Aborted Server code) = either_breach (((same_key (key_in frame) e.key || (code.0 == unknown_command)) || names_none newest (key_in frame) e.frames) || may_refuse_next newest e) None (Some (AbortKey e.key)) refl refl
 no_end newest frame e Upload (SizeDiffers indicated) = either_breach (is_padded frame e indicated) None (Some (Size e.key indicated e.bytes)) refl refl
 no_end newest frame e Upload (CrcDiffers came computed) = refl
 no_end newest frame e direction ending = refl

@@ -316,91 +316,13 @@ asked t UploadEnd frame c = end_asked (not (is_download t.direction)) t c
 asked t (BlockDownloadEnd unused) frame c = by_sender_asked (is_download t.direction) t unused (crc_in frame) c
 asked t _ frame c = plainly _ c
 
--- ---- the server's frames in blocks
-
--- an upload stays in blocks, whatever the server sends but an abort
-pub record Lasts (t : Transfer) : Type 0 where
-  pub stage : in_blocks t.stage ≡ true
-  pub upload : IsBlockUpload t
-
-abbrev LastsIn : Turn → Type 0
-LastsIn turn = Lasts turn.transfer
-
-either_lasts : (b : Bool) (x y : Turn) → LastsIn x → LastsIn y → LastsIn (if b then x else y)
-either_lasts true x y p q = p
-either_lasts false x y p q = q
-
-stays : (t : Transfer) → Lasts t → LastsIn (unexpected t)
-stays t l = record { stage = l.stage; upload = record { direction = l.upload.direction; protocol = l.upload.protocol } }
-
-on : (u t : Transfer) → in_blocks u.stage ≡ true → u.direction ≡ t.direction → u.protocol ≡ t.protocol → Lasts t → Lasts u
-on u t i d p l = record { stage = i; upload = record { direction = d ∙ l.upload.direction; protocol = ap is_block p ∙ l.upload.protocol } }
-
-late : (stage : Stage) (t : Transfer) (key : Key) (turn : Turn) → in_blocks stage ≡ true → Lasts t
-    → LastsIn (if is_initiated stage then (if same_key key t.key then turn else overtaken t) else unexpected t)
-late Initiated t key turn i l = absurd (false≢true i)
-late _ t key turn i l = stays t l
-
-segment_done_lasts : (stage : Stage) (t : Transfer) (toggle : Bool) → in_blocks stage ≡ true → Lasts t → LastsIn (segment_done_at stage t toggle)
-segment_done_lasts (DownloadSent sent last) t toggle i l = absurd (false≢true i)
-segment_done_lasts (DownloadConfirmed awaited) t toggle i l = absurd (false≢true i)
-segment_done_lasts _ t toggle i l = stays t l
-
-upload_segment_lasts : (stage : Stage) (t : Transfer) (toggle : Bool) (segment : ArrayVec ℕ) (last : Bool) → in_blocks stage ≡ true → Lasts t → LastsIn (upload_segment_at stage t toggle segment last)
-upload_segment_lasts (UploadAsked asked) t toggle segment last i l = absurd (false≢true i)
-upload_segment_lasts (UploadTaken awaited) t toggle segment last i l = absurd (false≢true i)
-upload_segment_lasts _ t toggle segment last i l = stays t l
-
-block_segment_lasts : (stage : Stage) (t : Transfer) (segment : BlockSegment) → in_blocks t.stage ≡ true → Lasts t → LastsIn (block_segment_at stage t segment)
-block_segment_lasts (SubBlock false) t segment i l =
-    either_lasts (nat_lt segment.sequence t.next_number) (segment_again t segment) _ (on _ t i refl refl l)
-    (either_lasts (segment.sequence == awaited_number t) (segment_added t segment) (segment_ahead t segment) (on _ t refl refl refl l) (on _ t i refl refl l))
-block_segment_lasts Initiated t segment i l = either_lasts (is_download t.direction && is_block t.protocol) (segment_first t segment) (unexpected t) (on _ t refl refl refl l) (stays t l)
-block_segment_lasts _ t segment i l = stays t l
-
-ended_lasts : (stage : Stage) (t : Transfer) (unused crc : ℕ) → Lasts t → LastsIn (block_ended_at stage t unused crc)
-ended_lasts AllAcknowledged t unused crc l = on _ t refl refl refl l
-ended_lasts _ t unused crc l = stays t l
-
-by_sender_lasts : (by_sender : Bool) (t : Transfer) (unused crc : ℕ) → Lasts t → LastsIn (block_ended by_sender t unused crc)
-by_sender_lasts true t unused crc l = ended_lasts t.stage t unused crc l
-by_sender_lasts false t unused crc l = stays t l
-
-not_down : (t : Transfer) → Lasts t → is_download t.direction ≡ false
-not_down t l = ap is_download l.upload.direction
-
-end_lasts : (by_receiver : Bool) (t : Transfer) → by_receiver ≡ false → Lasts t → LastsIn (end_confirmed by_receiver t)
-end_lasts true t e l = absurd (false≢true (sym e))
-end_lasts false t e l = stays t l
-
-by_receiver_lasts : (by_receiver : Bool) (t : Transfer) (sequence block_size : ℕ) → by_receiver ≡ false → Lasts t → LastsIn (acknowledged by_receiver t sequence block_size)
-by_receiver_lasts true t sequence block_size e l = absurd (false≢true (sym e))
-by_receiver_lasts false t sequence block_size e l = stays t l
-
-response_lasts : (t : Transfer) (response : SdoResponse) (frame : List ℕ) → Lasts t → LastsIn (response_turn t response frame)
-response_lasts t (DownloadDone key) frame l = late t.stage t key _ l.stage l
-response_lasts t (DownloadSegmentDone toggle) frame l = segment_done_lasts t.stage t toggle l.stage l
-response_lasts t (UploadExpedited key value) frame l = late t.stage t key _ l.stage l
-response_lasts t (UploadInitiated key size) frame l = late t.stage t key _ l.stage l
-response_lasts t (UploadSegment toggle segment last) frame l = upload_segment_lasts t.stage t toggle segment last l.stage l
-response_lasts t (BlockDownloadInitiated key block_size) frame l = late t.stage t key _ l.stage l
-response_lasts t BlockDownloadDone frame l = end_lasts (is_download t.direction) t (not_down t l) l
-response_lasts t (BlockDownloadAcknowledge sequence block_size) frame l = by_receiver_lasts (is_download t.direction) t sequence block_size (not_down t l) l
-response_lasts t (BlockUploadInitiated key size) frame l = late t.stage t key _ l.stage l
-response_lasts t (BlockUploadEnd unused) frame l = by_sender_lasts (not (is_download t.direction)) t unused (crc_in frame) l
-response_lasts t _ frame l = stays t l
+-- ---- what isn't a request, and isn't confirmed
 
 abbrev pub is_request : Reading → Bool
 is_request (Request request) = true
 is_request _ = false
 
-pub lasts : (t : Transfer) (reading : Reading) (frame : List ℕ) → is_request reading ≡ false → Lasts t → LastsIn (turn_of t reading frame)
-lasts t (Segment segment) frame n l = block_segment_lasts t.stage t segment l.stage l
-lasts t (Request request) frame n l = absurd (false≢true (sym n))
-lasts t (Response response) frame n l = response_lasts t response frame l
-lasts t _ frame n l = stays t l
-
--- it isn't confirmed
+-- in blocks
 pub unconfirmed : (stage : Stage) → in_blocks stage ≡ true → confirmed_with stage ≡ None
 unconfirmed BlockInitiated i = refl
 unconfirmed (SubBlock last) i = refl

@@ -248,7 +248,7 @@ module _ (Idle Opening : Type 0) (subject : Subject) (rows : List Row) (micros :
 
 -- by what the device makes of it
 module _ (Idle : Type 0) (subject : Subject) (rows : List Row) (micros : ℕ) (stage : Stage) (d : Description) (contents : Contents) (log : Log) (frame : FrameContent) (p : Progress) (ready : Ready subject p micros)
-  (covered : Covers p.dialogue) where
+    (covered : Covers p.dialogue) where
   by_device : Quietly d contents log frame.bytes ⊎ (Acknowledges d contents log frame.bytes ⊎ Refuses d contents log frame.bytes)
       → Quiet subject rows p micros (Sdo Client frame) (λ q. AllRun answer_differences subject rows micros q (frames_on (0x580 + subject.node) (reply_to d contents log frame.bytes)) (Holds Idle (OpensAt d contents log frame.bytes) stage))
   by_device (inl h) =

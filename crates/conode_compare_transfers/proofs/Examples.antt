@@ -7,7 +7,8 @@ use Rattle.conode_explain_transfers.specs.declared.ended.Ending.{Ending}
 use Rattle.conode_explain_transfers.specs.declared.ended.Ending.TheVariants.{Aborted, CrcDiffers, Done, Irregular, SizeDiffers}
 use Rattle.conode_explain_transfers.specs.declared.kinds.Direction.{Direction}
 use Rattle.conode_explain_transfers.specs.declared.kinds.Direction.TheVariants.{Download, Upload}
-use Rattle.conode_explain_transfers.specs.declared.kinds.Protocol.TheVariants.{Segmented}
+use Rattle.conode_explain_transfers.specs.declared.kinds.Protocol.{Protocol}
+use Rattle.conode_explain_transfers.specs.declared.kinds.Protocol.TheVariants.{Block, Segmented}
 use Rattle.conode_explain_transfers.specs.declared.kinds.Side.TheVariants.{Client, Server}
 use Rattle.conode_explain_transfers.specs.declared.kinds.What.{What}
 use Rattle.conode_explain_transfers.specs.declared.kinds.What.TheVariants.{Initiate, OutOfSequence, Part, Repeated, Segment, Unexpected}
@@ -331,6 +332,28 @@ asked_without_key = refl
 
 asked_of_another : map (λ newest. refused newest 9 (abort_of_none 0 0 1)) (Acknowledge ∷ LaterData ∷ LaterAcknowledge ∷ AllAcknowledged ∷ []) ≡ Some (AbortKey key) ∷ Some (AbortKey key) ∷ Some (AbortKey key) ∷ Some (AbortKey key) ∷ []
 asked_of_another = refl
+
+-- A segment of a block download may be a request for a server that has given it up: of three frames the
+-- second is the client's. Not after the server's answer, nor of another transfer.
+abbrev in_blocks : Newest → Direction → Protocol → ℕ → Option Breach
+in_blocks newest direction protocol frames = ended_breach newest (abort_of_none 9 0x20 1) (record {
+  key = key;
+  direction = direction;
+  protocol = protocol;
+  bytes = 0;
+  first = record { items = [] };
+  frames = frames;
+  begun = 1;
+  newest = 1;
+  end = 2;
+  ending = Aborted Server (record { 0 = 0x06020000 });
+})
+
+next_segment : map (λ frames. in_blocks Request Download Block frames) (2 ∷ 3 ∷ 66 ∷ []) ≡ Some (AbortKey key) ∷ None ∷ None ∷ []
+next_segment = refl
+
+no_next_segment : in_blocks Answer Download Block 66 ∷ in_blocks Request Upload Block 66 ∷ in_blocks Request Download Segmented 66 ∷ [] ≡ Some (AbortKey key) ∷ Some (AbortKey key) ∷ Some (AbortKey key) ∷ []
+no_next_segment = refl
 
 by_client : breach_at (Some Answer) Client (ended_by Download (Aborted Client (record { 0 = 0x08000000 }))) (abort_of 9 0) ≡ None
 unfolding breach_at

@@ -10,9 +10,9 @@ use Rattle.conode_explain_transfers.specs.declared.ended.Ended.{Ended}
 use Rattle.conode_explain_transfers.specs.declared.ended.Ending.{Ending}
 use Rattle.conode_explain_transfers.specs.declared.ended.Ending.TheVariants.{Aborted, SizeDiffers, CrcDiffers}
 use Rattle.conode_explain_transfers.specs.declared.kinds.Direction.{Direction}
-use Rattle.conode_explain_transfers.specs.declared.kinds.Direction.TheVariants.{Upload}
+use Rattle.conode_explain_transfers.specs.declared.kinds.Direction.TheVariants.{Download, Upload}
 use Rattle.conode_explain_transfers.specs.declared.kinds.Protocol.{Protocol}
-use Rattle.conode_explain_transfers.specs.declared.kinds.Protocol.TheVariants.{Segmented}
+use Rattle.conode_explain_transfers.specs.declared.kinds.Protocol.TheVariants.{Block, Segmented}
 use Rattle.conode_explain_transfers.specs.declared.kinds.Side.{Side}
 use Rattle.conode_explain_transfers.specs.declared.kinds.Side.TheVariants.{Server}
 use Rattle.conode_explain_transfers.specs.declared.kinds.What.{What}
@@ -51,11 +51,23 @@ abbrev pub names_none : Newest → Key → ℕ → Bool
 names_none newest named frames =
     same_key named (record { index = 0; sub = 0 }) && answers_without_key newest frames
 
+-- A server that has given up a block download without an abort takes the client's next frame for a
+-- request, which may look like the next segment (7.2.4.3.10); an abort of it is of the entry in that.
+abbrev pub is_block_download : Protocol → Direction → Bool
+is_block_download Block Download = true
+is_block_download protocol direction = false
+
+-- that may be so after a frame of the client, but for the initiate request
+abbrev pub may_refuse_next : Newest → Ended → Bool
+may_refuse_next Request ended = is_block_download ended.protocol ended.direction && nat_lt 2 ended.frames
+may_refuse_next newest ended = false
+
 -- `abort-key`: an abort of another entry; a server that doesn't know a command may not know where
 -- its multiplexer is
 abbrev pub abort_breach : Newest → Key → Ended → AbortCode → Option Breach
 abort_breach newest named ended code =
-    if (same_key named ended.key || (code.0 == unknown_command)) || names_none newest named ended.frames then None else Some (AbortKey ended.key)
+    if ((same_key named ended.key || (code.0 == unknown_command)) || names_none newest named ended.frames) || may_refuse_next newest ended
+    then None else Some (AbortKey ended.key)
 
 abbrev pub is_segmented : Protocol → Bool
 is_segmented Segmented = true

@@ -9,6 +9,7 @@ ghost use Rattle.conode_compare_transfers.specs.Breaches.{
   ended_breach,
   is_padded,
   key_in,
+  may_refuse_next,
   names_none,
   server_breach,
   size_breach,
@@ -82,6 +83,18 @@ fn names_none(newest: Newest, named: Key, frames: u64) -> bool
     named == Key { index: 0, sub: 0 } && answers_without_key(newest, frames)
 }
 
+// Whether an abort may be of the entry in the client's newest frame: a server that has given up a
+// block download without an abort takes that for a request, also where it looks like the next
+// segment.
+fn may_refuse_next(newest: Newest, ended: &Ended) -> bool
+    ensures { result ≡ may_refuse_next newest ended.now }
+{
+    match (newest, ended.protocol, ended.direction) {
+        (Newest::Request, Protocol::Block, Direction::Download) => ended.frames > 2,
+        _ => false,
+    }
+}
+
 // An abort of another entry; a server that doesn't know a command may not know where its
 // multiplexer is.
 fn abort_breach(newest: Newest, named: Key, ended: &Ended, code: AbortCode) -> Option<Breach>
@@ -90,6 +103,7 @@ fn abort_breach(newest: Newest, named: Key, ended: &Ended, code: AbortCode) -> O
     if named == ended.key
         || code == AbortCode::UNKNOWN_COMMAND
         || names_none(newest, named, ended.frames)
+        || may_refuse_next(newest, ended)
     {
         None
     } else {
