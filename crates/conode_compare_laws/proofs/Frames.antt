@@ -40,6 +40,7 @@ use Rattle.conode_compare_rules.specs.Progresses.{
   begun,
   booted,
   channel_heard,
+  comes_early,
   confirmed_findings,
   control_findings,
   emergency_findings,
@@ -253,15 +254,15 @@ none_wrong true false same e = refl
 none_wrong false wrong same e = refl
 
 never_again : (subject : Subject) (p : Progress) (micros : ℕ) (actual : NodeState) → FitsAt micros (runs actual) p
-    → strays_again subject p.started p.heartbeats.guarded p.nmt p.free (state_byte (heartbeat_of actual)) ≡ false
+    → strays_again subject p.started p.heartbeats.guarded (comes_early subject p micros (state_byte (heartbeat_of actual))) p.nmt p.free (state_byte (heartbeat_of actual)) ≡ false
 never_again subject p micros node.PreOperational h = none_wrong (not p.heartbeats.guarded && is_settled subject.limits p.started p.nmt.commanded p.free) _ _ (freer_not_wrong subject.facts.starts_itself p.nmt.state p.nmt.due node.PreOperational h)
 never_again subject p micros node.Operational h = none_wrong (not p.heartbeats.guarded && is_settled subject.limits p.started p.nmt.commanded p.free) _ _ (freer_not_wrong subject.facts.starts_itself p.nmt.state p.nmt.due node.Operational h)
 never_again subject p micros node.Stopped h = none_wrong (not p.heartbeats.guarded && is_settled subject.limits p.started p.nmt.commanded p.free) _ _ (freer_not_wrong subject.facts.starts_itself p.nmt.state p.nmt.due node.Stopped h)
 
 none_controlled : (subject : Subject) (p : Progress) (micros : ℕ) (actual : NodeState) → FitsAt micros (runs actual) p
-    → control_finding subject p.started p.heartbeats.guarded p.nmt p.free micros (state_byte (heartbeat_of actual)) ≡ None
+    → control_finding subject p.started p.heartbeats.guarded (comes_early subject p micros (state_byte (heartbeat_of actual))) p.nmt p.free micros (state_byte (heartbeat_of actual)) ≡ None
 unfolding control_finding
-none_controlled subject p micros node.PreOperational h = by (strays_again subject p.started p.heartbeats.guarded p.nmt p.free 127) (p.heartbeats.guarded || (is_guarded_state 127 || not (is_settled subject.limits p.started p.nmt.commanded p.free)))
+none_controlled subject p micros node.PreOperational h = by (strays_again subject p.started p.heartbeats.guarded (comes_early subject p micros 127) p.nmt p.free 127) (p.heartbeats.guarded || (is_guarded_state 127 || not (is_settled subject.limits p.started p.nmt.commanded p.free)))
     (never_again subject p micros node.PreOperational h)
   where
     by : (again b : Bool) → again ≡ false
@@ -269,7 +270,7 @@ none_controlled subject p micros node.PreOperational h = by (strays_again subjec
     by true b e = absurd (cc)
     by false true e = refl
     by false false e = ap (said_of p.nmt.odd) (none_judged subject.facts.starts_itself p.nmt.state p.nmt.due node.PreOperational h)
-none_controlled subject p micros node.Operational h = by (strays_again subject p.started p.heartbeats.guarded p.nmt p.free 5) (p.heartbeats.guarded || (is_guarded_state 5 || not (is_settled subject.limits p.started p.nmt.commanded p.free)))
+none_controlled subject p micros node.Operational h = by (strays_again subject p.started p.heartbeats.guarded (comes_early subject p micros 5) p.nmt p.free 5) (p.heartbeats.guarded || (is_guarded_state 5 || not (is_settled subject.limits p.started p.nmt.commanded p.free)))
     (never_again subject p micros node.Operational h)
   where
     by : (again b : Bool) → again ≡ false
@@ -277,7 +278,7 @@ none_controlled subject p micros node.Operational h = by (strays_again subject p
     by true b e = absurd (cc)
     by false true e = refl
     by false false e = ap (said_of p.nmt.odd) (none_judged subject.facts.starts_itself p.nmt.state p.nmt.due node.Operational h)
-none_controlled subject p micros node.Stopped h = by (strays_again subject p.started p.heartbeats.guarded p.nmt p.free 4) (p.heartbeats.guarded || (is_guarded_state 4 || not (is_settled subject.limits p.started p.nmt.commanded p.free)))
+none_controlled subject p micros node.Stopped h = by (strays_again subject p.started p.heartbeats.guarded (comes_early subject p micros 4) p.nmt p.free 4) (p.heartbeats.guarded || (is_guarded_state 4 || not (is_settled subject.limits p.started p.nmt.commanded p.free)))
     (never_again subject p micros node.Stopped h)
   where
     by : (again b : Bool) → again ≡ false
@@ -288,9 +289,9 @@ none_controlled subject p micros node.Stopped h = by (strays_again subject p.sta
 
 heartbeat_none : (subject : Subject) (rows : List Row) (p : Progress) (micros : ℕ) (actual : NodeState) → FitsAt micros (runs actual) p
     → option_to_list (boot_finding subject.limits p.nmt micros)
-    ++ option_to_list (control_finding subject p.started p.heartbeats.guarded p.nmt p.free micros (state_byte (heartbeat_of actual))) ≡ []
+    ++ option_to_list (control_finding subject p.started p.heartbeats.guarded (comes_early subject p micros (state_byte (heartbeat_of actual))) p.nmt p.free micros (state_byte (heartbeat_of actual))) ≡ []
 heartbeat_none subject rows p micros actual h =
-    ap (λ o. option_to_list o ++ option_to_list (control_finding subject p.started p.heartbeats.guarded p.nmt p.free micros (state_byte (heartbeat_of actual)))) (none_missing subject.limits p micros (runs actual) h)
+    ap (λ o. option_to_list o ++ option_to_list (control_finding subject p.started p.heartbeats.guarded (comes_early subject p micros (state_byte (heartbeat_of actual))) p.nmt p.free micros (state_byte (heartbeat_of actual)))) (none_missing subject.limits p micros (runs actual) h)
     ∙ ap (λ o. [] ++ option_to_list o) (none_controlled subject p micros actual h)
 
 -- what is known after a heartbeat: its state, or what was known
@@ -308,7 +309,7 @@ pub heartbeat_passes : (subject : Subject) (rows : List Row) (p : Progress) (mic
 unfolding found control_findings heartbeat_findings progresses.after_control states.after_control
 heartbeat_passes subject rows p micros node.PreOperational h = record {
   none = heartbeat_none subject rows p micros node.PreOperational h;
-  fits = unless_two (strays_again subject p.started p.heartbeats.guarded p.nmt p.free 127) _ node.PreOperational (by (shows_state subject.limits p.started p.nmt p.free 127));
+  fits = unless_two (strays_again subject p.started p.heartbeats.guarded (comes_early subject p micros 127) p.nmt p.free 127) _ node.PreOperational (by (shows_state subject.limits p.started p.nmt p.free 127));
 }
   where
     by : (b : Bool) → is_shown (if b then states.with_state (after_other subject.limits p.nmt micros) (states.state_of 127) micros else after_other subject.limits p.nmt micros).state node.PreOperational ≡ true
@@ -316,7 +317,7 @@ heartbeat_passes subject rows p micros node.PreOperational h = record {
     by false = other_shown subject.limits p micros node.PreOperational h
 heartbeat_passes subject rows p micros node.Operational h = record {
   none = heartbeat_none subject rows p micros node.Operational h;
-  fits = unless_two (strays_again subject p.started p.heartbeats.guarded p.nmt p.free 5) _ node.Operational (by (shows_state subject.limits p.started p.nmt p.free 5));
+  fits = unless_two (strays_again subject p.started p.heartbeats.guarded (comes_early subject p micros 5) p.nmt p.free 5) _ node.Operational (by (shows_state subject.limits p.started p.nmt p.free 5));
 }
   where
     by : (b : Bool) → is_shown (if b then states.with_state (after_other subject.limits p.nmt micros) (states.state_of 5) micros else after_other subject.limits p.nmt micros).state node.Operational ≡ true
@@ -324,7 +325,7 @@ heartbeat_passes subject rows p micros node.Operational h = record {
     by false = other_shown subject.limits p micros node.Operational h
 heartbeat_passes subject rows p micros node.Stopped h = record {
   none = heartbeat_none subject rows p micros node.Stopped h;
-  fits = unless_two (strays_again subject p.started p.heartbeats.guarded p.nmt p.free 4) _ node.Stopped (by (shows_state subject.limits p.started p.nmt p.free 4));
+  fits = unless_two (strays_again subject p.started p.heartbeats.guarded (comes_early subject p micros 4) p.nmt p.free 4) _ node.Stopped (by (shows_state subject.limits p.started p.nmt p.free 4));
 }
   where
     by : (b : Bool) → is_shown (if b then states.with_state (after_other subject.limits p.nmt micros) (states.state_of 4) micros else after_other subject.limits p.nmt micros).state node.Stopped ≡ true

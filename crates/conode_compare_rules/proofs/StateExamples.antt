@@ -307,11 +307,11 @@ commanded_to service state = record {
 }
 
 -- the bus was free last 10 ms after it: the heartbeat may be one of the state before
-waits_since : control_finding device 0 false (commanded_to Stop Stopped) 110000 150000 5 ≡ None
+waits_since : control_finding device 0 false false (commanded_to Stop Stopped) 110000 150000 5 ≡ None
 unfolding control_finding is_settled
 waits_since = refl
 
-free_since : control_finding device 0 false (commanded_to Stop Stopped) 110001 150000 5 ≡ Some (WrongState Operational Stopped)
+free_since : control_finding device 0 false false (commanded_to Stop Stopped) 110001 150000 5 ≡ Some (WrongState Operational Stopped)
 unfolding control_finding is_settled state_finding
 free_since = refl
 
@@ -367,7 +367,7 @@ sends_pdo : (moment_at device (later_in slow_start) 250000).idle ≡ false
 unfolding moment_at after_control after_other awaits_boot_up is_settled
 sends_pdo = refl
 
-becomes_operational : control_finding device 0 false slow_start 250000 250000 5 ≡ None
+becomes_operational : control_finding device 0 false false slow_start 250000 250000 5 ≡ None
 unfolding control_finding state_finding after_control after_other awaits_boot_up is_settled
 becomes_operational = refl
 
@@ -383,7 +383,7 @@ falls_back_later = (refl, refl)
 abbrev slow_entry : Nmt
 slow_entry = after_control limits 0 (commanded_to EnterPreOperational PreOperational) 150000 150000 4
 
-enters_later : map (control_finding device 0 false slow_entry 250000 250000) (4 ∷ 127 ∷ 5 ∷ []) ≡ None ∷ None ∷ Some (WrongState Operational PreOperational) ∷ []
+enters_later : map (control_finding device 0 false false slow_entry 250000 250000) (4 ∷ 127 ∷ 5 ∷ []) ≡ None ∷ None ∷ Some (WrongState Operational PreOperational) ∷ []
 unfolding control_finding state_finding after_control after_other awaits_boot_up is_settled
 enters_later = refl
 

@@ -1,6 +1,6 @@
 -- Recordings of a device that ignores a command, of two devices with one node-ID, and of one that makes a
 -- mistake again and again: what is found at each frame, on both sides of each edge.
-use Rattle.std.proofs.Common.{◌≡◌, ℕ, true, false, List, [], ◌∷◌, ◌++◌, Option, Some, None, refl}
+use Rattle.std.proofs.Common.{◌≡◌, ℕ, ◌+◌, true, false, List, [], ◌∷◌, ◌++◌, map, Option, Some, None, refl}
 use Rattle.co_frame.specs.declared.nmt.NmtService.TheVariants.{Start, Stop, EnterPreOperational}
 use Rattle.conode_compare_pdos.specs.declared.deviation.Deviation.TheVariants.{NotOperational}
 use Rattle.conode_compare_pdos.specs.declared.parameters.Parameters.{Parameters}
@@ -20,7 +20,7 @@ use Rattle.conode_compare_rules.specs.declared.verdict.Verdict.{Verdict}
 use Rattle.conode_compare_rules.specs.declared.verdict.Verdict.TheVariants.{Unjudged}
 use Rattle.conode_compare_rules.specs.Answers.{silence_finding}
 use Rattle.conode_compare_rules.specs.EmergencyRules.{emergency_finding, inhibit_finding}
-use Rattle.conode_compare_rules.specs.Heartbeats.{late_finding, overdue_by}
+use Rattle.conode_compare_rules.specs.Heartbeats.{early_remark, late_finding, overdue_by}
 use Rattle.conode_compare_rules.specs.Progresses as progresses
 use Rattle.conode_compare_rules.specs.Progresses.{
   after_emergency,
@@ -149,31 +149,36 @@ abbrev in_turn : List (ℕ × FrameKind)
 in_turn = (0, Control 0) ∷ (500000, Control 5) ∷ (1000000, Control 127) ∷ []
 
 second : last_found in_turn 1500000 (Control 5) ≡ Some (TwoStates Operational PreOperational)
-unfolding findings_at progress_with begun booted found progresses.after_control states.after_control after_boot_up after_other awaits_boot_up control_findings heartbeat_findings control_finding state_finding is_settled
+unfolding findings_at progress_with begun booted found progresses.after_control states.after_control after_boot_up after_other awaits_boot_up control_findings heartbeat_findings control_finding state_finding is_settled early_remark
 second = refl
+
+-- one device that goes twice to a state by itself: its heartbeats come as their period has it
+alone : last_found ((0, Control 0) ∷ (1000000, Control 5) ∷ (2000000, Control 127) ∷ []) 3000000 (Control 5) ≡ Some (WrongState Operational PreOperational)
+unfolding findings_at progress_with begun booted found progresses.after_control states.after_control after_boot_up after_other awaits_boot_up control_findings heartbeat_findings control_finding state_finding is_settled early_remark
+alone = refl
 
 -- said once, and no state is known any more
 said : last_found (in_turn ++ (1500000, Control 5) ∷ (2000000, Control 127) ∷ []) 2500000 (Control 5) ≡ None
-unfolding findings_at progress_with begun booted found progresses.after_control states.after_control after_boot_up after_other awaits_boot_up control_findings heartbeat_findings control_finding state_finding is_settled
+unfolding findings_at progress_with begun booted found progresses.after_control states.after_control after_boot_up after_other awaits_boot_up control_findings heartbeat_findings control_finding state_finding is_settled early_remark
 said = refl
 
 unjudged : last_verdict (in_turn ++ (1500000, Control 5) ∷ []) 2000000 (Control 127) ≡ Some Unjudged
-unfolding findings_at progress_with begun booted found progresses.after_control states.after_control after_boot_up after_other awaits_boot_up boot_finding control_findings heartbeat_findings control_finding control_judged state_finding is_settled late_finding overdue_by silence_finding
+unfolding findings_at progress_with begun booted found progresses.after_control states.after_control after_boot_up after_other awaits_boot_up boot_finding control_findings heartbeat_findings control_finding control_judged state_finding is_settled late_finding overdue_by silence_finding early_remark
 unjudged = refl
 
 -- a command begins anew
 known_again : last_found (in_turn ++ (1500000, Control 5) ∷ (1600000, Command Stop) ∷ (2000000, Control 4) ∷ []) 2500000 (Control 5) ≡ Some (WrongState Operational Stopped)
-unfolding findings_at progress_with begun booted found progresses.after_control states.after_control after_boot_up after_other awaits_boot_up progresses.after_command states.after_command control_findings heartbeat_findings control_finding state_finding is_settled
+unfolding findings_at progress_with begun booted found progresses.after_control states.after_control after_boot_up after_other awaits_boot_up progresses.after_command states.after_command control_findings heartbeat_findings control_finding state_finding is_settled early_remark
 known_again = refl
 
 -- a device that falls back by itself, and is started again by commands, does as it is prescribed
 started_again : last_found ((0, Control 0) ∷ (100000, Command Start) ∷ (500000, Control 5) ∷ (1000000, Control 127) ∷ (1100000, Command Start) ∷ (1500000, Control 5) ∷ (2000000, Control 127) ∷ (2100000, Command Start) ∷ []) 2500000 (Control 5) ≡ None
-unfolding findings_at progress_with begun booted found progresses.after_control states.after_control after_boot_up after_other awaits_boot_up progresses.after_command states.after_command control_findings heartbeat_findings control_finding state_finding is_settled
+unfolding findings_at progress_with begun booted found progresses.after_control states.after_control after_boot_up after_other awaits_boot_up progresses.after_command states.after_command control_findings heartbeat_findings control_finding state_finding is_settled early_remark
 started_again = refl
 
 -- a command between the two changes
 commanded_between : last_found (in_turn ++ (1100000, Command EnterPreOperational) ∷ []) 1500000 (Control 5) ≡ Some (WrongState Operational PreOperational)
-unfolding findings_at progress_with begun booted found progresses.after_control states.after_control after_boot_up after_other awaits_boot_up progresses.after_command states.after_command control_findings heartbeat_findings control_finding state_finding is_settled
+unfolding findings_at progress_with begun booted found progresses.after_control states.after_control after_boot_up after_other awaits_boot_up progresses.after_command states.after_command control_findings heartbeat_findings control_finding state_finding is_settled early_remark
 commanded_between = refl
 
 -- out of stopped, and then out of pre-operational: no return
@@ -246,6 +251,12 @@ late_longer = refl
 late_unjudged : last_verdict late_once 2200000 (Control 127) ≡ Some Unjudged
 unfolding findings_at progress_with begun booted found progresses.after_control states.after_control after_boot_up after_other awaits_boot_up boot_finding control_findings heartbeat_findings control_finding control_judged state_finding is_settled late_finding overdue_by silence_finding
 late_unjudged = refl
+
+-- after a pause of more than two periods the next one is said
+after_pause : map (λ pause. last_late ((0, Control 0) ∷ (pause, Control 127) ∷ []) (pause + 1100000) (Control 127)) (2000000 ∷ 2000001 ∷ [])
+    ≡ None ∷ Some (HeartbeatLate 1100000 1000) ∷ []
+unfolding findings_at progress_with begun booted found control_findings heartbeat_findings progresses.after_control late_finding overdue_by
+after_pause = refl
 
 -- one in time ends the row
 in_time : last_late (late_once ++ (2100000, Control 127) ∷ []) 3200000 (Control 127) ≡ Some (HeartbeatLate 1100000 1000)

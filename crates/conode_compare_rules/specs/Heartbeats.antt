@@ -145,10 +145,17 @@ abbrev pub comes_late : Limits → Option ℕ → Heartbeats → ℕ → ℕ →
 comes_late limits period heartbeats free micros =
     not (is_some heartbeats.since) || is_some (overdue_by limits period heartbeats free micros)
 
+-- one that takes more than two periods is a pause, and says nothing of those after it
+abbrev pub unless_pause : Option ℕ → Option ℕ → Option ℕ
+unless_pause None slow = None
+unless_pause (Some period) None = None
+unless_pause (Some period) (Some slow) = if nat_le slow (2 * micros_of period) then Some slow else None
+
 -- the longest time of the row, after a heartbeat: one that comes in time ends it
 abbrev pub slow_after : Limits → Option ℕ → Heartbeats → ℕ → ℕ → Option ℕ
 slow_after limits period heartbeats free micros =
-    if comes_late limits period heartbeats free micros then longer heartbeats.slow (time_taken heartbeats free) else None
+    if comes_late limits period heartbeats free micros
+    then unless_pause period (longer heartbeats.slow (time_taken heartbeats free)) else None
 
 -- ---- early ones
 

@@ -147,7 +147,7 @@ after_guarding progress = record progress { heartbeats = record progress.heartbe
 
 abbrev pub boot_findings : Subject → Progress → ℕ → Findings
 boot_findings subject progress micros =
-    found None None None (control_finding subject progress.started progress.heartbeats.guarded progress.nmt progress.free micros 0) true
+    found None None None (control_finding subject progress.started progress.heartbeats.guarded false progress.nmt progress.free micros 0) true
 
 -- what the data sheet says of the entries and the TPDOs, as far as that is known; once the client of another
 -- SDO channel has sent, only what never changes: the device may take its request after the boot-up
@@ -219,10 +219,15 @@ abbrev pub heartbeats_by : Subject → Progress → Bool → ℕ → Heartbeats
 heartbeats_by subject progress own micros =
     said_late (with_shown progress.heartbeats (own && is_some (late_at subject progress micros)) micros) (late_by subject progress own micros)
 
+-- it comes sooner than its period
+abbrev pub comes_early : Subject → Progress → ℕ → ℕ → Bool
+comes_early subject progress micros byte =
+    is_some (early_remark subject.limits progress.entries.period progress.heartbeats micros byte)
+
 -- the difference of its byte
 abbrev pub byte_finding : Subject → Progress → ℕ → ℕ → Option Finding
 byte_finding subject progress micros byte =
-    control_finding subject progress.started progress.heartbeats.guarded progress.nmt progress.free micros byte
+    control_finding subject progress.started progress.heartbeats.guarded (comes_early subject progress micros byte) progress.nmt progress.free micros byte
 
 -- A heartbeat has the same byte as the last one, which is no state, or is late as the last one was. Both
 -- were said of an earlier one, so it is unjudged.
@@ -250,7 +255,7 @@ slow_then subject progress micros = slow_after subject.limits progress.entries.p
 unfoldable pub after_control : Subject → Progress → ℕ → ℕ → Progress
 after_control subject progress micros byte = record progress {
   nmt = with_odd (odd_after (byte_finding subject progress micros byte) byte progress.nmt.odd)
-      (after_turn subject progress.started progress.heartbeats.guarded progress.nmt progress.free byte
+      (after_turn subject progress.started progress.heartbeats.guarded (comes_early subject progress micros byte) progress.nmt progress.free byte
       (states.after_control subject.limits progress.started progress.nmt progress.free micros byte));
   heartbeats = record (after_byte progress.heartbeats progress.free micros byte) { slow = slow_then subject progress micros };
   pdos = if byte == 5 then progress.pdos else tpdos.commanded progress.pdos;

@@ -308,10 +308,11 @@ strays subject started guarded nmt free byte =
     (not guarded && is_settled subject.limits started nmt.commanded free)
     && (is_state byte && is_wrong subject.facts.starts_itself (judged_state nmt) (state_of byte))
 
--- It went so out of the same state before, and returned to it: the heartbeats are those of two devices.
-abbrev pub strays_again : Subject → ℕ → Bool → Nmt → ℕ → ℕ → Bool
-strays_again subject started guarded nmt free byte =
-    strays subject started guarded nmt free byte && same_state (judged_state nmt) nmt.strayed
+-- It went so out of the same state before, and returned to it, and the heartbeat comes sooner than its
+-- period: the heartbeats are those of two devices.
+abbrev pub strays_again : Subject → ℕ → Bool → Bool → Nmt → ℕ → ℕ → Bool
+strays_again subject started guarded early nmt free byte =
+    strays subject started guarded nmt free byte && (same_state (judged_state nmt) nmt.strayed && early)
 
 -- of two devices the state is unknown until a boot-up or a command
 abbrev pub with_turn : Bool → Bool → NmtState → Nmt → Nmt
@@ -322,19 +323,19 @@ with_turn stray again state nmt = record nmt {
   mixed = again || nmt.mixed;
 }
 
-abbrev pub after_turn : Subject → ℕ → Bool → Nmt → ℕ → ℕ → Nmt → Nmt
-after_turn subject started guarded nmt free byte next =
-    with_turn (strays subject started guarded nmt free byte) (strays_again subject started guarded nmt free byte) (judged_state nmt) next
+abbrev pub after_turn : Subject → ℕ → Bool → Bool → Nmt → ℕ → ℕ → Nmt → Nmt
+after_turn subject started guarded early nmt free byte next =
+    with_turn (strays subject started guarded nmt free byte) (strays_again subject started guarded early nmt free byte) (judged_state nmt) next
 
 -- ---- error control
 
 -- The difference of a byte of error control; answers of node guarding aren't judged. A heartbeat may
 -- have waited since the bus was free last: where a command came since, or within the tolerance
 -- before, it may be one of the state before that.
-unfoldable pub control_finding : Subject → ℕ → Bool → Nmt → ℕ → ℕ → ℕ → Option Finding
-control_finding subject started guarded nmt free micros byte =
+unfoldable pub control_finding : Subject → ℕ → Bool → Bool → Nmt → ℕ → ℕ → ℕ → Option Finding
+control_finding subject started guarded early nmt free micros byte =
     if byte == 0 then second_boot_up nmt.booted micros
-    else (if strays_again subject started guarded nmt free byte then Some (TwoStates (state_of byte) (judged_state nmt))
+    else (if strays_again subject started guarded early nmt free byte then Some (TwoStates (state_of byte) (judged_state nmt))
     else (if guarded || (is_guarded_state byte || not (is_settled subject.limits started nmt.commanded free)) then None
     else said_of nmt.odd (state_finding subject.facts.starts_itself (judged_state nmt) byte)))
 

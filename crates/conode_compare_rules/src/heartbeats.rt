@@ -21,6 +21,7 @@ ghost use Rattle.conode_compare_rules.specs.Heartbeats.{
   shown_after,
   slow_after,
   time_taken,
+  unless_pause,
   with_shown,
   follows_closely,
 };
@@ -85,6 +86,16 @@ pub(crate) fn follows_closely(newest: u64, micros: u64) -> bool
     ensures { result ≡ follows_closely newest micros }
 {
     micros.saturating_sub(newest) <= FRAME_TIME
+}
+
+// one that takes more than two periods is a pause, and says nothing of those after it
+fn unless_pause(period: Option<u16>, slow: Option<u64>) -> Option<u64>
+    ensures { result ≡ unless_pause period slow }
+{
+    match (period, slow) {
+        (Some(period), Some(slow)) if slow <= 2 * micros_of(period as u32) => Some(slow),
+        _ => None,
+    }
 }
 
 // the longer one of two times
@@ -284,6 +295,6 @@ impl Heartbeats {
         if self.since.is_some() && self.overdue_by(limits, entries, free, micros).is_none() {
             return None;
         }
-        longer(self.slow, self.time_taken(free))
+        unless_pause(entries.period, longer(self.slow, self.time_taken(free)))
     }
 }

@@ -355,25 +355,27 @@ impl Nmt {
         }
     }
 
-    /// The difference of a byte of error control; the bus was free last at `free`. Once node guarding
-    /// was seen, only boot-ups are judged.
+    /// The difference of a byte of error control; the bus was free last at `free`, and `early`: it
+    /// comes sooner than the heartbeats' period. Once node guarding was seen, only boot-ups are
+    /// judged.
     #[tactic(auto, unfolding(crate::specs::States::control_finding))]
     pub(crate) fn control_finding(
         &self,
         subject: &Subject,
         started: u64,
         guarded: bool,
+        early: bool,
         free: u64,
         micros: u64,
         byte: u8,
     ) -> Option<Finding>
         ensures { result
-            ≡ control_finding subject.now started guarded self.now free micros byte }
+            ≡ control_finding subject.now started guarded early self.now free micros byte }
     {
         if byte == 0 {
             return self.second_boot_up(micros);
         }
-        if self.strays_again(subject, started, guarded, free, byte) {
+        if self.strays_again(subject, started, guarded, early, free, byte) {
             return Some(Finding::TwoStates(state_of(byte), self.judged_state()));
         }
         if guarded || is_guarded_state(byte) || !self.is_settled(&subject.limits, started, free) {

@@ -15,6 +15,7 @@ ghost use Rattle.conode_compare_rules.specs.Progresses.{
   booted_entries,
   booted_pdos,
   byte_finding,
+  comes_early,
   control_findings,
   control_judged,
   progress_with,
@@ -150,7 +151,7 @@ impl Progress {
         let guarded = self.heartbeats.guarded;
         let frame = self
             .nmt
-            .control_finding(subject, self.started, guarded, self.free, micros, 0);
+            .control_finding(subject, self.started, guarded, false, self.free, micros, 0);
         self.remark = self.nmt.restart_remark(micros);
         self.nmt = self
             .nmt
@@ -216,13 +217,23 @@ impl Progress {
         }
     }
 
+    // whether a heartbeat comes sooner than its period
+    fn comes_early(&self, subject: &Subject, micros: u64, byte: u8) -> bool
+        ensures { result ≡ comes_early subject.now self.now micros byte }
+    {
+        self.heartbeats
+            .early_remark(&subject.limits, &self.entries, micros, byte)
+            .is_some()
+    }
+
     // the difference of a heartbeat's byte
     fn byte_finding(&self, subject: &Subject, micros: u64, byte: u8) -> Option<Finding>
         ensures { result ≡ byte_finding subject.now self.now micros byte }
     {
         let guarded = self.heartbeats.guarded;
+        let early = self.comes_early(subject, micros, byte);
         self.nmt
-            .control_finding(subject, self.started, guarded, self.free, micros, byte)
+            .control_finding(subject, self.started, guarded, early, self.free, micros, byte)
     }
 
     // whether what is wrong about a heartbeat was said of an earlier one
@@ -304,6 +315,7 @@ impl Progress {
             micros,
             byte,
         );
+        let early = self.comes_early(subject, micros, byte);
         let frame = self.byte_finding(subject, micros, byte);
         let findings = self.heartbeat_findings(subject, answer, frame, micros, byte);
         let slow = self
@@ -319,7 +331,7 @@ impl Progress {
         let guarded = self.heartbeats.guarded;
         self.nmt = self
             .nmt
-            .after_turn(subject, self.started, guarded, self.free, byte, next);
+            .after_turn(subject, self.started, guarded, early, self.free, byte, next);
         self.nmt.odd = odd;
         self.heartbeats = self.heartbeats.after_control(self.free, micros, byte);
         self.heartbeats.slow = slow;

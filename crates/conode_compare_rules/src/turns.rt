@@ -27,19 +27,21 @@ impl Nmt {
         is_state(byte) && is_wrong(starts_itself, self.judged_state(), state_of(byte))
     }
 
-    /// Whether it went so out of the same state before, and returned to it.
+    /// Whether it went so out of the same state before, and returned to it; `early`: the heartbeat
+    /// comes sooner than its period.
     pub(crate) fn strays_again(
         &self,
         subject: &Subject,
         started: u64,
         guarded: bool,
+        early: bool,
         free: u64,
         byte: u8,
     ) -> bool
-        ensures { result ≡ strays_again subject.now started guarded self.now free byte }
+        ensures { result ≡ strays_again subject.now started guarded early self.now free byte }
     {
         self.strays(subject, started, guarded, free, byte)
-            && same_state(self.judged_state(), self.strayed)
+            && (same_state(self.judged_state(), self.strayed) && early)
     }
 
     /// What is known once the heartbeat came, after which `next` is known of one device.
@@ -48,17 +50,18 @@ impl Nmt {
         subject: &Subject,
         started: u64,
         guarded: bool,
+        early: bool,
         free: u64,
         byte: u8,
         next: Nmt,
     ) -> Nmt
-        ensures { result ≡ after_turn subject.now started guarded self.now free byte next }
+        ensures { result ≡ after_turn subject.now started guarded early self.now free byte next }
     {
         let mut next = next;
         if self.strays(subject, started, guarded, free, byte) {
             next.strayed = self.judged_state();
         }
-        if self.strays_again(subject, started, guarded, free, byte) {
+        if self.strays_again(subject, started, guarded, early, free, byte) {
             next.state = NmtState::Unknown;
             next.due = NmtState::Unknown;
             next.mixed = true;
