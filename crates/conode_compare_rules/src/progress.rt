@@ -149,9 +149,15 @@ impl Progress {
         ensures progress { self.new ≡ booted subject.now self.old micros }
     {
         let guarded = self.heartbeats.guarded;
-        let frame = self
-            .nmt
-            .control_finding(subject, self.started, guarded, false, self.free, micros, 0);
+        let frame = self.nmt.control_finding(
+            subject,
+            self.started,
+            guarded,
+            false,
+            self.free,
+            micros,
+            0,
+        );
         self.remark = self.nmt.restart_remark(micros);
         self.nmt = self
             .nmt
@@ -232,8 +238,15 @@ impl Progress {
     {
         let guarded = self.heartbeats.guarded;
         let early = self.comes_early(subject, micros, byte);
-        self.nmt
-            .control_finding(subject, self.started, guarded, early, self.free, micros, byte)
+        self.nmt.control_finding(
+            subject,
+            self.started,
+            guarded,
+            early,
+            self.free,
+            micros,
+            byte,
+        )
     }
 
     // whether what is wrong about a heartbeat was said of an earlier one
@@ -329,9 +342,15 @@ impl Progress {
             .nmt
             .after_control(limits, self.started, self.free, micros, byte);
         let guarded = self.heartbeats.guarded;
-        self.nmt = self
-            .nmt
-            .after_turn(subject, self.started, guarded, early, self.free, byte, next);
+        self.nmt = self.nmt.after_turn(
+            subject,
+            self.started,
+            guarded,
+            early,
+            self.free,
+            byte,
+            next,
+        );
         self.nmt.odd = odd;
         self.heartbeats = self.heartbeats.after_control(self.free, micros, byte);
         self.heartbeats.slow = slow;

@@ -65,6 +65,12 @@ other_const : upload (row 0x2000 0 Unsigned16 Constant (number (pos 258))) true 
 unfolding value_mismatch
 other_const = refl
 
+-- the error register, the errors and the first SDO channel are the device's own, whatever the sheet says
+own_values : map (λ index. upload (row index 0 Unsigned8 Constant (number (pos 1))) true (2 ∷ [])) (0x1001 ∷ 0x1002 ∷ 0x1003 ∷ 0x1200 ∷ 0x1201 ∷ [])
+    ≡ None ∷ Some (ValueConst (key 0x1002 0) 2 1) ∷ None ∷ None ∷ Some (ValueConst (key 0x1201 0) 2 1) ∷ []
+unfolding value_mismatch
+own_values = refl
+
 -- a BOOLEAN: of 1 in the sheet 0 alone is another; of 0 what has its lowest bit set
 boolean_of_1 : map (λ shown. upload (row 0x2000 0 Boolean Constant (number (pos 1))) true (shown ∷ [])) (0 ∷ 1 ∷ 2 ∷ 0xFF ∷ [])
     ≡ Some (ValueConst (key 0x2000 0) 0 1) ∷ None ∷ None ∷ None ∷ []

@@ -40,13 +40,18 @@ abbrev pub is_constant : Access → Bool
 is_constant Constant = true
 is_constant other = false
 
+-- The error register and the errors, which the device changes, and the COB-IDs of its first SDO channel,
+-- which follow from its node-ID (CiA 301, 7.5.2.2, 7.5.2.4 and 7.5.2.33): its own, whatever the sheet says.
+abbrev pub is_its_own : ℕ → Bool
+is_its_own index = (index == 0x1001) || ((index == 0x1003) || (index == 0x1200))
+
 -- Values that are compared with the data sheet: the device type, vendor-ID and product code, and
 -- what never changes. The revision and serial number of a device are its own.
 abbrev pub is_held : Row → Bool
 is_held row =
     if row.key.index == identity
     then (row.key.sub == 1) || ((row.key.sub == 2) || ((row.key.sub == 0) && is_constant row.access))
-    else (row.key.index == device_type) || is_constant row.access
+    else (row.key.index == device_type) || (is_constant row.access && not (is_its_own row.key.index))
 
 abbrev pub held_number : ℕ → Row → Option ℕ
 held_number node row = if is_held row then number_of node row.default else None

@@ -23,6 +23,7 @@ ghost use Rattle.conode_compare_values.specs.SheetValues.{
   is_comparable,
   is_first,
   is_held,
+  is_its_own,
   is_held_text,
   is_other_boolean,
   is_other_number,
@@ -64,6 +65,14 @@ const KEPT: usize = 64;
 // the identity object (CiA 301, 7.5.2.21)
 const IDENTITY: u16 = 0x1018;
 
+// the error register and the pre-defined error field (CiA 301, 7.5.2.2 and 7.5.2.4)
+const ERROR_REGISTER: u16 = 0x1001;
+
+const ERRORS: u16 = 0x1003;
+
+// the SDO server parameter of the default channel (CiA 301, 7.5.2.33)
+const FIRST_CHANNEL: u16 = 0x1200;
+
 /// Whether an entry with this access is read only.
 pub fn is_read_only(access: Access) -> bool
     ensures { result ≡ is_read_only access }
@@ -78,6 +87,13 @@ pub fn is_readable(access: Access) -> bool
     !matches!(access, Access::Wo)
 }
 
+// whether a value is the device's own, whatever the data sheet says
+fn is_its_own(index: u16) -> bool
+    ensures { result ≡ is_its_own index }
+{
+    index == ERROR_REGISTER || index == ERRORS || index == FIRST_CHANNEL
+}
+
 /// Whether the value of an entry is compared with the data sheet.
 pub fn is_held(row: &EntryRow<'_>) -> bool
     ensures { result ≡ is_held (row_view row.now) }
@@ -86,7 +102,7 @@ pub fn is_held(row: &EntryRow<'_>) -> bool
     if row.key.index == IDENTITY {
         return row.key.sub == 1 || row.key.sub == 2 || (row.key.sub == 0 && is_constant);
     }
-    row.key.index == DEVICE_TYPE || is_constant
+    row.key.index == DEVICE_TYPE || (is_constant && !is_its_own(row.key.index))
 }
 
 // the number in the data sheet, if values are compared with it
