@@ -76,6 +76,7 @@ tpdo = record {
   parameters = record { id = Some 0x185; kind = Some 4; inhibit = Some 0; timer = Some 0; length = Some 1 };
   sent = None;
   syncs = 0;
+  cycle = None;
   changed = None;
   odd = None;
 }
