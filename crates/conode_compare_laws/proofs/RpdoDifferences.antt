@@ -100,9 +100,9 @@ control_same : (subject : Subject) (micros byte : ℕ) (p : Progress) → unwrit
 unfolding booted progresses.after_control
 control_same subject micros byte p = either (byte == 0) _ _ _ _ refl refl
 
-odd_control_same : (subject : Subject) (micros : ℕ) (p : Progress) → unwritten (after_odd_control subject (unwritten p) micros) ≡ unwritten (after_odd_control subject p micros)
+odd_control_same : (subject : Subject) (micros length : ℕ) (p : Progress) → unwritten (after_frame subject (unwritten p) micros (OddControl length)) ≡ unwritten (after_frame subject p micros (OddControl length))
 unfolding after_odd_control
-odd_control_same subject micros p = refl
+odd_control_same subject micros length p = refl
 
 emergency_same : (micros : ℕ) (p : Progress) → unwritten (after_emergency (unwritten p) micros) ≡ unwritten (after_emergency p micros)
 unfolding after_emergency
@@ -133,7 +133,7 @@ after_same subject micros (Command service) p = command_same service false micro
 after_same subject micros (CommandToAll service) p = command_same service subject.facts.starts_itself micros p
 after_same subject micros (LongCommand service) p = command_same service true micros p
 after_same subject micros (Control byte) p = control_same subject micros byte p
-after_same subject micros (OddControl length) p = odd_control_same subject micros p
+after_same subject micros (OddControl length) p = odd_control_same subject micros length p
 after_same subject micros (Emcy code register) p = noted_same subject micros p
 after_same subject micros (OddEmergency length) p = emergency_same micros p
 after_same subject micros (Sdo Server frame) p = server_same subject micros frame p

@@ -17,6 +17,7 @@ use Rattle.conode_compare_pdos.specs.Deviations.{
   first_of,
   greatest_gap,
   inhibit_deviation,
+  is_apart,
   is_certain,
   is_event_driven,
   is_number,
