@@ -51,7 +51,8 @@ use Rattle.conode_compare_laws.proofs.AbortOthers.{begun_has, life_run, others_r
 use Rattle.conode_compare_laws.proofs.AnswerCalm.{another_exchange, calm_exchange}
 use Rattle.conode_compare_laws.proofs.AnswerDevice.{IsNumbered, expired_at, found_with, no_exchange_of_event, none_at_event, none_at_frame, none_stopped, numbered, timed_out}
 use Rattle.conode_compare_laws.proofs.AnswerExchange.{answer_kind, request_kind}
-use Rattle.conode_compare_laws.proofs.AnswerInputs.{nmt_exchange, not_zero, served_is, zero_is}
+use Rattle.conode_compare_laws.proofs.AnswerInputs.{nmt_exchange, served_is}
+use Rattle.conode_compare_laws.proofs.AnswerTimeOuts.{not_zero, zero_is}
 use Rattle.conode_compare_laws.proofs.AnswerOthers.{is_sdo}
 use Rattle.conode_compare_laws.proofs.AnswerSteps.{some_map}
 use Rattle.conode_compare_laws.proofs.AnswerTransferInputs.{answers_other, nmt_other, not_equal, only_other, same_log}

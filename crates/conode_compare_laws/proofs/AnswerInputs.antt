@@ -1,11 +1,9 @@
 -- All inputs of a device: what is found of its answers at the frames of each.
 use Rattle.std.proofs.Common.{◌≡◌, ℕ, ◌+◌, ◌≢◌, Bool, true, false, List, [], ◌∷◌, ◌++◌, map, length, Option, Some, None, refl, sym, ap, ◌∙◌, ◌⊎◌, inl, inr, subst, arith}
-use Rattle.std.specs.Prelude.{◌==◌, ◌&&◌, if◌then◌else◌, is_some, IfSome}
-use Rattle.std.specs.Option.{option_map_or}
+use Rattle.std.specs.Prelude.{◌==◌, if◌then◌else◌, IfSome}
 use Rattle.std.specs.List.{AllByRecursion}
 use Rattle.std.proofs.lemmas.Bool.{eqb-true, false≢true}
 use Rattle.std.proofs.lemmas.Bool.Decides.{nat_tests}
-use Rattle.co_value.specs.declared.key.Key.{Key}
 use Rattle.co_value.specs.Numbers.{AreBytes}
 use Rattle.co_frame.specs.FrameContent.{FrameContent}
 use Rattle.co_frame.specs.Heartbeats.{heartbeat_bytes, state_byte}
@@ -14,15 +12,12 @@ use Rattle.co_frame.specs.SdoRequests.{request_in}
 use Rattle.co_frame.specs.declared.heartbeat.Heartbeat.TheVariants.{BootUp}
 use Rattle.co_frame.specs.declared.nmt.NmtService.{NmtService}
 use Rattle.co_frame.specs.declared.nmt.NmtService.TheVariants.{Start, Stop, EnterPreOperational, ResetNode, ResetCommunication}
-use Rattle.co_frame.specs.declared.sdo_response.SdoResponse.TheVariants.{Abort as Refuse}
 use Rattle.co_sdo.specs.Channels.{ChannelSettings}
 use Rattle.co_sdo.specs.Events.{ChannelEvent, exchange_at, exchange_of, exchange_on, frames_at, receiver}
-use Rattle.co_sdo.specs.Log.{Log, Response as Replied, Ticked as Elapsed, answer_bytes, frames_on}
-use Rattle.co_sdo.specs.Opened.{is_time_over, opened, opened_after}
+use Rattle.co_sdo.specs.Log.{Ticked as Elapsed, frames_on}
+use Rattle.co_sdo.specs.Opened.{is_time_over, opened_after}
 use Rattle.co_sdo.specs.OpenTransfers.{is_initiate as initiates, open_transfer}
-use Rattle.co_sdo.specs.Replies.{is_in_sub_block, open_key, reply_to, time_out_reply}
-use Rattle.co_frame.specs.AbortCodes.{timed_out as timed_out_code}
-use Rattle.co_sdo_laws.proofs.Channel.{tick_opens}
+use Rattle.co_sdo.specs.Replies.{is_in_sub_block, reply_to, time_out_reply}
 use Rattle.co_node_laws.proofs.Channel.{default_channel, receives, takes}
 use Rattle.co_node_parts.specs.declared.nmt_state.LossReaction.{LossReaction}
 use Rattle.co_node_parts.specs.declared.nmt_state.LossReaction.TheVariants.{LeaveOperational, NoChange, EnterStopped}
@@ -43,24 +38,16 @@ use Rattle.co_node_model.specs.Sdo.{channel_logs}
 use Rattle.co_node_model.specs.Sync.{is_sync_id}
 use Rattle.co_node_model.specs.Tpdos.{tpdo_frame}
 use Rattle.co_sheet.specs.Content.{Row}
-use Rattle.conode_explain_transfers.specs.declared.kinds.Side.TheVariants.{Server}
-use Rattle.conode_explain_transfers.specs.declared.transfer.Transfer.{Transfer}
-use Rattle.conode_explain_transfers.specs.Followed.{stray}
-use Rattle.conode_explain_laws.proofs.Readings.{Reading, Abort, reading_of, follows_by}
-use Rattle.conode_explain_laws.proofs.Views.{abort_is, is_abort_reading}
-use Rattle.conode_compare_transfers.specs.declared.dialogue.Asked.{Asked}
 use Rattle.conode_compare_transfers.specs.declared.dialogue.Dialogue.{Dialogue}
-use Rattle.conode_compare_transfers.specs.Dialogues.{exchange_in, is_certain}
 use Rattle.conode_compare_rules.specs.declared.finding.Finding.{Finding}
 use Rattle.conode_compare_rules.specs.declared.kind.FrameKind.{FrameKind}
-use Rattle.conode_compare_rules.specs.declared.kind.FrameKind.TheVariants.{Control, Sdo}
+use Rattle.conode_compare_rules.specs.declared.kind.FrameKind.TheVariants.{Control}
 use Rattle.conode_compare_rules.specs.declared.limits.Subject.{Subject}
 use Rattle.conode_compare_rules.specs.declared.nmt.Commanded.{Commanded}
 use Rattle.conode_compare_rules.specs.declared.progress.Progress.{Progress}
 use Rattle.conode_compare_rules.specs.declared.verdict.Findings.{Findings}
-use Rattle.conode_compare_rules.specs.EmergencyRules.{is_stopped}
 use Rattle.conode_compare_rules.specs.FrameKinds.{command_kind, data_kind, long_command_in}
-use Rattle.conode_compare_rules.specs.Progresses.{answer_noted, before_recording, begun, progress_with}
+use Rattle.conode_compare_rules.specs.Progresses.{before_recording, begun, progress_with}
 use Rattle.conode_compare_laws.specs.AnswerFindings.{answer_differences}
 use Rattle.conode_compare_laws.specs.AnswerSenders.{AllSendOther, HasBytes, HaveBytes, HaveOtherChannels, SendsOther}
 use Rattle.conode_compare_laws.specs.Differences.{differences_from, differences_in, state_differences}
@@ -72,17 +59,14 @@ use Rattle.conode_compare_laws.proofs.Heard.{boot_goes, input_goes, of_device, s
 use Rattle.conode_compare_laws.proofs.Inputs.{command_in, command_is, state_by}
 use Rattle.conode_compare_laws.proofs.Runs.{AllRun, joined, then_none}
 use Rattle.conode_compare_laws.proofs.Shown.{Stage, boots, fits_nothing, is_shown, runs, stage_after}
-use Rattle.conode_compare_laws.proofs.AnswerFollowed.{reads}
-use Rattle.conode_compare_laws.proofs.AnswerFound.{IsEnding, doubted_abort, unasked}
-use Rattle.conode_compare_laws.proofs.AnswerDialogues.{asked_before, what_heard}
-use Rattle.conode_compare_laws.proofs.BlockDialogues.{server_heard}
 use Rattle.conode_compare_laws.proofs.BlockDevice.{IsInside, closed_never, inside_before, inside_served, reset_never, timed_out_never, times_out}
 use Rattle.conode_compare_laws.proofs.BlockExchange.{finished_holds, inside_runs}
 use Rattle.conode_compare_laws.proofs.BlockIgnored.{ignored_runs}
-use Rattle.conode_compare_laws.proofs.AnswerSteps.{Awaits, Excused, Holds, HoldsOf, InDoubt, answer_found, begun_holds, begun_newest, boot_quiet, command_quiet, frame_runs, life_quiet, server_quiet, some_map, uncertain_since}
-use Rattle.conode_compare_laws.proofs.AnswerExchange.{Finished, IsFinished, OpensAt, Ready, answer_kind, exchange_runs, finished, map_runs, shown_running, still_running}
+use Rattle.conode_compare_laws.proofs.AnswerSteps.{Awaits, Excused, Holds, HoldsOf, InDoubt, begun_holds, begun_newest, boot_quiet, command_quiet, frame_runs, life_quiet, some_map}
+use Rattle.conode_compare_laws.proofs.AnswerExchange.{IsFinished, OpensAt, Ready, exchange_runs, map_runs, shown_running}
 use Rattle.conode_compare_laws.proofs.AnswerDevice.{IsAnother, IsNumbered, at_end, expired_at, found_with, idle_stays, idle_stopped, no_exchange_of_event, none_at_event, none_at_frame, none_stopped, numbered}
 use Rattle.conode_compare_laws.proofs.AnswerCalm.{IsCalm, another_exchange, answers_calm, both_calm, calm_exchange, calm_runs}
+use Rattle.conode_compare_laws.proofs.AnswerTimeOuts.{abort_runs, never_over, not_zero, zero_is}
 
 -- ---- what holds before an input
 
@@ -302,74 +286,6 @@ module _ (k : Constants) (subject : Subject) (rows : List Row) (micros : ℕ) (b
           inr (by_calm frame p is ((not_equal frame.id 0 is, g.control), (g.answers, not_equal frame.id (0x600 + k.description.node) r)) g.channels h)
 
 -- ---- an abort when a transfer times out
-
-pub zero_is : (n : ℕ) → (0 == n) ≡ true → n ≡ 0
-zero_is n h = sym (eqb-true 0 n h)
-
-pub not_zero : (n : ℕ) → (0 == n) ≡ false → n ≢ 0
-not_zero n h = λ e. absurd (let same : (0 == n) ≡ true = ap (λ x. 0 == x) e in false≢true (sym h ∙ same))
-
--- nothing times out where nothing is open
-never_over : (time : ℕ) (log : Log) → open_transfer log ≡ None → is_time_over time (Elapsed ∷ log) ≡ true → ⊥
-never_over time log idle over =
-    let none : is_some (opened_after (Elapsed ∷ log)) ≡ false = ap (λ o. is_some (opened o)) (tick_opens log ∙ idle) in
-    false≢true (sym (first_off (is_some (opened_after (Elapsed ∷ log))) _ none) ∙ over)
-  where
-    first_off : (a b : Bool) → a ≡ false → (a && b) ≡ false
-    first_off true b h = absurd (false≢true (sym h))
-    first_off false b h = refl
-
--- an abort of the channel
-abort_ending : (d : Dialogue) (micros : ℕ) (key : Key) (code : ℕ) → IsEnding (reads d.channel micros Server (answer_bytes (Replied (Refuse key (record { 0 = code }))))).says.what
-abort_ending d micros key code = by d.channel.transfer (reading_of d.channel.transfer Server micros (answer_bytes (Replied (Refuse key (record { 0 = code }))))) (abort_is d.channel.transfer micros key code)
-  where
-    by : (current : Option Transfer) (reading : Reading) → is_abort_reading reading ≡ true → IsEnding (follows_by d.channel.heard current reading micros Server (answer_bytes (Replied (Refuse key (record { 0 = code }))))).says.what
-    by None (Abort code) h = strays d.channel.heard
-      where
-        strays : (heard : Bool) → IsEnding (stray heard)
-        strays true = tt
-        strays false = tt
-    by (Some t) (Abort code) h = tt
-    by current _ h = absurd (false≢true h)
-
-owes_none : (answer started : ℕ) (d : Dialogue) (micros : ℕ) (frame : FrameContent) (a : Asked) → d.asked ≡ Some a → is_certain answer started d.slow d.doubted a.micros ≡ false → (exchange_in answer started d micros Server frame).owed ≡ false
-unfolding exchange_in
-owes_none answer started d micros frame a is h = ap (λ o. option_map_or (λ (x : Asked). is_certain answer started d.slow d.doubted x.micros) o false) is ∙ h
-
-abort_runs : (Idle Inside : Type 0) (subject : Subject) (rows : List Row) (micros : ℕ) (stage : Stage) (q : Progress) (id : ℕ) (log : Log) → id ≡ 0x580 + subject.node → (Idle → ⊥) → (Inside → ⊥)
-    → is_stopped (begun subject q micros).nmt.state ≡ false → Holds Idle Inside stage q → AllRun answer_differences subject rows micros q (frames_on id (time_out_reply log)) (Holds Idle Inside stage)
-abort_runs Idle Inside subject rows micros stage q id log is never closed running h =
-    let p : Progress = begun subject q micros in
-    let held : Holds Idle Inside stage p = begun_holds Idle Inside subject q micros stage h in
-    let frame : FrameContent = record { id = 0x580 + subject.node; bytes = answer_bytes (Replied (Refuse (open_key (opened_after log)) (record { 0 = timed_out_code }))) } in
-    subst (λ i. AllRun answer_differences subject rows micros q (frames_on i (time_out_reply log)) (Holds Idle Inside stage)) (sym is)
-    (map_runs subject rows micros (frame ∷ []) q (IsFinished Inside) (Holds Idle Inside stage) (λ x r. finished_holds Idle Inside stage x r)
-    (frame_runs subject rows micros q frame (Sdo Server frame) (IsFinished Inside) (answer_kind subject.node frame.bytes)
-    (server_quiet subject rows p micros frame (λ newest d. Finished Inside d)
-    (none p.dialogue.asked refl held.asked)
-    (finished Inside _ (server_heard subject.limits.answer p.started p.dialogue micros frame held.live) (λ i. absurd (closed i))))))
-  where
-    abort : FrameContent
-    abort = record { id = 0x580 + subject.node; bytes = answer_bytes (Replied (Refuse (open_key (opened_after log)) (record { 0 = timed_out_code }))) }
-
-    none : (o : Option Asked) → (begun subject q micros).dialogue.asked ≡ o → IfSome o (Awaits Idle stage (begun subject q micros).newest (begun subject q micros).nmt.commanded (begun subject q micros).dialogue.doubted)
-        → answer_found subject rows (begun subject q micros) micros (record { id = 0x580 + subject.node; bytes = answer_bytes (Replied (Refuse (open_key (opened_after log)) (record { 0 = timed_out_code }))) }) ≡ []
-    none None is w =
-        let p : Progress = begun subject q micros in
-        unasked subject rows p.written p.started micros (answer_noted subject p micros).nmt _ abort (asked_before subject.limits.answer p.started p.dialogue micros abort ∙ is) (inl refl)
-    none (Some a) is w = elim w.why [
-      | inl e ↦ absurd (never e.1)
-      | inr doubt ↦ in_doubt_none a is (uncertain_since subject.limits.answer (begun subject q micros).started (begun subject q micros).dialogue.slow (begun subject q micros).dialogue.doubted a.micros doubt)
-    ]
-      where
-        in_doubt_none : (a : Asked) → (begun subject q micros).dialogue.asked ≡ Some a
-            → is_certain subject.limits.answer (begun subject q micros).started (begun subject q micros).dialogue.slow (begun subject q micros).dialogue.doubted a.micros ≡ false
-            → answer_found subject rows (begun subject q micros) micros (record { id = 0x580 + subject.node; bytes = answer_bytes (Replied (Refuse (open_key (opened_after log)) (record { 0 = timed_out_code }))) }) ≡ []
-        in_doubt_none a is off =
-            let p : Progress = begun subject q micros in
-            doubted_abort subject rows p.written p.started micros (answer_noted subject p micros).nmt _ abort a (asked_before subject.limits.answer p.started p.dialogue micros abort ∙ is)
-            (owes_none subject.limits.answer p.started p.dialogue micros abort a is off) (still_running subject p micros running) refl
-            (subst IsEnding (sym (what_heard subject.limits.answer p.started p.dialogue micros abort)) (abort_ending p.dialogue micros (open_key (opened_after log)) timed_out_code))
 
 -- what is known of the state at a tick
 abbrev Watched : Constants → Inputs → InputView → Progress → Type 0

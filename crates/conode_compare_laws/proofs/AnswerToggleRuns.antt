@@ -97,7 +97,8 @@ use Rattle.conode_compare_laws.proofs.AnswerDevice.{IsNumbered, expired_at, foun
 use Rattle.conode_compare_laws.proofs.AnswerDialogues.{channel_is}
 use Rattle.conode_compare_laws.proofs.AnswerExchange.{answer_kind, request_kind}
 use Rattle.conode_compare_laws.proofs.AnswerFollowed.{reads, server_no_request, what_is}
-use Rattle.conode_compare_laws.proofs.AnswerInputs.{nmt_exchange, not_zero, served_is, zero_is}
+use Rattle.conode_compare_laws.proofs.AnswerInputs.{nmt_exchange, served_is}
+use Rattle.conode_compare_laws.proofs.AnswerTimeOuts.{not_zero, zero_is}
 use Rattle.conode_compare_laws.proofs.AnswerOnly.{client_found, is_breach, server_found}
 use Rattle.conode_compare_laws.proofs.AnswerOthers.{is_sdo, life_run, others_run}
 use Rattle.conode_compare_laws.proofs.AnswerSteps.{Same, begun_newest, begun_same, some_map}

@@ -51,7 +51,8 @@ use Rattle.conode_compare_laws.proofs.AnswerDevice.{IsNumbered, expired_at, foun
 use Rattle.conode_compare_laws.proofs.AnswerDialogues.{channel_is}
 use Rattle.conode_compare_laws.proofs.AnswerExchange.{answer_kind, request_kind}
 use Rattle.conode_compare_laws.proofs.AnswerFollowed.{reads}
-use Rattle.conode_compare_laws.proofs.AnswerInputs.{nmt_exchange, not_zero, served_is, zero_is}
+use Rattle.conode_compare_laws.proofs.AnswerInputs.{nmt_exchange, served_is}
+use Rattle.conode_compare_laws.proofs.AnswerTimeOuts.{not_zero, zero_is}
 use Rattle.conode_compare_laws.proofs.AnswerOthers.{begun_has, is_sdo, kind_has, other_kind}
 use Rattle.conode_compare_laws.proofs.AnswerSteps.{some_map}
 use Rattle.conode_compare_laws.proofs.AnswerTransferInputs.{answers_other, nmt_other, not_equal, only_other}

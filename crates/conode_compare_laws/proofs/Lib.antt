@@ -34,6 +34,7 @@ pub mod AnswerCalm
 pub mod BlockExchange
 pub mod BlockIgnored
 pub mod AnswerInputs
+pub mod AnswerTimeOuts
 pub mod AnswerWords
 pub mod AnswerSending
 pub mod AnswerBegins

@@ -47,7 +47,8 @@ use Rattle.conode_compare_laws.proofs.AnswerOthers.{is_sdo}
 use Rattle.conode_compare_laws.proofs.AnswerSteps.{some_map}
 use Rattle.conode_compare_laws.proofs.AnswerExchange.{answer_kind}
 use Rattle.conode_compare_laws.proofs.AnswerCalm.{another_exchange, calm_exchange, clean_exchange}
-use Rattle.conode_compare_laws.proofs.AnswerInputs.{not_zero, nmt_exchange, served_is, zero_is}
+use Rattle.conode_compare_laws.proofs.AnswerInputs.{nmt_exchange, served_is}
+use Rattle.conode_compare_laws.proofs.AnswerTimeOuts.{not_zero, zero_is}
 use Rattle.conode_compare_laws.proofs.AnswerTransferRuns.{frame_runs}
 use Rattle.conode_compare_laws.proofs.AnswerTransferExchange.{map_runs}
 use Rattle.co_sdo.specs.Replies.{aborted}

@@ -45,7 +45,8 @@ use Rattle.conode_compare_laws.proofs.Runs.{AllRun, joined, then_none}
 use Rattle.conode_compare_laws.proofs.AnswerCalm.{another_exchange, calm_exchange}
 use Rattle.conode_compare_laws.proofs.AnswerOpened.{exchange_with}
 use Rattle.conode_compare_laws.proofs.AnswerDevice.{IsNumbered, expired_at, found_with, idle_stopped, no_exchange_of_event, none_at_event, none_at_frame, none_stopped, numbered, timed_out}
-use Rattle.conode_compare_laws.proofs.AnswerInputs.{nmt_exchange, not_zero, served_is, zero_is}
+use Rattle.conode_compare_laws.proofs.AnswerInputs.{nmt_exchange, served_is}
+use Rattle.conode_compare_laws.proofs.AnswerTimeOuts.{not_zero, zero_is}
 use Rattle.conode_compare_laws.proofs.AnswerOthers.{begun_has, is_sdo, life_run, others_run}
 use Rattle.conode_compare_laws.proofs.AnswerSteps.{some_map}
 use Rattle.conode_compare_laws.proofs.AnswerTransferInputs.{answers_other, log_at, nmt_other, not_equal, only_other, same_log}
