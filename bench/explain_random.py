@@ -57,6 +57,7 @@ class Transfer:
     def __init__(self, random_, key):
         self.r, self.key = random_, key
         self.frames, self.taken, self.ending = [], 0, None
+        self.within = set()
         self.way = self.r.choice(["download", "upload"])
         self.protocol = self.r.choice(["expedited", "segmented", "block"])
         few = self.protocol == "expedited"
@@ -133,6 +134,8 @@ class Transfer:
             count = len(block) if self.r.random() < 0.7 else self.r.randint(0, len(block))
             for i, piece in enumerate(block):
                 last = taken + i == len(pieces) - 1
+                if i < len(block) - 1:
+                    self.within.add(len(self.frames))
                 self.say(sender, bytes([i + 1 | 0x80 * last]) + piece.ljust(7, b"\0"))
             taken += count
             block_size = self.r.choice(sizes)
@@ -156,6 +159,12 @@ class Transfer:
         self.say(SERVER, keyed(0xC0 | 4 * self.crcs[1] | 2 * (self.size is not None), self.key, sized(self.size)))
         self.say(CLIENT, bytes([0xA3]) + bytes(7))
         self.blocks(SERVER, CLIENT, block_size, UPLOAD_SIZES)
+
+    def next_end(self):
+        """The end whose turn it is: the other one, but for a segment within a sub-block."""
+        side = self.frames[-1][0]
+        other = SERVER if side == CLIENT else CLIENT
+        return side if len(self.frames) - 1 in self.within else other
 
     def request(self):
         """Its first frame alone, without an answer."""
@@ -203,7 +212,7 @@ def left_ending(before, stamps, transfer, now):
         return None
     if [frame for _, frame, _ in before.frames] == [transfer.frames[0][1]]:
         return f"requested again after {waited}"
-    if before.frames[-1][0] == SERVER:
+    if before.next_end() == CLIENT:
         return "interrupted"
     return None if is_segment_after(before.frames, transfer.frames[0][1]) else f"no answer in {waited}"
 

@@ -66,9 +66,15 @@ class Crate:
                 yield at
                 yield from (f"{at}/{name}" for name in names)
 
-    def is_current(self):
-        """Whether it is built, and neither a file of the crate nor a library below it is newer."""
+    def kit(self):
+        """The path of a note of the kit's version that it was built with."""
+        return f"{self.folder}/out/kit"
+
+    def is_current(self, kit):
+        """Whether it is built, neither a file of the crate nor a library below it is newer, and this version of the kit built it."""
         try:
+            if os.path.exists(self.kit()) and open(self.kit(), encoding="utf-8").read() != kit:
+                return False
             made = os.stat(self.made()).st_mtime_ns
             newest = max(os.stat(it).st_mtime_ns for it in [*self.sources(), *(it.made() for it in self.below)])
         except OSError:
@@ -274,6 +280,8 @@ class Run:
         if crate.is_archive and not crate.target:
             shutil.rmtree(crate.proved(), ignore_errors=True)
         how = {"cwd": crate.folder, "stdin": subprocess.DEVNULL, "stdout": self.log, "stderr": subprocess.STDOUT}
+        # the prover keeps the memory that it has freed: a few percent less processor time, a tenth more memory
+        how["env"] = {"MIMALLOC_PURGE_DELAY": "-1", **os.environ}
         words = [f"{kit}/bin/rattle", "build", *crate.words(kit, jobs)]
         self.process = subprocess.Popen(words, start_new_session=True, pass_fds=[held], **how)
         self.status = None
@@ -310,9 +318,9 @@ def minutes(seconds):
     return f"{round(seconds / 60)} min"
 
 
-def build(crates, kit, held):
-    """Proves and builds those that are not current; whether all could be."""
-    left = [it for it in crates if not it.is_current()]
+def build(crates, kit, version, held):
+    """Proves and builds those that are not current, with this version of the kit; whether all could be."""
+    left = [it for it in crates if not it.is_current(version)]
     stale = {it.name for it in left}
     left = [it for it in crates if it.name in stale or any(below.name in stale for below in it.below)]
     if not left:
@@ -342,6 +350,8 @@ def build(crates, kit, held):
                         sys.stderr.write(it.log.read())
                         say(f"{it.crate.name} is not proved and built")
                         return False
+                    with open(it.crate.kit(), "w", encoding="utf-8") as note:
+                        note.write(version)
                     ended += 1
                     used, foreseen = used + it.used, foreseen + it.crate.seconds
                     speed.look(1)
@@ -383,12 +393,12 @@ def run(wanted, target, rest):
     if not rt:
         say("the Rattle kit's command rt is not on the PATH")
         return 1
-    page = subprocess.run([rt, "doc"], stdout=subprocess.PIPE, check=True, text=True).stdout.strip()
+    page, version = (subprocess.run([rt, it], stdout=subprocess.PIPE, check=True, text=True).stdout.strip() for it in ("doc", "version"))
     crates = read_crates(wanted, target)
     for number in (signal.SIGTERM, signal.SIGHUP):
         signal.signal(number, lambda number, _: sys.exit(128 + number))
     held = lock(crates)
-    is_built = build(crates, os.path.dirname(page), held)
+    is_built = build(crates, os.path.dirname(page), version, held)
     for it in held.values():
         os.close(it)
     if not is_built:

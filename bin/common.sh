@@ -6,6 +6,8 @@ root=$(CDPATH='' cd -- "$(dirname -- "$(readlink -f -- "$0")")/.." && pwd)
 built_program=$root/crates/conode/out/release/conode
 built_archive=$root/crates/bafokun/out/release/libbafokun.a
 release=$root/release
+# what is released beside MADE-OF and SHA256SUMS, which has a line for each of these
+released_files='conode libbafokun.a libbafokun.so bafokun.h aarch64/libbafokun.a aarch64/libbafokun.so'
 
 # Prints the lines of crates.txt of these crates and of all crates of the repository that they stand on, lowest first.
 crates_below() {
@@ -52,22 +54,22 @@ sources_sum() (
 # What release/MADE-OF says after a word: version, kit or sources.
 released() { sed -n "s/^$1 //p" "$release/MADE-OF" 2> /dev/null; }
 
-# Whether the files of a release are there, with the checksums that are released with them; else standard error names, once, those
-# that aren't so.
+# Whether the files of a release are there, with the checksums that are released with them, and the program can be run; else standard
+# error names, once, those that aren't so.
 has_named=
 is_intact() {
-    if [ -s "$release/MADE-OF" ] && (cd "$release" && sha256sum --quiet --strict -c SHA256SUMS) > /dev/null 2>&1; then
-        return 0
-    fi
+    [ -n "$(damaged_files)" ] || return 0
     [ -n "$has_named" ] || echo "$(damaged_files): not what was released; git checkout release restores it" >&2
     has_named=yes
     return 1
 }
 damaged_files() {
     {
-        for file in MADE-OF SHA256SUMS; do [ -s "$release/$file" ] || echo "$file"; done
-        [ ! -e "$release" ] || (cd "$release" && LC_ALL=C sha256sum --quiet -c SHA256SUMS 2> /dev/null) || true
-    } | sed 's/: FAILED.*//; s/^/release\//' | paste -s -d ' ' -
+        [ -s "$release/MADE-OF" ] || echo MADE-OF
+        [ "$(sed 's/^[0-9a-f]*  //' "$release/SHA256SUMS" | paste -s -d ' ' -)" = "$released_files" ] || echo SHA256SUMS
+        failed=$(cd "$release" && LC_ALL=C sha256sum --quiet --strict -c SHA256SUMS) || echo "${failed:-SHA256SUMS}"
+        [ ! -e "$release/conode" ] || [ -x "$release/conode" ] || echo conode
+    } 2> /dev/null | sed 's/: FAILED.*//; s/^/release\//' | uniq | paste -s -d ' ' -
 }
 
 # Whether the released files are there, whole, and made of exactly these sources. Where that was found before and nothing is newer,
@@ -78,7 +80,8 @@ is_released() {
     if [ -e "$mark" ]; then
         set -- "$root/crates.txt" "$root/include" "$root/share/heap.c" "$root/bin/align.py" "$release"
         for name in $(names_below conode bafokun); do set -- "$@" "$root/crates/$name/src"; done
-        [ -n "$(find "$@" -newer "$mark" -print 2> /dev/null | head -n 1)" ] || return 0
+        # (by the time of the last change of a file's state, since an editor or a copy may keep that of its content)
+        [ -n "$(find "$@" -cnewer "$mark" -print 2> /dev/null | head -n 1)" ] || return 0
     fi
     [ "$(sources_sum)" = "$(released sources)" ] || return 1
     is_intact || return 1
@@ -86,5 +89,5 @@ is_released() {
     { mkdir -p "$root/crates/conode/out" && true > "$mark"; } 2> /dev/null || true
 }
 
-# Whether the proof kit is there.
-has_kit() { command -v rt > /dev/null 2>&1; }
+# Whether the proof kit is there: other programs have the name rt, too.
+has_kit() { case $(rt version 2> /dev/null) in rattle-kit-*) ;; *) return 1 ;; esac }

@@ -5,7 +5,11 @@ from __future__ import annotations
 # by number: the name, what is wrong (with a line; without one, where that differs), how it is fixed
 _SHEET = {
     1: ("TooLarge", "the line has more than 512 bytes", "shorten the line; take out comments and sections that are passed over"),
-    2: ("BadLine", "the line is no whole section line and no key=value", "put the missing ] or =, or ; before a comment"),
+    2: (
+        "BadLine",
+        "the line is no whole section line and no key=value",
+        "put the missing [, ] or =, or ; before a comment",
+    ),
     3: ("KeyOutsideSection", "the line comes before the first section", "move it after the line of its section; put ; before a comment"),
     4: (
         "DuplicateSection",
@@ -13,8 +17,12 @@ _SHEET = {
         "take one of the two out, or give it the index that was meant",
     ),
     5: ("DuplicateKey", "the key comes a second time in its section", "take one of the two out"),
-    6: ("MissingSection", "the listed object has no section", "add the section, as [1019]; or take the object out of its list"),
-    7: ("BadNumber", "the value is no number", "write decimal digits, or 0x and hexadecimal digits"),
+    6: (
+        "MissingSection",
+        "the listed object has no section",
+        "add the section, as [1019]; or take the object out of its list, unless it is mandatory",
+    ),
+    7: ("BadNumber", "the value is no whole number of at most 64 bits", "write decimal digits, or 0x and hexadecimal digits"),
     8: ("AmbiguousNumber", "the leading zero may mean octal", "write the number without the zero, or in hexadecimal"),
     9: (
         "BadList",
@@ -27,7 +35,11 @@ _SHEET = {
         "the entry has no DataType or no AccessType",
         "add it; to an ARRAY or a RECORD add ObjectType=8 or ObjectType=9",
     ),
-    12: ("BadType", "the code is none that this object or entry may have", "give the code that the device has"),
+    12: (
+        "BadType",
+        "the code is none that this object or entry may have",
+        "give the code that the device has, with ObjectType=2 DataType=0x000F; take an object of ObjectType=5 or 6 out of its list",
+    ),
     13: ("LeftOutType", "the data type isn't supported", "take the object out of its list, or describe it by a supported type"),
     14: ("BadAccess", "the access is none of ro, wo, rw, rwr, rww and const", "choose one of the six"),
     15: (

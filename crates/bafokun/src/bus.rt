@@ -20,9 +20,7 @@ ghost use Rattle.bafokun.specs.Bus.{
 
 use crate::happened::byte_in;
 use co_frame::{NmtCommand, NmtService};
-use co_node::{AppEvent, Input, Node, NodeState};
-use co_node_laws::state_by_kind;
-use co_node_parts::LossReaction;
+use co_node::{AppEvent, Input, LossReaction, Node, NodeState, state_by_kind};
 use co_profile::keys;
 use co_value::Key;
 

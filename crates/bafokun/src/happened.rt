@@ -22,8 +22,7 @@ ghost use Rattle.bafokun.specs.Happened.{
   with_state,
 };
 
-use co_node::{Node, NodeState, Seen};
-use co_node_laws::{device_by_kind, state_by_kind};
+use co_node::{Node, NodeState, Seen, device_by_kind, state_by_kind};
 use co_profile::CONSUMER_HEARTBEAT;
 use co_value::Key;
 

@@ -1,5 +1,5 @@
 -- Worked examples, computed from the definitions: all faults of a dictionary, what is left out, and each reason of a mapping.
-use Rattle.std.proofs.Common.{◌≡◌, ℕ, ◌++◌, List, [], ◌∷◌, refl, None, true, false}
+use Rattle.std.proofs.Common.{◌≡◌, ℕ, ◌++◌, List, [], ◌∷◌, map, refl, None, true, false}
 use Rattle.std.specs.Prelude.{Bool, pos}
 use Rattle.co_value.specs.declared.key.Key.{Key}
 use Rattle.co_value.specs.declared.data_type.DataType.{DataType}
@@ -16,7 +16,7 @@ use Rattle.co_dict_build.specs.Built.{Plan}
 use Rattle.co_dict_build.specs.BuildFaults.{is_used_before}
 use Rattle.co_dict_faults.specs.declared.mapping_fault.MappingFault.{MappingFault}
 use Rattle.co_dict_faults.specs.declared.mapping_fault.MappingReason.{MappingReason}
-use Rattle.co_dict_faults.specs.declared.mapping_fault.MappingReason.TheVariants.{CountsMore, TooLong, Missing, Zero, NoEntry, NotMappable, NoNumber, BelowProfile, WrongAccess, OneBit, WrongLength}
+use Rattle.co_dict_faults.specs.declared.mapping_fault.MappingReason.TheVariants.{CountsMore, TooLong, Multiplexed, Missing, Zero, NoEntry, NotMappable, NoNumber, BelowProfile, WrongAccess, OneBit, WrongLength}
 use Rattle.co_dict_faults.specs.MappingReasons.{has_from}
 use Rattle.co_dict_faults.specs.AllBuildFaults.{build_faults_of, mapping_faults_of}
 
@@ -171,6 +171,12 @@ a_gap = refl
 counts_more : reasons (tpdo 2 (word 0x1A00 1 0x20020020 ∷ [])) ≡ at 0x1A00 0 CountsMore ∷ []
 unfolding is_sdo_id has_object subs_present is_used_before has_from
 counts_more = refl
+
+-- FEh and FFh count nothing, whatever words there are; FDh is a count
+multiplexed : map (λ n. reasons (tpdo n (word 0x1A00 1 0x20020020 ∷ word 0x1A00 2 0 ∷ []))) (0xFD ∷ 0xFE ∷ 0xFF ∷ [])
+    ≡ (at 0x1A00 2 Zero ∷ at 0x1A00 0 CountsMore ∷ []) ∷ (at 0x1A00 0 Multiplexed ∷ []) ∷ (at 0x1A00 0 Multiplexed ∷ []) ∷ []
+unfolding is_sdo_id has_object subs_present is_used_before has_from
+multiplexed = refl
 
 bits_64 : reasons (tpdo 1 (word 0x1A00 1 0x20030040 ∷ [])) ≡ []
 unfolding is_sdo_id has_object subs_present is_used_before has_from

@@ -20,8 +20,8 @@ use Rattle.co_dict_build.specs.BuildFaults.{is_bad_mapping}
 use Rattle.co_dict.proofs.ObjectLemmas.{any_in_range}
 use Rattle.co_dict_faults.specs.declared.mapping_fault.MappingFault.{MappingFault}
 use Rattle.co_dict_faults.specs.declared.mapping_fault.MappingReason.{MappingReason}
-use Rattle.co_dict_faults.specs.declared.mapping_fault.MappingReason.TheVariants.{CountsMore, TooLong, Missing}
-use Rattle.co_dict_faults.specs.MappingReasons.{word_reason, has_from, sub_reason, fault_list, word_faults, is_empty, length_fault, count_reason, counted_faults, side_of, mapping_faults}
+use Rattle.co_dict_faults.specs.declared.mapping_fault.MappingReason.TheVariants.{CountsMore, TooLong, Multiplexed, Missing}
+use Rattle.co_dict_faults.specs.MappingReasons.{word_reason, has_from, sub_reason, fault_list, word_faults, is_empty, length_fault, count_reason, counted_faults, is_multiplexed, mapping_fault_at, side_of, mapping_faults}
 use Rattle.co_dict_faults.proofs.ReasonLemmas.{reason_of_word}
 
 -- ---- ranges
@@ -127,6 +127,9 @@ no_reason index sub (Some reason) h = absurd (true≢false (sym h))
 none_of : {X : Type 0} (o : Option X) → is_some o ≡ false → o ≡ None
 none_of None h = refl
 none_of (Some x) h = absurd (true≢false h)
+
+more_is : (present counted : ℕ) → present < counted → nat_lt present counted ≡ true
+more_is present counted less = grind (arith, nat_tests)
 
 -- ---- a mapping
 
@@ -269,9 +272,20 @@ module _ (side : Side) (d : Description) (contents : Contents) (index count : �
       ∙ found_by_tests (is_empty words) (has_from d.rows index count) refl refl
       ∙ sym (refused_by_tests many bad (long count))
 
+  -- more words than a mapping has
+  pub refused_past_ : 64 < count → is_none (count_refusal side d contents index count) ≡ false
+  refused_past_ past =
+      let most = no_more (has_sub d.rows index) 1 64 in
+      let there = present_is d.rows index in
+      let is_many : many ≡ true = more_is (subs_present d.rows index 64) count (omega (arith, most, there, past)) in
+      refused_by_tests many bad (long count) ∙ ap (λ b. not (b || bad || long count)) is_many
+
 pub reasons_of_count : (side : Side) (d : Description) (contents : Contents) (index count : ℕ) → 1 ≤ count
     → is_empty (counted_faults side d contents index count) ≡ is_none (count_refusal side d contents index count)
 reasons_of_count side d contents index count some = reasons_of_count_ side d contents index count some
+
+refused_past : (side : Side) (d : Description) (contents : Contents) (index count : ℕ) → 64 < count → is_none (count_refusal side d contents index count) ≡ false
+refused_past side d contents index count past = refused_past_ side d contents index count (omega arith) past
 
 -- ---- a mapping that a dictionary begins with
 
@@ -290,11 +304,17 @@ module _ (d : Description) (contents : Contents) (index : ℕ) where
   abbrev is_refused : Side → Bool
   is_refused side = is_some (count_refusal side d contents index count)
 
-  by_count : (side : Side) (b : Bool) → (count == 0) ≡ b → is_empty (cond b [] (counted_faults side d contents index count)) ≡ not (not b && is_refused side)
+  by_multiplexed : (side : Side) (m : Bool) → is_multiplexed count ≡ m → 1 ≤ count
+      → is_empty (cond m (mapping_fault_at index 0 Multiplexed ∷ []) (counted_faults side d contents index count)) ≡ not (is_refused side)
+  by_multiplexed side true m some =
+      let past : 64 < count = grind (arith, nat_tests) in
+      sym (refused_past side d contents index count past) ∙ none_is (count_refusal side d contents index count)
+  by_multiplexed side false m some = reasons_of_count side d contents index count some ∙ none_is (count_refusal side d contents index count)
+
+  by_count : (side : Side) (b : Bool) → (count == 0) ≡ b
+      → is_empty (cond b [] (cond (is_multiplexed count) (mapping_fault_at index 0 Multiplexed ∷ []) (counted_faults side d contents index count))) ≡ not (not b && is_refused side)
   by_count side true e = refl
-  by_count side false e =
-      let some : 1 ≤ count = grind (arith, nat_tests) in
-      reasons_of_count side d contents index count some ∙ none_is (count_refusal side d contents index count)
+  by_count side false e = by_multiplexed side (is_multiplexed count) refl (grind (arith, nat_tests))
 
   other_side : is_within rpdo_mapping index ≡ true → is_within tpdo_mapping index ≡ false
   other_side h = grind (arith, nat_tests)

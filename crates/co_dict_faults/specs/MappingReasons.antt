@@ -1,6 +1,6 @@
 -- Why an initial mapping isn't allowed: each of its counted words, and their count
 -- (CiA 301, 7.5.2.36 and 7.5.2.38).
-use Rattle.std.specs.Prelude.{ℕ, ◌+◌, ◌-◌, ◌*◌, ◌==◌, nat_lt, min, Bool, true, false, ◌&&◌, not, if◌then◌else◌, Option, Some, None, is_some, is_none, List, [], ◌∷◌, ◌++◌, flat_map}
+use Rattle.std.specs.Prelude.{ℕ, ◌+◌, ◌-◌, ◌*◌, ◌==◌, nat_lt, min, Bool, true, false, ◌&&◌, ◌||◌, not, if◌then◌else◌, Option, Some, None, is_some, is_none, List, [], ◌∷◌, ◌++◌, flat_map}
 use Rattle.std.specs.List.{list_any, range_with_len}
 use Rattle.std.specs.Option.{option_map_or}
 use Rattle.co_value.specs.declared.key.Key.{Key}
@@ -16,7 +16,7 @@ use Rattle.co_dict.specs.MappingWords.{mapped_key, mapped_bits, usable_dummy, is
 use Rattle.co_dict.specs.MappingCounts.{counted_words, total_width}
 use Rattle.co_dict_faults.specs.declared.mapping_fault.MappingFault.{MappingFault}
 use Rattle.co_dict_faults.specs.declared.mapping_fault.MappingReason.{MappingReason}
-use Rattle.co_dict_faults.specs.declared.mapping_fault.MappingReason.TheVariants.{CountsMore, TooLong, Missing, Zero, NoEntry, NotMappable, NoNumber, BelowProfile, WrongAccess, OneBit, WrongLength}
+use Rattle.co_dict_faults.specs.declared.mapping_fault.MappingReason.TheVariants.{CountsMore, TooLong, Multiplexed, Missing, Zero, NoEntry, NotMappable, NoNumber, BelowProfile, WrongAccess, OneBit, WrongLength}
 
 -- the side whose mapping parameter an index is
 abbrev pub side_of : ℕ → Side
@@ -103,8 +103,15 @@ counted_faults side d contents index count =
     let words = word_faults side d contents index count in
     words ++ fault_list index 0 (count_reason (is_empty words) side d contents index count)
 
--- the faults of an initial mapping, if it counts any word
+-- FEh and FFh count no words: the PDO is multiplexed, and its data begin with the address of a
+-- source or of a destination
+abbrev pub is_multiplexed : ℕ → Bool
+is_multiplexed count = (count == 0xFE) || (count == 0xFF)
+
+-- the faults of an initial mapping, if it counts any word, or is that of a multiplexed PDO
 abbrev pub mapping_faults : Side → Description → Contents → ℕ → List MappingFault
 mapping_faults side d contents index =
     let count = number_at contents (record { index = index; sub = 0 }) in
-    if count == 0 then [] else counted_faults side d contents index count
+    if count == 0 then []
+    else if is_multiplexed count then mapping_fault_at index 0 Multiplexed ∷ []
+    else counted_faults side d contents index count

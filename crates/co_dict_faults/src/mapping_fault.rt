@@ -10,6 +10,8 @@ pub enum MappingReason {
     CountsMore,
     /// Of the count: the words map this many bits in all, more than 64.
     TooLong(u16),
+    /// In place of the count is FEh or FFh: the PDO is multiplexed, and counts no word.
+    Multiplexed,
     /// The word is absent, and a later one is there.
     Missing,
     /// The word is 0.

@@ -5,6 +5,7 @@ ghost use Rattle.co_dict.specs.MappingCounts.{is_mapping_index, counted_words, t
 ghost use Rattle.co_dict.specs.MappingWords.{word_width};
 ghost use Rattle.co_dict_faults.specs.MappingReasons.{
   is_empty,
+  is_multiplexed,
   fault_list,
   count_reason,
   length_fault,
@@ -142,10 +143,17 @@ fn is_empty(faults: &[MappingFault]) -> bool
     }
 }
 
+// whether the PDO is multiplexed, in place of a count
+fn is_multiplexed(count: u8) -> bool
+    ensures { result ≡ is_multiplexed count }
+{
+    count == 0xFE || count == 0xFF
+}
+
 /// Why the initial mapping of a PDO of a side isn't allowed (CiA 301, 7.5.2.36, 7.5.2.38): each
 /// counted word that can't be mapped, in increasing sub-index, up to 64; then the count, if it is
 /// more than the words that are there, or if they can be mapped and map more than 64 bits in all.
-/// No fault where nothing is counted. `Err`: out of memory.
+/// Of a multiplexed PDO that alone. No fault where nothing is counted. `Err`: out of memory.
 pub fn mapping_faults<S: ObjectStore>(
     alloc: Global,
     store: &S,
@@ -159,6 +167,10 @@ pub fn mapping_faults<S: ObjectStore>(
     let mut faults = Vec::new(alloc);
     let count = number_u8(store, Key { index, sub: 0 });
     if count == 0 {
+        return Ok(faults);
+    }
+    if is_multiplexed(count) {
+        attempt!(add_reason(&mut faults, index, 0, Some(MappingReason::Multiplexed)));
         return Ok(faults);
     }
     attempt!(add_counted_faults(&mut faults, store, side, index, count));

@@ -1,7 +1,7 @@
 -- Changes, computed from the definitions.
 use Rattle.std.proofs.Common.{◌≡◌, [], ◌∷◌, true, false, refl}
 use Rattle.co_dict.proofs.ExampleDevice.{at, device}
-use Rattle.co_dict_placed.specs.Changes.{is_changed, with_key, with_keys, with_change, without_change}
+use Rattle.co_dict_placed.specs.Changes.{is_changed, with_keys, with_change, without_change}
 
 -- both ends of a byte, and the next one
 lowest : with_change (0 ∷ 0 ∷ []) 0 ≡ 1 ∷ 0 ∷ []

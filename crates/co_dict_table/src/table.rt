@@ -100,7 +100,8 @@ impl EntryTable {
         requires ready { All (λ row. IsReady node_id (row_view row)) rows.now }
         requires size { length text.now ≤ 1048576 }
         ensures { IfOk result (λ table. table
-            ≡ contents_of_rows (original_at text.now) (limits_view limits.now) (map row_view rows.now)) }
+            ≡ contents_of_rows (original_at text.now) (limits_view limits.now)
+            (map row_view rows.now)) }
     {
         let originals = Originals::in_text(alloc, text)?;
         EntryTable::of_rows(alloc, node_id, limits, &originals, rows)
@@ -116,7 +117,8 @@ impl EntryTable {
     ) -> Result<EntryTable, AllocError>
         requires { All (λ row. IsReady node_id (row_view row)) rows.now }
         ensures { IfOk result (λ table. table ≡
-            contents_of_rows (text_at originals.now) (limits_view limits.now) (map row_view rows.now)) }
+            contents_of_rows (text_at originals.now) (limits_view limits.now)
+            (map row_view rows.now)) }
     {
         let mut lines = Vec::with_capacity(alloc, rows.len())?;
         let mut names = Vec::new(alloc);

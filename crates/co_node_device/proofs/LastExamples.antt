@@ -1,5 +1,5 @@
 -- What is seen of marks, evaluated.
-use Rattle.std.proofs.Common.{◌≡◌, List, [], ◌∷◌, map, true, refl}
+use Rattle.std.proofs.Common.{◌≡◌, [], ◌∷◌, map, true, refl}
 use Rattle.co_frame.specs.declared.nmt.NmtService.TheVariants.{Start, Stop, EnterPreOperational, ResetNode, ResetCommunication}
 use Rattle.co_node_model.specs.declared.mark.Mark.TheVariants as was
 use Rattle.co_node_device.specs.declared.seen.Seen.TheVariants as seen

@@ -124,7 +124,8 @@ impl AddressTable {
     #[inline(always)]
     pub fn note<S: ObjectStore>(&mut self, mark: &Mark, store: &S)
         ensures { (before : Contents) → IsTableOf before self.old →
-            (may_change_addresses mark.now ≡ false → AgreeOnAddresses before (S.contents store.now)) →
+            (may_change_addresses mark.now ≡ false → AgreeOnAddresses before
+            (S.contents store.now)) →
             IsTableOf (S.contents store.now) self.new }
     {
         if may_change_addresses(mark) {

@@ -169,7 +169,8 @@ impl MappingTable {
         ensures description { S.description store.new ≡ S.description store.old }
         ensures changes { (side : Side) →
             IsMappingTable side (S.description store.old) (S.contents store.old) self.now →
-            changes.new ≡ with_keys (S.description store.old) (keys_set (S.description store.old).rows
+            changes.new ≡ with_keys (S.description store.old)
+            (keys_set (S.description store.old).rows
             (mapping_of side (S.description store.old) (S.contents store.old) k) bytes.now)
             changes.old }
     {

@@ -41,7 +41,8 @@ impl CompiledMappings {
     /// write of a mapping parameter.
     #[inline(always)]
     pub fn note<S: ObjectStore>(&mut self, mark: &Mark, store: &S)
-        ensures mappings { (before : Contents) → AreMappings (S.description store.now) before self.old →
+        ensures mappings { (before : Contents) → AreMappings (S.description store.now) before
+            self.old →
             (may_change_mappings mark.now ≡ false → AgreeOnMappings before (S.contents store.now)) →
             AreMappings (S.description store.now) (S.contents store.now) self.new }
         ensures rpdos { HaveParts (S.description store.now) self.old.rpdos →

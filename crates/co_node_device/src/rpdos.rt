@@ -98,7 +98,8 @@ fn kept_by(kind: u8, mapped: usize, rpdo: &Option<KeptFrame>) -> SlotEvent
 #[inline(always)]
 fn slot_event(mark: &Mark, kind: u8, mapped: usize, transition: Transition) -> SlotEvent
     ensures { (d : Description) (contents : Contents) →
-        IsTypeOf contents (marked_rpdo mark.now) kind → IsMappedLength d contents (marked_rpdo mark.now) mapped →
+        IsTypeOf contents (marked_rpdo mark.now) kind → IsMappedLength d contents
+        (marked_rpdo mark.now) mapped →
         result ≡ slot_event d contents mark.now transition }
 {
     if mark.is_reset() || transition.leaves(NodeState::Operational) {
@@ -179,17 +180,20 @@ fn take_data<S: ObjectStore>(
     requires number { rpdo.now.number < 512 }
     requires parts { HaveParts (S.description store.old) mappings.now }
     ensures description { S.description store.new ≡ S.description store.old }
-    ensures contents { IsMappingTable Rpdo (S.description store.old) (S.contents store.old) mappings.now →
+    ensures contents { IsMappingTable Rpdo (S.description store.old) (S.contents store.old)
+        mappings.now →
         S.contents store.new ≡
         after_data (S.description store.old) (S.contents store.old) rpdo.now }
-    ensures table { IsMappingTable Rpdo (S.description store.old) (S.contents store.old) mappings.now →
+    ensures table { IsMappingTable Rpdo (S.description store.old) (S.contents store.old)
+        mappings.now →
         IsMappingTable Rpdo (S.description store.old) (S.contents store.new) mappings.now }
     ensures emergencies { (log : EmergencyLog) →
         IsMappingTable Rpdo (S.description store.old) (S.contents store.old) mappings.now →
         EmergenciesStand emergencies.old log →
         EmergenciesStand emergencies.new (with_queued
         (data_emergencies (S.description store.old) (S.contents store.old) rpdo.now) log) }
-    ensures changes { IsMappingTable Rpdo (S.description store.old) (S.contents store.old) mappings.now →
+    ensures changes { IsMappingTable Rpdo (S.description store.old) (S.contents store.old)
+        mappings.now →
         changes.new ≡ with_keys (S.description store.old)
         (set_by_data (S.description store.old) (S.contents store.old) rpdo.now) changes.old }
 {
@@ -210,11 +214,13 @@ fn raise_lengths<S: ObjectStore>(
     mapped: usize,
 )
     ensures description { S.description store.new ≡ S.description store.old }
-    ensures contents { IsMappedLength (S.description store.old) (S.contents store.old) (marked_rpdo mark.now) mapped →
+    ensures contents { IsMappedLength (S.description store.old) (S.contents store.old)
+        (marked_rpdo mark.now) mapped →
         S.contents store.new ≡
         after_lengths (S.description store.old) (S.contents store.old) mark.now }
     ensures emergencies { (queued : EmergencyLog) →
-        IsMappedLength (S.description store.old) (S.contents store.old) (marked_rpdo mark.now) mapped →
+        IsMappedLength (S.description store.old) (S.contents store.old) (marked_rpdo mark.now)
+        mapped →
         EmergenciesStand emergencies.old queued →
         EmergenciesStand emergencies.new (with_queued (emergencies_of (S.description store.old).rows
         (length_errors_of (S.description store.old) (S.contents store.old) mark.now)
@@ -237,18 +243,22 @@ fn take_all_data<S: ObjectStore>(
 )
     requires { HaveParts (S.description store.old) mappings.now }
     ensures description { S.description store.new ≡ S.description store.old }
-    ensures contents { IsMappingTable Rpdo (S.description store.old) (S.contents store.old) mappings.now →
+    ensures contents { IsMappingTable Rpdo (S.description store.old) (S.contents store.old)
+        mappings.now →
         All (λ rpdo. rpdo.number < 512) rpdos.now → S.contents store.new ≡
         after_all_data (S.description store.old) (S.contents store.old) rpdos.now }
-    ensures table { IsMappingTable Rpdo (S.description store.old) (S.contents store.old) mappings.now →
+    ensures table { IsMappingTable Rpdo (S.description store.old) (S.contents store.old)
+        mappings.now →
         IsMappingTable Rpdo (S.description store.old) (S.contents store.new) mappings.now }
     ensures emergencies { (queued : EmergencyLog) →
         IsMappingTable Rpdo (S.description store.old) (S.contents store.old) mappings.now →
         All (λ rpdo. rpdo.number < 512) rpdos.now →
         EmergenciesStand emergencies.old queued → EmergenciesStand emergencies.new (with_queued
         (all_data_emergencies (S.description store.old) (S.contents store.old) rpdos.now) queued) }
-    ensures changes { IsMappingTable Rpdo (S.description store.old) (S.contents store.old) mappings.now →
-        All (λ rpdo. rpdo.number < 512) rpdos.now → changes.new ≡ with_keys (S.description store.old)
+    ensures changes { IsMappingTable Rpdo (S.description store.old) (S.contents store.old)
+        mappings.now →
+        All (λ rpdo. rpdo.number < 512) rpdos.now → changes.new ≡
+        with_keys (S.description store.old)
         (set_by_all_data (S.description store.old) (S.contents store.old) rpdos.now) changes.old }
 {
     for rpdo in rpdos {
@@ -271,7 +281,8 @@ fn take_at_once<S: ObjectStore>(
     requires number { IfSome rpdo.now (λ rpdo. rpdo.number < 512) }
     requires parts { HaveParts (S.description store.old) mappings.now }
     ensures description { S.description store.new ≡ S.description store.old }
-    ensures contents { IsMappingTable Rpdo (S.description store.old) (S.contents store.old) mappings.now →
+    ensures contents { IsMappingTable Rpdo (S.description store.old) (S.contents store.old)
+        mappings.now →
         S.contents store.new ≡ after_all_data (S.description store.old) (S.contents store.old)
         (if is_immediate then cons_option rpdo.now [] else []) }
     ensures emergencies { (queued : EmergencyLog) →
@@ -280,7 +291,8 @@ fn take_at_once<S: ObjectStore>(
         EmergenciesStand emergencies.new (with_queued (all_data_emergencies
         (S.description store.old) (S.contents store.old)
         (if is_immediate then cons_option rpdo.now [] else [])) queued) }
-    ensures changes { IsMappingTable Rpdo (S.description store.old) (S.contents store.old) mappings.now →
+    ensures changes { IsMappingTable Rpdo (S.description store.old) (S.contents store.old)
+        mappings.now →
         changes.new ≡ with_keys (S.description store.old) (set_by_all_data (S.description store.old)
         (S.contents store.old) (if is_immediate then cons_option rpdo.now [] else [])) changes.old }
 {

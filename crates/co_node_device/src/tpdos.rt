@@ -145,7 +145,8 @@ fn take_asked<S: ObjectStore>(schedule: &mut Schedule, store: &S, asked: Asked, 
         IsScheduleAfter (S.description store.now) schedule.old history →
         AllCurrent (S.contents store.now) history →
         IsScheduleAfter (S.description store.now) schedule.new (with_turn
-        (S.description store.now) (Turn.Asked asked) (S.contents store.now) sent.new.items history) }
+        (S.description store.now) (Turn.Asked asked) (S.contents store.now) sent.new.items
+        history) }
     ensures few { length sent.new.items ≤ length schedule.old.tpdos }
     ensures size { length schedule.new.tpdos ≡ length schedule.old.tpdos }
 {

@@ -1,5 +1,5 @@
 -- For how many ticks no TPDO is due.
-use Rattle.std.proofs.Common.{◌≡◌, ℕ, zero, suc, ◌+◌, ◌-◌, ◌<◌, ◌≤◌, ◌⊎◌, inl, inr, Bool, true, false, cond, eqb, ltb, leb, List, [], ◌∷◌, length, map, get_or, refl, sym, ap, ◌∙◌, subst, arith}
+use Rattle.std.proofs.Common.{◌≡◌, ℕ, zero, suc, ◌+◌, ◌-◌, ◌<◌, ◌≤◌, Bool, true, false, cond, eqb, ltb, leb, List, [], ◌∷◌, length, map, get_or, refl, sym, ap, ◌∙◌, subst, arith}
 use Rattle.std.specs.Prelude.{◌&&◌, ◌||◌, max}
 use Rattle.std.specs.List.{filter}
 use Rattle.std.proofs.Math.Bool.{and-false}
@@ -11,7 +11,7 @@ use Rattle.co_pdo.specs.declared.settings.Settings.{Settings}
 use Rattle.co_pdo.specs.declared.tpdo.Occasion.TheVariants.{Tick}
 use Rattle.co_pdo.specs.declared.tpdo.Tpdo.{Tpdo}
 use Rattle.co_pdo.specs.declared.places.Places.{Places}
-use Rattle.co_pdo.specs.Tpdos.{has_tpdo, settings_of, tpdo_numbers, tpdos_of}
+use Rattle.co_pdo.specs.Tpdos.{settings_of, tpdos_of}
 use Rattle.co_pdo.specs.Log.{Log, Happened}
 use Rattle.co_pdo.specs.Due.{NotDueFor, is_due, is_due_by_event}
 use Rattle.co_pdo.specs.Countdowns.{IsAfter, IsCurrent}

@@ -14,7 +14,7 @@ use Rattle.co_pdo.specs.Log.{Log, Started, Happened, started_with}
 use Rattle.co_pdo.specs.Due.{begins_count, syncs, has_begun, since_beginning, counted_syncs, event_since_sync, timer_ticks, event_waits, sendings, is_due_by_count, is_due_at_sync, is_due_by_event, is_due}
 use Rattle.co_profile.specs.TransmissionTypes.{is_event_driven}
 use Rattle.co_pdo.specs.Countdowns.{left_of, type_of, inhibit_of, CountsSyncs, IsAfter, IsAsAt, IsCurrent}
-use Rattle.co_pdo.specs.Steps.{passes_over, counted, counted_with, wants_with, marked}
+use Rattle.co_pdo.specs.Steps.{passes_over, counted_with, wants_with, marked}
 use Rattle.co_pdo.proofs.Counts.{last_sync, next_sync, left-tick, last_tick}
 
 all_from_zero : (xs : List ℕ) → list_all (λ m. leb 0 m) xs ≡ true

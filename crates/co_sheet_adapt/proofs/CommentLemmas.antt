@@ -1,7 +1,7 @@
 -- A comment before a text: the same sections, one line later.
 use Rattle.std.proofs.Common.{◌≡◌, ℕ, suc, ◌+◌, ◌-◌, ◌<◌, Bool, true, false, ◌||◌, cond, true≢false, List, [], ◌∷◌, ◌++◌, length, reverse, take, map, refl, sym, ◌∙◌, ap, arith}
 use Rattle.std.specs.Prelude.{Option, Some, None, is_none, flat_map, option_map, filter_map, ◌==◌, nat_lt, if◌then◌else◌}
-use Rattle.std.specs.List.{list_any, slice_split, onto_first, enumerate_from, cons_option}
+use Rattle.std.specs.List.{list_any, slice_split, onto_first, cons_option}
 use Rattle.std.specs.Str.Lines.{lines, lines_of_parts, strip_carriage_return}
 use Rattle.std.proofs.lemmas.Bool.Decides.{nat_tests}
 use Rattle.std.proofs.lemmas.List.{append_assoc, map-append, reverse-append}

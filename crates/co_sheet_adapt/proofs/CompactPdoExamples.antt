@@ -5,7 +5,7 @@ use Rattle.co_text.specs.Printed.{digits_text}
 use Rattle.co_sheet_text.specs.Text.{lines_of}
 use Rattle.co_sheet_changes.specs.declared.change.ChangeKind.TheVariants.{CompactPdo, ListCount}
 use Rattle.co_sheet_changes.specs.Groups.{groups_of}
-use Rattle.co_sheet_changes.specs.Pieces.{Piece, kept, changed, added_lines, assigned}
+use Rattle.co_sheet_changes.specs.Pieces.{kept, changed, added_lines, assigned}
 use Rattle.co_sheet_adapt.specs.Pieces.{all_pieces}
 use Rattle.co_sheet_adapt.specs.Compact.{first_keys, first_section, last_keys, sub_head}
 use Rattle.co_sheet_adapt.specs.CompactPdo.{PdoForm, communication_text, highest_of, keys_of, object_head, pdo_form, subs_of}

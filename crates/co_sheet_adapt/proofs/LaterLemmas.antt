@@ -22,7 +22,7 @@ use Rattle.co_sheet_text.specs.Properties.{property_number, number_at}
 use Rattle.co_sheet.specs.Accepted.{first_fault, sections_in}
 use Rattle.co_sheet.specs.Commissioning.{node_id_in, node_id_of}
 use Rattle.co_sheet.specs.Content.{Row, row_with, row_of, insert_before, in_order, rows_in, ObjectRow, object_row_with, object_row_of, objects_in, rows_of, objects_of}
-use Rattle.co_sheet.specs.Entries.{ListedObject, Entry, access_of, access_with, compound_codes, data_type_of, data_type_with, entries_in, entries_of, is_domain, is_mappable, is_other_than_zero, listed_objects, name_of, object_code, object_type_with, single_codes, sub_index_in, sub_indices, type_code}
+use Rattle.co_sheet.specs.Entries.{ListedObject, Entry, access_of, access_with, compound_codes, data_type_of, data_type_with, entries_in, entries_of, is_domain, is_mappable, is_other_than_zero, listed_objects, name_of, object_code, object_type_with, single_codes, sub_index_in, sub_indices}
 use Rattle.co_sheet.specs.Limits.{Default, absent, default_of, high_limit, is_numeric, limit_at, low_limit, number_at_type, stated_default, value_property}
 use Rattle.co_sheet.specs.ObjectLists.{Listing, count_of, is_one_of, keys_to, listings, listings_in, object_lists}
 use Rattle.co_sheet_adapt.specs.Adapted.{adapted_text, object_later, one_later, property_later, row_later}

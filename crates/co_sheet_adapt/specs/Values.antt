@@ -1,10 +1,9 @@
 -- Values and limits that are written at another type than the entry has (CiA 306, object
 -- description).
-use Rattle.std.specs.Prelude.{ℕ, ◌+◌, ◌-◌, ◌*◌, ◌^◌, Bool, true, false, ◌&&◌, ◌||◌, ◌==◌, nat_le, nat_lt, if◌then◌else◌, List, [], ◌∷◌, Option, Some, None, option_and_then, Result, Ok}
+use Rattle.std.specs.Prelude.{ℕ, ◌+◌, ◌-◌, ◌*◌, ◌^◌, Bool, true, false, ◌&&◌, ◌||◌, nat_le, nat_lt, if◌then◌else◌, List, [], ◌∷◌, Option, Some, None, option_and_then, Result, Ok}
 use Rattle.std.specs.Option.{option_map_or}
 use Rattle.co_text.specs.Texts.{is_blank, hex_pair}
 use Rattle.co_value.specs.declared.data_type.DataType.{DataType}
-use Rattle.co_value.specs.Types.{width_of, is_signed}
 use Rattle.co_sheet_text.specs.declared.numeral.Numeral.{Numeral}
 use Rattle.co_sheet_text.specs.declared.numeral.Numeral.TheVariants.{Hexadecimal}
 use Rattle.co_sheet_text.specs.declared.numeral.NumeralFault.{NumeralFault}

@@ -14,7 +14,7 @@ meaning_at_line DuplicateSection =
     codes "the section comes a second time, perhaps spelled otherwise"
 meaning_at_line DuplicateKey = codes "the key comes a second time in its section"
 meaning_at_line MissingSection = codes "the listed object has no section"
-meaning_at_line BadNumber = codes "the value is no number"
+meaning_at_line BadNumber = codes "the value is no whole number of at most 64 bits"
 meaning_at_line AmbiguousNumber = codes "the leading zero may mean octal"
 meaning_at_line BadList =
     codes "SupportedObjects and the keys don't agree, or an index is above 0xFFFF"
@@ -45,17 +45,20 @@ meaning_of fault =
 -- how it is fixed
 abbrev pub fix_of : FaultKind → List ℕ
 fix_of TooLarge = codes "shorten the line; take out comments and sections that are passed over"
-fix_of BadLine = codes "put the missing `]` or `=`, or `;` before a comment"
+fix_of BadLine = codes "put the missing `[`, `]` or `=`, or `;` before a comment"
 fix_of KeyOutsideSection = codes "move it after the line of its section; put `;` before a comment"
 fix_of DuplicateSection = codes "take one of the two out, or give it the index that was meant"
 fix_of DuplicateKey = codes "take one of the two out"
-fix_of MissingSection = codes "add the section, as [1019]; or take the object out of its list"
+fix_of MissingSection =
+    codes "add the section, as [1019]; or take the object out of its list, unless it is mandatory"
 fix_of BadNumber = codes "write decimal digits, or 0x and hexadecimal digits"
 fix_of AmbiguousNumber = codes "write the number without the zero, or in hexadecimal"
 fix_of BadList = codes "number the keys 1, 2, 3 without a gap or leading zeros, and count them"
 fix_of ListedTwice = codes "take one of the two out, and renumber that list"
 fix_of MissingKey = codes "add it; to an ARRAY or a RECORD add ObjectType=8 or ObjectType=9"
-fix_of BadType = codes "give the code that the device has"
+fix_of BadType =
+    codes
+    "give the code that the device has, with ObjectType=2 DataType=0x000F; take an object of ObjectType=5 or 6 out of its list"
 fix_of LeftOutType = codes "take the object out of its list, or describe it by a supported type"
 fix_of BadAccess = codes "choose one of the six"
 fix_of BadLimits = codes "correct the limit; leave it out if the end of the type's range is meant"

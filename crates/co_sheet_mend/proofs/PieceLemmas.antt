@@ -13,7 +13,7 @@ use Rattle.co_sheet_text.specs.Text.{Line, is_empty, trim, trim_front}
 use Rattle.co_sheet_changes.specs.Groups.{Given, before_sections, body_count, property_at_text, property_in, property_of, with_value}
 use Rattle.co_sheet_changes.specs.Pieces.{assigned}
 use Rattle.co_sheet_mend.specs.Repairs.{counted_text, ended, gives_any, lacking, lacking_type, list_text, numbered_from, objects_named, place_value, type_code, typed}
-use Rattle.co_sheet_mend.proofs.LookLemmas.{Look, begins, other, named, named-other, is_plain, look, stripped-other}
+use Rattle.co_sheet_mend.proofs.LookLemmas.{Look, other, named, named-other, is_plain, look, stripped-other}
 use Rattle.co_sheet_mend.proofs.TextLineLemmas.{all-append, both, both-are, is_inner, is_line, lines-ended, lines-front}
 
 -- ---- numbers in decimal digits

@@ -49,6 +49,12 @@ node_id_last_in : places NodeIdPlace (cob_id (codes "DefaultValue=0x180+$NODEID"
 unfolding places_of few_places place_in_text places_in
 node_id_last_in = refl
 
+-- the value of a device configuration file too; of both the default
+node_id_last_in_value : map (λ lines. places NodeIdPlace (codes "[1800sub1]" ∷ lines)) ((codes "DefaultValue=$NODEID+0x180" ∷ codes "ParameterValue=0x180+$NODEID" ∷ []) ∷ (codes "ParameterValue=0x180+$NODEID" ∷ codes "DefaultValue=0x180+$NODEID" ∷ []) ∷ (codes "ParameterValue=$NODEID+0x180" ∷ []) ∷ [])
+    ≡ (3 ∷ []) ∷ (3 ∷ []) ∷ [] ∷ []
+unfolding places_of few_places place_in_text places_in
+node_id_last_in_value = refl
+
 -- of strings and domains it has no meaning: VISIBLE_STRING, OCTET_STRING, UNICODE_STRING, DOMAIN
 text_types : map is_text_type (8 ∷ 9 ∷ 10 ∷ 11 ∷ 12 ∷ 14 ∷ 15 ∷ 16 ∷ []) ≡ false ∷ true ∷ true ∷ true ∷ false ∷ false ∷ true ∷ false ∷ []
 text_types = refl

@@ -2,8 +2,6 @@
 use Rattle.std.proofs.Common.{◌≡◌, ℕ, List, [], ◌∷◌, true, false, refl, codes, map, take, drop}
 use Rattle.std.specs.Prelude.{replicate, ◌++◌}
 use Rattle.co_sheet_warnings.specs.declared.warning.WarningKind.TheVariants.{FileInfoKeys, DeviceInfoKeys, PdoCount, IdentityNumber, DateFormat}
-use Rattle.co_sheet_warnings.specs.declared.keys.Topic.TheVariants.{FileInfo, DeviceInfo}
-use Rattle.co_sheet_warnings.specs.declared.known_key.KnownKey.TheVariants.{FileName}
 use Rattle.co_sheet_warnings.specs.KnownKeys.{key_text}
 use Rattle.co_sheet_text.specs.Numerals.{unsigned_number}
 use Rattle.co_sheet_warnings.specs.Infos.{device_keys, file_keys, is_date, is_read_as, is_time}

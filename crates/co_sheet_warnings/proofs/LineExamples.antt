@@ -57,7 +57,8 @@ one_warning : places NotAscii ((0xC3 ∷ 0xA4 ∷ []) ∷ []) ++ places Utf8 ((0
 unfolding places_of few_places place_in_text places_in chars is_utf8 lib.Utf8.encode
 one_warning = refl
 
--- the mark is part of no line
-marked : places Utf8 ((0xEF ∷ 0xBB ∷ 0xBF ∷ codes "a") ∷ []) ≡ []
-unfolding places_of few_places place_in_text places_in
+-- a byte order mark is part of no line, and yet three bytes above 7Fh at the beginning of line 1
+marked : map (λ lines. places Utf8 lines ++ places NotAscii lines) (((0xEF ∷ 0xBB ∷ 0xBF ∷ codes "a") ∷ []) ∷ ((0xEF ∷ 0xBB ∷ 0xBF ∷ codes "a") ∷ (0xE4 ∷ []) ∷ []) ∷ (codes "a" ∷ (0xEF ∷ 0xBB ∷ 0xBF ∷ []) ∷ []) ∷ [])
+    ≡ (1 ∷ []) ∷ (2 ∷ []) ∷ (2 ∷ []) ∷ []
+unfolding places_of few_places place_in_text places_in chars is_utf8 lib.Utf8.encode
 marked = refl

@@ -3,7 +3,6 @@ use Rattle.std.proofs.Common.{◌≡◌, ℕ, List, [], ◌∷◌, ◌++◌, tru
 use Rattle.co_sheet_text.specs.declared.section_kind.SectionKind.TheVariants.{MandatoryObjects, OptionalObjects, ManufacturerObjects}
 use Rattle.co_sheet_warnings.specs.declared.warning.WarningKind.TheVariants.{WrongList, UncountedKey, Unlisted, NoErrorControl, ListOrder}
 use Rattle.co_sheet_warnings.specs.Lists.{is_right_list}
-use Rattle.co_sheet_warnings.specs.declared.known_key.KnownKey.TheVariants.{SupportedObjects}
 use Rattle.co_sheet_warnings.specs.Warnings.{few_places, place_in_text, places_in, places_of}
 use Rattle.co_sheet_warnings.proofs.ExampleTexts.{places}
 
@@ -20,9 +19,14 @@ optional : map (is_right_list OptionalObjects) (0x1001 ∷ 0x1002 ∷ 0x1018 ∷
 optional = refl
 
 -- a list's keys from 1 to its count, whose values are indices from 1000h on
-wrong : places WrongList (codes "[OptionalObjects]" ∷ codes "SupportedObjects=5" ∷ codes "1=0x1000" ∷ codes "2=0x1017" ∷ codes "3=0x10000" ∷ codes "4=0x0FFF" ∷ codes "5=0x2000" ∷ codes "6=0x2001" ∷ codes "05=0x2002" ∷ []) ≡ 3 ∷ 7 ∷ []
+wrong : places WrongList (codes "[OptionalObjects]" ∷ codes "SupportedObjects=5" ∷ codes "1=0x1000" ∷ codes "2=0x1017" ∷ codes "3=0x10000" ∷ codes "4=0x1008" ∷ codes "5=0x2000" ∷ codes "6=0x2001" ∷ codes "05=0x2002" ∷ []) ≡ 3 ∷ 7 ∷ []
 unfolding places_of few_places place_in_text places_in
 wrong = refl
+
+-- a key from 1 to the count of any list, whose value is below 1000h; they come after the others of their list
+low : places WrongList (codes "[ManufacturerObjects]" ∷ codes "SupportedObjects=4" ∷ codes "1=0x0FFF" ∷ codes "2=0x1000" ∷ codes "3=1008" ∷ codes "4=0x2000" ∷ codes "5=0x5" ∷ codes "04=0x5" ∷ codes "Unit=5" ∷ codes "[OptionalObjects]" ∷ codes "SupportedObjects=1" ∷ codes "1=0" ∷ codes "[Comments]" ∷ codes "SupportedObjects=1" ∷ codes "1=5" ∷ []) ≡ 4 ∷ 3 ∷ 5 ∷ 12 ∷ []
+unfolding places_of few_places place_in_text places_in
+low = refl
 
 no_list : places WrongList (codes "[OptionalObjects]" ∷ codes "1=0x1000" ∷ []) ≡ []
 unfolding places_of few_places place_in_text places_in
@@ -65,9 +69,14 @@ each_list : places ListOrder (listed (codes "1=0x1005") (codes "2=0x1006") (code
 unfolding places_of few_places place_in_text places_in
 each_list = refl
 
-not_listed : places Unlisted (listed (codes "1=0x1002") (codes "2=0x1003") (codes "3=0x1003") ++ codes "[1002]" ∷ codes "[1004]" ∷ codes "[FFF]" ∷ codes "[1000]" ∷ codes "[1005sub0]" ∷ []) ≡ 7 ∷ 9 ∷ []
+not_listed : places Unlisted (listed (codes "1=0x1002") (codes "2=0x1003") (codes "3=0x1003") ++ codes "[1002]" ∷ codes "[1004]" ∷ codes "[FFF]" ∷ codes "[1000]" ∷ codes "[1005sub0]" ∷ []) ≡ 7 ∷ 9 ∷ 10 ∷ []
 unfolding places_of few_places place_in_text places_in
 not_listed = refl
+
+-- of an object without a section its first sub-index in the text; not of one that has a section or is listed
+sub_indices_alone : places Unlisted (listed (codes "1=0x1002") (codes "2=0x1003") (codes "3=0x1004") ++ codes "[3001sub1]" ∷ codes "[3001sub0]" ∷ codes "[3002sub0]" ∷ codes "[3002]" ∷ codes "[1002sub0]" ∷ codes "[FFFsub0]" ∷ codes "[1081sub2]" ∷ []) ≡ 6 ∷ 9 ∷ 12 ∷ []
+unfolding places_of few_places place_in_text places_in
+sub_indices_alone = refl
 
 no_heartbeat : places NoErrorControl (listed (codes "1=0x1000") (codes "2=0x100C") (codes "3=0x1018")) ≡ 0 ∷ []
 unfolding places_of few_places place_in_text places_in

@@ -2,8 +2,6 @@
 use Rattle.std.proofs.Common.{◌≡◌, ℕ, List, [], ◌∷◌, ◌++◌, true, false, refl, codes, map}
 use Rattle.co_sheet_warnings.specs.declared.warning.WarningKind.TheVariants.{SubNumber, SubIndex0, VarSubIndices, MissingName}
 use Rattle.co_sheet_warnings.specs.SubIndices.{is_highest_by_rule, counted}
-use Rattle.co_sheet_warnings.specs.declared.keys.Topic.TheVariants.{FileInfo}
-use Rattle.co_sheet_warnings.specs.declared.known_key.KnownKey.TheVariants.{AccessType}
 use Rattle.co_sheet_warnings.specs.Warnings.{few_places, place_in_text, places_in, places_of}
 use Rattle.co_sheet_warnings.proofs.ExampleTexts.{places}
 

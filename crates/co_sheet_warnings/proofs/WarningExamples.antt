@@ -9,7 +9,7 @@ use Rattle.co_sheet_warnings.specs.ReadTexts.{read_text}
 use Rattle.co_sheet_warnings.specs.Warnings.{all_warnings, kind_in, warning_at, few_places, place_in_text, places_in, places_of, warnings_of, warnings_of_kinds, first_kinds, last_kinds, quiet_kinds}
 
 several : warnings_of_kinds (read_text (codes "[2000]\nSubNumber=1\n[1800sub1]\nParameterName=COB-ID\nDefaultValue=0x185\n") None) (SubNumber ∷ Unlisted ∷ FixedCobId ∷ MissingName ∷ [])
-    ≡ warning_at SubNumber 2 ∷ warning_at Unlisted 1 ∷ warning_at FixedCobId 5 ∷ warning_at MissingName 1 ∷ []
+    ≡ warning_at SubNumber 2 ∷ warning_at Unlisted 1 ∷ warning_at Unlisted 3 ∷ warning_at FixedCobId 5 ∷ warning_at MissingName 1 ∷ []
 unfolding kind_in places_of few_places place_in_text places_in
 several = refl
 

@@ -16,9 +16,14 @@ use Rattle.std.specs.Prelude.{
   ◌∷◌,
   codes,
   is_some,
+  Option,
+  Some,
+  None,
+  option_and_then,
+  option_to_list,
 }
 use Rattle.std.specs.List.{list_any, before_first, after_first}
-use Rattle.std.specs.Option.{option_map_or}
+use Rattle.std.specs.Option.{option_map_or, option_or}
 use Rattle.std.specs.Result.{result_ok}
 use Rattle.co_sheet_text.specs.declared.section_kind.SectionKind.{SectionKind}
 use Rattle.co_sheet_text.specs.declared.section_kind.SectionKind.TheVariants.{Object, SubIndex}
@@ -56,8 +61,11 @@ is_node_id_last value =
     list_any is_plus value && is_node_id (trim (after_first is_plus value))
     && is_some (result_ok (unsigned_number (trim (before_first is_plus value))))
 
-abbrev pub node_id_last : Property → List ℕ
-node_id_last k = if is_node_id_last k.value then k.line ∷ [] else []
+abbrev pub node_id_last : Property → Option ℕ
+node_id_last k = if is_node_id_last k.value then Some k.line else None
+
+abbrev pub node_id_last_at : List ℕ → TextSection → Option ℕ
+node_id_last_at name s = option_and_then node_id_last (property_at name s)
 
 -- strings and domains, where `$NODEID` has no meaning (CiA 301, data types)
 abbrev pub is_text_type : ℕ → Bool
@@ -66,7 +74,10 @@ is_text_type code = is_within 0x9 0xB code || (code == 0xF)
 abbrev pub has_text_type : TextSection → Bool
 has_text_type s = option_map_or is_text_type (number_at (codes "DataType") s) false
 
+-- the default, or else the value of a device configuration file
 abbrev pub node_id_place : TextSection → List ℕ
 node_id_place s =
     if has_text_type s then []
-    else option_map_or node_id_last (property_at (codes "DefaultValue") s) []
+    else option_to_list
+    (option_or (node_id_last_at (codes "DefaultValue") s)
+    (node_id_last_at (codes "ParameterValue") s))

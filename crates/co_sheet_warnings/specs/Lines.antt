@@ -8,6 +8,7 @@ use Rattle.std.specs.Prelude.{
   false,
   not,
   ◌&&◌,
+  nat_eq,
   nat_lt,
   nat_le,
   if◌then◌else◌,
@@ -25,7 +26,7 @@ use Rattle.std.specs.Prelude.{
   option_map,
   option_to_list,
 }
-use Rattle.std.specs.List.{list_any, enumerate_from}
+use Rattle.std.specs.List.{list_any, enumerate_from, starts_with}
 use Rattle.std.specs.Option.{option_map_or, option_or}
 use Rattle.std.specs.Str.{chars, is_utf8}
 use Rattle.std.specs.Str.Lines.{lines}
@@ -69,15 +70,23 @@ abbrev pub first_unreadable : List Line → Option ℕ
 first_unreadable lines =
     option_map (λ line. line.number) (find (λ line. not (is_utf8 line.bytes)) lines)
 
+-- the first line of a text with one, which those of a byte order mark are too
+abbrev pub has_mark : List ℕ → Bool
+has_mark text = starts_with nat_eq text (0xEF ∷ 0xBB ∷ 0xBF ∷ [])
+
+abbrev pub first_beyond : ReadText → Option ℕ
+first_beyond t = if has_mark t.text then Some 1 else first_other t.lines
+
 -- of a text with a byte above 7Fh: the first line with one, if all lines are UTF-8, else the first
 -- that isn't
 abbrev pub utf8 : ReadText → List ℕ
 utf8 t =
     option_map_or (λ line. if is_some (first_unreadable t.lines) then [] else line ∷ [])
-    (first_other t.lines) []
+    (first_beyond t) []
 
 abbrev pub not_ascii : ReadText → List ℕ
-not_ascii t = option_map_or (λ line. option_to_list (first_unreadable t.lines)) (first_other t.lines) []
+not_ascii t =
+    option_map_or (λ line. option_to_list (first_unreadable t.lines)) (first_beyond t) []
 
 -- whether a line's end isn't that of line 1: with CR before LF, or without
 abbrev pub is_other_end : Option Bool → Bool → Bool

@@ -13,6 +13,7 @@ use Rattle.std.specs.Prelude.{
   List,
   [],
   ◌∷◌,
+  ◌++◌,
   map,
   find,
   flat_map,
@@ -20,6 +21,7 @@ use Rattle.std.specs.Prelude.{
   Option,
   Some,
   None,
+  is_none,
 }
 use Rattle.std.specs.Option.{option_map_or}
 use Rattle.co_sheet_text.specs.declared.section_kind.SectionKind.{SectionKind}
@@ -27,11 +29,15 @@ use Rattle.co_sheet_text.specs.declared.section_kind.SectionKind.TheVariants.{
   MandatoryObjects,
   ManufacturerObjects,
   Object,
+  SubIndex,
 }
 use Rattle.co_sheet_text.specs.Names.{is_list, number_in}
 use Rattle.co_sheet_text.specs.Numerals.{is_number_in}
 use Rattle.co_sheet_text.specs.Sections.{Property, TextSection}
+use Rattle.co_sheet_text.specs.Properties.{property_number}
 use Rattle.co_sheet.specs.ObjectLists.{Listing, count_of, is_listed}
+use Rattle.co_sheet.specs.Entries.{Entry, sub_indices}
+use Rattle.co_sheet.specs.SectionViews.{object_at}
 use Rattle.co_sheet.specs.Listings.{is_bad_section, named_by}
 use Rattle.co_sheet.specs.Notes.{unlisted_note}
 use Rattle.co_sheet_warnings.specs.SubIndices.{is_within}
@@ -48,13 +54,35 @@ is_right_list MandatoryObjects index = is_mandatory index
 is_right_list ManufacturerObjects index = is_of_manufacturer index
 is_right_list list index = not (is_mandatory index || is_of_manufacturer index)
 
+-- a number with a leading zero is no place of a list
+abbrev pub begins_with_0 : List ℕ → Bool
+begins_with_0 [] = false
+begins_with_0 (b ∷ bs) = b == 48
+
 -- a list names an object that belongs in another list
 abbrev pub wrong_listing : SectionKind → Listing → Option ℕ
 wrong_listing list l =
     if nat_le l.index 0xFFFF && not (is_right_list list l.index) then Some l.line else None
 
+-- or a key from 1 to its count names an index below 1000h, those of data types, which is passed over
+abbrev pub is_place_to : ℕ → List ℕ → Bool
+is_place_to count name =
+    not (begins_with_0 name) && is_number_in 10 name && nat_le (number_in 10 name) count
+
+abbrev pub is_low : Property → Bool
+is_low k = option_map_or (λ n. nat_lt n 0x1000) (property_number k) false
+
+abbrev pub low_listing : ℕ → Property → Option ℕ
+low_listing count k = if is_place_to count k.name && is_low k then Some k.line else None
+
+abbrev pub low_listings : TextSection → List ℕ
+low_listings s =
+    if is_list s.kind
+    then option_map_or (λ count. filter_map (low_listing count) s.properties) (count_of s) []
+    else []
+
 abbrev pub wrong_listings : TextSection → List ℕ
-wrong_listings s = filter_map (wrong_listing s.kind) (named_by s)
+wrong_listings s = filter_map (wrong_listing s.kind) (named_by s) ++ low_listings s
 
 abbrev pub wrong_lists : List TextSection → List ℕ
 wrong_lists sections = flat_map wrong_listings sections
@@ -70,11 +98,7 @@ list_order s = first_fall 0 (named_by s)
 abbrev pub list_orders : List TextSection → List ℕ
 list_orders sections = flat_map list_order sections
 
--- a place past the count of a list, which nothing reads; a number with a leading zero is no place
-abbrev pub begins_with_0 : List ℕ → Bool
-begins_with_0 [] = false
-begins_with_0 (b ∷ bs) = b == 48
-
+-- a place past the count of a list, which nothing reads
 abbrev pub is_past : ℕ → Property → Bool
 is_past count k =
     not (begins_with_0 k.name) && is_number_in 10 k.name && nat_lt count (number_in 10 k.name)
@@ -94,9 +118,20 @@ uncounted_key s =
 abbrev pub uncounted_keys : List TextSection → List ℕ
 uncounted_keys sections = flat_map uncounted_key sections
 
--- an object section that no list names
+-- an object section that no list names; of an object without one its first sub-index section
+abbrev pub is_first : List Entry → ℕ → Bool
+is_first [] line = false
+is_first (e ∷ entries) line = e.section.line == line
+
+abbrev pub stands_for_object : List TextSection → ℕ → ℕ → Bool
+stands_for_object sections index line =
+    is_none (object_at index sections) && is_first (sub_indices sections index) line
+
 abbrev pub unlisted : List TextSection → TextSection → SectionKind → List ℕ
 unlisted sections s (Object index) = map (λ n. n.line) (unlisted_note sections s index)
+unlisted sections s (SubIndex key) =
+    if stands_for_object sections key.index s.line
+    then map (λ n. n.line) (unlisted_note sections s key.index) else []
 unlisted sections s kind = []
 
 -- the lists name 1000h, and neither the heartbeat's time nor both objects of node guarding

@@ -1,6 +1,6 @@
 -- Each warning in words: its name, what it means, how to fix it, and where the standard says so (by
 -- the name of its subject, since the numbers differ by edition).
-use Rattle.std.specs.Prelude.{ℕ, Bool, true, false, List, ◌++◌, codes}
+use Rattle.std.specs.Prelude.{ℕ, Bool, true, false, List, codes}
 use Rattle.co_sheet_warnings.specs.declared.warning.WarningKind.{WarningKind}
 use Rattle.co_sheet_warnings.specs.declared.warning.WarningKind.TheVariants.{
   SubNumber,
@@ -77,7 +77,7 @@ meaning_of VarSubIndices =
 meaning_of (FileInfoKeys missing) = codes "FileInfo is missing, or a key that it has to have"
 meaning_of (DeviceInfoKeys missing) = codes "DeviceInfo is missing, or a key that it has to have"
 meaning_of PdoCount = codes "this isn't the number of PDOs that the sheet has"
-meaning_of WrongList = codes "the object belongs in another list"
+meaning_of WrongList = codes "the object belongs in another list, or in none"
 meaning_of UncountedKey = codes "SupportedObjects doesn't count this key, so it isn't read"
 meaning_of Unlisted = codes "no list names the object, so it isn't read"
 meaning_of (IdentityNumber sub) = codes "the identity object has another number"
@@ -117,15 +117,16 @@ fix_of (DeviceInfoKeys missing) = codes "add the missing section or keys"
 fix_of PdoCount =
     codes "count the objects 1400h to 15FFh for NrOfRXPDO, 1800h to 19FFh for NrOfTXPDO"
 fix_of WrongList =
-    codes "list 1000h, 1001h and 1018h as mandatory, 2000h to 5FFFh as the manufacturer's, all others as optional"
-fix_of UncountedKey = codes "count all keys of the list, or take this one out"
+    codes "list 1000h, 1001h and 1018h as mandatory, 2000h to 5FFFh as the manufacturer's, all others from 1000h on as optional"
+fix_of UncountedKey =
+    codes "number all keys of the list without a gap and count them, or take this one out"
 fix_of Unlisted = codes "list it, or take its section out"
 fix_of (IdentityNumber sub) =
     codes "give VendorNumber as in 1018:01, ProductNumber as in 1018:02, RevisionNumber as in 1018:03"
 fix_of FixedCobId = codes "write $NODEID+ and the number of the predefined connection set"
 fix_of NodeIdPlace = codes "write $NODEID first, as $NODEID+0x180"
 fix_of NegativeLimit =
-    codes "give the greatest number of the type, as 0x7FFF, or take the limit out"
+    codes "give the greatest number of the type, as 0x7F or 0x7FFF, or take the limit out"
 fix_of MisspeltSection = codes "write the name as the standard has it, as [DeviceInfo], [1018sub1]"
 fix_of (MisspeltKey meant) = codes "write the key as the standard has it"
 fix_of (SharedCobId node) =

@@ -8,6 +8,7 @@ ghost use Rattle.co_sheet_warnings.specs.CobIds.{
   has_text_type,
   is_enabled,
   is_node_id_last,
+  node_id_last_at,
   node_id_place,
 };
 
@@ -75,15 +76,26 @@ fn has_text_type(section: &TextSection) -> bool
     }
 }
 
-/// The line of a formula with `$NODEID` after its number.
+// the line of the value at a key, where it is such a formula
+fn node_id_last_at(section: &TextSection, name: &[u8]) -> Option<usize>
+    ensures { result ≡ node_id_last_at name.now (section_view section.now) }
+{
+    match section.property(name) {
+        Some(given) if is_node_id_last(given.value) => Some(given.line),
+        _ => None,
+    }
+}
+
+/// The line of a formula with `$NODEID` after its number: the default, or else the value of a device
+/// configuration file.
 pub(crate) fn node_id_place(section: &TextSection) -> Option<usize>
     ensures { option_to_list result ≡ node_id_place (section_view section.now) }
 {
     if has_text_type(section) {
         return None;
     }
-    match section.property(b"DefaultValue") {
-        Some(given) if is_node_id_last(given.value) => Some(given.line),
-        _ => None,
+    match node_id_last_at(section, b"DefaultValue") {
+        Some(line) => Some(line),
+        None => node_id_last_at(section, b"ParameterValue"),
     }
 }

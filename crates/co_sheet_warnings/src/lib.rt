@@ -44,8 +44,8 @@ mod words;
 
 pub use find::find_warnings;
 pub use infos::{device_keys, file_keys, object_count};
-pub use known_key::KnownKey;
-pub use lines::text_lines;
+pub use known_key::{KnownKey, is_near};
+pub use lines::{has_other_byte, text_lines};
 pub use node_id::own_node;
 pub use repeats::{ComparedNumber, compared, first_equal};
 pub use sub_indices::value_in;

@@ -4,8 +4,10 @@ ghost use Rattle.std.specs.Prelude.{◌≡◌, ◌++◌, true, false, length, ma
 ghost use Rattle.std.specs.Str.{chars, is_utf8};
 ghost use Rattle.co_sheet_warnings.specs.Lines.{
   character_count,
+  first_beyond,
   first_other,
   first_unreadable,
+  has_mark,
   has_other_byte,
   is_other_end,
   long_line,
@@ -88,7 +90,8 @@ pub(crate) fn add_long_lines(
     Ok(())
 }
 
-fn has_other_byte(line: &[u8]) -> bool
+/// Whether a line has a byte above 7Fh.
+pub fn has_other_byte(line: &[u8]) -> bool
     ensures { result ≡ has_other_byte line.now }
 {
     let mut is_found = false;
@@ -136,13 +139,30 @@ fn first_unreadable(lines: &[&[u8]]) -> Option<usize>
     None
 }
 
+fn has_mark(text: &[u8]) -> bool
+    ensures { result ≡ has_mark text.now }
+{
+    matches!(text, [0xEF, 0xBB, 0xBF, ..])
+}
+
+// the first line with a byte above 7Fh, which those of a byte order mark are too
+fn first_beyond(text: &ReadText) -> Option<usize>
+    ensures { result ≡ first_beyond text.now }
+{
+    if has_mark(text.bytes) {
+        Some(1)
+    } else {
+        text.other
+    }
+}
+
 /// Of a text with a byte above 7Fh: the first line with one, if all lines are UTF-8 and that is
 /// asked for; or the first line that isn't UTF-8, if that is asked for.
 pub(crate) fn other_bytes(text: &ReadText, in_utf8: bool) -> Option<usize>
     ensures utf8 { in_utf8 ≡ true → option_to_list result ≡ utf8 text.now }
     ensures other { in_utf8 ≡ false → option_to_list result ≡ not_ascii text.now }
 {
-    let Some(line) = text.other else {
+    let Some(line) = first_beyond(text) else {
         return None;
     };
     match first_unreadable(text.lines) {

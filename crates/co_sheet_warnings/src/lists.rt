@@ -23,8 +23,12 @@ ghost use Rattle.co_sheet_warnings.specs.Lists.{
   first_fall,
   first_past,
   is_good_list,
+  is_low,
   is_past,
+  is_place_to,
   is_right_list,
+  low_listing,
+  low_listings,
   uncounted_key,
   wrong_listing,
 };
@@ -88,6 +92,70 @@ fn add_wrong_listings(
         attempt!(add_one(warnings, kind, wrong_listing(list, listing)));
     }
     Ok(())
+}
+
+fn is_place_to(count: u64, name: &[u8]) -> bool
+    ensures { result ≡ is_place_to count name.now }
+{
+    if let [b'0', ..] = name {
+        return false;
+    }
+    match number_in(10, name) {
+        Some(place) => place <= count,
+        None => false,
+    }
+}
+
+fn is_low(given: &Property) -> bool
+    ensures { result ≡ is_low (property_view given.now) }
+{
+    match given.number() {
+        Some(index) => index < 0x1000,
+        None => false,
+    }
+}
+
+// the line of a key up to the count of its list that names an index below 1000h
+fn low_listing(count: u64, given: &Property) -> Option<usize>
+    ensures { result ≡ low_listing count (property_view given.now) }
+{
+    if is_place_to(count, given.name) && is_low(given) {
+        Some(given.line)
+    } else {
+        None
+    }
+}
+
+fn add_low_keys(
+    warnings: &mut Vec<Warning>,
+    kind: WarningKind,
+    count: u64,
+    properties: &[Property],
+) -> Result<(), AllocError>
+    ensures { OnOk result (warnings.new.items ≡ warnings.old.items
+        ++ warnings_at kind (filter_map (low_listing count) (map property_view properties.now))) }
+{
+    for given in properties {
+        attempt!(add_one(warnings, kind, low_listing(count, given)));
+    }
+    Ok(())
+}
+
+fn add_low_listings(
+    warnings: &mut Vec<Warning>,
+    kind: WarningKind,
+    section: &TextSection,
+) -> Result<(), AllocError>
+    ensures { OnOk result (warnings.new.items
+        ≡ warnings.old.items ++ warnings_at kind (low_listings (section_view section.now))) }
+{
+    if !section.kind.is_list() {
+        return Ok(());
+    }
+    match section.number_at(b"SupportedObjects") {
+        Some(count) => add_low_keys(warnings, kind, count, section.properties),
+        None => Ok(()),
+    }
 }
 
 // the line of the first that names a smaller index than the one before it
@@ -168,7 +236,8 @@ fn add_places_of_list(
     let is_good = attempt!(add_named(&mut listings, section));
     match check {
         ListCheck::Objects => {
-            add_wrong_listings(warnings, kind, section.kind, listings.as_slice())
+            attempt!(add_wrong_listings(warnings, kind, section.kind, listings.as_slice()));
+            add_low_listings(warnings, kind, section)
         }
         ListCheck::Order => add_one(warnings, kind, first_fall(listings.as_slice())),
         ListCheck::Count => add_one(warnings, kind, uncounted_key(section, is_good)),

@@ -1,9 +1,9 @@
 //! A text as it is read, with what is looked up in it.
 
-ghost use Rattle.std.specs.Prelude.{◌≡◌, map, IfOk};
+ghost use Rattle.std.specs.Prelude.{◌≡◌, is_some, map, IfOk};
 ghost use Rattle.co_sheet.specs.Entries.{sub_indices};
 ghost use Rattle.co_sheet.specs.ObjectLists.{is_listed};
-ghost use Rattle.co_sheet.specs.SectionViews.{entry_view};
+ghost use Rattle.co_sheet.specs.SectionViews.{entry_view, object_at};
 ghost use Rattle.co_sheet_text.specs.Views.{section_view};
 ghost use Rattle.co_sheet_warnings.specs.private.Views.{text_view};
 
@@ -81,6 +81,13 @@ impl<'s, 'a> ReadText<'s, 'a> {
         ensures { map entry_view result.now ≡ sub_indices self.now.sections index }
     {
         self.tables.parts(index)
+    }
+
+    /// Whether an object has a section of its own.
+    pub(crate) fn has_object(&self, index: u16) -> bool
+        ensures { result ≡ is_some (object_at index self.now.sections) }
+    {
+        self.tables.object(u64::from(index)).is_some()
     }
 
     /// Whether a list names an index.

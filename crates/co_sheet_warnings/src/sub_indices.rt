@@ -3,7 +3,7 @@
 ghost use Rattle.std.specs.Prelude.{◌≡◌, map, option_map, option_to_list};
 ghost use Rattle.co_sheet_text.specs.Views.{property_view, section_view};
 ghost use Rattle.co_sheet.specs.SectionViews.{entry_view};
-ghost use Rattle.co_sheet_warnings.specs.Lists.{unlisted};
+ghost use Rattle.co_sheet_warnings.specs.Lists.{stands_for_object, unlisted};
 ghost use Rattle.co_sheet_warnings.specs.Repeats.{value_in};
 ghost use Rattle.co_sheet_warnings.specs.SubIndices.{
   highest_of,
@@ -73,7 +73,21 @@ pub(crate) fn var_sub_indices(text: &ReadText, section: &TextSection) -> Option<
     }
 }
 
-/// The line of an object section that no list names.
+// whether a section is the first of the sub-indices of an object without a section
+fn stands_for_object(text: &ReadText, index: u16, line: usize) -> bool
+    ensures { result ≡ stands_for_object text.now.sections index line }
+{
+    if text.has_object(index) {
+        return false;
+    }
+    match text.parts(index) {
+        [first, ..] => first.section.line == line,
+        _ => false,
+    }
+}
+
+/// The line of an object section that no list names; of an object without one that of its first
+/// sub-index section.
 pub(crate) fn unlisted(text: &ReadText, section: &TextSection) -> Option<usize>
     ensures { option_to_list result
         ≡ unlisted text.now.sections (section_view section.now) section.now.kind }
@@ -82,6 +96,10 @@ pub(crate) fn unlisted(text: &ReadText, section: &TextSection) -> Option<usize>
         SectionKind::Object(index) if 0x1000 <= index && !text.is_listed(index) => {
             Some(section.line)
         }
+        SectionKind::SubIndex(key)
+            if stands_for_object(text, key.index, section.line)
+                && 0x1000 <= key.index
+                && !text.is_listed(key.index) => { Some(section.line) }
         _ => None,
     }
 }

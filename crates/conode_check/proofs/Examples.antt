@@ -2,7 +2,7 @@
 use Rattle.std.proofs.Common.{◌≡◌, [], ◌∷◌, None, codes, refl}
 use Rattle.std.specs.Fmt.{digits}
 use Rattle.conode_text.specs.Filled.{filled}
-use Rattle.co_sheet.specs.Content.{ObjectRow, Row, SheetContent}
+use Rattle.co_sheet.specs.Content.{ObjectRow, Row}
 use Rattle.co_sheet_rows.specs.declared.note.Note.{Note}
 use Rattle.conode_check.specs.SheetTexts.{joined, node_line, summary_line}
 

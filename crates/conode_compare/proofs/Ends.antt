@@ -1,12 +1,11 @@
 -- The lines of a recording, and then its end.
-use Rattle.std.proofs.Common.{◌≡◌, ℕ, List, [], ◌∷◌, ◌++◌, Option, None, Some, IfSome, sym, subst}
+use Rattle.std.proofs.Common.{ℕ, List, ◌++◌, Option, None, Some, IfSome, subst}
 use Rattle.conode_io.specs.Written.{WritesLines}
 use Rattle.conode_io.proofs.WriteLemmas.{lines_after}
-use Rattle.conode_io.specs.TraceTexts.{GaveText}
 use Rattle.conode_logs.specs.declared.log.Form.{Form}
 use Rattle.conode_compare.specs.declared.comparing.Comparing.{Comparing}
 use Rattle.conode_compare.specs.declared.document.Format.{Format}
-use Rattle.conode_compare.specs.Compared.{Comparison, compared, comparing_after}
+use Rattle.conode_compare.specs.Compared.{Comparison, compared}
 use Rattle.conode_compare.specs.Documents.{end_lines, kept_for, output}
 use Rattle.conode_compare.specs.Taking.{Compares}
 

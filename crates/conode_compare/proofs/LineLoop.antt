@@ -14,7 +14,6 @@ use Rattle.co_stream.proofs.LineLemmas.{cut_at_feed, lines-feed, lines-last}
 use Rattle.co_text.proofs.Tests.{by_test}
 use Rattle.co_stream.specs.Readings.{Gave}
 use Rattle.co_stream.proofs.Readers.{gave_nothing, gave_so, gave_then, of_given, of_known}
-use Rattle.conode_convert.specs.Converted.{at_start}
 use Rattle.conode_explain.specs.LogLines.{line_at}
 use Rattle.conode_io.specs.Written.{WritesLines}
 use Rattle.conode_io.proofs.WriteLemmas.{lines_after}

@@ -1,6 +1,5 @@
 -- What is written at the end of a comparison: its last lines, or its document.
 use Rattle.std.specs.Prelude.{ℕ, List, [], ◌∷◌, ◌++◌, Option, Some, None}
-use Rattle.co_value.specs.declared.key.Key.{Key}
 use Rattle.conode_logs.specs.declared.log.Form.{Form}
 use Rattle.conode_compare_pdos.specs.SheetNumbers.{preset_at}
 use Rattle.conode_compare_report.specs.Abouts.{Described}

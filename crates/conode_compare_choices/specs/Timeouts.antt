@@ -1,7 +1,5 @@
 -- Transfers that a device goes on with, though its SDO server times out before.
 use Rattle.std.specs.Prelude.{ℕ, if◌then◌else◌, Option, Some, None, option_map, option_and_then}
-use Rattle.co_value.specs.declared.key.Key.{Key}
-use Rattle.conode_explain_transfers.specs.declared.kinds.Side.{Side}
 use Rattle.conode_explain_transfers.specs.declared.kinds.Side.TheVariants.{Server}
 use Rattle.conode_compare_transfers.specs.declared.dialogue.Exchange.{Exchange}
 use Rattle.conode_compare_transfers.specs.Timeouts.{is_late, resumed_after, served_key}

@@ -17,7 +17,7 @@ use Rattle.conode_explain_laws.proofs.Readings.{Begin, begun_with, follows_by, r
 use Rattle.conode_compare_transfers.specs.declared.dialogue.Asked.{Asked}
 use Rattle.conode_compare_transfers.specs.declared.dialogue.Dialogue.{Dialogue}
 use Rattle.conode_compare_transfers.specs.declared.left.Left.{Left}
-use Rattle.conode_compare_transfers.specs.Dialogues.{asked_after, dialogue_heard, exchange_in, is_awaited, is_certain, is_initiate, is_late_answer, leaves_request_open, may_be_segment}
+use Rattle.conode_compare_transfers.specs.Dialogues.{asked_after, dialogue_heard, exchange_in, is_awaited, is_certain, is_initiate, is_of_earlier, leaves_request_open, may_be_segment}
 use Rattle.conode_compare_transfers.specs.Times.{is_past}
 use Rattle.conode_compare_laws.proofs.AnswerTurns.{Sound}
 use Rattle.conode_compare_laws.proofs.AnswerFollowed.{GoesOn, GoesOpen, client_open, client_reading, goes_on, leaves_is, next_is, no_begin, reads, server_goes, what_is}
@@ -90,7 +90,7 @@ never_certain answer started slow doubted micros is =
 pub in_doubt : (answer started : ℕ) (d : Dialogue) (micros : ℕ) (frame : FrameContent) → d.doubted ≡ Some micros → (exchange_in answer started d micros Server frame).certain ≡ false
 unfolding exchange_in
 in_doubt answer started d micros frame is =
-    ap (λ b. b && not (is_late_answer Server (followed d.channel micros Server frame.bytes).says frame)) (never_certain answer started d.slow d.doubted micros is)
+    ap (λ b. b && not (is_of_earlier answer d micros Server (followed d.channel micros Server frame.bytes).says frame)) (never_certain answer started d.slow d.doubted micros is)
 
 -- ---- a frame of the client that begins nothing
 

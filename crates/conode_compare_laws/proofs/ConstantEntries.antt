@@ -43,6 +43,10 @@ use Rattle.conode_compare_laws.proofs.KeptEntries.{SetsPermitted}
 abbrev pub is_held : Rows → Key → Bool
 is_held rows key = option_map_or (λ (row : Row). is_constant row.access) (rows key) true
 
+-- it is read only, or isn't there
+abbrev pub is_closed : Rows → Key → Bool
+is_closed rows key = option_map_or (λ (row : Row). is_read_only row.access) (rows key) true
+
 -- ---- what isn't refused isn't constant
 
 written_by : (f : Access → Bool) (row : Option Row) (found fixed : Bool) (rest : Row → List (Option ℕ)) (c1 c2 c3 : ℕ)
@@ -61,14 +65,16 @@ not_held : (row : Option Row) → option_map_or (λ (r : Row). is_read_only r.ac
 not_held None h = absurd (false≢true (sym h))
 not_held (Some r) h = not_constant r.access h
 
-by_sdo : (d : Description) (c : Contents) (key : Key) (indicated : Option ℕ) (bytes : List ℕ) → completion_refusal d c key indicated bytes ≡ None → is_held d.rows key ≡ false
+pub open_to_sdo : (d : Description) (c : Contents) (key : Key) (indicated : Option ℕ) (bytes : List ℕ) → completion_refusal d c key indicated bytes ≡ None → is_closed d.rows key ≡ false
 unfolding completion_refusal
-by_sdo d c key indicated bytes h =
-    not_held (d.rows key)
-    (written_by is_read_only (d.rows key) (has_object d.rows key.index) (is_sdo_parameter key.index)
-    (λ row. option_and_then (size_refusal row) indicated ∷ option_and_then (λ size. total_refusal size (length bytes)) indicated ∷ value_refusal d c key row bytes ∷ []) 0x06020000 0x06090011 0x06010002 h)
+open_to_sdo d c key indicated bytes h =
+    written_by is_read_only (d.rows key) (has_object d.rows key.index) (is_sdo_parameter key.index)
+    (λ row. option_and_then (size_refusal row) indicated ∷ option_and_then (λ size. total_refusal size (length bytes)) indicated ∷ value_refusal d c key row bytes ∷ []) 0x06020000 0x06090011 0x06010002 h
 
-by_application : (d : Description) (c : Contents) (key : Key) (bytes : List ℕ) → app_refusal d c key bytes ≡ None → is_held d.rows key ≡ false
+pub by_sdo : (d : Description) (c : Contents) (key : Key) (indicated : Option ℕ) (bytes : List ℕ) → completion_refusal d c key indicated bytes ≡ None → is_held d.rows key ≡ false
+by_sdo d c key indicated bytes h = not_held (d.rows key) (open_to_sdo d c key indicated bytes h)
+
+pub by_application : (d : Description) (c : Contents) (key : Key) (bytes : List ℕ) → app_refusal d c key bytes ≡ None → is_held d.rows key ≡ false
 by_application d c key bytes h =
     written_by is_constant (d.rows key) (has_object d.rows key.index) (is_sdo_parameter key.index) (λ row. value_refusal d c key row bytes ∷ []) 0x06020000 0x06090011 0x06010002 h
 

@@ -2,7 +2,7 @@
 -- what fits.
 use Rattle.std.proofs.Common.{◌≡◌, ℕ, ◌-◌, ◌*◌, ◌≤◌, Bool, true, false, not, List, [], ◌∷◌, length, take, drop, Option, Some, None, refl, ap, sym, ◌∙◌, subst, arith}
 use Rattle.std.specs.Prelude.{if◌then◌else◌, ◌==◌, ◌&&◌, ◌||◌, nat_le, nat_lt, is_none, is_some, option_and_then, option_map, unwrap_or}
-use Rattle.std.specs.List.{cons_option, filter_map, prefix_len, range_with_len}
+use Rattle.std.specs.List.{cons_option, filter_map, list_all, prefix_len, range_with_len}
 use Rattle.std.specs.Option.{option_map_or}
 use Rattle.std.proofs.lemmas.Bool.{and_parts, eq-eqb, eqb-true, or_parts}
 use Rattle.std.proofs.lemmas.Bool.Decides.{nat_tests}
@@ -148,10 +148,10 @@ register_fits rows c n types h = by (is_some (rows error_register_key)) refl
     by true there = written_fits rows c error_register_key (low_bytes 1 n) (takes_wide (rows error_register_key) 1 (fixed_width rows error_register_key Unsigned8 1 types refl refl there)) h
     by false there = h
 
-error_type : (sub : ℕ) → 1 ≤ sub → sub ≤ 254 → fixed_type_of (error_key sub) ≡ Some Unsigned32
+pub error_type : (sub : ℕ) → 1 ≤ sub → sub ≤ 254 → fixed_type_of (error_key sub) ≡ Some Unsigned32
 error_type sub low high = grind (arith, nat_tests)
 
-no_more : (rows : Rows) (index most : ℕ) → subs_present rows index most ≤ most
+pub no_more : (rows : Rows) (index most : ℕ) → subs_present rows index most ≤ most
 unfolding subs_present
 no_more rows index most =
     let taken = length-take (prefix_len (has_sub rows index) (range_with_len 1 most)) (range_with_len 1 most) in
@@ -162,7 +162,7 @@ room_low : (there : Bool) (present : ℕ) → nat_lt 0 (if there then present el
 room_low true present h = (refl, omega arith)
 room_low false present h = absurd (cc)
 
-moved_key : (key : Key) → (key.index == 0x1003) ≡ true → error_key key.sub ≡ key
+pub moved_key : (key : Key) → (key.index == 0x1003) ≡ true → error_key key.sub ≡ key
 moved_key key same =
     let at : ℕ → Key = λ index. record { index = index; sub = key.sub } in
     ap at (sym (eqb-true key.index 0x1003 same))
@@ -224,33 +224,38 @@ same_width bits w (Some v) e = by (bits == 8 * v) e
     by true h = h
     by false h = absurd (cc)
 
-word_there : (side : Side) (d : Description) (word : ℕ) → option_map_or (is_there d.rows) (mapped_by side d word) true ≡ true
-word_there side d word = by (word_width side d word) refl (is_some (usable_dummy side d.dummies (mapped_key word).index)) refl
-  where
-    by : (o : Option ℕ) → word_width side d word ≡ o → (b : Bool) → is_some (usable_dummy side d.dummies (mapped_key word).index) ≡ b
-        → option_map_or (is_there d.rows) (option_map (λ width. if b then Dummy width else Entry (mapped_key word) width) o) true ≡ true
-    by None e b h = refl
-    by (Some w) e true h = refl
-    by (Some w) e false h =
-        let mapping : mapping_width side d (mapped_key word) ≡ Some w = same_width (mapped_bits word) w (mapping_width side d (mapped_key word)) e in
-        let own : mapping_width side d (mapped_key word) ≡ entry_width side d.rows (mapped_key word) =
-        ap (λ t. if t then (if (mapped_key word).sub == 0 then usable_dummy side d.dummies (mapped_key word).index else None) else entry_width side d.rows (mapped_key word)) h in
-        there_of_row side (mapped_key word).index (d.rows (mapped_key word)) w (sym own ∙ mapping)
+-- what a mapping has passes a test that each dummy entry passes, and each entry that may be mapped
+module _ (side : Side) (d : Description) (test : Mapped → Bool) (dummy : (w : ℕ) → test (Dummy w) ≡ true) (entry : (key : Key) (w : ℕ) → entry_width side d.rows key ≡ Some w → test (Entry key w) ≡ true) where
+  word_passes : (word : ℕ) → option_map_or test (mapped_by side d word) true ≡ true
+  word_passes word = by (word_width side d word) refl (is_some (usable_dummy side d.dummies (mapped_key word).index)) refl
+    where
+      by : (o : Option ℕ) → word_width side d word ≡ o → (b : Bool) → is_some (usable_dummy side d.dummies (mapped_key word).index) ≡ b
+          → option_map_or test (option_map (λ width. if b then Dummy width else Entry (mapped_key word) width) o) true ≡ true
+      by None e b h = refl
+      by (Some w) e true h = dummy w
+      by (Some w) e false h =
+          let mapping : mapping_width side d (mapped_key word) ≡ Some w = same_width (mapped_bits word) w (mapping_width side d (mapped_key word)) e in
+          let own : mapping_width side d (mapped_key word) ≡ entry_width side d.rows (mapped_key word) =
+          ap (λ t. if t then (if (mapped_key word).sub == 0 then usable_dummy side d.dummies (mapped_key word).index else None) else entry_width side d.rows (mapped_key word)) h in
+          entry (mapped_key word) w (sym own ∙ mapping)
 
-words_there : (side : Side) (d : Description) (words : List ℕ) → all_there d.rows (filter_map (mapped_by side d) words) ≡ true
-words_there side d [] = refl
-words_there side d (word ∷ words) = by (mapped_by side d word) (word_there side d word) (words_there side d words)
-  where
-    by : (o : Option Mapped) → option_map_or (is_there d.rows) o true ≡ true → all_there d.rows (filter_map (mapped_by side d) words) ≡ true → all_there d.rows (cons_option o (filter_map (mapped_by side d) words)) ≡ true
-    by None h more = more
-    by (Some m) h more = ap (λ b. b && all_there d.rows (filter_map (mapped_by side d) words)) h ∙ more
+  words_pass : (words : List ℕ) → list_all test (filter_map (mapped_by side d) words) ≡ true
+  words_pass [] = refl
+  words_pass (word ∷ words) = by (mapped_by side d word) (word_passes word) (words_pass words)
+    where
+      by : (o : Option Mapped) → option_map_or test o true ≡ true → list_all test (filter_map (mapped_by side d) words) ≡ true → list_all test (cons_option o (filter_map (mapped_by side d) words)) ≡ true
+      by None h more = more
+      by (Some m) h more = ap (λ b. b && list_all test (filter_map (mapped_by side d) words)) h ∙ more
+
+  pub mapping_passes : (c : Contents) (n : ℕ) → list_all test (mapping_of side d c n) ≡ true
+  mapping_passes c n = by (has_pdo side d.rows n && is_good_count side d c n)
+    where
+      by : (b : Bool) → list_all test (if b then mapped_words side d c (mapping_index side n) (count_of side c n) else []) ≡ true
+      by true = words_pass (counted_words c (mapping_index side n) (count_of side c n))
+      by false = refl
 
 pub mapping_there : (side : Side) (d : Description) (c : Contents) (n : ℕ) → all_there d.rows (mapping_of side d c n) ≡ true
-mapping_there side d c n = by (has_pdo side d.rows n && is_good_count side d c n)
-  where
-    by : (b : Bool) → all_there d.rows (if b then mapped_words side d c (mapping_index side n) (count_of side c n) else []) ≡ true
-    by true = words_there side d (counted_words c (mapping_index side n) (count_of side c n))
-    by false = refl
+mapping_there side d c n = mapping_passes side d (is_there d.rows) (λ w. refl) (λ key w is. there_of_row side key.index (d.rows key) w is) c n
 
 -- ---- data of RPDOs
 

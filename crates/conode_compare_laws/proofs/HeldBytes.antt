@@ -44,7 +44,7 @@ use Rattle.conode_compare_laws.specs.AnswerSenders.{HasBytes, HaveBytes}
 use Rattle.conode_compare_laws.specs.Recordings.{Stamped}
 use Rattle.conode_compare_laws.specs.TpdoParameters.{AllAreFilled}
 use Rattle.conode_compare_laws.specs.WrittenEntries.{WritesBytes, WriteBytes}
-use Rattle.conode_compare_laws.proofs.AlwaysFitted.{Any, any_frames, any_input, fitted_keeps}
+use Rattle.conode_compare_laws.proofs.AlwaysFitted.{Any, Fit, any_frames, fit_input, fitted_keeps}
 use Rattle.conode_compare_laws.proofs.Fitting.{AreFitted, HaveTypes, fitting, of_filled, present}
 use Rattle.conode_compare_laws.proofs.KeptEntries.{GoodEvent, GoodFrames, GoodInput, Keeps, SetsPermitted, next}
 use Rattle.conode_compare_laws.proofs.WrittenBytes.{EventHasBytes, HasBytesIn, HoldBytes, LogHasBytes, data_bytes, number_bytes, pushed_bytes, reset_bytes, set_bytes, some_both, written_bytes}
@@ -237,24 +237,27 @@ some_set : (d : Description) (c : Contents) (e : Option ChannelEvent) (logs : �
 some_set d c None logs frame h g = tt
 some_set d c (Some e) logs frame h g = set_bytes d c (logs e.channel.number) frame.bytes (h e.channel.number) g
 
-good_event : (event : AppView) → WritesBytes (Applied event) → GoodEvent AreBytes event
-good_event (Written key bytes) h = h
-good_event (EventOn n) h = tt
-good_event (ChangedAt key) h = tt
-good_event (Raised code bits manufacturer) h = tt
-good_event (Cleared bits) h = tt
+-- what is written has bytes
+abbrev OfBytes : Key → List ℕ → Type 0
+OfBytes key bytes = AreBytes bytes
 
-good_input : (k : Constants) (history : History) (input : InputView) → HasBytes input → WritesBytes input → HaveBytesAt k history → GoodInput k AreBytes history input
+good_event : (d : Description) (c : Contents) (event : AppView) → WritesBytes (Applied event) → GoodEvent d OfBytes c event
+good_event d c (Written key bytes) h = λ is. h
+good_event d c (EventOn n) h = tt
+good_event d c (ChangedAt key) h = tt
+good_event d c (Raised code bits manufacturer) h = tt
+good_event d c (Cleared bits) h = tt
+
+good_input : (k : Constants) (history : History) (input : InputView) → HasBytes input → WritesBytes input → HaveBytesAt k history → GoodInput k OfBytes history input
 good_input k history (Framed frame) h g at = λ w is.
     subst (λ o. IfSome o HasBytesIn) is
     (some_set k.description (contents_at k history) (exchange_of (channels k) k.description (contents_at k history) (channel_logs history) frame) (channel_logs history) frame at.logs h)
 good_input k history Ticked h g at = tt
-good_input k history (Applied event) h g at = good_event event g
+good_input k history (Applied event) h g at = good_event k.description (contents_at k history) event g
 
-bytes_keep : (d : Description) → HaveTypes d.rows → HoldBytes d.initial → Keeps d HoldBytes AreBytes
-bytes_keep d types initial = record {
-  types = types;
-  write = λ c key bytes room good h. written_bytes c key bytes good h;
+bytes_keep : (d : Description) → HoldBytes d.initial → Keeps d HoldBytes OfBytes AreBytes
+bytes_keep d initial = record {
+  write = λ c key bytes good h. written_bytes c key bytes good h;
   register = λ c n h. number_bytes d.rows error_register_key n c h;
   error = λ c code h. pushed_bytes d.rows c code h;
   data_taken = λ c n bytes good h. data_bytes d.rows (mapping_of Rpdo d c n) bytes c good h;
@@ -290,8 +293,8 @@ module _ (permitted : SetsPermitted) (k : Constants) where
         description = is.description;
         initially = is.initially;
         filled = filled_by d (moment k history input).contents
-            (next permitted k (AreFitted d.rows) Any (fitted_keeps d types (of_filled d.rows d.initial is.initially)) history input (any_input k history input) (any_frames (moment k history input).taken) (of_filled d.rows (contents_at k history) is.filled))
-            (next permitted k HoldBytes AreBytes (bytes_keep d types (holds d.rows d.initial is.initially)) history input (good_input k history input h g at) (taken_bytes k history input h at) (holds d.rows (contents_at k history) is.filled));
+            (next k (AreFitted d.rows) (Fit d.rows) Any (fitted_keeps d types (of_filled d.rows d.initial is.initially)) history input (fit_input permitted k types history input) (any_frames (moment k history input).taken) (of_filled d.rows (contents_at k history) is.filled))
+            (next k HoldBytes OfBytes AreBytes (bytes_keep d (holds d.rows d.initial is.initially)) history input (good_input k history input h g at) (taken_bytes k history input h at) (holds d.rows (contents_at k history) is.filled));
       }
 
   all_from : (inputs : List Stamped) (before : Inputs) → HaveBytes inputs → WriteBytes inputs → HaveBytesAt k (moments k before) → IsDictionary k.description (contents_of k before) → AllAreHeld k before inputs × AllAreFilled k before inputs

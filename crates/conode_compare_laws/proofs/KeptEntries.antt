@@ -1,6 +1,6 @@
 -- What all changes of the entries keep holds after all inputs: writes by SDO and by the application, errors, the data of RPDOs, and
 -- resets.
-use Rattle.std.proofs.Common.{◌≡◌, ℕ, Bool, true, false, List, [], ◌∷◌, length, Option, Some, None, refl}
+use Rattle.std.proofs.Common.{◌≡◌, ℕ, Bool, true, false, List, [], ◌∷◌, Option, Some, None, refl}
 use Rattle.std.specs.Prelude.{if◌then◌else◌}
 use Rattle.std.specs.List.{AllByRecursion}
 use Rattle.co_value.specs.declared.key.Key.{Key}
@@ -14,8 +14,9 @@ use Rattle.co_dict.specs.declared.area.Area.{Area}
 use Rattle.co_dict.specs.declared.area.Area.TheVariants.{Communication, All}
 use Rattle.co_dict.specs.declared.side.Side.TheVariants.{Rpdo}
 use Rattle.co_dict.specs.ErrorField.{pushed}
-use Rattle.co_dict.specs.Rows.{Contents, restored, takes, with_number, written}
+use Rattle.co_dict.specs.Rows.{Contents, restored, with_number, written}
 use Rattle.co_dict.specs.Stores.{Description}
+use Rattle.co_dict.specs.WriteRefusals.{app_refusal}
 use Rattle.co_sdo.specs.Channels.{ChannelSettings}
 use Rattle.co_sdo.specs.Completed.{contents_with}
 use Rattle.co_sdo.specs.Downloads.{Download}
@@ -40,30 +41,28 @@ use Rattle.co_node_model.specs.Moments.{Constants, History, Moment, channels, co
 use Rattle.co_node_model.specs.Nmt.{service_for, state_at, with_service}
 use Rattle.co_node_model.specs.Rpdos.{after_all_data, after_data, arrival_errors, data_errors, with_data}
 use Rattle.co_node_model.specs.Sdo.{channel_logs, with_request}
-use Rattle.conode_compare_laws.proofs.Fitting.{HaveTypes, app_takes, sdo_takes}
 
--- what each change keeps, where what is written has good bytes
-pub record Keeps (d : Description) (P : Contents → Type 0) (Good : List ℕ → Type 0) : Type 0 where
-  pub types : HaveTypes d.rows
-  pub write : (c : Contents) (key : Key) (bytes : List ℕ) → takes d.rows key (length bytes) ≡ true → Good bytes → P c → P (written c key bytes)
+-- what each change keeps, where what is written is good, and so are the data of RPDOs
+pub record Keeps (d : Description) (P : Contents → Type 0) (Good : Key → List ℕ → Type 0) (Data : List ℕ → Type 0) : Type 0 where
+  pub write : (c : Contents) (key : Key) (bytes : List ℕ) → Good key bytes → P c → P (written c key bytes)
   pub register : (c : Contents) (n : ℕ) → P c → P (with_number d.rows error_register_key n c)
   pub error : (c : Contents) (code : ℕ) → P c → P (pushed d.rows code c)
-  pub data_taken : (c : Contents) (n : ℕ) (bytes : List ℕ) → Good bytes → P c → P (contents_after d.rows (mapping_of Rpdo d c n) bytes c)
+  pub data_taken : (c : Contents) (n : ℕ) (bytes : List ℕ) → Data bytes → P c → P (contents_after d.rows (mapping_of Rpdo d c n) bytes c)
   pub reset : (area : Area) (c : Contents) → P c → P (restored area d.initial c)
 
--- what the application writes is good
-abbrev pub GoodEvent : (List ℕ → Type 0) → AppView → Type 0
-GoodEvent Good (Written key bytes) = Good bytes
-GoodEvent Good (EventOn n) = Unit {0}
-GoodEvent Good (ChangedAt key) = Unit {0}
-GoodEvent Good (Raised code bits manufacturer) = Unit {0}
-GoodEvent Good (Cleared bits) = Unit {0}
+-- what the application writes is good, where it isn't refused
+abbrev pub GoodEvent : Description → (Key → List ℕ → Type 0) → Contents → AppView → Type 0
+GoodEvent d Good c (Written key bytes) = app_refusal d c key bytes ≡ None → Good key bytes
+GoodEvent d Good c (EventOn n) = Unit {0}
+GoodEvent d Good c (ChangedAt key) = Unit {0}
+GoodEvent d Good c (Raised code bits manufacturer) = Unit {0}
+GoodEvent d Good c (Cleared bits) = Unit {0}
 
 -- and so what an input sets, as it is received
-abbrev pub GoodInput : Constants → (List ℕ → Type 0) → History → InputView → Type 0
-GoodInput k Good history (Framed frame) = (w : Download) → set_of (channels k) k.description (contents_at k history) (channel_logs history) frame ≡ Some w → Good w.bytes
+abbrev pub GoodInput : Constants → (Key → List ℕ → Type 0) → History → InputView → Type 0
+GoodInput k Good history (Framed frame) = (w : Download) → set_of (channels k) k.description (contents_at k history) (channel_logs history) frame ≡ Some w → Good w.key w.bytes
 GoodInput k Good history Ticked = Unit {0}
-GoodInput k Good history (Applied event) = GoodEvent Good event
+GoodInput k Good history (Applied event) = GoodEvent k.description Good (contents_at k history) event
 
 abbrev pub GoodFrames : (List ℕ → Type 0) → List KeptFrame → Type 0
 GoodFrames Good frames = AllByRecursion (λ r. Good r.frame.bytes) frames
@@ -74,7 +73,7 @@ SetsPermitted =
     (channels : List ChannelSettings) (d : Description) (c : Contents) (logs : ℕ → Log) (frame : FrameContent) (w : Download)
     → set_of channels d c logs frame ≡ Some w → completion_refusal d c w.key w.indicated w.bytes ≡ None
 
-module _ (permitted : SetsPermitted) (k : Constants) (P : Contents → Type 0) (Good : List ℕ → Type 0) (keeps : Keeps k.description P Good) where
+module _ (k : Constants) (P : Contents → Type 0) (Good : Key → List ℕ → Type 0) (Data : List ℕ → Type 0) (keeps : Keeps k.description P Good Data) where
   -- ---- errors
 
   one_raised : (error : DeviceError) (c : Contents) → P c → P (raised k.description.rows error c)
@@ -86,7 +85,7 @@ module _ (permitted : SetsPermitted) (k : Constants) (P : Contents → Type 0) (
 
   -- ---- data of RPDOs
 
-  all_data : (rpdos : List KeptFrame) (c : Contents) → GoodFrames Good rpdos → P c → P (after_all_data k.description c rpdos)
+  all_data : (rpdos : List KeptFrame) (c : Contents) → GoodFrames Data rpdos → P c → P (after_all_data k.description c rpdos)
   all_data [] c good h = h
   all_data (rpdo ∷ rpdos) c good h =
       all_data rpdos (after_data k.description c rpdo) good.1
@@ -98,9 +97,9 @@ module _ (permitted : SetsPermitted) (k : Constants) (P : Contents → Type 0) (
   either true x y p q = p
   either false x y p q = q
 
-  set_kept : (c : Contents) (set : Option Download) → ((w : Download) → set ≡ Some w → takes k.description.rows w.key (length w.bytes) ≡ true) → ((w : Download) → set ≡ Some w → Good w.bytes) → P c → P (contents_with c set)
-  set_kept c None room good h = h
-  set_kept c (Some w) room good h = keeps.write c w.key w.bytes (room w refl) (good w refl) h
+  set_kept : (c : Contents) (set : Option Download) → ((w : Download) → set ≡ Some w → Good w.key w.bytes) → P c → P (contents_with c set)
+  set_kept c None good h = h
+  set_kept c (Some w) good h = keeps.write c w.key w.bytes (good w refl) h
 
   by_service : (service : Option NmtService) (c : Contents) (input : InputView) → P c → P (with_service k.description.initial service (nothing_of input c)).received
   by_service None c input h = h
@@ -110,13 +109,12 @@ module _ (permitted : SetsPermitted) (k : Constants) (P : Contents → Type 0) (
   by_service (Some ResetNode) c input h = keeps.reset All c h
   by_service (Some ResetCommunication) c input h = keeps.reset Communication c h
 
-  by_request : (logs : ℕ → Log) (frame : FrameContent) (c : Contents) (input : InputView) → ((w : Download) → set_of (channels k) k.description c logs frame ≡ Some w → Good w.bytes) → P c
+  by_request : (logs : ℕ → Log) (frame : FrameContent) (c : Contents) (input : InputView) → ((w : Download) → set_of (channels k) k.description c logs frame ≡ Some w → Good w.key w.bytes) → P c
       → P (with_request k logs frame (nothing_of input c)).received
   by_request logs frame c input good h =
-      set_kept c (set_of (channels k) k.description c logs frame)
-      (λ w is. sdo_takes k.description c w.key w.indicated w.bytes keeps.types (permitted (channels k) k.description c logs frame w is)) good h
+      set_kept c (set_of (channels k) k.description c logs frame) good h
 
-  by_frame : (history : History) (address : Address) (frame : FrameContent) (c : Contents) (input : InputView) → ((w : Download) → set_of (channels k) k.description c (channel_logs history) frame ≡ Some w → Good w.bytes) → P c
+  by_frame : (history : History) (address : Address) (frame : FrameContent) (c : Contents) (input : InputView) → ((w : Download) → set_of (channels k) k.description c (channel_logs history) frame ≡ Some w → Good w.key w.bytes) → P c
       → P (with_frame k history address frame (nothing_of input c)).received
   by_frame history Nmt frame c input good h = by_service (service_for k.description.node (nmt_command_in frame)) c input h
   by_frame history Sync frame c input good h = either (is_state Stopped (state_at history)) _ _ h h
@@ -125,9 +123,9 @@ module _ (permitted : SetsPermitted) (k : Constants) (P : Contents → Type 0) (
   by_frame history (ErrorControl node) frame c input good h = either (is_heartbeat (heartbeat_in frame.bytes)) _ _ h h
   by_frame history Nobody frame c input good h = h
 
-  by_event : (event : AppView) (refusal : Option ℕ) (c : Contents) (input : InputView) → event_refusal k.description c event ≡ refusal → GoodEvent Good event → P c → P (with_app_event k.description event refusal (nothing_of input c)).received
+  by_event : (event : AppView) (refusal : Option ℕ) (c : Contents) (input : InputView) → event_refusal k.description c event ≡ refusal → GoodEvent k.description Good c event → P c → P (with_app_event k.description event refusal (nothing_of input c)).received
   by_event event (Some code) c input is good h = h
-  by_event (Written key bytes) None c input is good h = keeps.write c key bytes (app_takes k.description c key bytes keeps.types is) good h
+  by_event (Written key bytes) None c input is good h = keeps.write c key bytes (good is) h
   by_event (EventOn n) None c input is good h = h
   by_event (ChangedAt key) None c input is good h = h
   by_event (Raised code bits manufacturer) None c input is good h = one_raised (app_error code bits manufacturer) c h
@@ -140,7 +138,7 @@ module _ (permitted : SetsPermitted) (k : Constants) (P : Contents → Type 0) (
 
   -- ---- at the end of an input
 
-  pub next : (history : History) (input : InputView) → GoodInput k Good history input → GoodFrames Good (moment k history input).taken → P (contents_at k history) → P (moment k history input).contents
+  pub next : (history : History) (input : InputView) → GoodInput k Good history input → GoodFrames Data (moment k history input).taken → P (contents_at k history) → P (moment k history input).contents
   next history input good taken h =
       let m : Moment = moment k history input in
       let watched : P m.watched = errors_raised (loss_errors m.lost) m.received (by_input history input good h) in

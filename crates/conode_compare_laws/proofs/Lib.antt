@@ -98,6 +98,8 @@ pub mod WordsHeld
 pub mod WrittenNumbers
 pub mod ConstantEntries
 pub mod PeriodsKept
+pub mod SteadyEntries
+pub mod BuiltBytes
 pub mod OtherWriters
 pub mod WrittenBytes
 pub mod HeldBytes
@@ -105,8 +107,12 @@ pub mod TpdoImages
 pub mod TpdoInputs
 pub mod TpdoLengths
 pub mod TpdoTurns
+pub mod TpdoSyncFrames
 pub mod TpdoSyncs
 pub mod TpdoLogs
+pub mod TpdoCounts
+pub mod TpdoKindParts
+pub mod TpdoCycles
 pub mod TpdoTimes
 pub mod TpdoStarts
 pub mod TpdoInhibits
@@ -134,5 +140,6 @@ pub mod ValueWrites
 pub mod ValueExpedited
 pub mod ValueUploads
 pub mod ValueLengths
+pub mod ValueConstants
 pub mod ValueExamples
 pub mod ValueLaws

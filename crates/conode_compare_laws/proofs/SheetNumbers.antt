@@ -50,16 +50,16 @@ number_found node limits (row ∷ rows) key = by (same_key row.key key) refl (nu
     by false is later = rw (is, same_back row.key key false is) later
 
 -- a row of this key is lawful, and its sum with the node-ID is in range
-record IsFound (node : ℕ) (key : Key) (row : Row) : Type 0 where
-  sheet : IsSheetRow row
-  key_is : row.key ≡ key
-  inside : is_sum_outside node row row.default ≡ false
+pub record IsFound (node : ℕ) (key : Key) (row : Row) : Type 0 where
+  pub sheet : IsSheetRow row
+  pub key_is : row.key ≡ key
+  pub inside : is_sum_outside node row row.default ≡ false
 
 none_of : (b : Bool) (row : Row) (rest : Option Row) → option_map (λ (r : Row). r.key) (if b then Some row else rest) ≡ None → (b ≡ false) × (option_map (λ (r : Row). r.key) rest ≡ None)
 none_of true row rest h = absurd (cc)
 none_of false row rest h = (refl, h)
 
-row_found : (node : ℕ) (rows : List Row) (key : Key) → All IsSheetRow rows → value_out_of_range node rows ≡ None → IfSome (row_at rows key) (IsFound node key)
+pub row_found : (node : ℕ) (rows : List Row) (key : Key) → All IsSheetRow rows → value_out_of_range node rows ≡ None → IfSome (row_at rows key) (IsFound node key)
 row_found node [] key all none = tt
 row_found node (row ∷ rows) key all none =
     let here = none_of (is_sum_outside node row row.default) row (find (λ r. is_sum_outside node r r.default) rows) none in
@@ -85,7 +85,7 @@ pub long : IsUnsigned Unsigned32
 long n node row is initial range = ap (λ t. unsigned_of (initial_at node row t)) is ∙ ap (λ x. unsigned_of (bytes_of Unsigned32 x)) initial ∙ unsigned_of-low_bytes 4 n (omega (arith, ints))
 
 -- the default of a row is this number
-default_is : (node : ℕ) (row : Row) (d : Default) (n : ℕ) → number_of node d ≡ Some n → number_with node row d ≡ pos n
+pub default_is : (node : ℕ) (row : Row) (d : Default) (n : ℕ) → number_of node d ≡ Some n → number_with node row d ≡ pos n
 default_is node row (number (pos v)) n h = by (nat_lt v (2 ^ 32)) h
   where
     by : (b : Bool) → (if b then Some v else None) ≡ Some n → pos v ≡ pos n

@@ -1,6 +1,6 @@
 -- That the conditions of the laws about TPDOs are needed: what compare finds where the device itself uses the identifier of a TPDO, or
 -- that of its EMCY, a second time. CiA 301 doesn't restrict these, and the dictionary permits them.
-use Rattle.std.proofs.Common.{◌≡◌, ℕ, Bool, true, false, List, [], ◌∷◌, Some, None, refl, sym, map, arith}
+use Rattle.std.proofs.Common.{◌≡◌, ℕ, Bool, true, false, List, [], ◌∷◌, ◌++◌, Some, None, refl, sym, map, arith}
 use Rattle.std.proofs.lemmas.Bool.{false≢true}
 use Rattle.co_frame.specs.SdoRequests.{request_row_in}
 use Rattle.co_frame.specs.SdoResponses.{response_row_in}
@@ -8,9 +8,10 @@ use Rattle.co_profile.specs.declared.access.Access.TheVariants.{Rw}
 use Rattle.co_dict.specs.FreeIds.{is_good_sync_word, is_good_word}
 use Rattle.co_node_model.proofs.ExampleNode.{came, device, device_with, event, frame, raise, searches, start, u32, u8}
 use Rattle.conode_compare_pdos.specs.declared.deviation.Deviation.{Deviation}
-use Rattle.conode_compare_pdos.specs.declared.deviation.Deviation.TheVariants.{Length, NotOperational, WithoutSync}
+use Rattle.conode_compare_pdos.specs.declared.deviation.Deviation.TheVariants.{FewSyncs, Length, NotOperational, WithoutSync}
 use Rattle.conode_compare_pdos.specs.declared.parameters.Parameters.{Parameters}
 use Rattle.conode_compare_pdos.specs.declared.pdos.Pdos.{Pdos}
+use Rattle.conode_compare_pdos.specs.Cycles.{new_cycle}
 use Rattle.conode_compare_pdos.specs.Deviations.{deviation_at, time_deviation}
 use Rattle.conode_compare_pdos.specs.Followed.{framed, sighting, transferred, unknown_pdos}
 use Rattle.conode_compare_pdos.specs.Tpdos.{booted_tpdo}
@@ -121,6 +122,27 @@ unsynced_heard = refl
 sync_taken_for_emergency : found_in is_pdo_sync (with_pdos (record unknown_pdos { sync = Some 0x85; first = booted_tpdo None (record first { kind = Some 1 }) })) unsynced ≡ Pdo 1 WithoutSync ∷ []
 unfolding findings_at progress_with begun booted found control_finding second_boot_up states.after_control after_boot_up after_command states.after_command after_emergency process_findings moment_at sighting deviation_at time_deviation is_settled after_process framed
 sync_taken_for_emergency = refl
+
+-- ---- a TPDO of type 2: the device sends it at each second SYNC
+
+abbrev started : List Recorded
+started = with_stamp 0 (frame 0x705 1 0) ∷ with_stamp 0 (frame 0 2 0x0105) ∷ []
+
+abbrev sync_at : ℕ → List Recorded
+sync_at micros = with_stamp micros (frame 0x80 0 0) ∷ []
+
+abbrev sent_at : ℕ → List Recorded
+sent_at micros = with_stamp micros (frame 0x185 4 0) ∷ []
+
+second_heard : recording (device_with (u8 Rw 0x1800 2 2 ∷ [])) (at 0 start ∷ at 20000 (came 0x80 0 0) ∷ at 40000 (came 0x80 0 0) ∷ []) ≡ started ++ sync_at 20000 ++ sync_at 40000 ++ sent_at 40000
+unfolding searches
+second_heard = refl
+
+-- one that sends it at each is found
+too_few : found_in is_pdo_sync (with_pdos (record unknown_pdos { sync = Some 0x80; first = booted_tpdo (Some new_cycle) (record first { kind = Some 2 }) }))
+    (started ++ (sync_at 20000 ++ sent_at 20000) ++ (sync_at 40000 ++ sent_at 40000) ++ (sync_at 60000 ++ sent_at 60000) ++ sync_at 80000 ++ sent_at 80000) ≡ Pdo 1 (FewSyncs 1 2) ∷ []
+unfolding findings_at progress_with begun booted found control_finding second_boot_up states.after_control after_boot_up after_command states.after_command process_findings moment_at sighting deviation_at time_deviation is_settled after_process framed
+too_few = refl
 
 -- ---- a device and a data sheet as the laws ask for: two TPDOs, each alone on its identifier
 

@@ -1,13 +1,11 @@
 -- A synchronous TPDO of a device comes after a SYNC that compare has seen.
-use Rattle.std.proofs.Common.{◌≡◌, ◌≢◌, ℕ, ◌+◌, ◌<◌, ◌≤◌, Bool, true, false, List, [], ◌∷◌, ◌++◌, length, map, Option, Some, None, refl, ap, sym, ◌∙◌, subst, arith, ◌⊎◌, inl, inr}
+use Rattle.std.proofs.Common.{◌≡◌, ℕ, ◌+◌, ◌<◌, ◌≤◌, Bool, true, false, List, [], ◌∷◌, ◌++◌, length, map, Option, Some, None, refl, ap, sym, ◌∙◌, subst, arith, ◌⊎◌, inl, inr}
 use Rattle.std.specs.Prelude.{if◌then◌else◌, ◌==◌, ◌&&◌, ◌||◌, nat_le, is_some, IfSome}
-use Rattle.std.specs.List.{AllByRecursion}
-use Rattle.std.proofs.lemmas.Bool.{and_parts, eq-eqb, eqb-true, ne_eqb, or_parts, or_right}
+use Rattle.std.proofs.lemmas.Bool.{and_parts, eq-eqb, or_parts, or_right}
 use Rattle.std.proofs.lemmas.Bool.Decides.{nat_tests}
 use Rattle.co_frame.specs.FrameContent.{FrameContent}
 use Rattle.co_dict.specs.CobIds.{identifier_of}
 use Rattle.co_dict.specs.Rows.{Contents, number_at}
-use Rattle.co_profile.specs.Keys.{sync_key}
 use Rattle.co_profile.specs.TransmissionTypes as types
 use Rattle.co_sheet.specs.Content.{Row}
 use Rattle.co_pdo.specs.declared.tpdo.Occasion.{Occasion}
@@ -19,51 +17,44 @@ use Rattle.co_pdo.specs.Schedules.{History as Schedule, is_among, is_tpdo_due, l
 use Rattle.co_pdo.specs.Tpdos.{settings_of, tpdo_key}
 use Rattle.co_node_model.specs.declared.turn.Turn.{Turn}
 use Rattle.co_node_model.specs.declared.turn.Turn.TheVariants as turn
-use Rattle.co_node_model.specs.Device.{contents_of, moment, moments, prescribed}
-use Rattle.co_node_model.specs.Inputs.{Applied, Framed, Inputs, InputView, Ticked}
+use Rattle.co_node_model.specs.Device.{moment, moments, prescribed}
+use Rattle.co_node_model.specs.Inputs.{Inputs, InputView}
 use Rattle.co_node_model.specs.Marks.{marked_sync}
 use Rattle.co_node_model.specs.Moments.{Constants, Moment}
 use Rattle.co_node_model.specs.Nmt.{is_reset}
 use Rattle.co_node_model.specs.Tpdos.{schedule_log, tpdo_frame, turn_at}
+use Rattle.conode_compare_pdos.specs.declared.deviation.Deviation.{Deviation}
 use Rattle.conode_compare_pdos.specs.declared.deviation.Deviation.TheVariants.{WithoutSync}
 use Rattle.conode_compare_pdos.specs.declared.deviation.Moment.{Moment as Judged}
 use Rattle.conode_compare_pdos.specs.declared.pdos.Pdos.{Pdos}
 use Rattle.conode_compare_pdos.specs.declared.tpdo.Tpdo.{Tpdo}
 use Rattle.conode_compare_pdos.specs.Deviations.{deviation_at, is_synchronous, sync_deviation}
-use Rattle.conode_compare_pdos.specs.Followed.{framed, sighting}
+use Rattle.conode_compare_pdos.specs.Followed.{framed}
 use Rattle.conode_compare_pdos.specs.Tpdos.{after_frame as after_tpdo, after_sync, is_id, most_syncs}
-use Rattle.conode_compare_rules.specs.declared.kind.FrameKind.TheVariants.{Process}
 use Rattle.conode_compare_rules.specs.declared.limits.Subject.{Subject}
 use Rattle.conode_compare_rules.specs.declared.progress.Progress.{Progress}
-use Rattle.conode_compare_rules.specs.FrameKinds.{data_kind, length_of}
-use Rattle.conode_compare_rules.specs.Progresses.{after_process, begun, is_of_client, late_by_tpdo, moment_at, process_findings}
+use Rattle.conode_compare_rules.specs.FrameKinds.{length_of}
+use Rattle.conode_compare_rules.specs.Progresses.{moment_at}
 use Rattle.conode_compare_laws.specs.Differences.{differences_in}
-use Rattle.conode_compare_laws.specs.Identifiers.{AllSendAside, AreElsewhere, IsElsewhere}
-use Rattle.conode_compare_laws.specs.NamedTpdos.{AreNoSdoSyncs, IsNoSdoSync, NameNoTpdos, NamesNoTpdo}
-use Rattle.conode_compare_laws.specs.Recordings.{Recorded, Stamped, frame_of, heard_from, recording, stamped}
-use Rattle.conode_compare_laws.specs.TpdoDifferences.{is_pdo_sync, tpdo_differences}
-use Rattle.conode_compare_laws.specs.TpdoFrames.{AllSendBesideTpdos, AreNoTpdos, IsNoTpdo, is_followed}
+use Rattle.conode_compare_laws.specs.Identifiers.{AllSendAside, AreElsewhere}
+use Rattle.conode_compare_laws.specs.NamedTpdos.{AreNoSdoSyncs, NameNoTpdos, NamesNoTpdo}
+use Rattle.conode_compare_laws.specs.Recordings.{Stamped, frame_of, recording}
+use Rattle.conode_compare_laws.specs.TpdoDifferences.{tpdo_differences}
+use Rattle.conode_compare_laws.specs.TpdoFrames.{AllSendBesideTpdos, AreNoTpdos, is_followed}
 use Rattle.conode_compare_laws.specs.TpdoParameters.{AllKeepTpdos, AreTpdosOf, IsTpdoOf, KeepsTpdos}
 use Rattle.conode_compare_laws.proofs.Heard.{of_device}
 use Rattle.conode_compare_laws.proofs.NamedKeys.{first_of, last_of}
 use Rattle.conode_compare_laws.proofs.Runs.{AllRun, joined}
-use Rattle.conode_compare_laws.proofs.TpdoDue.{IsAt, active, active_kept, alone, due_all, due_distinct, number_kept, tpdo_number}
-use Rattle.conode_compare_laws.proofs.TpdoInputs.{AllInputs, AreClear, all_clear, names_later, of_device_too, of_recording}
+use Rattle.conode_compare_laws.proofs.TpdoDue.{IsAt, active, active_kept, alone, due_all, due_distinct, tpdo_number}
+use Rattle.conode_compare_laws.proofs.TpdoInputs.{all_clear, names_later, of_device_too, of_recording}
 use Rattle.conode_compare_laws.proofs.TpdoKinds.{deviation_none, few_none, length_none, state_none, untimed}
 use Rattle.conode_compare_laws.proofs.TpdoNames.{AllNameNone}
 use Rattle.conode_compare_laws.proofs.TpdoOthers.{
   AreFine,
   Holds,
   IsKept,
-  IsNewest,
   IsOf,
   Knows,
-  Passes,
-  all_fine,
-  begun_kept,
-  begun_newest,
-  either_kept,
-  fresh,
   is_of,
   knows_commanded,
   knows_framed,
@@ -71,14 +62,17 @@ use Rattle.conode_compare_laws.proofs.TpdoOthers.{
   knows_kept,
   knows_sheet,
   knows_unknown,
-  one,
   other_id,
-  others,
-  sighted_none,
-  unseen,
 }
-use Rattle.conode_compare_laws.proofs.TpdoParts.{Step, Walk, Walked, besides, besides_run, came_other, tpdo_ids, walks, weaken}
-use Rattle.conode_compare_laws.proofs.TpdoTurns.{IsSync, is_sync_turn, no_reset, no_sync_turn, sync_or}
+use Rattle.conode_compare_laws.proofs.TpdoParts.{Step, Walk, Walked, besides, besides_run, tpdo_ids, walks, weaken}
+use Rattle.conode_compare_laws.proofs.TpdoSyncFrames.{IsMet, Syncs, all_met, came_either, syncs_later}
+use Rattle.conode_compare_laws.proofs.TpdoTurns.{is_sync_turn, no_reset, no_sync_turn}
+
+-- ---- the difference
+
+abbrev pub is_without_sync : Deviation → Bool
+is_without_sync WithoutSync = true
+is_without_sync other = false
 
 -- ---- what compare has of the SYNCs before TPDOs are sent
 
@@ -101,7 +95,7 @@ counted length pdo = by (nat_le most_syncs pdo.syncs)
     by false = omega arith
 
 -- a frame of a TPDO isn't one of another
-unsent : (moment : Judged) (id length : ℕ) (pdo : Tpdo) → is_id pdo.parameters.id id ≡ false → after_tpdo moment id length pdo ≡ pdo
+pub unsent : (moment : Judged) (id length : ℕ) (pdo : Tpdo) → is_id pdo.parameters.id id ≡ false → after_tpdo moment id length pdo ≡ pdo
 unsent moment id length pdo off = rw off refl
 
 still_has : (synced : Bool) (sync : Option ℕ) (number : ℕ) (due : List ℕ) (moment : Judged) (id length : ℕ) (pdo : Tpdo) → is_id pdo.parameters.id id ≡ false → HasSync synced sync number due pdo → HasSync synced sync number due (after_tpdo moment id length pdo)
@@ -173,10 +167,9 @@ none_synced facts due pdos knows = record {
 }
 
 -- nor where its identifier isn't known
-unknown_synced : (facts : Pdos) (due : List ℕ) (pdos : Pdos) → facts.sync ≡ None → Knows facts pdos → HaveSync facts true due pdos
+unknown_synced : (facts : Pdos) (due : List ℕ) (pdos : Pdos) → pdos.sync ≡ None → Knows facts pdos → HaveSync facts true due pdos
 unknown_synced facts due pdos none knows =
-    let unknown : pdos.sync ≡ None = elim knows.sync [ inl is ↦ is | inr same ↦ same ∙ none ] in
-    let never : (is_some pdos.sync ≡ true) → ⊥ = λ on. absurd (let off : is_some pdos.sync ≡ false = ap is_some unknown in cc) in
+    let never : (is_some pdos.sync ≡ true) → ⊥ = λ on. absurd (let off : is_some pdos.sync ≡ false = ap is_some none in cc) in
     record {
       knows = knows;
       first = λ on has is. absurd (never has);
@@ -188,43 +181,43 @@ unknown_synced facts due pdos none knows =
 -- ---- one TPDO
 
 -- a TPDO with the identifier of one that is followed is that one; and a SYNC came, or it isn't synchronous
-abbrev IsSynced : Bool → ℕ → Tpdo → ℕ → ℕ → Type 0
+abbrev pub IsSynced : Bool → ℕ → Tpdo → ℕ → ℕ → Type 0
 IsSynced synced number sheet n id = is_id sheet.parameters.id id ≡ true → (n ≡ number) × ((synced ≡ true) ⊎ (is_synchronous sheet.parameters.kind ≡ false))
 
-record AreSynced (facts : Pdos) (synced : Bool) (n id : ℕ) : Type 0 where
-  first : IsSynced synced 0 facts.first n id
-  second : IsSynced synced 1 facts.second n id
-  third : IsSynced synced 2 facts.third n id
-  fourth : IsSynced synced 3 facts.fourth n id
+pub record AreSynced (facts : Pdos) (synced : Bool) (n id : ℕ) : Type 0 where
+  pub first : IsSynced synced 0 facts.first n id
+  pub second : IsSynced synced 1 facts.second n id
+  pub third : IsSynced synced 2 facts.third n id
+  pub fourth : IsSynced synced 3 facts.fourth n id
 
 not_zero : (n : ℕ) → 1 ≤ n → (n == 0) ≡ false
 not_zero n some = grind (arith, nat_tests)
 
-kind_none : (has_sync : Bool) (pdo : Tpdo) → is_synchronous pdo.parameters.kind ≡ false → is_of is_pdo_sync (sync_deviation has_sync pdo) ≡ false
+kind_none : (has_sync : Bool) (pdo : Tpdo) → is_synchronous pdo.parameters.kind ≡ false → is_of is_without_sync (sync_deviation has_sync pdo) ≡ false
 kind_none has_sync pdo off = by has_sync (is_synchronous pdo.parameters.kind) off
   where
-    by : (a b : Bool) → b ≡ false → is_of is_pdo_sync (if a && (b && (pdo.syncs == 0)) then Some WithoutSync else None) ≡ false
+    by : (a b : Bool) → b ≡ false → is_of is_without_sync (if a && (b && (pdo.syncs == 0)) then Some WithoutSync else None) ≡ false
     by true true h = absurd (cc)
     by true false h = refl
     by false b h = refl
 
-some_none : (sync : Option ℕ) (pdo : Tpdo) → (is_some sync ≡ true → 1 ≤ pdo.syncs) → is_of is_pdo_sync (sync_deviation (is_some sync) pdo) ≡ false
+some_none : (sync : Option ℕ) (pdo : Tpdo) → (is_some sync ≡ true → 1 ≤ pdo.syncs) → is_of is_without_sync (sync_deviation (is_some sync) pdo) ≡ false
 some_none None pdo h = refl
 some_none (Some id) pdo h = by (is_synchronous pdo.parameters.kind) (pdo.syncs == 0) (not_zero pdo.syncs (h refl))
   where
-    by : (a b : Bool) → b ≡ false → is_of is_pdo_sync (if true && (a && b) then Some WithoutSync else None) ≡ false
+    by : (a b : Bool) → b ≡ false → is_of is_without_sync (if true && (a && b) then Some WithoutSync else None) ≡ false
     by true true h = absurd (cc)
     by true false h = refl
     by false b h = refl
 
-among_first : (n number : ℕ) (later : List ℕ) → n ≡ number → is_among number (n ∷ later) ≡ true
+pub among_first : (n number : ℕ) (later : List ℕ) → n ≡ number → is_among number (n ∷ later) ≡ true
 among_first n number later same = ap (λ b. b || is_among number later) (eq-eqb n number same)
 
-among_later : (n number : ℕ) (later : List ℕ) → is_among number later ≡ true → is_among number (n ∷ later) ≡ true
+pub among_later : (n number : ℕ) (later : List ℕ) → is_among number later ≡ true → is_among number (n ∷ later) ≡ true
 among_later n number later h = or_right (n == number) (is_among number later) h
 
 sync_fine : (synced : Bool) (sync : Option ℕ) (sheet pdo : Tpdo) (number n id : ℕ) (later : List ℕ) → IsOf sheet pdo → IsSynced synced number sheet n id → HasSync synced sync number (n ∷ later) pdo → is_id pdo.parameters.id id ≡ true
-    → is_of is_pdo_sync (sync_deviation (is_some sync) pdo) ≡ false
+    → is_of is_without_sync (sync_deviation (is_some sync) pdo) ≡ false
 sync_fine synced sync sheet pdo number n id later (inl unknown) ok has on = absurd (let off : is_id pdo.parameters.id id ≡ false = ap (λ parameters. is_id parameters.id id) unknown in cc)
 sync_fine synced sync sheet pdo number n id later (inr same) ok has on =
     let mine : (n ≡ number) × ((synced ≡ true) ⊎ (is_synchronous sheet.parameters.kind ≡ false)) = ok (sym (ap (λ parameters. is_id parameters.id id) same) ∙ on) in
@@ -234,12 +227,12 @@ sync_fine synced sync sheet pdo number n id later (inr same) ok has on =
     ]
 
 fine : (moment : Judged) (synced : Bool) (sync : Option ℕ) (sheet pdo : Tpdo) (number n id length : ℕ) (later : List ℕ) → IsOf sheet pdo → IsSynced synced number sheet n id → HasSync synced sync number (n ∷ later) pdo
-    → is_id pdo.parameters.id id ≡ true → is_of is_pdo_sync (deviation_at moment (is_some sync) pdo length) ≡ false
+    → is_id pdo.parameters.id id ≡ true → is_of is_without_sync (deviation_at moment (is_some sync) pdo length) ≡ false
 fine moment synced sync sheet pdo number n id length later of ok has on =
-    deviation_none is_pdo_sync moment (is_some sync) pdo length (state_none is_pdo_sync moment refl) (length_none is_pdo_sync pdo.parameters.length pdo.odd length (λ l m. refl))
-    (sync_fine synced sync sheet pdo number n id later of ok has on) (few_none is_pdo_sync moment (is_some sync) pdo (λ s n. refl)) (untimed is_pdo_sync moment pdo (λ passed n. refl) (λ passed n. refl))
+    deviation_none is_without_sync moment (is_some sync) pdo length (state_none is_without_sync moment refl) (length_none is_without_sync pdo.parameters.length pdo.odd length (λ l m. refl))
+    (sync_fine synced sync sheet pdo number n id later of ok has on) (few_none is_without_sync moment (is_some sync) pdo (λ s n. refl)) (untimed is_without_sync moment pdo (λ passed n. refl) (λ passed n. refl))
 
-all_are_fine : (facts : Pdos) (moment : Judged) (synced : Bool) (n id length : ℕ) (later : List ℕ) (pdos : Pdos) → AreSynced facts synced n id → HaveSync facts synced (n ∷ later) pdos → AreFine is_pdo_sync moment pdos id length
+all_are_fine : (facts : Pdos) (moment : Judged) (synced : Bool) (n id length : ℕ) (later : List ℕ) (pdos : Pdos) → AreSynced facts synced n id → HaveSync facts synced (n ∷ later) pdos → AreFine is_without_sync moment pdos id length
 all_are_fine facts moment synced n id length later pdos ok h = record {
   first = fine moment synced pdos.sync facts.first pdos.first 0 n id length later h.knows.first ok.first h.first;
   second = fine moment synced pdos.sync facts.second pdos.second 1 n id length later h.knows.second ok.second h.second;
@@ -263,7 +256,7 @@ sent_has synced sync moment sheet pdo number n id length later once of ok h = by
         λ came has is. absurd (let no : is_among number later ≡ false = subst (λ i. is_among i later ≡ false) mine.0 once in cc)
 
 sync_step : (subject : Subject) (synced : Bool) (p : Progress) (micros n id length : ℕ) (later : List ℕ) → AreSynced subject.facts.pdos synced n id → is_among n later ≡ false → HaveSync subject.facts.pdos synced (n ∷ later) p.pdos
-    → Step is_pdo_sync (HaveSync subject.facts.pdos synced later) subject p micros id length
+    → Step is_without_sync (HaveSync subject.facts.pdos synced later) subject p micros id length
 sync_step subject synced p micros n id length later ok once h =
     let facts : Pdos = subject.facts.pdos in
     let moment : Judged = moment_at subject p micros in
@@ -284,7 +277,7 @@ sync_step subject synced p micros n id length later ok once h =
     }
 
 sync_walk : (subject : Subject) (micros : ℕ) (synced : Bool) (frame : ℕ → FrameContent)
-    → Walk is_pdo_sync (λ n. AreSynced subject.facts.pdos synced n (frame n).id) (HaveSync subject.facts.pdos synced) (λ p. Unit {0}) subject micros frame
+    → Walk is_without_sync (λ n. AreSynced subject.facts.pdos synced n (frame n).id) (HaveSync subject.facts.pdos synced) (λ p. Unit {0}) subject micros frame
 sync_walk subject micros synced frame = record {
   kept = λ due. sync_kept subject.facts.pdos synced due;
   begins = λ p h. tt;
@@ -298,11 +291,11 @@ sync_walk subject micros synced frame = record {
 by_event : (s : Settings) (log : tpdo_log.Log) → is_due_by_event s log ≡ true → types.is_event_driven s.transmission_type.0 ≡ true
 by_event s log h = (and_parts (types.is_event_driven s.transmission_type.0) (event_waits log && is_inhibit_over s.inhibit_time log) h).0
 
-abbrev is_sync_occasion : Occasion → Bool
+abbrev pub is_sync_occasion : Occasion → Bool
 is_sync_occasion (occasion.Sync overflow counter) = true
 is_sync_occasion other = false
 
-due_event : (s : Settings) (log : tpdo_log.Log) (o : Occasion) → is_due s log o ≡ true → is_sync_occasion o ≡ false → types.is_event_driven s.transmission_type.0 ≡ true
+pub due_event : (s : Settings) (log : tpdo_log.Log) (o : Occasion) → is_due s log o ≡ true → is_sync_occasion o ≡ false → types.is_event_driven s.transmission_type.0 ≡ true
 due_event s log (occasion.Sync overflow counter) due off = absurd (cc)
 due_event s log occasion.Event due off =
     let later : tpdo_log.Log = tpdo_log.Happened occasion.Event s false ∷ log in
@@ -319,7 +312,7 @@ at_sync c (turn.Sync counter) o at = inl refl
 at_sync c (turn.Asked asked) o at = inr (ap is_sync_occasion at)
 at_sync c turn.Tick o at = inr (ap is_sync_occasion at)
 
-no_count : (kind : ℕ) → types.is_event_driven kind ≡ true → nat_le kind 240 ≡ false
+pub no_count : (kind : ℕ) → types.is_event_driven kind ≡ true → nat_le kind 240 ≡ false
 no_count kind on = grind (arith, nat_tests)
 
 known_kind : (known : Option ℕ) (kind : ℕ) → IfSome known (λ n. kind ≡ n) → types.is_event_driven kind ≡ true → is_synchronous known ≡ false
@@ -340,7 +333,7 @@ one_synced k m t schedule o number sheet n of keeps less at due here =
       ],
     )
 
-all_synced : (k : Constants) (m : Moment) (facts : Pdos) (t : Turn) (schedule : Schedule) (o : Occasion) (n : ℕ) → AreTpdosOf k facts → KeepsTpdos k m → n < 512 → IsAt m.contents t o → is_tpdo_due m.contents schedule o n ≡ true
+pub all_synced : (k : Constants) (m : Moment) (facts : Pdos) (t : Turn) (schedule : Schedule) (o : Occasion) (n : ℕ) → AreTpdosOf k facts → KeepsTpdos k m → n < 512 → IsAt m.contents t o → is_tpdo_due m.contents schedule o n ≡ true
     → AreSynced facts (is_sync_turn t) n (tpdo_frame k.description m.contents n).id
 all_synced k m facts t schedule o n of keeps less at due = record {
   first = one_synced k m t schedule o 0 facts.first n of.first keeps less at due;
@@ -351,117 +344,19 @@ all_synced k m facts t schedule o n of keeps less at due = record {
 
 -- ---- a SYNC comes
 
-process_kind : (node : ℕ) (frame : FrameContent) → (frame.id == 0) ≡ false → (frame.id == 0x80 + node) ≡ false → (frame.id == 0x580 + node) ≡ false → (frame.id == 0x600 + node) ≡ false → (frame.id == 0x700 + node) ≡ false
-    → data_kind node frame ≡ Process frame.id (length_of frame)
-process_kind node frame a b c d e = rw (a, b, c, d, e) refl
-
--- with its identifier each TPDO may answer it, if compare knows that
-known_sync : (facts pdos : Pdos) (id : ℕ) → Knows facts pdos → IfSome facts.sync (λ known. known ≡ id) → (pdos.sync ≡ None) ⊎ (is_id pdos.sync id ≡ true)
-known_sync facts pdos id knows same = by facts.sync knows.sync same
-  where
-    by : (known : Option ℕ) → (pdos.sync ≡ None) ⊎ (pdos.sync ≡ known) → IfSome known (λ n. n ≡ id) → (pdos.sync ≡ None) ⊎ (is_id pdos.sync id ≡ true)
-    by known (inl none) h = inl none
-    by None (inr none) h = inl none
-    by (Some n) (inr is) h = inr (ap (λ o. is_id o id) is ∙ eq-eqb n id h)
-
-synced_has : (facts : Pdos) (due : List ℕ) (pdos : Pdos) (moment : Judged) (id length : ℕ) → Knows facts pdos → (pdos.sync ≡ None) ⊎ (is_id pdos.sync id ≡ true) → HaveSync facts true due (framed pdos moment id length)
-unfolding framed
-synced_has facts due pdos moment id length knows (inl none) =
-    let never : (is_some pdos.sync ≡ true) → ⊥ = λ on. absurd (let off : is_some pdos.sync ≡ false = ap is_some none in cc) in
-    framed_has facts true due pdos moment id length (knows_framed facts pdos moment id length knows) (λ on has is. absurd (never has)) (λ on has is. absurd (never has)) (λ on has is. absurd (never has)) (λ on has is. absurd (never has))
-synced_has facts due pdos moment id length knows (inr here) =
-    let k : Knows facts (framed pdos moment id length) = knows_framed facts pdos moment id length knows in
-    rw here (record {
-      knows = record { sync = knows.sync; first = knows.first; second = knows.second; third = knows.third; fourth = knows.fourth };
-      first = λ on has is. counted length pdos.first;
-      second = λ on has is. counted length pdos.second;
-      third = λ on has is. counted length pdos.third;
-      fourth = λ on has is. counted length pdos.fourth;
-    })
-
-sync_passes : (subject : Subject) (rows : List Row) (p : Progress) (micros id length : ℕ) (due : List ℕ) → IsNewest micros p → Knows subject.facts.pdos p.pdos → is_followed subject.facts.pdos id ≡ false → IfSome subject.facts.pdos.sync (λ known. known ≡ id)
-    → Passes is_pdo_sync (HaveSync subject.facts.pdos true due) subject rows p micros (Process id length)
-unfolding process_findings after_process
-sync_passes subject rows p micros id length due new knows off same = record {
-  none = sighted_none is_pdo_sync (late_by_tpdo subject p micros id length) id length (sighting (moment_at subject p micros) p.pdos id length)
-      (all_fine is_pdo_sync (moment_at subject p micros) p.pdos id length (unseen is_pdo_sync (moment_at subject p micros) subject.facts.pdos p.pdos id length knows off));
-  after = record {
-    fresh = fresh micros p new;
-    kept = either_kept (HaveSync subject.facts.pdos true due) (is_of_client subject id) _ _ (sync_kept subject.facts.pdos true due).unknown
-        (synced_has subject.facts.pdos due p.pdos (moment_at subject p micros) id length knows (known_sync subject.facts.pdos p.pdos id knows same));
+-- each TPDO may answer it
+sync_syncs : (facts : Pdos) (due : List ℕ) → Syncs facts (Knows facts) (HaveSync facts true due)
+sync_syncs facts due = record {
+  after = sync_kept facts true due;
+  unknown = λ pdos none knows. unknown_synced facts due pdos none knows;
+  comes = λ pdos length knows. record {
+    knows = record { sync = knows.sync; first = knows.first; second = knows.second; third = knows.third; fourth = knows.fourth };
+    first = λ on has is. counted length pdos.first;
+    second = λ on has is. counted length pdos.second;
+    third = λ on has is. counted length pdos.third;
+    fourth = λ on has is. counted length pdos.fourth;
   };
 }
-
-sync_comes : (subject : Subject) (rows : List Row) (micros : ℕ) (frame : FrameContent) (due : List ℕ) (p : Progress) → data_kind subject.node frame ≡ Process frame.id (length_of frame) → NamesNoTpdo subject.node frame → is_followed subject.facts.pdos frame.id ≡ false
-    → IfSome subject.facts.pdos.sync (λ known. known ≡ frame.id) → Holds (Knows subject.facts.pdos) p → AllRun (tpdo_differences is_pdo_sync) subject rows micros p (frame ∷ []) (Holds (HaveSync subject.facts.pdos true due))
-sync_comes subject rows micros frame due p kind names off same h =
-    one is_pdo_sync (HaveSync subject.facts.pdos true due) subject rows micros p frame (Process frame.id (length_of frame)) kind names h.opened
-    (sync_passes subject rows (begun subject p micros) micros frame.id (length_of frame) due (begun_newest subject p micros h.fresh) (begun_kept subject (Knows subject.facts.pdos) p micros (knows_kept subject.facts.pdos) h.kept) off same)
-
--- ---- an input
-
-record IsMet (pdos : Pdos) (k : Constants) (before : Inputs) (s : Stamped) : Type 0 where
-  clear : AreClear pdos k before s
-  emergency : IsElsewhere (0x80 + k.description.node) s.input
-  apart : AllByRecursion (IsNoSdoSync pdos k.description.node) (frame_of s.input)
-  keeps : KeepsTpdos k (moment k (moments k before) s.input)
-  sync : number_at (contents_of k before) sync_key ≡ number_at k.start sync_key
-
-sent_id : (known : Option ℕ) (word id : ℕ) → IfSome known (λ n. identifier_of word ≡ n) → identifier_of word ≡ id → IfSome known (λ n. n ≡ id)
-sent_id None word id h is = tt
-sent_id (Some n) word id h is = sym h ∙ is
-
--- a frame that is a SYNC to the device
-framed_sync : (subject : Subject) (rows : List Row) (micros : ℕ) (frame : FrameContent) (due : List ℕ) (p : Progress) (sync : Option ℕ) → subject.facts.pdos.sync ≡ sync → IfSome sync (λ known. known ≡ frame.id) → (frame.id == 0) ≡ false → frame.id ≢ 0x700 + subject.node
-    → is_followed subject.facts.pdos frame.id ≡ false → frame.id ≢ 0x80 + subject.node → NamesNoTpdo subject.node frame → IsNoSdoSync subject.facts.pdos subject.node frame → Holds (Knows subject.facts.pdos) p
-    → AllRun (tpdo_differences is_pdo_sync) subject rows micros p (frame ∷ []) (Holds (HaveSync subject.facts.pdos true due))
-framed_sync subject rows micros frame due p None is same command control foreign emergency names apart h =
-    let facts : Pdos = subject.facts.pdos in
-    weaken (tpdo_differences is_pdo_sync) subject rows micros (frame ∷ []) p (Holds (Knows facts)) (Holds (HaveSync facts true due))
-    (λ q g. record { fresh = g.fresh; kept = unknown_synced facts due q.pdos is g.kept; opened = g.opened })
-    (others is_pdo_sync (Knows facts) subject rows micros (frame ∷ []) p (knows_kept facts) ((control, foreign, names), tt) h)
-framed_sync subject rows micros frame due p (Some known) is same command control foreign emergency names apart h =
-    let node : ℕ = subject.node in
-    let sdo : (frame.id ≢ 0x580 + node) × (frame.id ≢ 0x600 + node) = apart (ap (λ o. is_id o frame.id) is ∙ eq-eqb known frame.id same) in
-    sync_comes subject rows micros frame due p
-    (process_kind node frame command (ne_eqb frame.id (0x80 + node) emergency) (ne_eqb frame.id (0x580 + node) sdo.0) (ne_eqb frame.id (0x600 + node) sdo.1) (ne_eqb frame.id (0x700 + node) control))
-    names foreign (subst (λ o. IfSome o (λ n. n ≡ frame.id)) (sym is) same) h
-
-came_sync : (k : Constants) (subject : Subject) (rows : List Row) (before : Inputs) (s : Stamped) (due : List ℕ) (p : Progress) → AreTpdosOf k subject.facts.pdos → IsMet subject.facts.pdos k before s → AllNameNone k.description.node (frame_of s.input)
-    → IsSync (contents_of k before) s.input → Holds (Knows subject.facts.pdos) p
-    → AllRun (tpdo_differences is_pdo_sync) (of_device k subject) rows s.micros p (frame_of s.input) (Holds (HaveSync subject.facts.pdos true due))
-came_sync k subject rows before s due p of met none is h = by s.input met.clear.control met.clear.foreign met.emergency none met.apart is
-  where
-    node : ℕ
-    node = k.description.node
-
-    by : (input : InputView) → IsElsewhere (0x700 + node) input → IsNoTpdo subject.facts.pdos input → IsElsewhere (0x80 + node) input → AllNameNone node (frame_of input) → AllByRecursion (IsNoSdoSync subject.facts.pdos node) (frame_of input)
-        → IsSync (contents_of k before) input
-        → AllRun (tpdo_differences is_pdo_sync) (of_device k subject) rows s.micros p (frame_of input) (Holds (HaveSync subject.facts.pdos true due))
-    by (Framed frame) control foreign emergency names apart sync =
-        let here : identifier_of (number_at (contents_of k before) sync_key) ≡ frame.id = eqb-true _ frame.id (and_parts _ _ sync.1).1 in
-        let id : identifier_of (number_at k.start sync_key) ≡ frame.id = ap identifier_of (sym met.sync) ∙ here in
-        framed_sync (of_device k subject) rows s.micros frame due p subject.facts.pdos.sync refl (sent_id subject.facts.pdos.sync (number_at k.start sync_key) frame.id of.sync id)
-        sync.0 control foreign emergency names.0 apart.0 h
-    by Ticked control foreign emergency names apart sync = absurd sync
-    by (Applied event) control foreign emergency names apart sync = absurd sync
-
--- whether it is a SYNC to the schedule
-came_either : (k : Constants) (subject : Subject) (rows : List Row) (before : Inputs) (s : Stamped) (p : Progress) (synced : Bool) → is_sync_turn (turn_at (moment k (moments k before) s.input) (moments k before)) ≡ synced
-    → AreTpdosOf k subject.facts.pdos → IsMet subject.facts.pdos k before s → AllNameNone k.description.node (frame_of s.input) → Holds (Knows subject.facts.pdos) p
-    → AllRun (tpdo_differences is_pdo_sync) (of_device k subject) rows s.micros p (frame_of s.input) (Holds (HaveSync subject.facts.pdos synced (moment k (moments k before) s.input).due))
-came_either k subject rows before s p false is of met none h =
-    let facts : Pdos = subject.facts.pdos in
-    let due : List ℕ = (moment k (moments k before) s.input).due in
-    weaken (tpdo_differences is_pdo_sync) (of_device k subject) rows s.micros (frame_of s.input) p (Holds (Knows facts)) (Holds (HaveSync facts false due))
-    (λ q g. record { fresh = g.fresh; kept = none_synced facts due q.pdos g.kept; opened = g.opened })
-    (others is_pdo_sync (Knows facts) (of_device k subject) rows s.micros (frame_of s.input) p (knows_kept facts) (came_other facts k.description.node s.input none met.clear.control met.clear.foreign) h)
-came_either k subject rows before s p true is of met none h =
-    let m : Moment = moment k (moments k before) s.input in
-    elim (sync_or k (moments k before) s.input) [
-      | inl off ↦ absurd (let no : is_sync_turn (turn_at m (moments k before)) ≡ false = no_sync_turn m (moments k before) off in cc)
-      | inr sync ↦ came_sync k subject rows before s m.due p of met none sync h
-    ]
 
 -- at a SYNC no boot-up comes
 begins_either : (k : Constants) (facts : Pdos) (before : Inputs) (input : InputView) (synced : Bool) → is_sync_turn (turn_at (moment k (moments k before) input) (moments k before)) ≡ synced
@@ -476,7 +371,7 @@ begins_either k facts before input true is reset =
     by false off = absurd (let no : is_sync_turn (turn_at (moment k (moments k before) input) (moments k before)) ≡ false = no_sync_turn (moment k (moments k before) input) (moments k before) off in cc)
 
 input_runs : (k : Constants) (subject : Subject) (rows : List Row) (before : Inputs) (last : ℕ) (s : Stamped) (p : Progress) → AreTpdosOf k subject.facts.pdos → IsMet subject.facts.pdos k before s
-    → Holds (Knows subject.facts.pdos) p → AllRun (tpdo_differences is_pdo_sync) (of_device k subject) rows s.micros p (frame_of s.input ++ prescribed k before s.input) (Holds (Knows subject.facts.pdos))
+    → Holds (Knows subject.facts.pdos) p → AllRun (tpdo_differences is_without_sync) (of_device k subject) rows s.micros p (frame_of s.input ++ prescribed k before s.input) (Holds (Knows subject.facts.pdos))
 input_runs k subject rows before last s p of met h =
     let subj : Subject = of_device k subject in
     let n : ℕ = k.description.node in
@@ -492,53 +387,28 @@ input_runs k subject rows before last s p of met h =
     let sent : AllNameNone n (more ++ map frame m.due) = last_of N came (prescribed k before s.input) met.clear.sdo in
     let ready : Progress → Type 0 = Holds (HaveSync facts synced m.due) in
     let after : Progress → Type 0 = Holds (Knows facts) in
-    joined (tpdo_differences is_pdo_sync) subj rows s.micros came (more ++ map frame m.due) p ready after
-    (came_either k subject rows before s p synced refl of met (first_of N came (prescribed k before s.input) met.clear.sdo) h)
+    joined (tpdo_differences is_without_sync) subj rows s.micros came (more ++ map frame m.due) p ready after
+    (came_either is_without_sync (Knows facts) (HaveSync facts synced m.due) k subject rows before s p synced refl (knows_kept facts) (λ on. subst (λ b. Syncs facts (Knows facts) (HaveSync facts b m.due)) (sym on) (sync_syncs facts m.due))
+    (λ off pdos knows. subst (λ b. HaveSync facts b m.due pdos) (sym off) (none_synced facts m.due pdos knows)) of met (first_of N came (prescribed k before s.input) met.clear.sdo) h)
     (λ q g.
-    joined (tpdo_differences is_pdo_sync) subj rows s.micros more (map frame m.due) q ready after
-    (besides_run is_pdo_sync (HaveSync facts synced m.due) k subject rows s.micros before s.input q (sync_kept facts synced m.due) (begins_either k facts before s.input synced refl) met.clear.aside met.clear.beside
+    joined (tpdo_differences is_without_sync) subj rows s.micros more (map frame m.due) q ready after
+    (besides_run is_without_sync (HaveSync facts synced m.due) k subject rows s.micros before s.input q (sync_kept facts synced m.due) (begins_either k facts before s.input synced refl) met.clear.aside met.clear.beside
     (first_of N more (map frame m.due) sent) g)
-    (λ r f. weaken (tpdo_differences is_pdo_sync) subj rows s.micros (map frame m.due) r (Walked (HaveSync facts synced []) (λ x. Unit {0})) after
+    (λ r f. weaken (tpdo_differences is_without_sync) subj rows s.micros (map frame m.due) r (Walked (HaveSync facts synced []) (λ x. Unit {0})) after
     (λ x e. record { fresh = e.holds.fresh; kept = e.holds.kept.knows; opened = e.holds.opened })
-    (walks is_pdo_sync (λ i. AreSynced facts synced i (frame i).id) (HaveSync facts synced) (λ x. Unit {0}) subj rows s.micros frame m.due r (sync_walk subj s.micros synced frame)
+    (walks is_without_sync (λ i. AreSynced facts synced i (frame i).id) (HaveSync facts synced) (λ x. Unit {0}) subj rows s.micros frame m.due r (sync_walk subj s.micros synced frame)
     (tpdo_ids n frame m.due met.clear.aside.tpdos (last_of N more (map frame m.due) sent))
     (due_all (λ i. AreSynced facts synced i (frame i).id) k.description t m.contents schedule (λ i o less at due sent. all_synced k m facts t schedule o i of met.keeps less at due))
     (due_distinct k.description t m.contents schedule) f tt)))
 
 -- ---- all inputs
 
-unstamped_syncs : (pdos : Pdos) (node micros : ℕ) (frames : List FrameContent) → AreNoSdoSyncs pdos node (stamped micros frames) → AllByRecursion (IsNoSdoSync pdos node) frames
-unstamped_syncs pdos node micros [] h = tt
-unstamped_syncs pdos node micros (frame ∷ frames) h = (h.0, unstamped_syncs pdos node micros frames h.1)
-
-syncs_later : (pdos : Pdos) (k : Constants) (inputs : List Stamped) → AreNoSdoSyncs pdos k.description.node (recording k inputs) → AreNoSdoSyncs pdos k.description.node (heard_from k [] inputs)
-syncs_later pdos k [] apart = tt
-syncs_later pdos k (s ∷ later) apart = apart.1
-
-all_met : (pdos : Pdos) (k : Constants) (inputs : List Stamped) (before : Inputs) (last : ℕ) → AllInputs (λ b l s. AreClear pdos k b s) before last inputs → AreElsewhere (0x80 + k.description.node) inputs → AreNoSdoSyncs pdos k.description.node (heard_from k before inputs) → AllKeepTpdos k before inputs
-    → number_at (contents_of k before) sync_key ≡ number_at k.start sync_key → AllInputs (λ b l s. IsMet pdos k b s) before last inputs
-all_met pdos k [] before last clear emergency apart keeps sync = tt
-all_met pdos k (s ∷ later) before last clear emergency apart keeps sync =
-    let node : ℕ = k.description.node in
-    let frames : List FrameContent = frame_of s.input ++ prescribed k before s.input in
-    let rest : List Recorded = heard_from k (s.input ∷ before) later in
-    let N : Recorded → Type 0 = λ r. IsNoSdoSync pdos node r.frame in (
-      record {
-        clear = clear.0;
-        emergency = emergency.0;
-        apart = first_of (IsNoSdoSync pdos node) (frame_of s.input) (prescribed k before s.input) (unstamped_syncs pdos node s.micros frames (first_of N (stamped s.micros frames) rest apart));
-        keeps = keeps.0;
-        sync = sync;
-      },
-      all_met pdos k later (s.input ∷ before) s.micros clear.1 emergency.1 (last_of N (stamped s.micros frames) rest apart) keeps.1 (number_kept k (moment k (moments k before) s.input) sync_key keeps.0 refl),
-    )
-
-pub no_pdo_sync : (k : Constants) (subject : Subject) (rows : List Row) (inputs : List Stamped) → subject.node ≡ k.description.node → AreTpdosOf k subject.facts.pdos → AllKeepTpdos k [] inputs
+pub no_without_sync : (k : Constants) (subject : Subject) (rows : List Row) (inputs : List Stamped) → subject.node ≡ k.description.node → AreTpdosOf k subject.facts.pdos → AllKeepTpdos k [] inputs
     → AreElsewhere (0x700 + k.description.node) inputs → AreElsewhere (0x80 + k.description.node) inputs → AreNoTpdos subject.facts.pdos inputs → AllSendAside k [] inputs → AllSendBesideTpdos subject.facts.pdos k [] inputs
     → NameNoTpdos k.description.node (recording k inputs) → AreNoSdoSyncs subject.facts.pdos k.description.node (recording k inputs)
-    → differences_in (tpdo_differences is_pdo_sync) subject rows (recording k inputs) ≡ []
-no_pdo_sync k subject rows inputs is of keeps control emergency foreign aside beside none apart =
+    → differences_in (tpdo_differences is_without_sync) subject rows (recording k inputs) ≡ []
+no_without_sync k subject rows inputs is of keeps control emergency foreign aside beside none apart =
     let facts : Pdos = subject.facts.pdos in
-    of_device_too is_pdo_sync k subject rows inputs is
-    (of_recording is_pdo_sync k subject rows (λ b l s. IsMet facts k b s) (λ b l. Knows facts) (λ before last s p met h. input_runs k subject rows before last s p of met h) inputs (λ micros. knows_sheet facts)
+    of_device_too is_without_sync k subject rows inputs is
+    (of_recording is_without_sync k subject rows (λ b l s. IsMet facts k b s) (λ b l. Knows facts) (λ before last s p met h. input_runs k subject rows before last s p of met h) inputs (λ micros. knows_sheet facts)
     (λ last. all_met facts k inputs [] last (all_clear facts k inputs [] last control foreign aside beside (names_later k inputs none)) emergency (syncs_later facts k inputs apart) keeps refl))

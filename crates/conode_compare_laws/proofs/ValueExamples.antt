@@ -1,5 +1,5 @@
 -- What compare finds of the values and access of an entry, where another device answers too: each law has its condition on 580h + node-ID.
-use Rattle.std.proofs.Common.{◌≡◌, ℕ, true, false, List, [], ◌∷◌, Option, Some, None, refl}
+use Rattle.std.proofs.Common.{◌≡◌, ℕ, true, false, List, [], ◌∷◌, ◌++◌, Option, Some, None, refl}
 use Rattle.std.specs.Prelude.{ℤ, pos}
 use Rattle.co_frame.specs.SdoRequests.{request_row_in}
 use Rattle.co_frame.specs.SdoResponses.{response_row_in}
@@ -7,13 +7,15 @@ use Rattle.co_profile.specs.declared.access.Access.{Access}
 use Rattle.co_profile.specs.declared.access.Access.TheVariants.{Constant, Ro, Rw}
 use Rattle.co_node_model.proofs.ExampleNode.{frame}
 use Rattle.co_sheet.specs.Content.{Row}
-use Rattle.co_sheet.specs.Limits.{absent}
-use Rattle.co_value.specs.declared.data_type.DataType.TheVariants.{Unsigned8}
+use Rattle.co_dict_build.specs.InitialBytes.{initial_of}
+use Rattle.co_sheet.specs.Limits.{Default, absent, number, text}
+use Rattle.co_value.specs.declared.data_type.DataType.{DataType}
+use Rattle.co_value.specs.declared.data_type.DataType.TheVariants.{Unsigned8, Unsigned32, VisibleString}
 use Rattle.co_value.specs.declared.key.Key.{Key}
 use Rattle.conode_compare_pdos.specs.Followed.{unknown_pdos}
 use Rattle.conode_compare_values.specs.HeldNumbers.{held_mismatch}
 use Rattle.conode_compare_values.specs.SheetValues.{mismatch_at, row_mismatch, value_mismatch}
-use Rattle.conode_compare_values.specs.declared.mismatch.Mismatch.TheVariants.{AboveLimit, BelowLimit, ValueLength, Written}
+use Rattle.conode_compare_values.specs.declared.mismatch.Mismatch.TheVariants.{AboveLimit, BelowLimit, ConstText, ValueConst, ValueLength, Written}
 use Rattle.conode_compare_transfers.specs.Breaches.{breach_at}
 use Rattle.conode_compare_transfers.specs.Dialogues.{dialogue_heard, exchange_in, is_certain}
 use Rattle.conode_compare_transfers.specs.NewestFrames.{newest_after, newest_with}
@@ -28,7 +30,7 @@ use Rattle.conode_compare_rules.specs.States as states
 use Rattle.conode_compare_rules.specs.States.{after_boot_up, after_other, awaits_boot_up, is_settled}
 use Rattle.conode_compare_rules.specs.Verdicts.{found}
 use Rattle.conode_compare_rules.specs.OtherClients.{no_clients}
-use Rattle.conode_compare_laws.specs.ValueFindings.{length_differences, limit_differences, write_differences}
+use Rattle.conode_compare_laws.specs.ValueFindings.{constant_differences, length_differences, limit_differences, write_differences}
 use Rattle.conode_compare_laws.specs.Differences.{differences_in}
 use Rattle.conode_compare_laws.specs.Recordings.{Recorded, with_stamp}
 
@@ -95,3 +97,49 @@ one_byte : differences_in length_differences subject (rows Rw None None) (answer
 unfolding findings_at progress_with begun booted found states.after_control after_boot_up after_other awaits_boot_up is_settled progresses.after_control control_findings heartbeat_findings silence_finding channel_heard exchange_at exchange_noted late_noted
     request_findings confirmed_finding answer_findings answer_finding stopped_finding held_finding what_finding held_mismatch dialogue_heard exchange_in is_certain newest_with newest_after breach_at shown_period shown_inhibit asked_to_write mismatch_at row_mismatch value_mismatch request_row_in response_row_in
 one_byte = refl
+
+-- ---- a value that is compared
+
+abbrev preset : Key → DataType → Access → Default → Row
+preset key data_type access default =
+    record { key = key; data_type = data_type; access = access; low = None; high = None; default = default; mappable = false; name = None; line = 1 }
+
+-- it has 6, and the sheet 5
+other_number : differences_in constant_differences subject (preset entry Unsigned8 Constant (number (pos 5)) ∷ []) (answered 0x4000_2000_0000_0000 0x4F00_2000_0600_0000) ≡ Value (ValueConst entry 6 5) ∷ []
+unfolding findings_at progress_with begun booted found states.after_control after_boot_up after_other awaits_boot_up is_settled progresses.after_control control_findings heartbeat_findings silence_finding channel_heard exchange_at exchange_noted late_noted
+    request_findings confirmed_finding answer_findings answer_finding stopped_finding held_finding what_finding held_mismatch dialogue_heard exchange_in is_certain newest_with newest_after breach_at shown_period shown_inhibit asked_to_write mismatch_at row_mismatch value_mismatch request_row_in response_row_in
+other_number = refl
+
+as_sheet : differences_in constant_differences subject (preset entry Unsigned8 Constant (number (pos 5)) ∷ []) (answered 0x4000_2000_0000_0000 0x4F00_2000_0500_0000) ≡ []
+unfolding findings_at progress_with begun booted found states.after_control after_boot_up after_other awaits_boot_up is_settled progresses.after_control control_findings heartbeat_findings silence_finding channel_heard exchange_at exchange_noted late_noted
+    request_findings confirmed_finding answer_findings answer_finding stopped_finding held_finding what_finding held_mismatch dialogue_heard exchange_in is_certain newest_with newest_after breach_at shown_period shown_inhibit asked_to_write mismatch_at row_mismatch value_mismatch request_row_in response_row_in
+as_sheet = refl
+
+-- it has "PU", and the sheet "PT"
+other_text : differences_in constant_differences subject (preset entry VisibleString Constant (text (0x50 ∷ 0x54 ∷ [])) ∷ []) (answered 0x4000_2000_0000_0000 0x4B00_2000_5055_0000) ≡ Value (ConstText entry) ∷ []
+unfolding findings_at progress_with begun booted found states.after_control after_boot_up after_other awaits_boot_up is_settled progresses.after_control control_findings heartbeat_findings silence_finding channel_heard exchange_at exchange_noted late_noted
+    request_findings confirmed_finding answer_findings answer_finding stopped_finding held_finding what_finding held_mismatch dialogue_heard exchange_in is_certain newest_with newest_after breach_at shown_period shown_inhibit asked_to_write mismatch_at row_mismatch value_mismatch request_row_in response_row_in
+other_text = refl
+
+-- rows of no sheet that was read: 300 is no UNSIGNED8, and a device that is built of them has 44
+abbrev too_great : Row
+too_great = preset entry Unsigned8 Constant (number (pos 300))
+
+of_no_sheet : initial_of 5 too_great ≡ 44 ∷ []
+of_no_sheet = refl
+
+another_number : differences_in constant_differences subject (too_great ∷ []) (answered 0x4000_2000_0000_0000 0x4F00_2000_2C00_0000) ≡ Value (ValueConst entry 44 300) ∷ []
+unfolding findings_at progress_with begun booted found states.after_control after_boot_up after_other awaits_boot_up is_settled progresses.after_control control_findings heartbeat_findings silence_finding channel_heard exchange_at exchange_noted late_noted
+    request_findings confirmed_finding answer_findings answer_finding stopped_finding held_finding what_finding held_mismatch dialogue_heard exchange_in is_certain newest_with newest_after breach_at shown_period shown_inhibit asked_to_write mismatch_at row_mismatch value_mismatch request_row_in response_row_in
+another_number = refl
+
+-- 1000:00 is rw in the sheet: a client writes 2, and reads it
+abbrev device_type : Key
+device_type = record { index = 0x1000; sub = 0 }
+
+written_type : differences_in constant_differences subject (preset device_type Unsigned32 Rw (number (pos 1)) ∷ [])
+    (answered 0x2300_1000_0200_0000 0x6000_1000_0000_0000 ++ with_stamp 1900000 (frame 0x605 8 0x4000_1000_0000_0000) ∷ with_stamp 2000000 (frame 0x585 8 0x4300_1000_0200_0000) ∷ [])
+    ≡ Value (ValueConst device_type 2 1) ∷ []
+unfolding findings_at progress_with begun booted found states.after_control after_boot_up after_other awaits_boot_up is_settled progresses.after_control control_findings heartbeat_findings silence_finding channel_heard exchange_at exchange_noted late_noted
+    request_findings confirmed_finding answer_findings answer_finding stopped_finding held_finding what_finding held_mismatch dialogue_heard exchange_in is_certain newest_with newest_after breach_at shown_period shown_inhibit asked_to_write mismatch_at row_mismatch value_mismatch request_row_in response_row_in
+written_type = refl

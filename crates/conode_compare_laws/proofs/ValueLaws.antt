@@ -1,23 +1,31 @@
 -- The laws about values and access of a device that is built from a data sheet, of that sheet.
-use Rattle.std.proofs.Common.{◌≡◌, ◌+◌, false, List, [], ◌∷◌, Option, Some, None, refl, sym, subst}
-use Rattle.std.specs.List.{AllByRecursion}
+use Rattle.std.proofs.Common.{◌≡◌, ◌+◌, ◌∙◌, true, false, ap, List, [], ◌∷◌, Option, Some, None, refl, sym, subst}
+use Rattle.std.specs.List.{All, AllByRecursion}
+use Rattle.co_value.specs.declared.key.Key.{Key}
 use Rattle.co_dict.specs.Rows.{Contents}
 use Rattle.co_dict.specs.Stores.{Description, IsDictionary}
-use Rattle.co_dict_build.specs.Built.{Plan}
+use Rattle.co_dict_build.specs.Built.{Plan, built_contents}
 use Rattle.co_node.specs.Built.{IsBuilt}
 use Rattle.co_node_model.specs.Device.{contents_of}
 use Rattle.co_node_model.specs.Inputs.{Inputs}
 use Rattle.co_node_model.specs.Moments.{Constants, channels}
 use Rattle.co_node_model.specs.Sync.{is_sync_id}
+use Rattle.co_sheet.specs.SheetLaws.{IsSheetRow}
 use Rattle.conode_compare_rules.specs.declared.finding.Finding.{Finding}
 use Rattle.conode_compare_rules.specs.declared.limits.Subject.{Subject}
 use Rattle.conode_compare_laws.specs.AnswerEntries.{AllAreHeld}
 use Rattle.conode_compare_laws.specs.AnswerSenders.{AllSendOther, HaveBytes, HaveOtherChannels}
 use Rattle.conode_compare_laws.specs.Differences.{differences_in}
 use Rattle.conode_compare_laws.specs.Identifiers.{AreElsewhere, IsAside}
+use Rattle.conode_compare_laws.specs.IdentityEntries.{AllHaveIdentity, HasIdentity}
 use Rattle.conode_compare_laws.specs.Recordings.{Stamped, recording}
-use Rattle.conode_compare_laws.specs.ValueFindings.{length_differences, limit_differences, of_lengths, of_limits, of_writes, on_channel, write_differences}
+use Rattle.conode_compare_laws.specs.ValueFindings.{constant_differences, length_differences, limit_differences, of_constants, of_lengths, of_limits, of_writes, on_channel, write_differences}
+use Rattle.conode_compare_laws.proofs.Begins.{node_ok, to_127}
+use Rattle.conode_compare_laws.proofs.BuiltBytes.{always_fixed, identity_same, is_fixed}
 use Rattle.conode_compare_laws.proofs.Heard.{of_device}
+use Rattle.conode_compare_laws.proofs.KeptEntries.{SetsPermitted}
+use Rattle.conode_compare_laws.proofs.TpdoMapped.{none_out}
+use Rattle.conode_compare_laws.proofs.ValueConstants.{HoldsSheet, constant_picks, no_constant}
 use Rattle.conode_compare_laws.proofs.ValueDownloads.{Picks, Standing, obeys}
 use Rattle.conode_compare_laws.proofs.ValueInputs.{AllHold, none_in}
 use Rattle.conode_compare_laws.proofs.ValueLengths.{length_picks, no_length}
@@ -28,6 +36,21 @@ use Rattle.conode_compare_laws.proofs.ValueWrites.{limit_picks, no_limit, no_wri
 all_held : (k : Constants) (inputs : List Stamped) (before : Inputs) → AllAreHeld k before inputs → AllHold (IsDictionary k.description) k before inputs
 all_held k [] before h = tt
 all_held k (s ∷ later) before h = (h.0, all_held k later (s.input ∷ before) h.1)
+
+-- before each input the entries that are compared have the bytes with which the device was built
+holds_sheet : SetsPermitted → (plan : Plan) (k : Constants) → IsBuilt plan k → (before : Inputs) → IsDictionary k.description (contents_of k before) → HasIdentity k (contents_of k before) → HoldsSheet plan (contents_of k before)
+holds_sheet permitted plan k is before lawful identity =
+    let start : (key : Key) → k.start key ≡ built_contents plan key = λ key. ap (λ (c : Contents). c key) is.start in
+    record {
+      lawful = subst (λ (d : Description). IsDictionary d (contents_of k before)) is.description lawful;
+      fixed = λ key on. always_fixed permitted plan k is before key (subst (λ (d : Description). is_fixed d.rows key ≡ true) (sym is.description) on) ∙ start key;
+      identity = λ key on. identity_same permitted plan k is before identity key on ∙ start key;
+    }
+
+all_hold_sheet : SetsPermitted → (plan : Plan) (k : Constants) → IsBuilt plan k → (inputs : List Stamped) (before : Inputs) → AllAreHeld k before inputs → AllHaveIdentity k before inputs → AllHold (HoldsSheet plan) k before inputs
+all_hold_sheet permitted plan k is [] before held identity = tt
+all_hold_sheet permitted plan k is (s ∷ later) before held identity =
+    (holds_sheet permitted plan k is before held.0 identity.0, all_hold_sheet permitted plan k is later (s.input ∷ before) held.1 identity.1)
 
 module _ (plan : Plan) (k : Constants) (is : IsBuilt plan k) (subject : Subject) (inputs : List Stamped) (same : subject.node ≡ k.description.node) (bytes : HaveBytes inputs) (held : AllAreHeld k [] inputs) (answers : AreElsewhere (0x580 + k.description.node) inputs) (other : AllSendOther k [] inputs) (sync : (all : Inputs) → is_sync_id (contents_of k all) (0x600 + k.description.node) ≡ false) (others : HaveOtherChannels k) (aside : AllByRecursion (λ c. IsAside k.description.node c.response) (channels k)) where
   -- of downloads that are done
@@ -53,3 +76,9 @@ module _ (plan : Plan) (k : Constants) (is : IsBuilt plan k) (subject : Subject)
   no_lengths =
       uploads of_lengths refl no_length (IsDictionary k.description) (λ c h. h)
       (subst (λ (d : Description). uploaded.Picks (IsDictionary d) of_lengths (of_device k subject) plan.rows) (sym is.description) (length_picks plan (of_device k subject))) (all_held k inputs [] held)
+
+  pub no_constants : SetsPermitted → All IsSheetRow plan.rows → AllHaveIdentity k [] inputs → differences_in constant_differences subject plan.rows (recording k inputs) ≡ []
+  no_constants permitted lawful identity =
+      uploads of_constants refl no_constant (HoldsSheet plan) (λ c h. subst (λ (d : Description). IsDictionary d c) (sym is.description) h.lawful)
+      (constant_picks plan (of_device k subject) (ap (λ (d : Description). d.node) is.description) (to_127 plan.node (node_ok plan is.faultless)) lawful (none_out plan is.faultless))
+      (all_hold_sheet permitted plan k is inputs [] held identity)

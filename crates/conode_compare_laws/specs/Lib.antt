@@ -16,3 +16,4 @@ pub mod WrittenEntries
 pub mod GivenRooms
 pub mod ShownWords
 pub mod ValueFindings
+pub mod IdentityEntries

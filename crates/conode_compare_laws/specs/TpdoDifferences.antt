@@ -1,7 +1,7 @@
 -- What `compare` finds of TPDOs, kind by kind (CiA 301, 7.2.2, 7.3.2.2 and 7.5.2.37).
 use Rattle.std.specs.Prelude.{Bool, true, false, if◌then◌else◌, List, [], ◌∷◌, Option, Some}
 use Rattle.conode_compare_pdos.specs.declared.deviation.Deviation.{Deviation}
-use Rattle.conode_compare_pdos.specs.declared.deviation.Deviation.TheVariants.{Length, NotOperational, WithoutSync, Inhibit, Timer}
+use Rattle.conode_compare_pdos.specs.declared.deviation.Deviation.TheVariants.{Length, NotOperational, WithoutSync, FewSyncs, Inhibit, Timer}
 use Rattle.conode_compare_rules.specs.declared.finding.Finding.{Finding}
 use Rattle.conode_compare_rules.specs.declared.finding.Finding.TheVariants.{Pdo}
 use Rattle.conode_compare_rules.specs.declared.kind.FrameKind.{FrameKind}
@@ -18,9 +18,10 @@ abbrev pub is_pdo_length : Deviation → Bool
 is_pdo_length (Length length mapped) = true
 is_pdo_length other = false
 
--- `pdo-sync` without a SYNC; not that of too few SYNCs, of which there is no law so far
+-- `pdo-sync`, without a SYNC and after too few SYNCs
 abbrev pub is_pdo_sync : Deviation → Bool
 is_pdo_sync WithoutSync = true
+is_pdo_sync (FewSyncs syncs n) = true
 is_pdo_sync other = false
 
 -- `pdo-inhibit`

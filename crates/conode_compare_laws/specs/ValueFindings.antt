@@ -1,6 +1,6 @@
 -- What `compare` finds of the values and the access of entries, by the end of a transfer on a device's default SDO channel.
 use Rattle.std.specs.Prelude.{List, [], ◌∷◌, Option, Some}
-use Rattle.conode_compare_values.specs.declared.mismatch.Mismatch.TheVariants.{Written, AboveLimit, BelowLimit, ValueLength}
+use Rattle.conode_compare_values.specs.declared.mismatch.Mismatch.TheVariants.{Written, AboveLimit, BelowLimit, ConstText, ValueConst, ValueLength}
 use Rattle.conode_compare_rules.specs.declared.finding.Finding.{Finding}
 use Rattle.conode_compare_rules.specs.declared.finding.Finding.TheVariants.{Value}
 use Rattle.conode_compare_rules.specs.declared.kind.FrameKind.{FrameKind}
@@ -40,3 +40,12 @@ of_lengths finding = []
 
 abbrev pub length_differences : FrameKind → Findings → List Finding
 length_differences = on_channel of_lengths
+
+-- `value-const`, of numbers and of texts
+abbrev pub of_constants : Option Finding → List Finding
+of_constants (Some (Value (ValueConst key shown held))) = Value (ValueConst key shown held) ∷ []
+of_constants (Some (Value (ConstText key))) = Value (ConstText key) ∷ []
+of_constants finding = []
+
+abbrev pub constant_differences : FrameKind → Findings → List Finding
+constant_differences = on_channel of_constants

@@ -11,9 +11,13 @@ ghost use Rattle.conode_compare_pdos.specs.Followed.{pdos_of};
 ghost use Rattle.conode_compare_rules.specs.declared.limits.Subject.{Subject};
 ghost use Rattle.conode_compare_laws.specs.Differences.{differences_in};
 ghost use Rattle.conode_compare_laws.specs.Identifiers.{AreElsewhere};
-ghost use Rattle.conode_compare_laws.specs.NamedTpdos.{NameNoTpdos};
+ghost use Rattle.conode_compare_laws.specs.NamedTpdos.{AreNoSdoSyncs, NameNoTpdos};
 ghost use Rattle.conode_compare_laws.specs.Recordings.{Stamped, recording};
-ghost use Rattle.conode_compare_laws.specs.TpdoDifferences.{is_pdo_length, tpdo_differences};
+ghost use Rattle.conode_compare_laws.specs.TpdoDifferences.{
+  is_pdo_length,
+  is_pdo_sync,
+  tpdo_differences,
+};
 ghost use Rattle.conode_compare_laws.specs.TpdoFrames.{AllSendBesideTpdos, AreNoTpdos};
 ghost use Rattle.conode_compare_laws.specs.TpdoParameters.{AllKeepTpdos, AllWriteNone, AreTpdosOf};
 ghost use Rattle.conode_compare_laws.specs.TpdoSheets.{AreOnTheirOwn};
@@ -68,6 +72,29 @@ pub fn built_no_pdo_length()
         differences_in (tpdo_differences is_pdo_length) subject rows (recording k inputs) ≡ [] }
 {
     Bank::set_is_permitted();
+    begins_aside();
+    keeps_tpdos();
+    sends_aside();
+}
+
+/// The recording of a device that is built from a data sheet has no `pdo-sync` (CiA 301, 7.2.2.2.1
+/// and 7.5.2.37): `no_pdo_sync` of it. Conditions: `compare` has the device's node-ID; what it has
+/// of the TPDOs is what the device was built with (`AreTpdosOf`, as by `tpdos_of_sheet`); no SDO
+/// channel and no event of the application writes a parameter of a TPDO, nor 1005h
+/// (`AllWriteNone`); and those of `no_pdo_sync` on the frames. This is a law: a call of it changes
+/// nothing.
+pub fn built_no_pdo_sync()
+    ensures { (plan : Plan) (k : Constants) (subject : Subject) (rows : List Row)
+        (inputs : List Stamped) → IsBuilt plan k → subject.node ≡ k.description.node →
+        AreTpdosOf k subject.facts.pdos → AllWriteNone k [] inputs →
+        AreElsewhere (0x700 + k.description.node) inputs →
+        AreElsewhere (0x80 + k.description.node) inputs →
+        AreNoTpdos subject.facts.pdos inputs →
+        AllSendBesideTpdos subject.facts.pdos k [] inputs →
+        NameNoTpdos k.description.node (recording k inputs) →
+        AreNoSdoSyncs subject.facts.pdos k.description.node (recording k inputs) →
+        differences_in (tpdo_differences is_pdo_sync) subject rows (recording k inputs) ≡ [] }
+{
     begins_aside();
     keeps_tpdos();
     sends_aside();

@@ -58,11 +58,11 @@ pub fn no_pdo_length()
     sends_aside();
 }
 
-/// Nor has it a `pdo-sync` (CiA 301, 7.2.2.2.1) without a SYNC: a TPDO of type 0 to 240 comes after
-/// one. Of those after too few SYNCs there is no law so far. Conditions as those of `no_pdo_length`
-/// but that of the entries; that no other node sends on 80h + node-ID, not even SYNC
-/// (`AreElsewhere`); and that SYNC, as far as `compare` knows its identifier, doesn't come on the
-/// default SDO channel (`AreNoSdoSyncs`). This is a law: a call of it changes nothing.
+/// Nor has it a `pdo-sync` (CiA 301, 7.2.2.2.1 and 7.5.2.37): a TPDO of type 0 to 240 comes after a
+/// SYNC, and one of type n = 2 to 240 not after fewer than n. Conditions as those of
+/// `no_pdo_length` but that of the entries; that no other node sends on 80h + node-ID, not even
+/// SYNC (`AreElsewhere`); and that SYNC, as far as `compare` knows its identifier, doesn't come on
+/// the default SDO channel (`AreNoSdoSyncs`). This is a law: a call of it changes nothing.
 pub fn no_pdo_sync()
     ensures { (k : Constants) (subject : Subject) (rows : List Row) (inputs : List Stamped) →
         subject.node ≡ k.description.node → AreTpdosOf k subject.facts.pdos →

@@ -1,18 +1,22 @@
 //! Values and access of entries.
 
 ghost use Rattle.std.specs.Prelude.{◌≡◌, ◌+◌, List, []};
+ghost use Rattle.std.specs.List.{All};
 ghost use Rattle.co_dict_build.specs.Built.{Plan};
 ghost use Rattle.co_node.specs.declared.node.Node.{Node};
 ghost use Rattle.co_node.specs.Built.{IsBuilt};
 ghost use Rattle.co_node.specs.Nodes.{Stands};
 ghost use Rattle.co_node_model.specs.Moments.{Constants};
+ghost use Rattle.co_sheet.specs.SheetLaws.{IsSheetRow};
 ghost use Rattle.conode_compare_rules.specs.declared.limits.Subject.{Subject};
 ghost use Rattle.conode_compare_laws.specs.AnswerEntries.{AllAreHeld};
 ghost use Rattle.conode_compare_laws.specs.AnswerSenders.{HaveBytes};
 ghost use Rattle.conode_compare_laws.specs.Differences.{differences_in};
 ghost use Rattle.conode_compare_laws.specs.Identifiers.{AreElsewhere};
+ghost use Rattle.conode_compare_laws.specs.IdentityEntries.{AllHaveIdentity, AreNeverWritten};
 ghost use Rattle.conode_compare_laws.specs.Recordings.{Stamped, recording};
 ghost use Rattle.conode_compare_laws.specs.ValueFindings.{
+  constant_differences,
   length_differences,
   limit_differences,
   write_differences,
@@ -24,6 +28,7 @@ use crate::built_devices::begins_aside;
 use crate::entries::stays_dictionary;
 use co_node::{begins_apart, stands_on_dictionary};
 use co_node_laws::stays_apart;
+use co_sdo::Bank;
 
 /// The recording of a device that is built from a data sheet, over whatever inputs with whatever
 /// stamps, has no `access-write` by that sheet: no download of an entry that it has as `ro` or
@@ -127,4 +132,55 @@ pub fn node_no_length_differences()
     stands_on_dictionary();
     stays_dictionary();
     built_no_length_differences();
+}
+
+/// The recording of a device that is built from a data sheet, over whatever inputs with whatever
+/// stamps, has no `value-const` by that sheet: each number that is compared with it is the sheet's,
+/// also of `$NODEID`, and so is each text, expedited, in segments and in blocks (CiA 301, 7.2.4.3).
+/// What is `const` is never written (CiA 301, 7.2.4.3.17), and no error, no RPDO and no reset
+/// changes it. Conditions: the rows are those of a sheet that was read (`IsSheetRow`); the device
+/// type, the vendor-ID and the product code, which are compared whatever access the sheet has them
+/// with, have the bytes with which the device was built, where they aren't `const`
+/// (`AllHaveIdentity`, as by `keeps_identity`); and those of `built_no_write_differences`. This is
+/// a law: a call of it changes nothing.
+pub fn built_no_constant_differences()
+    ensures { (plan : Plan) (k : Constants) (subject : Subject) (inputs : List Stamped) →
+        IsBuilt plan k → All IsSheetRow plan.rows → subject.node ≡ k.description.node →
+        HaveBytes inputs → AllAreHeld k [] inputs → AllHaveIdentity k [] inputs →
+        AreElsewhere (0x580 + k.description.node) inputs →
+        differences_in constant_differences subject plan.rows (recording k inputs) ≡ [] }
+{
+    begins_apart();
+    begins_aside();
+    begins_other();
+    sends_other();
+    stays_apart();
+    Bank::set_is_permitted();
+}
+
+/// So has the recording of each device that `Node::build` of `co_node` makes:
+/// `built_no_constant_differences` of it, without a condition on what fits its entries
+/// (`stays_dictionary`), where what the application writes has bytes (`WriteBytes`). This is a law:
+/// a call of it changes nothing.
+pub fn node_no_constant_differences()
+    ensures { (plan : Plan) (k : Constants) (node : Node) (subject : Subject)
+        (inputs : List Stamped) → IsBuilt plan k → All IsSheetRow plan.rows → Stands k node [] →
+        subject.node ≡ k.description.node → HaveBytes inputs → WriteBytes inputs →
+        AllHaveIdentity k [] inputs → AreElsewhere (0x580 + k.description.node) inputs →
+        differences_in constant_differences subject plan.rows (recording k inputs) ≡ [] }
+{
+    stands_on_dictionary();
+    stays_dictionary();
+    built_no_constant_differences();
+}
+
+/// The device type, the vendor-ID and the product code of a device that is built from a data sheet
+/// have the bytes with which it was built over all inputs, where none of them can be written
+/// (`AreNeverWritten`): each that the sheet has is `const` there, or it is `ro` and the application
+/// doesn't write it. This is a law: a call of it changes nothing.
+pub fn keeps_identity()
+    ensures { (plan : Plan) (k : Constants) (inputs : List Stamped) → IsBuilt plan k →
+        AreNeverWritten inputs plan.rows → AllHaveIdentity k [] inputs }
+{
+    Bank::set_is_permitted();
 }

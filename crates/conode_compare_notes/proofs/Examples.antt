@@ -4,7 +4,7 @@ use Rattle.std.specs.Prelude.{pos, option_map}
 use Rattle.co_frame.specs.FrameContent.{FrameContent}
 use Rattle.co_frame.specs.declared.nmt.NmtService.TheVariants.{Start, ResetNode}
 use Rattle.co_profile.specs.declared.access.Access.{Access}
-use Rattle.co_profile.specs.declared.access.Access.TheVariants.{Ro, Rw, Wo}
+use Rattle.co_profile.specs.declared.access.Access.TheVariants.{Ro, Rw}
 use Rattle.co_sheet.specs.Content.{Row}
 use Rattle.co_sheet.specs.Limits.{absent, number, text}
 use Rattle.co_value.specs.declared.data_type.DataType.{DataType}
@@ -16,18 +16,16 @@ use Rattle.conode_explain_transfers.specs.declared.ended.Ending.TheVariants.{Don
 use Rattle.conode_explain_transfers.specs.declared.kinds.Direction.{Direction}
 use Rattle.conode_explain_transfers.specs.declared.kinds.Direction.TheVariants.{Download, Upload}
 use Rattle.conode_explain_transfers.specs.declared.kinds.Protocol.{Protocol}
-use Rattle.conode_explain_transfers.specs.declared.kinds.Protocol.TheVariants.{Expedited, Segmented, Block, Undecided}
+use Rattle.conode_explain_transfers.specs.declared.kinds.Protocol.TheVariants.{Expedited, Segmented, Block}
 use Rattle.conode_explain_transfers.specs.declared.kinds.Side.TheVariants.{Client, Server}
 use Rattle.conode_explain_transfers.specs.declared.kinds.What.{What}
-use Rattle.conode_explain_transfers.specs.declared.kinds.What.TheVariants.{Initiate, Part, Stray, Unexpected}
+use Rattle.conode_explain_transfers.specs.declared.kinds.What.TheVariants.{Initiate, Part}
 use Rattle.conode_compare_transfers.specs.declared.dialogue.Exchange.{Exchange}
 use Rattle.conode_compare_rules.specs.declared.entries.Entries.{Entries}
-use Rattle.conode_compare_rules.specs.declared.kind.FrameKind.{FrameKind}
 use Rattle.conode_compare_rules.specs.declared.limits.Subject.{Subject}
 use Rattle.conode_compare_rules.specs.EntriesInForce.{facts_of}
 use Rattle.conode_compare_rules.specs.declared.finding.Remark.TheVariants.{EarlyHeartbeat, Restarted as RestartedRemark}
-use Rattle.conode_compare_rules.specs.declared.kind.FrameKind.TheVariants.{Command, Control, Sdo, Other}
-use Rattle.conode_compare_notes.specs.declared.contents.Content.{Content}
+use Rattle.conode_compare_rules.specs.declared.kind.FrameKind.TheVariants.{Command, Control}
 use Rattle.conode_compare_notes.specs.declared.contents.Content.TheVariants.{Number, Bytes}
 use Rattle.conode_compare_notes.specs.declared.history.ErrorCode.{ErrorCode}
 use Rattle.conode_compare_notes.specs.declared.history.Errors.{Errors}

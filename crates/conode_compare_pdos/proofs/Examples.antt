@@ -1,5 +1,5 @@
 -- What a TPDO is otherwise than prescribed and what it isn't, on both sides of each edge, computed from the definitions.
-use Rattle.std.proofs.Common.{◌≡◌, ℕ, Bool, true, false, List, [], ◌∷◌, map, Option, Some, None, refl}
+use Rattle.std.proofs.Common.{◌≡◌, ℕ, Bool, true, false, List, [], ◌∷◌, map, Some, None, refl}
 use Rattle.std.specs.Prelude.{pos, ◌/◌, ◌%◌, ◌^◌, ◌==◌}
 use Rattle.co_profile.specs.declared.access.Access.TheVariants.{Constant, Rw}
 use Rattle.co_sheet.specs.Content.{Row}

@@ -1,11 +1,9 @@
 -- A data frame that none of the TPDOs has.
-use Rattle.std.proofs.Common.{◌≡◌, ℕ, Bool, true, false, Option, Some, None, refl}
-use Rattle.std.specs.Prelude.{◌||◌, if◌then◌else◌, is_some}
-use Rattle.std.proofs.lemmas.Bool.{false≢true}
+use Rattle.std.proofs.Common.{◌≡◌, ℕ, Bool, true, false, None, refl}
+use Rattle.std.specs.Prelude.{◌||◌}
 use Rattle.conode_compare_pdos.specs.declared.deviation.Moment.{Moment}
 use Rattle.conode_compare_pdos.specs.declared.pdos.Pdos.{Pdos}
-use Rattle.conode_compare_pdos.specs.declared.pdos.Sighting.{Sighting}
-use Rattle.conode_compare_pdos.specs.Followed.{are_several, framed, has_id, or_else, sighting, unjudged}
+use Rattle.conode_compare_pdos.specs.Followed.{framed, has_id, sighting}
 use Rattle.conode_compare_pdos.specs.Tpdos.{is_id}
 
 -- none of four

@@ -391,9 +391,10 @@ extended : (seen Other (Extended 0x205)).followed ≡ false
 unfolding booted_receptions other_ids_of has_few_rpdos facts_of rpdo_of no_writes nothing_written receptions_with process_received initial_entries sheet_entries
 extended = refl
 
--- where the recording begins anew, nothing is known; where no entry is held, nothing changes
-begins : (number_in (receptions_with subject rows booted (record (shows Operational 20000) { started = 20000 }) 20000 (Polled 0x205) (Base 0x205) (Data [])) ≡ None)
+-- where the recording begins anew, nothing is known, and not with a later frame of the same stamp; where no entry is held, nothing changes
+begins : (number_in (receptions_with subject rows booted (record (shows Operational 20000) { begins = true }) 20000 (Polled 0x205) (Base 0x205) (Data [])) ≡ None)
+    × (number_in (receptions_with subject rows booted (record (shows Operational 20000) { started = 20000 }) 20000 (Polled 0x205) (Base 0x205) (Data [])) ≡ Some 5)
     × ((with_receptions (record subject { held = record { entries = record { items = [] } } }) operational booted).written ≡ nothing_written)
     × (number_at (with_receptions subject operational booted).written (Some 0) ≡ Some 5)
 unfolding booted_receptions other_ids_of no_receptions no_writes nothing_written receptions_with with_receptions facts_of initial_entries sheet_entries
-begins = (refl, refl, refl)
+begins = (refl, refl, refl, refl)

@@ -19,7 +19,7 @@ use Rattle.conode_compare_rules.specs.declared.limits.Subject.{Subject}
 use Rattle.conode_compare_rules.specs.declared.progress.Progress.{Progress}
 use Rattle.conode_compare_rules.specs.EntriesInForce.{asked_to_write, facts_of, initial_entries, overwritten, sheet_entries, shown_inhibit, shown_period}
 use Rattle.conode_compare_rules.specs.OtherClients.{clients_of, is_channel, is_open, may_send, no_clients}
-use Rattle.conode_compare_rules.specs.Progresses.{after_process, before_recording, begun, booted, channel_heard, exchange_at, pdos_asked, pdos_by}
+use Rattle.conode_compare_rules.specs.Progresses.{after_fault, after_process, before_recording, begun, booted, channel_heard, exchange_at, is_begun, pdos_asked, pdos_by, with_gap}
 use Rattle.conode_compare_rules.proofs.Examples.{limits, row}
 
 abbrev key : ℕ → ℕ → Key
@@ -147,6 +147,15 @@ shown_nothing = refl
 anew : (begun device (record (after_process device up 9 0x645 8) { newest = Some 9 }) 8).other_client ≡ true
 unfolding after_process begun
 anew = refl
+
+-- It begins with the first frame, not with another one of the same stamp, and anew where a stamp steps back, and with an error frame.
+begins : map (λ newest. is_begun (begun device (record up { newest = newest; started = 9 }) 9)) (None ∷ Some 9 ∷ Some 8 ∷ Some 10 ∷ []) ≡ true ∷ false ∷ false ∷ true ∷ []
+unfolding begun
+begins = refl
+
+begins_with_error : is_begun (after_fault up 9) ∷ is_begun (begun device (record (after_fault up 9) { newest = Some 9 }) 9) ∷ [] ≡ true ∷ false ∷ []
+unfolding after_fault begun with_gap
+begins_with_error = refl
 
 -- the device may take it after its boot-up: from then on each shows no more than what never changes
 abbrev boots : List ℕ → Progress

@@ -51,6 +51,7 @@ abbrev pub before_recording : Subject → Progress
 before_recording subject = record {
   newest = None;
   started = 0;
+  begins = false;
   free = 0;
   nmt = nothing_commanded;
   heartbeats = no_heartbeat;
@@ -98,12 +99,14 @@ begun subject progress micros =
     if begins_anew subject.limits progress micros then record (before_recording subject) {
       newest = Some micros;
       started = micros;
+      begins = true;
       free = micros;
       dialogue = still_awaited progress.dialogue micros;
       other_client = progress.other_client;
     }
     else record progress {
       newest = Some micros;
+      begins = false;
       free = free_at progress.newest progress.free micros;
       dialogue = with_quiet subject.limits progress micros;
       pdos = pdos_with_quiet subject.limits progress micros;
@@ -123,7 +126,7 @@ with_gap progress micros = record progress {
 
 -- an error frame: what came with it may be missing in the recording
 unfoldable pub after_fault : Progress → ℕ → Progress
-after_fault progress micros = record (with_gap progress micros) { nmt = nothing_commanded; started = micros }
+after_fault progress micros = record (with_gap progress micros) { nmt = nothing_commanded; started = micros; begins = true }
 
 -- ---- commands and node guarding
 
@@ -554,7 +557,7 @@ is_number_kept subject after = option_map_or (kept_in subject after.written) aft
 
 -- the recording begins with the newest frame, or begins anew; or that is an error frame
 abbrev pub is_begun : Progress → Bool
-is_begun progress = option_map_or (λ newest. newest == progress.started) progress.newest false
+is_begun progress = progress.begins
 
 -- the device was operational when the bus was free last before the frame, as far as commands and
 -- heartbeats show

@@ -64,12 +64,16 @@ impl Progress {
             let other_client = self.other_client;
             *self = Progress::new(subject);
             self.started = micros;
+            self.begins = true;
             self.dialogue.slow = slow;
             self.dialogue.sub_block = sub_block;
             self.other_client = other_client;
-        } else if self.was_quiet(&subject.limits, micros) {
-            self.dialogue.interrupt(micros);
-            self.pdos.interrupt();
+        } else {
+            self.begins = false;
+            if self.was_quiet(&subject.limits, micros) {
+                self.dialogue.interrupt(micros);
+                self.pdos.interrupt();
+            }
         }
         self.free = self.free_at(micros);
         self.newest = Some(micros);
@@ -101,5 +105,6 @@ impl Progress {
         self.break_off(micros);
         self.nmt = Nmt::new();
         self.started = micros;
+        self.begins = true;
     }
 }

@@ -47,9 +47,6 @@ impl Progress {
     pub fn is_begun(&self) -> bool
         ensures { result ≡ is_begun self.now }
     {
-        match self.newest {
-            Some(newest) => newest == self.started,
-            None => false,
-        }
+        self.begins
     }
 }

@@ -61,6 +61,8 @@ pub struct Progress {
     pub newest: Option<u64>,
     /// The stamp of the first frame, or of the first one after a gap.
     pub started: u64,
+    /// Whether the recording begins with the newest frame, or begins anew; or that is an error frame.
+    pub(crate) begins: bool,
     /// When the bus was free last: the stamp of the first of the frames that follow one another
     /// closely.
     pub free: u64,
@@ -89,6 +91,7 @@ impl Progress {
         Progress {
             newest: None,
             started: 0,
+            begins: false,
             free: 0,
             nmt: Nmt::new(),
             heartbeats: Heartbeats::new(),

@@ -50,7 +50,7 @@ no_state : finding_text plain (NoState 0xA) ≡ codes "heartbeat-state: 0Ah is n
 unfolding finding_text digits_text filled
 no_state = refl
 
-wrong_state : finding_text plain (WrongState Operational PreOperational) ≡ codes "heartbeat-state: operational, but by the commands it is pre-operational"
+wrong_state : finding_text plain (WrongState Operational PreOperational) ≡ codes "heartbeat-state: operational, but by commands and heartbeats it is pre-operational"
 unfolding finding_text filled
 wrong_state = refl
 

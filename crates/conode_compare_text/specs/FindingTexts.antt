@@ -116,7 +116,7 @@ finding_text t (HeartbeatLength length) =
 finding_text t (NoState byte) =
     filled (codes "heartbeat-state: %h is no NMT state") (digits_text 16 2 byte ∷ [])
 finding_text t (WrongState shown held) =
-    filled (codes "heartbeat-state: %, but by the commands it is %")
+    filled (codes "heartbeat-state: %, but by commands and heartbeats it is %")
     (state_name shown ∷ state_name held ∷ [])
 finding_text t (TwoStates shown held) =
     filled (codes "second-sender: %, again from % without a command")

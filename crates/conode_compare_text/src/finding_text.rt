@@ -216,7 +216,7 @@ fn finding_said(value_type: ValueType, finding: Finding) -> Said
             Value::Byte(byte),
         ),
         Finding::WrongState(shown, held) => Said::Two(
-            "heartbeat-state: %, but by the commands it is %",
+            "heartbeat-state: %, but by commands and heartbeats it is %",
             Value::Words(state_name(shown)),
             Value::Words(state_name(held)),
         ),

@@ -355,6 +355,28 @@ next_segment = refl
 no_next_segment : in_blocks Answer Download Block 66 ∷ in_blocks Request Upload Block 66 ∷ in_blocks Request Download Segmented 66 ∷ [] ≡ Some (AbortKey key) ∷ Some (AbortKey key) ∷ Some (AbortKey key) ∷ []
 no_next_segment = refl
 
+-- An abort of what timed out may be of an earlier transfer where the initiate request is the newest of two
+-- frames: not after an answer, nor after the client's next frame; and no other code.
+abbrev timed_out_for : Newest → ℕ → ℕ → Option Breach
+timed_out_for newest code frames = ended_breach newest (abort_of_none 9 0x20 1) (record {
+  key = key;
+  direction = Upload;
+  protocol = Segmented;
+  bytes = 0;
+  first = record { items = [] };
+  frames = frames;
+  begun = 1;
+  newest = 1;
+  end = 2;
+  ending = Aborted Server (record { 0 = code });
+})
+
+crossed : timed_out_for Request 0x05040000 2 ≡ None
+crossed = refl
+
+not_crossed : timed_out_for Request 0x05040000 3 ∷ timed_out_for Answer 0x05040000 2 ∷ timed_out_for Request 0x08000000 2 ∷ timed_out_for Request 0x05030000 2 ∷ [] ≡ Some (AbortKey key) ∷ Some (AbortKey key) ∷ Some (AbortKey key) ∷ Some (AbortKey key) ∷ []
+not_crossed = refl
+
 by_client : breach_at (Some Answer) Client (ended_by Download (Aborted Client (record { 0 = 0x08000000 }))) (abort_of 9 0) ≡ None
 unfolding breach_at
 by_client = refl

@@ -22,7 +22,7 @@ use Rattle.conode_compare_transfers.specs.declared.dialogue.Exchange.{Exchange}
 use Rattle.conode_compare_transfers.specs.declared.left.Left.{Left}
 use Rattle.conode_compare_transfers.specs.declared.newest.Newest.TheVariants.{Acknowledge, AllAcknowledged, Answer, Data, LaterAcknowledge, LaterData, LastData, Request}
 use Rattle.conode_compare_transfers.specs.Breaches.{breach_at}
-use Rattle.conode_compare_transfers.specs.Dialogues.{awaited_for, dialogue_heard, exchange_in, interrupted, is_certain, is_late_answer, is_timed, is_awaited, is_in_turn, leaves_block, leaves_slow, left_after, left_after_answer, may_be_segment, may_switch, nothing_asked, nothing_left, opens_sub_block, owes, sub_block_after, word_written}
+use Rattle.conode_compare_transfers.specs.Dialogues.{awaited_for, dialogue_heard, exchange_in, interrupted, is_certain, is_late_answer, is_timed, is_awaited, is_in_turn, leaves_block, leaves_slow, left_after, left_after_answer, may_be_segment, may_switch, misses_request, nothing_asked, nothing_left, opens_sub_block, owes, sub_block_after, word_written}
 use Rattle.conode_compare_transfers.specs.NewestFrames.{newest_after, newest_with}
 use Rattle.conode_compare_transfers.specs.Timeouts.{early_abort, is_late, resumed_after, served_key}
 
@@ -239,6 +239,22 @@ none_left_before = refl
 never_judged : (exchange_in 1000 0 asking 2500000 Server (reply 0x60 0x10)).certain ≡ false
 unfolding exchange_in is_certain dialogue_heard newest_after newest_with request_row_in response_row_in
 never_judged = refl
+
+-- An answer without a request: of a device that answers twice, and of a request that isn't in the recording. An abort may come at any
+-- time, and an answer of the open transfer has its request.
+missing : map (λ micros. misses_request 1000 (record nothing_asked { requested = 1000000 }) micros Server Stray (reply 0x43 0x10)) (2000000 ∷ 2000001 ∷ []) ≡ false ∷ true ∷ []
+missing = refl
+
+not_missing : misses_request 1000 nothing_asked 9000000 Server Stray (reply 0x80 0x10) ∷ misses_request 1000 nothing_asked 9000000 Server Part (reply 0x43 0x10) ∷ misses_request 1000 nothing_asked 9000000 Client Stray (reply 0x43 0x10) ∷ []
+    ≡ false ∷ false ∷ false ∷ []
+not_missing = refl
+
+abbrev answered : Dialogue
+answered = sent asking 2001000 Server (0x43 ∷ 0 ∷ 0x10 ∷ 0 ∷ 1 ∷ 0 ∷ 0 ∷ 0 ∷ [])
+
+answered_again : map (λ micros. (exchange_in 1000 0 answered micros Server (reply 0x43 0x20)).certain) (2002000 ∷ 3000000 ∷ 3000001 ∷ []) ≡ true ∷ true ∷ false ∷ []
+unfolding exchange_in is_certain dialogue_heard newest_after newest_with request_row_in response_row_in
+answered_again = refl
 
 -- 1000:00 is asked for once more, and answered in its turn: nothing is awaited any more
 abbrev asked_anew : Dialogue

@@ -21,6 +21,7 @@ use Rattle.conode_compare_transfers.specs.declared.breach.Breach.{Breach}
 use Rattle.conode_compare_transfers.specs.declared.breach.Breach.TheVariants.{Toggle, Form, AbortKey, Size, Crc}
 use Rattle.conode_compare_transfers.specs.declared.newest.Newest.{Newest}
 use Rattle.conode_compare_transfers.specs.declared.newest.Newest.TheVariants.{Request, Data, LastData, Acknowledge, LaterData, LaterAcknowledge, AllAcknowledged}
+use Rattle.conode_compare_transfers.specs.Timeouts.{times_out}
 
 -- ---- frames
 
@@ -57,9 +58,12 @@ abbrev pub is_block_download : Protocol → Direction → Bool
 is_block_download Block Download = true
 is_block_download protocol direction = false
 
--- that may be so after a frame of the client, but for the initiate request
+-- That may be so after a frame of the client, but for the initiate request. After that one, of two frames
+-- with the abort, another reason has an abort of a transfer that timed out: the server may have sent it for
+-- an earlier transfer before it took the request, and the two crossed.
 abbrev pub may_refuse_next : Newest → Ended → Bool
-may_refuse_next Request ended = is_block_download ended.protocol ended.direction && nat_lt 2 ended.frames
+may_refuse_next Request ended =
+    if nat_lt 2 ended.frames then is_block_download ended.protocol ended.direction else times_out ended.ending
 may_refuse_next newest ended = false
 
 -- `abort-key`: an abort of another entry; a server that doesn't know a command may not know where

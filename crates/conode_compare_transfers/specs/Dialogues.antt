@@ -18,7 +18,7 @@ use Rattle.conode_explain_transfers.specs.declared.kinds.Protocol.TheVariants.{B
 use Rattle.conode_explain_transfers.specs.declared.kinds.Side.{Side}
 use Rattle.conode_explain_transfers.specs.declared.kinds.Side.TheVariants.{Client, Server}
 use Rattle.conode_explain_transfers.specs.declared.kinds.What.{What}
-use Rattle.conode_explain_transfers.specs.declared.kinds.What.TheVariants.{Initiate, Part, Segment, OutOfSequence}
+use Rattle.conode_explain_transfers.specs.declared.kinds.What.TheVariants.{Initiate, Part, Segment, OutOfSequence, Stray}
 use Rattle.conode_explain_transfers.specs.Followed.{after_boot, broken_off, followed, nothing_heard}
 use Rattle.conode_compare_transfers.specs.declared.newest.Newest.{Newest}
 use Rattle.conode_compare_transfers.specs.declared.newest.Newest.TheVariants.{LastData, Answer, Data, LaterData}
@@ -239,6 +239,21 @@ abbrev pub owes : ℕ → ℕ → Dialogue → Bool
 owes answer started dialogue =
     option_map_or (λ a. is_certain answer started dialogue.slow dialogue.doubted a.micros) dialogue.asked false
 
+-- no transfer is open for this frame of the device, which isn't an abort
+abbrev pub is_unasked : Side → What → FrameContent → Bool
+is_unasked Server Stray frame = not (byte_at frame 0 / 32 == 4)
+is_unasked side what frame = false
+
+-- Its request may be missing in the recording: the client's newest frame is longer ago than an answer
+-- may take.
+abbrev pub misses_request : ℕ → Dialogue → ℕ → Side → What → FrameContent → Bool
+misses_request answer dialogue micros side what frame = is_unasked side what frame && is_past dialogue.requested answer micros
+
+-- an answer to a request that isn't the one before
+abbrev pub is_of_earlier : ℕ → Dialogue → ℕ → Side → Heard → FrameContent → Bool
+is_of_earlier answer dialogue micros side heard frame =
+    is_late_answer side heard frame || misses_request answer dialogue micros side heard.what frame
+
 -- The answer to a request that came when none but those that may take long could be answered. A
 -- server takes requests in turn, so those are answered no more. It may refuse one before its turn.
 abbrev pub answers_in_turn : ℕ → ℕ → Option ℕ → FrameContent → Asked → Bool
@@ -274,7 +289,7 @@ exchange_in answer started dialogue micros side frame = record {
   asked = dialogue.asked;
   owed = owes answer started dialogue;
   certain = is_certain answer started dialogue.slow dialogue.doubted micros
-      && not (is_late_answer side (followed dialogue.channel micros side frame.bytes).says frame);
+      && not (is_of_earlier answer dialogue micros side (followed dialogue.channel micros side frame.bytes).says frame);
   breach = breach_at dialogue.newest side (followed dialogue.channel micros side frame.bytes).says frame;
   awaited = awaited_for dialogue.newest dialogue.requested micros;
 }

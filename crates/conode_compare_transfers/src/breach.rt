@@ -16,6 +16,7 @@ ghost use Rattle.conode_compare_transfers.specs.Breaches.{
 };
 
 use crate::newest::Newest;
+use crate::timeouts::times_out;
 use co_frame::{AbortCode, Frame};
 use co_value::Key;
 use conode_explain_transfers::{Direction, Ended, Ending, Heard, Protocol, Side, What};
@@ -83,15 +84,23 @@ fn names_none(newest: Newest, named: Key, frames: u64) -> bool
     named == Key { index: 0, sub: 0 } && answers_without_key(newest, frames)
 }
 
-// Whether an abort may be of the entry in the client's newest frame: a server that has given up a
-// block download without an abort takes that for a request, also where it looks like the next
-// segment.
+// Whether an abort may be of another entry than the open transfer's. A server that has given up a
+// block download without an abort takes the client's newest frame for a request, also where it looks
+// like the next segment. After the initiate request an abort of what timed out may be of an earlier
+// transfer: the two crossed.
 fn may_refuse_next(newest: Newest, ended: &Ended) -> bool
     ensures { result ≡ may_refuse_next newest ended.now }
 {
-    match (newest, ended.protocol, ended.direction) {
-        (Newest::Request, Protocol::Block, Direction::Download) => ended.frames > 2,
-        _ => false,
+    if !matches!(newest, Newest::Request) {
+        return false;
+    }
+    if ended.frames > 2 {
+        matches!(
+            (ended.protocol, ended.direction),
+            (Protocol::Block, Direction::Download)
+        )
+    } else {
+        times_out(ended.ending)
     }
 }
 

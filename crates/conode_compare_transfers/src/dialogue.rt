@@ -23,10 +23,12 @@ ghost use Rattle.conode_compare_transfers.specs.Dialogues.{
   is_part,
   is_slow_answer,
   is_timed,
+  is_unasked,
   leaves_block,
   leaves_slow,
   may_be_segment,
   may_switch,
+  misses_request,
   names_other,
   newest_heard,
   nothing_asked,
@@ -238,6 +240,13 @@ fn is_late_answer(side: Side, heard: &Heard, frame: &Frame) -> bool
         Side::Server => is_slow_answer(frame) && is_of_other(heard, frame),
         Side::Client => false,
     }
+}
+
+// whether no transfer is open for a frame of the device, which isn't an abort
+fn is_unasked(side: Side, what: What, frame: &Frame) -> bool
+    ensures { result ≡ is_unasked side what frame.now }
+{
+    matches!((side, what), (Side::Server, What::Stray)) && byte_at(frame, 0) / 32 != 4
 }
 
 /// Whether an initiate request is one of a download, by its command specifier.
@@ -487,6 +496,21 @@ impl Dialogue {
         }
     }
 
+    // Whether the request of an answer may be missing in the recording: the client's newest frame is
+    // longer ago than an answer may take.
+    fn misses_request(
+        &self,
+        answer: u32,
+        micros: u64,
+        side: Side,
+        what: What,
+        frame: &Frame,
+    ) -> bool
+        ensures { result ≡ misses_request answer self.now micros side what frame.now }
+    {
+        is_unasked(side, what, frame) && is_past(self.requested, answer, micros)
+    }
+
     /// Whether no request before the one that is asked could still be answered when that came: a
     /// server that still awaits the segments of a block download takes another request as one of
     /// them.
@@ -520,6 +544,7 @@ impl Dialogue {
         let heard = self.channel.take(micros, side, frame);
         let breach = breach_at(self.newest, side, &heard, frame);
         let late = is_late_answer(side, &heard, frame);
+        let missing = self.misses_request(answer, micros, side, heard.what, frame);
         let turns = self.is_in_turn(answer, started, side, heard.what, frame);
         let other = names_other(&heard.ended, frame);
         let leaves = leaves_slow(other, self.newest, &heard.ended);
@@ -535,7 +560,7 @@ impl Dialogue {
             heard,
             asked,
             owed,
-            certain: known && !late,
+            certain: known && !(late || missing),
             breach,
             awaited,
         }

@@ -36,8 +36,8 @@ fn is_early(tolerance: u32, drift: u8, time: u16, waited: u64) -> bool
     time == 0 || waited < least
 }
 
-// whether the device gives up a transfer, since it timed out
-fn times_out(ending: Ending) -> bool
+/// Whether the device gives up a transfer, since it timed out.
+pub(crate) fn times_out(ending: Ending) -> bool
     ensures { result ≡ times_out ending }
 {
     match ending {

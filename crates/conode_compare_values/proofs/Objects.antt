@@ -1,5 +1,5 @@
 -- The objects of a mapping, one after the other.
-use Rattle.std.proofs.Common.{◌≡◌, ℕ, ◌+◌, ◌<◌, ◌≤◌, Bool, true, false, nat_lt, ◌&&◌, ◌∙◌, sym, List, [], ◌∷◌, Option, None, length, drop, get_or, add-one, refl, ap}
+use Rattle.std.proofs.Common.{◌≡◌, ℕ, ◌+◌, ◌<◌, ◌≤◌, Bool, true, false, nat_lt, ◌&&◌, ◌∙◌, sym, List, ◌∷◌, Option, length, drop, get_or, add-one, refl, ap}
 use Rattle.std.proofs.Math.Seq.{drop-cons}
 use Rattle.std.proofs.lemmas.List.{drop_all}
 use Rattle.co_sheet.specs.Content.{Row}

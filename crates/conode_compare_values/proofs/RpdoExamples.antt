@@ -1,5 +1,5 @@
 -- What RPDOs write to the entries that are held, and when that is known, on both sides of each edge, computed from the definitions.
-use Rattle.std.proofs.Common.{◌≡◌, ℕ, Bool, true, false, List, [], ◌∷◌, map, Option, Some, None, refl}
+use Rattle.std.proofs.Common.{◌≡◌, ℕ, true, false, List, [], ◌∷◌, map, Option, Some, None, refl}
 use Rattle.std.specs.Prelude.{ℤ, neg_ℤ, pos, slice_index_or}
 use Rattle.co_profile.specs.declared.access.Access.TheVariants.{Constant, Ro, Rw, Rwr, Rww, Wo}
 use Rattle.co_sheet.specs.Content.{Row}

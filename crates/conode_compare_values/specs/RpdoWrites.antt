@@ -17,7 +17,6 @@ use Rattle.conode_compare_values.specs.declared.rpdo_writes.Brought.{Brought}
 use Rattle.conode_compare_values.specs.declared.rpdo_writes.Brought.TheVariants.{Nothing, Unclear, Number}
 use Rattle.conode_compare_values.specs.declared.rpdo_writes.RpdoValue.{RpdoValue}
 use Rattle.conode_compare_values.specs.declared.rpdo_writes.RpdoWrites.{RpdoWrites}
-use Rattle.conode_compare_values.specs.declared.written.Written.{Written}
 use Rattle.conode_compare_values.specs.HeldNumbers.{nothing_written, number_at, with_number}
 use Rattle.conode_compare_values.specs.HeldWords.{place_of}
 

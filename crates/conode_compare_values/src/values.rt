@@ -51,7 +51,7 @@ ghost use Rattle.conode_compare_values.specs.SheetValues.{
 use crate::mismatch::Mismatch;
 use crate::rooms::Rooms;
 use co_frame::AbortCode;
-use co_profile::{Access, DEVICE_TYPE};
+use co_profile::{Access, DEVICE_TYPE, ERROR_FIELD, ERROR_REGISTER};
 use co_sheet::EntryRow;
 use co_sheet_changes::row_at;
 use co_sheet_rows::Preset;
@@ -64,11 +64,6 @@ const KEPT: usize = 64;
 
 // the identity object (CiA 301, 7.5.2.21)
 const IDENTITY: u16 = 0x1018;
-
-// the error register and the pre-defined error field (CiA 301, 7.5.2.2 and 7.5.2.4)
-const ERROR_REGISTER: u16 = 0x1001;
-
-const ERRORS: u16 = 0x1003;
 
 // the SDO server parameter of the default channel (CiA 301, 7.5.2.33)
 const FIRST_CHANNEL: u16 = 0x1200;
@@ -91,7 +86,7 @@ pub fn is_readable(access: Access) -> bool
 fn is_its_own(index: u16) -> bool
     ensures { result ≡ is_its_own index }
 {
-    index == ERROR_REGISTER || index == ERRORS || index == FIRST_CHANNEL
+    index == ERROR_REGISTER || index == ERROR_FIELD || index == FIRST_CHANNEL
 }
 
 /// Whether the value of an entry is compared with the data sheet.

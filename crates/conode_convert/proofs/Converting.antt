@@ -1,9 +1,9 @@
 -- How far a log is converted.
-use Rattle.std.proofs.Common.{◌≡◌, ℕ, ◌+◌, ◌<◌, ◌≤◌, Bool, false, true, cond, ◌⊎◌, inl, inr, List, [], ◌∷◌, ◌++◌, length, Option, None, Some, IfSome, ltb, refl, sym, ap, ap₂, subst, ◌∙◌, arith, append_assoc, append-nil}
-use Rattle.std.specs.Prelude.{⊤, ◌||◌, ◌==◌}
+use Rattle.std.proofs.Common.{◌≡◌, ℕ, ◌+◌, ◌<◌, ◌≤◌, Bool, false, true, ◌⊎◌, inl, inr, List, [], ◌∷◌, ◌++◌, length, Option, None, Some, IfSome, ltb, refl, sym, ap, ap₂, subst, ◌∙◌, arith, append_assoc, append-nil}
+use Rattle.std.specs.Prelude.{◌||◌, ◌==◌}
 use Rattle.std.specs.List.{flat_map, before_first, after_first}
-use Rattle.std.specs.Io.KnownBytes.{Appends, Consumes, Keeps, IsAtEnd}
-use Rattle.std.specs.Str.Lines.{lines, strip_carriage_return}
+use Rattle.std.specs.Io.KnownBytes.{Appends, Keeps, IsAtEnd}
+use Rattle.std.specs.Str.Lines.{lines}
 use Rattle.std.proofs.KnownBytes.{Appends-nil, Appends-kept}
 use Rattle.std.proofs.lemmas.Bool.Decides.{nat_tests}
 use Rattle.co_text.proofs.Tests.{by_test}
@@ -11,7 +11,7 @@ use Rattle.co_stream.specs.declared.bounded_lines.Found.TheVariants.{Line, Last,
 use Rattle.co_stream.specs.Founds.{is_closed, ClosesAlike, Finds}
 use Rattle.co_stream.specs.Held.{Held, nothing_held, to_come}
 use Rattle.co_stream.specs.Lines.{has_line_feed, GivesLine}
-use Rattle.co_stream.specs.Readings.{Gave, known_bytes}
+use Rattle.co_stream.specs.Readings.{Gave}
 use Rattle.co_stream.proofs.LineLemmas.{cut_at_feed, lines-feed, lines-last}
 use Rattle.co_stream.proofs.Readers.{gave_nothing, gave_so, gave_then, of_given, of_known}
 use Rattle.conode_io.specs.Written.{WritesLines}

@@ -1,5 +1,5 @@
 -- Ten digits of seconds as twice five, after a text.
-use Rattle.std.proofs.Common.{◌≡◌, ℕ, ◌/◌, ◌%◌, ◌<◌, ◌^◌, List, ◌++◌, refl, append_assoc, arith}
+use Rattle.std.proofs.Common.{◌≡◌, ℕ, ◌/◌, ◌%◌, ◌<◌, ◌^◌, List, ◌++◌, refl, append_assoc}
 use Rattle.co_text.specs.Printed.{digits_text}
 use Rattle.conode_trace.specs.Printed.{seconds_text}
 use Rattle.conode_trace.proofs.TenDigits.{seconds_text-ten}

@@ -1,6 +1,6 @@
 -- What a log is converted to: the lines of its frames as `candump -L` writes them, in order. A bad
 -- line gives none, and is counted.
-use Rattle.std.specs.Prelude.{ℕ, ◌+◌, Bool, true, false, nat_lt, ◌||◌, if◌then◌else◌, List, [], ◌∷◌, ◌++◌, length, Result, Ok, Err}
+use Rattle.std.specs.Prelude.{ℕ, ◌+◌, Bool, nat_lt, ◌||◌, if◌then◌else◌, List, [], ◌∷◌, ◌++◌, length, Result, Ok, Err}
 use Rattle.std.specs.Str.Lines.{lines}
 use Rattle.co_stream.specs.Founds.{is_closed}
 use Rattle.conode_record.specs.declared.bad_log_line.BadLogLine.{BadLogLine}

@@ -59,7 +59,8 @@ fn loop_client<W: Write>(
     line: &mut String,
     writer: &mut W,
 ) -> Result<ClientState, CmdFault>
-    ensures looped { (l : Loop) (e : BothEnds) → EndsStand l e node.old client.old waiting.old.items →
+    ensures looped { (l : Loop) (e : BothEnds) → EndsStand l e node.old client.old
+        waiting.old.items →
         Looped l e node.new (W.contents writer.old) (W.contents writer.new) result }
     ensures err { IfErr result (λ fault. (fault ≡ CmdFault.Write) ⊎ (fault ≡ CmdFault.Memory)) }
 {

@@ -8,8 +8,7 @@ ghost use Rattle.conode_device.specs.Standing.{EndsStand, RoundMade, RoundsMade}
 
 use crate::frames::{take_frames, take_tick, write_frames};
 use co_frame::{Frame, Outbox};
-use co_node::Node;
-use co_node_model::most_rounds;
+use co_node::{Node, most_rounds};
 use co_sdo_client::{Client, ClientState};
 use conode_io::CmdFault;
 use std::io::Write;

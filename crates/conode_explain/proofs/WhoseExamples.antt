@@ -1,5 +1,5 @@
 -- Whose a frame is, as what it is read, and which frames have a mark, evaluated on both sides of each edge.
-use Rattle.std.proofs.Common.{◌≡◌, ℕ, Bool, true, false, List, [], ◌∷◌, Some, None, refl, map}
+use Rattle.std.proofs.Common.{◌≡◌, ℕ, true, false, List, [], ◌∷◌, Some, None, refl, map}
 use Rattle.std.specs.Prelude.{codes}
 use Rattle.conode_record.specs.declared.content.Content.TheVariants.{Data, Fd, Remote}
 use Rattle.conode_record.specs.declared.fields.Identifier.TheVariants.{Base, Extended}

@@ -4,11 +4,13 @@ use Rattle.std.specs.Prelude.{codes, is_some, map, slice_index_or}
 use Rattle.co_value.specs.declared.key.Key.{Key}
 use Rattle.conode_explain_transfers.specs.declared.ended.Ending.TheVariants as endings
 use Rattle.conode_explain_transfers.specs.declared.kinds.Direction.TheVariants.{Download, Upload}
+use Rattle.conode_explain_transfers.specs.declared.kinds.Protocol.{Protocol}
+use Rattle.conode_explain_transfers.specs.declared.kinds.Protocol.TheVariants.{Undecided, Expedited, Segmented, Block}
 use Rattle.conode_explain_transfers.specs.declared.kinds.Side.TheVariants.{Client, Server}
 use Rattle.conode_explain_transfers.specs.declared.kinds.What.TheVariants.{Initiate}
 use Rattle.conode_explain_transfers.specs.declared.told.Part.{Part}
 use Rattle.conode_explain_entries.specs.declared.event.Event.{Event}
-use Rattle.conode_explain_entries.specs.declared.event.Event.TheVariants.{Written, Read, BootedUp, Saved, Restored}
+use Rattle.conode_explain_entries.specs.declared.event.Event.TheVariants.{Written, Read, BootedUp, Saved, Restored, Unclear}
 use Rattle.conode_explain_entries.specs.declared.event.PdoEntry.{PdoEntry}
 use Rattle.conode_explain_entries.specs.declared.event.PdoPart.TheVariants.{CobId, Mapping}
 use Rattle.conode_explain_entries.specs.declared.state.PdoState.{PdoState}
@@ -116,7 +118,7 @@ cob_id_alone : word_after (Written cob_id (Some 0x80000185) ∷ []) ≡ has valu
 unfolding assumed_values
 cob_id_alone = refl
 
-cob_id_while_changed : word_after (Read cob_id 0x185 ∷ Written cob_id (Some 0x80000185) ∷ word_written ∷ []) ≡ awaiting (values.Seen 0x20010110) values.Assumed
+cob_id_while_changed : word_after (Read cob_id (Some 0x185) ∷ Written cob_id (Some 0x80000185) ∷ word_written ∷ []) ≡ awaiting (values.Seen 0x20010110) values.Assumed
 unfolding assumed_values
 cob_id_while_changed = refl
 
@@ -130,22 +132,31 @@ last_word = refl
 
 -- ---- what is read counts
 
-word_read : word_after (Read (tpdo1 1) 0x20010210 ∷ []) ≡ has (values.Seen 0x20010210) values.Assumed
+word_read : word_after (Read (tpdo1 1) (Some 0x20010210) ∷ []) ≡ has (values.Seen 0x20010210) values.Assumed
 unfolding assumed_values
 word_read = refl
 
 -- of a word that was written, what is read doesn't say that it holds
-word_read_back : word_after (Read (tpdo1 1) 0x20010110 ∷ word_written ∷ []) ≡ awaiting (values.Seen 0x20010110) values.Assumed
+word_read_back : word_after (Read (tpdo1 1) (Some 0x20010110) ∷ word_written ∷ []) ≡ awaiting (values.Seen 0x20010110) values.Assumed
 unfolding assumed_values
 word_read_back = refl
 
-count_read : word_after (Read (tpdo1 0) 1 ∷ word_written ∷ []) ≡ has (values.Seen 0x20010110) values.Assumed
+count_read : word_after (Read (tpdo1 0) (Some 1) ∷ word_written ∷ []) ≡ has (values.Seen 0x20010110) values.Assumed
 unfolding assumed_values
 count_read = refl
 
-no_entries_read : count_after (Read (tpdo1 0) 0 ∷ []) ≡ awaiting (values.Seen 0) values.Assumed
+-- nothing is mapped; a read alone begins no change, and doesn't end one that was begun by a write
+no_entries_read : count_after (Read (tpdo1 0) (Some 0) ∷ []) ≡ has (values.Seen 0) values.Assumed
 unfolding assumed_values
 no_entries_read = refl
+
+no_entries_read_back : count_after (Read (tpdo1 0) (Some 0) ∷ count_written 0 ∷ []) ≡ awaiting (values.Seen 0) values.Assumed
+unfolding assumed_values
+no_entries_read_back = refl
+
+no_count_read_back : count_after (Read (tpdo1 0) None ∷ count_written 0 ∷ []) ≡ has values.Unknown values.Assumed
+unfolding assumed_values
+no_count_read_back = refl
 
 -- ---- a write whose data are missing
 
@@ -203,12 +214,33 @@ unknown_comes_back : word_after (BootedUp ∷ Saved ∷ Written (tpdo1 1) None �
 unfolding assumed_values
 unknown_comes_back = refl
 
+-- it may be stored: what comes back isn't known, but of what nothing was shown
+maybe_saved : word_after (Unclear ∷ count_written 1 ∷ word_written ∷ []) ≡ has (values.Seen 0x20010110) values.Unknown
+unfolding assumed_values
+maybe_saved = refl
+
+maybe_came_back : word_after (BootedUp ∷ Unclear ∷ count_written 1 ∷ word_written ∷ []) ≡ has values.Unknown values.Unknown
+unfolding assumed_values
+maybe_came_back = refl
+
+maybe_saved_again : word_after (Unclear ∷ BootedUp ∷ Saved ∷ word_written ∷ []) ≡ has (values.Saved 0x20010110) values.Unknown
+unfolding assumed_values
+maybe_saved_again = refl
+
+maybe_saved_alone : word_after (BootedUp ∷ Unclear ∷ Written cob_id (Some 0x185) ∷ []) ≡ has values.Assumed values.Assumed
+unfolding assumed_values
+maybe_saved_alone = refl
+
+saved_after_all : word_after (BootedUp ∷ Saved ∷ Unclear ∷ count_written 1 ∷ word_written ∷ []) ≡ has (values.Saved 0x20010110) (values.Saved 0x20010110)
+unfolding assumed_values
+saved_after_all = refl
+
 -- the device type stays over a boot-up, the COB-ID of SYNC doesn't
 abbrev after_read : ℕ → List Event → Value
 after_read index events = slice_index_or (state_after (map happening events) (codes "can0") 5 index).now.mapping 0 values.Unknown
 
 abbrev read_at : ℕ → Event
-read_at index = Read (record { index = index; part = Mapping 0 }) 0x192
+read_at index = Read (record { index = index; part = Mapping 0 }) (Some 0x192)
 
 device_type : map (λ index. after_read index (BootedUp ∷ read_at index ∷ [])) (0x1000 ∷ 0x1005 ∷ []) ≡ values.Seen 0x192 ∷ values.Assumed ∷ []
 unfolding assumed_values
@@ -304,78 +336,117 @@ no_sub_indices = refl
 -- ---- what transfers show
 
 -- the COB-ID of emergencies has four bytes
-four_bytes : event_by Download (endings.Done false) (key 0x1014 0) (0x85 ∷ 0x00 ∷ 0x00 ∷ 0x80 ∷ [])
+four_bytes : event_by Download (endings.Done false) (key 0x1014 0) Expedited (0x85 ∷ 0x00 ∷ 0x00 ∷ 0x80 ∷ [])
     ≡ Some (Written (record { index = 0x1014; part = Mapping 0 }) (Some 0x80000085))
 four_bytes = refl
 
 -- 20010110h, the lowest byte first
-downloaded : event_by Download (endings.Done false) (key 0x1A00 1) (0x10 ∷ 0x01 ∷ 0x01 ∷ 0x20 ∷ []) ≡ Some word_written
+downloaded : event_by Download (endings.Done false) (key 0x1A00 1) Expedited (0x10 ∷ 0x01 ∷ 0x01 ∷ 0x20 ∷ []) ≡ Some word_written
 downloaded = refl
 
 -- a count has one byte; of an expedited transfer without a size four come
-count_of_four : event_by Download (endings.Done false) (key 0x1A00 0) (2 ∷ 1 ∷ 0 ∷ 0 ∷ []) ≡ Some (count_written 2)
+count_of_four : event_by Download (endings.Done false) (key 0x1A00 0) Expedited (2 ∷ 1 ∷ 0 ∷ 0 ∷ []) ≡ Some (count_written 2)
 count_of_four = refl
 
-uploaded : event_by Upload (endings.Done false) (key 0x1800 1) (0x85 ∷ 0x01 ∷ 0 ∷ 0x40 ∷ []) ≡ Some (Read cob_id 0x40000185)
+-- in segments four bytes are too many for it
+long_count : map {A = Protocol} (λ protocol. event_by Download (endings.Done false) (key 0x1A00 0) protocol (2 ∷ 1 ∷ 0 ∷ 0 ∷ [])) (Undecided ∷ Segmented ∷ Block ∷ [])
+    ≡ Some (Written (tpdo1 0) None) ∷ Some (Written (tpdo1 0) None) ∷ Some (Written (tpdo1 0) None) ∷ []
+long_count = refl
+
+-- the bytes of a count, from none to three
+abbrev count_of : List ℕ → Option Event
+count_of bytes = event_by Download (endings.Done false) (key 0x1A00 0) Expedited bytes
+
+lengths_of_counts : map count_of ([] ∷ (2 ∷ []) ∷ (2 ∷ 0 ∷ []) ∷ (2 ∷ 0 ∷ 0 ∷ []) ∷ [])
+    ≡ Some (Written (tpdo1 0) None) ∷ Some (count_written 2) ∷ Some (Written (tpdo1 0) None) ∷ Some (Written (tpdo1 0) None) ∷ []
+lengths_of_counts = refl
+
+-- those of a COB-ID, from none to five
+abbrev cob_id_of : Protocol → List ℕ → Option Event
+cob_id_of protocol bytes = event_by Upload (endings.Done false) (key 0x1800 1) protocol bytes
+
+lengths_of_cob_ids : map (cob_id_of Segmented) ([] ∷ (0x85 ∷ 0x01 ∷ 0 ∷ []) ∷ (0x85 ∷ 0x01 ∷ 0 ∷ 0 ∷ []) ∷ (0x85 ∷ 0x01 ∷ 0 ∷ 0 ∷ 0 ∷ []) ∷ [])
+    ≡ Some (Read cob_id None) ∷ Some (Read cob_id None) ∷ Some (Read cob_id (Some 0x185)) ∷ Some (Read cob_id None) ∷ []
+lengths_of_cob_ids = refl
+
+two_bytes : cob_id_of Expedited (0x99 ∷ 0x01 ∷ []) ≡ Some (Read cob_id None)
+two_bytes = refl
+
+-- the node-ID of an SDO channel's other end has one byte, its COB-IDs have four
+node_id_of_a_channel : event_by Download (endings.Done false) (key 0x1280 3) Segmented (5 ∷ []) ≡ Some (Written (record { index = 0x1280; part = Mapping 3 }) (Some 5))
+node_id_of_a_channel = refl
+
+cob_id_of_a_channel : event_by Download (endings.Done false) (key 0x1280 2) Segmented (5 ∷ []) ≡ Some (Written (record { index = 0x1280; part = Mapping 2 }) None)
+cob_id_of_a_channel = refl
+
+third_word : event_by Download (endings.Done false) (key 0x1A00 3) Segmented (5 ∷ []) ≡ Some (Written (tpdo1 3) None)
+third_word = refl
+
+uploaded : event_by Upload (endings.Done false) (key 0x1800 1) Expedited (0x85 ∷ 0x01 ∷ 0 ∷ 0x40 ∷ []) ≡ Some (Read cob_id (Some 0x40000185))
 uploaded = refl
 
-unclear : event_by Download endings.Irregular (key 0x1A00 1) (1 ∷ []) ≡ Some (Written (tpdo1 1) None)
+unclear : event_by Download endings.Irregular (key 0x1A00 1) Expedited (1 ∷ []) ≡ Some (Written (tpdo1 1) None)
 unclear = refl
 
-unclear_size : event_by Download (endings.SizeDiffers 4) (key 0x1A00 1) (1 ∷ []) ≡ Some (Written (tpdo1 1) None)
+unclear_size : event_by Download (endings.SizeDiffers 4) (key 0x1A00 1) Expedited (1 ∷ []) ≡ Some (Written (tpdo1 1) None)
 unclear_size = refl
 
-unclear_crc : event_by Download (endings.CrcDiffers 1 2) (key 0x1A00 1) (1 ∷ []) ≡ Some (Written (tpdo1 1) None)
+unclear_crc : event_by Download (endings.CrcDiffers 1 2) (key 0x1A00 1) Expedited (1 ∷ []) ≡ Some (Written (tpdo1 1) None)
 unclear_crc = refl
 
-unclear_upload : event_by Upload endings.Irregular (key 0x1A00 1) (1 ∷ []) ≡ None
+unclear_upload : event_by Upload endings.Irregular (key 0x1A00 1) Expedited (1 ∷ []) ≡ None
 unclear_upload = refl
 
 -- a download without an acknowledge changes nothing: the count keeps what it had
-unanswered : event_by Download endings.Unanswered (key 0x1A00 0) [] ≡ None
+unanswered : event_by Download endings.Unanswered (key 0x1A00 0) Expedited [] ≡ None
 unanswered = refl
 
-asked_again : event_by Download endings.Repeated (key 0x1A00 0) [] ≡ None
+asked_again : event_by Download endings.Repeated (key 0x1A00 0) Expedited [] ≡ None
 asked_again = refl
 
-interrupted : event_by Download endings.Interrupted (key 0x1A00 0) [] ≡ None
+interrupted : event_by Download endings.Interrupted (key 0x1A00 0) Expedited [] ≡ None
 interrupted = refl
 
-unfinished : event_by Download endings.Unfinished (key 0x1A00 0) [] ≡ None
+unfinished : event_by Download endings.Unfinished (key 0x1A00 0) Expedited [] ≡ None
 unfinished = refl
 
 -- the client gives up; the device refuses
-given_up : event_by Download (endings.Aborted Client (record { 0 = 0x05040000 })) (key 0x1A00 0) [] ≡ None
+given_up : event_by Download (endings.Aborted Client (record { 0 = 0x05040000 })) (key 0x1A00 0) Expedited [] ≡ None
 given_up = refl
 
-refused : event_by Download (endings.Aborted Server (record { 0 = 0x06090030 })) (key 0x1A00 1) (1 ∷ []) ≡ None
+refused : event_by Download (endings.Aborted Server (record { 0 = 0x06090030 })) (key 0x1A00 1) Expedited (1 ∷ []) ≡ None
 refused = refl
 
-unanswered_upload : event_by Upload endings.Unanswered (key 0x1A00 1) (1 ∷ []) ≡ None
+unanswered_upload : event_by Upload endings.Unanswered (key 0x1A00 1) Expedited (1 ∷ []) ≡ None
 unanswered_upload = refl
 
-another_entry : event_by Download (endings.Done false) (key 0x2001 1) (1 ∷ []) ≡ None
+another_entry : event_by Download (endings.Done false) (key 0x2001 1) Expedited (1 ∷ []) ≡ None
 another_entry = refl
 
-all_saved : event_by Download (endings.Done false) (key 0x1010 1) (codes "save") ≡ Some Saved
+all_saved : event_by Download (endings.Done false) (key 0x1010 1) Expedited (codes "save") ≡ Some Saved
 all_saved = refl
 
-communication_saved : event_by Download (endings.Done false) (key 0x1010 2) (codes "save") ≡ Some Saved
+communication_saved : event_by Download (endings.Done false) (key 0x1010 2) Expedited (codes "save") ≡ Some Saved
 communication_saved = refl
 
-application_saved : event_by Download (endings.Done false) (key 0x1010 3) (codes "save") ≡ None
+application_saved : event_by Download (endings.Done false) (key 0x1010 3) Expedited (codes "save") ≡ None
 application_saved = refl
 
-not_signed : event_by Download (endings.Done false) (key 0x1010 1) (codes "evas") ≡ None
+not_signed : event_by Download (endings.Done false) (key 0x1010 1) Expedited (codes "evas") ≡ None
 not_signed = refl
 
-loads : event_by Download (endings.Done false) (key 0x1011 1) (codes "load") ≡ Some Restored
+-- its bytes are missing, or its request is
+unclear_saves : map (λ sub. event_by Download endings.Irregular (key 0x1010 sub) Segmented (codes "save")) (0 ∷ 1 ∷ 2 ∷ 3 ∷ [])
+    ≡ None ∷ Some Unclear ∷ Some Unclear ∷ None ∷ []
+unclear_saves = refl
+
+loads : event_by Download (endings.Done false) (key 0x1011 1) Expedited (codes "load") ≡ Some Restored
 loads = refl
 
-save_to_restore : event_by Download (endings.Done false) (key 0x1011 1) (codes "save") ≡ None
+save_to_restore : event_by Download (endings.Done false) (key 0x1011 1) Expedited (codes "save") ≡ None
 save_to_restore = refl
 
-asked_whether_it_saves : event_by Upload (endings.Done false) (key 0x1010 1) (1 ∷ 0 ∷ 0 ∷ 0 ∷ []) ≡ None
+asked_whether_it_saves : event_by Upload (endings.Done false) (key 0x1010 1) Expedited (1 ∷ 0 ∷ 0 ∷ 0 ∷ []) ≡ None
 asked_whether_it_saves = refl
 
 boots : event_with None None None ≡ Some BootedUp
@@ -391,6 +462,9 @@ goes_on = refl
 -- a download that isn't known was accepted: of an entry that is followed, and of another one
 accepted : map (event_with part None) (Some (key 0x1A00 1) ∷ Some (key 0x2001 1) ∷ []) ≡ Some (Written (tpdo1 1) None) ∷ None ∷ []
 accepted = refl
+
+accepted_saves : map (event_with part None) (Some (key 0x1010 1) ∷ Some (key 0x1011 2) ∷ Some (key 0x100F 1) ∷ Some (key 0x1012 1) ∷ []) ≡ Some Unclear ∷ Some Unclear ∷ None ∷ None ∷ []
+accepted_saves = refl
 
 -- beside a transfer that shows something of its entry, and one that shows nothing
 beside : map (λ event. or_unclear event (Some (key 0x1A00 1))) (Some BootedUp ∷ None ∷ []) ≡ Some BootedUp ∷ Some (Written (tpdo1 1) None) ∷ []

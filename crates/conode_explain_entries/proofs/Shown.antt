@@ -11,7 +11,7 @@ use Rattle.std.proofs.lemmas.List.{length-map}
 use Rattle.std.proofs.lemmas.Slice.Eq.{bytes_eq-Decides}
 use Rattle.conode_explain_entries.specs.declared.entries.ShownPdo.{ShownPdo}
 use Rattle.conode_explain_entries.specs.declared.event.Event.{Event}
-use Rattle.conode_explain_entries.specs.declared.event.Event.TheVariants.{Written, Read, BootedUp, Saved, Restored}
+use Rattle.conode_explain_entries.specs.declared.event.Event.TheVariants.{Written, Read, BootedUp, Saved, Restored, Unclear}
 use Rattle.conode_explain_entries.specs.declared.event.PdoEntry.{PdoEntry}
 use Rattle.conode_explain_entries.specs.declared.state.PdoState.{PdoState}
 use Rattle.conode_explain_entries.specs.Histories.{assumed_values, is_constant, nothing_shown, state_with, stored_values}
@@ -136,18 +136,21 @@ other_shown table i n k index outside free h =
     absurd cc)
     (λ differs. differs)
 
-stays_assumed : stored_values assumed_values ≡ assumed_values
+stays_assumed : (certain : Bool) → stored_values certain assumed_values ≡ assumed_values
 unfolding assumed_values
-stays_assumed = refl
+stays_assumed certain = refl
 
 quiet_write : (k : ℕ) (of : PdoEntry) (number : Option ℕ) → (of.index == k) ≡ false → state_with nothing_shown k (Written of number) ≡ nothing_shown
 quiet_write k of number other = rw other refl
 
-quiet_read : (k : ℕ) (of : PdoEntry) (number : ℕ) → (of.index == k) ≡ false → state_with nothing_shown k (Read of number) ≡ nothing_shown
+quiet_read : (k : ℕ) (of : PdoEntry) (number : Option ℕ) → (of.index == k) ≡ false → state_with nothing_shown k (Read of number) ≡ nothing_shown
 quiet_read k of number other = rw other refl
 
 quiet_save : (k : ℕ) → state_with nothing_shown k Saved ≡ nothing_shown
-quiet_save k = rw stays_assumed refl
+quiet_save k = rw (stays_assumed true) refl
+
+quiet_unclear : (k : ℕ) → state_with nothing_shown k Unclear ≡ nothing_shown
+quiet_unclear k = rw (stays_assumed false) refl
 
 quiet : (table : List ShownPdo) (i : List ℕ) (n k : ℕ) (e : Event) → list_any (is_of i n k) table ≡ false → nat_lt (length table) most_pdos ≡ true
     → list_any (is_of i n k) (added table i n e) ≡ false → state_with nothing_shown k e ≡ nothing_shown
@@ -155,6 +158,7 @@ quiet table i n k (Written of number) outside free h = quiet_write k of number (
 quiet table i n k (Read of number) outside free h = quiet_read k of number (other_shown table i n k of.index outside free h)
 quiet table i n k BootedUp outside free h = by_test (is_constant k) (λ stays. rw stays refl) (λ changes. rw changes refl)
 quiet table i n k Saved outside free h = quiet_save k
+quiet table i n k Unclear outside free h = quiet_unclear k
 quiet table i n k Restored outside free h = refl
 
 -- ---- a table after an event

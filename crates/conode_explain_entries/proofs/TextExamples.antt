@@ -11,9 +11,9 @@ use Rattle.conode_explain_transfers.specs.declared.kinds.Direction.{Direction}
 use Rattle.conode_explain_transfers.specs.declared.kinds.Direction.TheVariants.{Download, Upload}
 use Rattle.conode_explain_transfers.specs.declared.kinds.Protocol.TheVariants.{Segmented}
 use Rattle.conode_explain_transfers.specs.declared.kinds.Side.TheVariants.{Client, Server}
-use Rattle.conode_explain_transfers.specs.declared.kinds.What.TheVariants.{Part, OutOfSequence, Repeated as AskedAgain, BegunBefore}
+use Rattle.conode_explain_transfers.specs.declared.kinds.What.TheVariants.{Part, OutOfSequence, LastAgain, Repeated as AskedAgain, BegunBefore}
 use Rattle.conode_explain_entries.specs.Ends.{count_text, end_text, entry_text, transfer_text, aborted_text, ending_words, size_text, crc_text}
-use Rattle.conode_explain_entries.specs.Frames.{service_text, numbers_text, segment_text, remark_words, awaited_text, of_text, after_text}
+use Rattle.conode_explain_entries.specs.Frames.{segment_number, service_text, numbers_text, segment_text, remark_words, awaited_text, of_text, after_text}
 use Rattle.conode_explain_entries.specs.Numbers.{millions, thousands, grouped, known_seconds, seconds_text}
 
 -- of 2100:00, from 1 s to 1.182 s, the newest frame at 1.18 s
@@ -119,6 +119,13 @@ of_a_download = refl
 out_of_sequence : after_text (OutOfSequence 5 3) (Some (record { index = 0x2100; sub = 0 })) [] ≡ codes " of 2100:00 (3 is awaited)"
 unfolding after_text of_text entry_text awaited_text digits_text digits filled
 out_of_sequence = refl
+
+last_segment_again : after_text (LastAgain 2) (Some (record { index = 0x2100; sub = 0 })) [] ≡ codes " of 2100:00 (repeated)"
+unfolding after_text of_text entry_text remark_words digits_text digits
+last_segment_again = refl
+
+last_segment_number : segment_number (LastAgain 2) ≡ Some 2
+last_segment_number = refl
 
 odd_frames : after_text BegunBefore None [] ++ after_text AskedAgain None [] ≡ codes " (its begin isn't in the recording) (repeated)"
 unfolding after_text of_text remark_words

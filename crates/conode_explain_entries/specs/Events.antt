@@ -1,5 +1,5 @@
 -- What happens to the entries of a node, by what is known about its frames.
-use Rattle.std.specs.Prelude.{ℕ, ◌-◌, ◌==◌, nat_le, Bool, true, false, not, ◌&&◌, ◌||◌, if◌then◌else◌, List, take, codes, Option, Some, None, option_map}
+use Rattle.std.specs.Prelude.{ℕ, ◌-◌, ◌==◌, nat_le, Bool, true, false, not, ◌&&◌, ◌||◌, if◌then◌else◌, List, length, take, codes, Option, Some, None, option_map}
 use Rattle.std.specs.Str.{bytes_eq}
 use Rattle.co_profile.specs.Indices.{is_within, pdo_cob_id, restore_parameters, rpdo_communication, rpdo_mapping, store_parameters, tpdo_communication, tpdo_mapping}
 use Rattle.co_value.specs.declared.key.Key.{Key}
@@ -11,8 +11,10 @@ use Rattle.conode_explain_transfers.specs.declared.ended.Ending.{Ending}
 use Rattle.conode_explain_transfers.specs.declared.ended.Ending.TheVariants.{Done, Irregular, SizeDiffers, CrcDiffers}
 use Rattle.conode_explain_transfers.specs.declared.kinds.Direction.{Direction}
 use Rattle.conode_explain_transfers.specs.declared.kinds.Direction.TheVariants.{Download, Upload}
+use Rattle.conode_explain_transfers.specs.declared.kinds.Protocol.{Protocol}
+use Rattle.conode_explain_transfers.specs.declared.kinds.Protocol.TheVariants.{Expedited}
 use Rattle.conode_explain_entries.specs.declared.event.Event.{Event}
-use Rattle.conode_explain_entries.specs.declared.event.Event.TheVariants.{Written, Read, BootedUp, Saved, Restored}
+use Rattle.conode_explain_entries.specs.declared.event.Event.TheVariants.{Written, Read, BootedUp, Saved, Restored, Unclear}
 use Rattle.conode_explain_entries.specs.declared.event.PdoEntry.{PdoEntry}
 use Rattle.conode_explain_entries.specs.declared.event.PdoPart.TheVariants.{CobId, Mapping}
 
@@ -48,12 +50,23 @@ entry_of key =
 
 -- ---- transfers that ended
 
--- sub-index 0 of a mapping is an UNSIGNED8, the others are UNSIGNED32
+-- sub-index 0 of a mapping is an UNSIGNED8, and so is the node-ID of an SDO channel's other end; the
+-- others are UNSIGNED32
 abbrev pub number_width : Key → ℕ
-number_width key = if (key.sub == 0) && not (is_service key) then 1 else 4
+number_width key = if ((key.sub == 0) && not (is_service key)) || (is_channel key && (key.sub == 3)) then 1 else 4
 
-abbrev pub number_in : Key → List ℕ → ℕ
-number_in key bytes = unsigned_of (take (number_width key) bytes)
+abbrev pub is_expedited : Protocol → Bool
+is_expedited Expedited = true
+is_expedited other = false
+
+-- as many bytes as the type has; an expedited transfer has four where it doesn't indicate their number
+abbrev pub has_width : Key → Protocol → ℕ → Bool
+has_width key protocol count = (count == number_width key) || (is_expedited protocol && (count == 4))
+
+-- the number, which isn't known where there are more or fewer bytes than the type has
+abbrev pub number_in : Key → Protocol → List ℕ → Option ℕ
+number_in key protocol bytes =
+    if has_width key protocol (length bytes) then Some (unsigned_of (take (number_width key) bytes)) else None
 
 -- a signature for all parameters, or for those of communication, 1000h to 1FFFh
 abbrev pub has_signature : Key → ℕ → List ℕ → List ℕ → Bool
@@ -68,19 +81,23 @@ abbrev pub is_load : Key → List ℕ → Bool
 is_load key bytes = has_signature key restore_parameters bytes (codes "load")
 
 -- a download with these bytes was acknowledged
-abbrev pub written_event : Key → List ℕ → Option Event
-written_event key bytes =
+abbrev pub written_event : Key → Protocol → List ℕ → Option Event
+written_event key protocol bytes =
     if is_save key bytes then Some Saved
     else (if is_load key bytes then Some Restored
-    else option_map (λ of. Written of (Some (number_in key bytes))) (entry_of key))
+    else option_map (λ of. Written of (number_in key protocol bytes)) (entry_of key))
 
 -- an upload was answered with these bytes
-abbrev pub read_event : Key → List ℕ → Option Event
-read_event key bytes = option_map (λ of. Read of (number_in key bytes)) (entry_of key)
+abbrev pub read_event : Key → Protocol → List ℕ → Option Event
+read_event key protocol bytes = option_map (λ of. Read of (number_in key protocol bytes)) (entry_of key)
+
+-- parameters are stored, or default ones restored, by a download with a signature
+abbrev pub is_store : Key → Bool
+is_store key = ((key.sub == 1) || (key.sub == 2)) && ((key.index == store_parameters) || (key.index == restore_parameters))
 
 -- a download was acknowledged, and its bytes aren't known
 abbrev pub unclear_event : Key → Option Event
-unclear_event key = option_map (λ of. Written of None) (entry_of key)
+unclear_event key = if is_store key then Some Unclear else option_map (λ of. Written of None) (entry_of key)
 
 -- a download was acknowledged, but bytes of it are missing in the recording, or aren't those that were
 -- meant. One that the device refused, or that has no acknowledge, changes nothing
@@ -90,20 +107,20 @@ is_unclear (SizeDiffers indicated) = true
 is_unclear (CrcDiffers came computed) = true
 is_unclear _ = false
 
-abbrev pub download_event : Ending → Key → List ℕ → Option Event
-download_event (Done crc) key bytes = written_event key bytes
-download_event ending key bytes = if is_unclear ending then unclear_event key else None
+abbrev pub download_event : Ending → Key → Protocol → List ℕ → Option Event
+download_event (Done crc) key protocol bytes = written_event key protocol bytes
+download_event ending key protocol bytes = if is_unclear ending then unclear_event key else None
 
-abbrev pub upload_event : Ending → Key → List ℕ → Option Event
-upload_event (Done crc) key bytes = read_event key bytes
-upload_event _ key bytes = None
+abbrev pub upload_event : Ending → Key → Protocol → List ℕ → Option Event
+upload_event (Done crc) key protocol bytes = read_event key protocol bytes
+upload_event _ key protocol bytes = None
 
-abbrev pub event_by : Direction → Ending → Key → List ℕ → Option Event
-event_by Download ending key bytes = download_event ending key bytes
-event_by Upload ending key bytes = upload_event ending key bytes
+abbrev pub event_by : Direction → Ending → Key → Protocol → List ℕ → Option Event
+event_by Download ending key protocol bytes = download_event ending key protocol bytes
+event_by Upload ending key protocol bytes = upload_event ending key protocol bytes
 
 abbrev pub event_after : Ended → Option Event
-event_after ended = event_by ended.direction ended.ending ended.key ended.first.items
+event_after ended = event_by ended.direction ended.ending ended.key ended.protocol ended.first.items
 
 -- ---- frames
 

@@ -5,7 +5,7 @@ use Rattle.conode_text.specs.Filled.{filled}
 use Rattle.conode_explain_transfers.specs.declared.kinds.Side.{Side}
 use Rattle.conode_explain_transfers.specs.declared.kinds.Side.TheVariants.{Client, Server}
 use Rattle.conode_explain_transfers.specs.declared.kinds.What.{What}
-use Rattle.conode_explain_transfers.specs.declared.kinds.What.TheVariants.{Segment, OutOfSequence, Repeated, Overtaken, Unexpected, Stray, BegunBefore}
+use Rattle.conode_explain_transfers.specs.declared.kinds.What.TheVariants.{Segment, OutOfSequence, LastAgain, Repeated, Overtaken, Unexpected, Stray, BegunBefore}
 use Rattle.conode_explain_entries.specs.Ends.{entry_text}
 
 -- ---- segments of sub-blocks, whose bytes alone don't show what they are
@@ -13,6 +13,7 @@ use Rattle.conode_explain_entries.specs.Ends.{entry_text}
 abbrev pub segment_number : What → Option ℕ
 segment_number (Segment number) = Some number
 segment_number (OutOfSequence number awaited) = Some number
+segment_number (LastAgain number) = Some number
 segment_number _ = None
 
 unfoldable pub service_text : Side → List ℕ
@@ -35,6 +36,7 @@ of_text (Some key) name = codes " of " ++ entry_text key name
 
 -- what is odd about it
 unfoldable pub remark_words : What → List ℕ
+remark_words (LastAgain number) = codes " (repeated)"
 remark_words Repeated = codes " (repeated)"
 remark_words Overtaken = codes " (overtaken)"
 remark_words Unexpected = codes " (unexpected)"

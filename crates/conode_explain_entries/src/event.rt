@@ -8,12 +8,15 @@ ghost use Rattle.conode_explain_entries.specs.Events.{
   event_in,
   event_of,
   has_signature,
+  has_width,
   is_channel,
   is_cob_id,
+  is_expedited,
   is_load,
   is_mapping,
   is_save,
   is_service,
+  is_store,
   is_unclear,
   number_in,
   number_width,
@@ -26,7 +29,7 @@ ghost use Rattle.conode_explain_entries.specs.Events.{
 
 use co_profile::{IndexRange, PDO_COB_ID, RESTORE_PARAMETERS, STORE_PARAMETERS};
 use co_value::{Key, unsigned_of};
-use conode_explain_transfers::{Direction, Ended, Ending, Told};
+use conode_explain_transfers::{Direction, Ended, Ending, Protocol, Told};
 
 /// Which entry of a PDO.
 #[derive(Clone, Copy)]
@@ -52,16 +55,20 @@ pub struct PdoEntry {
 #[derive(Clone, Copy)]
 pub enum Event {
     /// A download to an entry was acknowledged, with this number. `None`: bytes of it are missing
-    /// in the recording, or it isn't known.
+    /// in the recording, it isn't known, or it has another length than the entry's type.
     Written { of: PdoEntry, number: Option<u32> },
-    /// An upload of an entry was answered with this number.
-    Read { of: PdoEntry, number: u32 },
+    /// An upload of an entry was answered with this number. `None`: it has another length than the
+    /// entry's type.
+    Read { of: PdoEntry, number: Option<u32> },
     /// The node booted up (CiA 301, 7.2.8.3.3).
     BootedUp,
     /// The node stored its parameters (CiA 301, 7.5.2.13).
     Saved,
     /// The node restores its default parameters with the next reset (CiA 301, 7.5.2.14).
     Restored,
+    /// The node may have stored its parameters, or may restore its default ones with the next
+    /// reset: such a download was acknowledged, and its bytes aren't known.
+    Unclear,
 }
 
 fn is_cob_id(key: Key) -> bool
@@ -123,7 +130,7 @@ fn entry_of(key: Key) -> Option<PdoEntry>
 fn number_width(key: Key) -> usize
     ensures { result ≡ number_width key }
 {
-    if key.sub == 0 && !is_service(key) {
+    if (key.sub == 0 && !is_service(key)) || (is_channel(key) && key.sub == 3) {
         1
     } else {
         4
@@ -143,10 +150,27 @@ fn first_bytes(bytes: &[u8], count: usize) -> &[u8]
     }
 }
 
-fn number_in(key: Key, bytes: &[u8]) -> u32
-    ensures { result ≡ number_in key bytes.now }
+fn is_expedited(protocol: Protocol) -> bool
+    ensures { result ≡ is_expedited protocol }
 {
-    unsigned_of(first_bytes(bytes, number_width(key))) as u32
+    matches!(protocol, Protocol::Expedited)
+}
+
+// as many bytes as the type has; without an indicated size four
+fn has_width(key: Key, protocol: Protocol, count: usize) -> bool
+    ensures { result ≡ has_width key protocol count }
+{
+    count == number_width(key) || (is_expedited(protocol) && count == 4)
+}
+
+fn number_in(key: Key, protocol: Protocol, bytes: &[u8]) -> Option<u32>
+    ensures { result ≡ number_in key protocol bytes.now }
+{
+    if has_width(key, protocol, bytes.len()) {
+        Some(unsigned_of(first_bytes(bytes, number_width(key))) as u32)
+    } else {
+        None
+    }
 }
 
 // all parameters, or those of communication
@@ -168,8 +192,8 @@ fn is_load(key: Key, bytes: &[u8]) -> bool
     has_signature(key, RESTORE_PARAMETERS, bytes, b"load")
 }
 
-fn written_event(key: Key, bytes: &[u8]) -> Option<Event>
-    ensures { result ≡ written_event key bytes.now }
+fn written_event(key: Key, protocol: Protocol, bytes: &[u8]) -> Option<Event>
+    ensures { result ≡ written_event key protocol bytes.now }
 {
     if is_save(key, bytes) {
         return Some(Event::Saved);
@@ -180,23 +204,34 @@ fn written_event(key: Key, bytes: &[u8]) -> Option<Event>
     let Some(of) = entry_of(key) else {
         return None;
     };
-    let number = Some(number_in(key, bytes));
+    let number = number_in(key, protocol, bytes);
     Some(Event::Written { of, number })
 }
 
-fn read_event(key: Key, bytes: &[u8]) -> Option<Event>
-    ensures { result ≡ read_event key bytes.now }
+fn read_event(key: Key, protocol: Protocol, bytes: &[u8]) -> Option<Event>
+    ensures { result ≡ read_event key protocol bytes.now }
 {
     let Some(of) = entry_of(key) else {
         return None;
     };
-    let number = number_in(key, bytes);
+    let number = number_in(key, protocol, bytes);
     Some(Event::Read { of, number })
+}
+
+// parameters are stored, or default ones restored, by a download with a signature
+fn is_store(key: Key) -> bool
+    ensures { result ≡ is_store key }
+{
+    (key.sub == 1 || key.sub == 2)
+        && (key.index == STORE_PARAMETERS || key.index == RESTORE_PARAMETERS)
 }
 
 fn unclear_event(key: Key) -> Option<Event>
     ensures { result ≡ unclear_event key }
 {
+    if is_store(key) {
+        return Some(Event::Unclear);
+    }
     let Some(of) = entry_of(key) else {
         return None;
     };
@@ -218,21 +253,23 @@ fn is_unclear(ending: Ending) -> bool
     }
 }
 
-fn download_event(ending: Ending, key: Key, bytes: &[u8]) -> Option<Event>
-    ensures { result ≡ download_event ending key bytes.now }
+fn download_event(ended: &Ended) -> Option<Event>
+    ensures { result ≡ download_event ended.now.ending ended.now.key ended.now.protocol ended.now.first.items }
 {
-    match ending {
-        Ending::Done { crc: _ } => written_event(key, bytes),
-        _ if is_unclear(ending) => unclear_event(key),
+    match ended.ending {
+        Ending::Done { crc: _ } => {
+            written_event(ended.key, ended.protocol, ended.first.as_slice())
+        }
+        _ if is_unclear(ended.ending) => unclear_event(ended.key),
         _ => None,
     }
 }
 
-fn upload_event(ending: Ending, key: Key, bytes: &[u8]) -> Option<Event>
-    ensures { result ≡ upload_event ending key bytes.now }
+fn upload_event(ended: &Ended) -> Option<Event>
+    ensures { result ≡ upload_event ended.now.ending ended.now.key ended.now.protocol ended.now.first.items }
 {
-    match ending {
-        Ending::Done { crc: _ } => read_event(key, bytes),
+    match ended.ending {
+        Ending::Done { crc: _ } => read_event(ended.key, ended.protocol, ended.first.as_slice()),
         _ => None,
     }
 }
@@ -240,10 +277,9 @@ fn upload_event(ending: Ending, key: Key, bytes: &[u8]) -> Option<Event>
 fn event_after(ended: &Ended) -> Option<Event>
     ensures { result ≡ event_after ended.now }
 {
-    let bytes = ended.first.as_slice();
     match ended.direction {
-        Direction::Download => download_event(ended.ending, ended.key, bytes),
-        Direction::Upload => upload_event(ended.ending, ended.key, bytes),
+        Direction::Download => download_event(ended),
+        Direction::Upload => upload_event(ended),
     }
 }
 

@@ -28,6 +28,7 @@ pub fn segment_number(what: What) -> Option<u8>
     match what {
         What::Segment { number } => Some(number),
         What::OutOfSequence { number, awaited: _ } => Some(number),
+        What::LastAgain { number } => Some(number),
         _ => None,
     }
 }
@@ -85,7 +86,7 @@ fn remark_words(what: What) -> &'static str
     ensures { result.now ≡ remark_words what }
 {
     match what {
-        What::Repeated => " (repeated)",
+        What::LastAgain { number: _ } | What::Repeated => " (repeated)",
         What::Overtaken => " (overtaken)",
         What::Unexpected => " (unexpected)",
         What::Stray => " (no transfer is open)",

@@ -14,11 +14,9 @@ ghost use Rattle.conode_explain_entries.specs.MovedIds.{
 
 use crate::entries::Entries;
 use crate::state::{PdoState, Value};
+use co_profile::EMERGENCY_COB_ID;
 use conode_text::{Value as Text, push_filled};
 use std::alloc::AllocError;
-
-/// The index of the COB-ID of emergencies.
-const EMERGENCIES: u16 = 0x1014;
 
 /// A node whose COB-ID isn't the identifier that the pre-defined connection set has for it.
 #[derive(Clone, Copy)]
@@ -35,7 +33,7 @@ fn index_for(code: u16) -> Option<u16>
     ensures { result ≡ index_for code }
 {
     match code {
-        1 => Some(EMERGENCIES),
+        1 => Some(EMERGENCY_COB_ID),
         3 => Some(0x1800),
         4 => Some(0x1400),
         5 => Some(0x1801),
@@ -51,7 +49,7 @@ fn index_for(code: u16) -> Option<u16>
 fn cob_id_in(state: &PdoState, index: u16) -> Value
     ensures { result ≡ cob_id_in state.entry.now index }
 {
-    if index == EMERGENCIES {
+    if index == EMERGENCY_COB_ID {
         state.now.mapping[0]
     } else {
         state.now.cob_id
@@ -115,7 +113,7 @@ pub fn push_moved(text: &mut String, moved: MovedId) -> Result<(), AllocError>
         (string_bytes text.new ≡ string_bytes text.old ++ moved_words moved) }
 {
     let node = Text::Number(moved.node as u64);
-    if moved.index == EMERGENCIES {
+    if moved.index == EMERGENCY_COB_ID {
         return push_filled(text, "not EMCY node % (by its COB-ID)", &[node]);
     }
     if moved.index < 0x1800 {

@@ -28,7 +28,7 @@ pub enum Value {
     Seen { number: u32 },
     /// This number was stored, and came back with a boot-up.
     Saved { number: u32 },
-    /// It was written, and nothing is known of the number.
+    /// It was shown, and nothing is known of the number.
     Unknown,
 }
 
@@ -66,12 +66,18 @@ impl Value {
         }
     }
 
-    // what comes back of it, where it is stored
-    fn stored(self) -> Value
-        ensures { result ≡ stored_value self }
+    // what comes back of it, where it is stored, or may be
+    fn stored(self, certain: bool) -> Value
+        ensures { result ≡ stored_value certain self }
     {
         match self {
-            Value::Seen { number } => Value::Saved { number },
+            Value::Seen { number } | Value::Saved { number } => {
+                if certain {
+                    Value::Saved { number }
+                } else {
+                    Value::Unknown
+                }
+            }
             _ => self,
         }
     }
@@ -95,12 +101,12 @@ fn changes_written(changes: bool, part: PdoPart, number: Option<u32>) -> bool
     }
 }
 
-fn changes_read(changes: bool, part: PdoPart, number: u32) -> bool
+fn changes_read(changes: bool, part: PdoPart, number: Option<u32>) -> bool
     ensures { result ≡ changes_read changes part number }
 {
     match part {
         PdoPart::CobId => changes,
-        PdoPart::Mapping { sub } => { if sub == 0 { number == 0 } else { changes } }
+        PdoPart::Mapping { sub } => changes && (sub != 0 || is_no_count(number)),
     }
 }
 
@@ -138,17 +144,17 @@ impl PdoValues {
         values
     }
 
-    // what comes back of them, where they are stored
+    // what comes back of them, where they are stored, or may be
     #[tactic(auto, using(crate::proofs::Changes::done_more, crate::proofs::Changes::all_done))]
-    fn stored(self) -> PdoValues
-        ensures { result ≡ stored_values self }
+    fn stored(self, certain: bool) -> PdoValues
+        ensures { result ≡ stored_values certain self }
     {
         let mut mapping = self.mapping;
         for value in mapping.iter_mut() {
-            *value = value.stored();
+            *value = value.stored(certain);
         }
         PdoValues {
-            cob_id: self.cob_id.stored(),
+            cob_id: self.cob_id.stored(certain),
             mapping,
         }
     }
@@ -176,11 +182,11 @@ impl PdoState {
         }
     }
 
-    fn read(self, part: PdoPart, number: u32) -> PdoState
+    fn read(self, part: PdoPart, number: Option<u32>) -> PdoState
         ensures { result ≡ state_read self part number }
     {
         PdoState {
-            now: self.now.with(part, Value::Seen { number }),
+            now: self.now.with(part, Value::shown(number)),
             stored: self.stored,
             is_being_changed: changes_read(self.is_being_changed, part, number),
         }
@@ -202,7 +208,12 @@ impl PdoState {
             },
             Event::Saved => PdoState {
                 now: self.now,
-                stored: self.now.stored(),
+                stored: self.now.stored(true),
+                is_being_changed: self.is_being_changed,
+            },
+            Event::Unclear => PdoState {
+                now: self.now,
+                stored: self.now.stored(false),
                 is_being_changed: self.is_being_changed,
             },
             Event::Restored => PdoState {

@@ -1,6 +1,6 @@
 -- Whether words are new, and what is kept, on both sides of each edge.
 use Rattle.std.proofs.Common.{◌≡◌, ℕ, true, false, List, [], ◌∷◌, length, refl}
-use Rattle.std.specs.Prelude.{Bool, codes, replicate}
+use Rattle.std.specs.Prelude.{codes, replicate}
 use Rattle.conode_explain_filter.specs.Changes.{Said, is_new, kept}
 
 said : List ℕ → ℕ → List ℕ → Said

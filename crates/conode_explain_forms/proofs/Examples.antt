@@ -23,6 +23,7 @@ use Rattle.conode_explain_transfers.specs.declared.kinds.Protocol.TheVariants.{E
 use Rattle.conode_explain_pdo.specs.declared.claim.Claim.{Claim}
 use Rattle.conode_explain_pdo.specs.Buses.{Bus}
 use Rattle.conode_explain_pdo.specs.EntryBits.{bits_in_force, entry_bits, place_from}
+use Rattle.conode_explain_pdo.specs.InForce.{mapping_in_force, words_in_force}
 use Rattle.conode_explain_pdo.specs.Known.{KnownSheet, names_for}
 use Rattle.conode_explain_pdo.specs.Mappings.{part_bytes}
 use Rattle.conode_explain_text.specs.declared.stamps.StampForm.TheVariants.{Relative, Absolute, Delta, Date as AsDate}
@@ -224,7 +225,7 @@ sheet only name = record {
   pdos = record {
     index = 0x1800;
     cob_id = record { word = 0x185; with_node = false };
-    mapping = record { count = 2; words = 0x20020001 ∷ 0x20010110 ∷ [] };
+    mapping = record { count = Some 2; words = 0x20020001 ∷ 0x20010110 ∷ [] };
   } ∷ [];
   services = [];
 }
@@ -240,26 +241,26 @@ seen claims bytes s = field_of bus claims bytes None s
 
 -- 1 and 1000 in 17 bits: 07D1h
 both : map (seen (tpdo 5 ∷ []) (0xD1 ∷ 0x07 ∷ 0 ∷ [])) (signal ∷ of_node 5 0x2002 0 ∷ []) ≡ Some (codes "1000") ∷ Some (codes "1") ∷ []
-unfolding field_of entry_field entry_of names_for pdo_bits bits_in_force entry_bits place_from part_bytes value_text number_text digits
+unfolding field_of entry_field entry_of names_for pdo_bits bits_in_force mapping_in_force words_in_force entry_bits place_from part_bytes value_text number_text digits
 both = refl
 
 -- data of two bytes are too short, of the PDO of another node, of no PDO; an entry that the sheet
 -- lacks, and another node's
 none_there : map (seen (tpdo 5 ∷ []) (0xD1 ∷ 0x07 ∷ [])) (signal ∷ of_node 5 0x2002 0 ∷ []) ≡ None ∷ None ∷ []
-unfolding field_of entry_field entry_of names_for pdo_bits bits_in_force entry_bits place_from part_bytes
+unfolding field_of entry_field entry_of names_for pdo_bits bits_in_force mapping_in_force words_in_force entry_bits place_from part_bytes
 none_there = refl
 
 elsewhere : map (λ claims. seen claims (0xD1 ∷ 0x07 ∷ 0 ∷ []) signal) ((tpdo 6 ∷ []) ∷ [] ∷ []) ≡ None ∷ None ∷ []
-unfolding field_of entry_field entry_of names_for pdo_bits bits_in_force entry_bits place_from part_bytes
+unfolding field_of entry_field entry_of names_for pdo_bits bits_in_force mapping_in_force words_in_force entry_bits place_from part_bytes
 elsewhere = refl
 
 of_others : map (seen (tpdo 5 ∷ []) (0xD1 ∷ 0x07 ∷ 0 ∷ [])) (of_node 5 0x2003 0 ∷ of_node 6 0x2001 1 ∷ []) ≡ None ∷ None ∷ []
-unfolding field_of entry_field entry_of names_for pdo_bits bits_in_force entry_bits place_from part_bytes
+unfolding field_of entry_field entry_of names_for pdo_bits bits_in_force mapping_in_force words_in_force entry_bits place_from part_bytes
 of_others = refl
 
 -- the second PDO of a frame
 second : seen (tpdo 6 ∷ tpdo 5 ∷ []) (0xD1 ∷ 0x07 ∷ 0 ∷ []) signal ≡ Some (codes "1000")
-unfolding field_of entry_field entry_of names_for pdo_bits bits_in_force entry_bits place_from part_bytes value_text number_text digits
+unfolding field_of entry_field entry_of names_for pdo_bits bits_in_force mapping_in_force words_in_force entry_bits place_from part_bytes value_text number_text digits
 second = refl
 
 -- the answer of an upload
@@ -271,7 +272,7 @@ uploaded = refl
 
 of_two : signal_line Absolute (record { first = 0; before = 0; now = 1500000 }) (seen (tpdo 5 ∷ []) (0xD1 ∷ 0x07 ∷ 0 ∷ [])) (of_node 6 0x2001 1 ∷ signal ∷ [])
     ≡ codes "1.500000,,1000\n"
-unfolding signal_line seconds_text field_of entry_field entry_of names_for pdo_bits bits_in_force entry_bits place_from part_bytes value_text number_text digits digits_text
+unfolding signal_line seconds_text field_of entry_field entry_of names_for pdo_bits bits_in_force mapping_in_force words_in_force entry_bits place_from part_bytes value_text number_text digits digits_text
 of_two = refl
 
 plain_field : csv_field (codes "node 5 2001:01 T; 1") ≡ codes "node 5 2001:01 T; 1"
@@ -280,6 +281,11 @@ plain_field = refl
 quoted_fields : map csv_field (codes "a,b" ∷ codes "a\"b" ∷ codes "a\nb" ∷ (0x7F ∷ []) ∷ []) ≡ codes "\"a,b\"" ∷ codes "\"a\"\"b\"" ∷ codes "\"a\\x0Ab\"" ∷ codes "\"\\x7F\"" ∷ []
 unfolding quoted_byte digits_text
 quoted_fields = refl
+
+-- a control character of two bytes, alone and beside a quote
+shown_fields : map csv_field ((0x61 ∷ 0xC2 ∷ 0x9B ∷ 0x62 ∷ []) ∷ (0x22 ∷ 0xC2 ∷ 0x9B ∷ []) ∷ []) ≡ codes "a\\x9Bb" ∷ codes "\"\"\"\\x9B\"" ∷ []
+unfolding quoted_byte digits_text
+shown_fields = refl
 
 names_of_columns : header (sheet (Some 5) (codes "T, inside") ∷ sheet None (codes "T") ∷ []) (signal ∷ of_node 6 0x2001 1 ∷ [])
     ≡ codes "time,\"node 5 2001:01 T, inside\",node 6 2001:01 T\n"

@@ -6,7 +6,7 @@ use Rattle.co_value.specs.KeyTexts.{key_text}
 use Rattle.co_sheet.specs.Content.{Row}
 use Rattle.co_sheet_changes.specs.Names.{entry_of, shown_name}
 use Rattle.conode_explain_pdo.specs.Known.{KnownSheet, names_for}
-use Rattle.conode_explain_text.specs.Said.{is_control, shown_byte}
+use Rattle.conode_explain_text.specs.Said.{is_control, shown}
 use Rattle.conode_explain_text.specs.declared.so_far.Times.{Times}
 use Rattle.conode_explain_text.specs.declared.stamps.StampForm.{StampForm}
 use Rattle.conode_explain_forms.specs.declared.signal.Signal.{Signal}
@@ -28,16 +28,18 @@ has_one value signals = list_any (λ signal. is_some (value signal)) signals
 
 -- ---- the first line
 
--- a byte within quotes: a quote is doubled, and a control character shown as in the other lines
+-- a byte within quotes: a quote is doubled
 unfoldable pub quoted_byte : ℕ → List ℕ
-quoted_byte byte = if byte == 0x22 then 0x22 ∷ 0x22 ∷ [] else shown_byte byte
+quoted_byte byte = if byte == 0x22 then 0x22 ∷ 0x22 ∷ [] else byte ∷ []
 
 -- a quote, a comma or a control character
 abbrev pub needs_quotes : List ℕ → Bool
 needs_quotes field = list_any (λ b. ((b == 0x22) || (b == 0x2C)) || is_control b) field
 
+-- control characters and the like are shown as in the other lines
 abbrev pub csv_field : List ℕ → List ℕ
-csv_field field = if needs_quotes field then 0x22 ∷ [] ++ flat_map quoted_byte field ++ 0x22 ∷ [] else field
+csv_field field =
+    if needs_quotes field then 0x22 ∷ [] ++ flat_map quoted_byte (shown field) ++ 0x22 ∷ [] else shown field
 
 -- the entry of a signal in the sheet that counts for its node on an interface
 abbrev pub row_on : List KnownSheet → Signal → List ℕ → Option Row

@@ -5,7 +5,7 @@ ghost use Rattle.std.specs.List.{flat_map};
 ghost use Rattle.std.specs.Option.{option_copied};
 ghost use Rattle.co_sheet.specs.SheetViews.{row_view};
 ghost use Rattle.conode_explain_pdo.specs.Known.{known_view};
-ghost use Rattle.conode_explain_text.specs.Said.{is_control, shown_byte};
+ghost use Rattle.conode_explain_text.specs.Said.{is_control};
 ghost use Rattle.conode_explain_forms.specs.Lines.{
   column,
   column_name,
@@ -25,8 +25,8 @@ ghost use Rattle.conode_explain_forms.specs.Lines.{
 use crate::signal::Signal;
 use co_sheet::EntryRow;
 use co_sheet_changes::shown_name;
-use co_text::byte_digits;
 use conode_explain_pdo::{KnownSheet, names_for};
+use conode_explain_text::add_shown;
 use conode_text::{Value, push_filled};
 use std::alloc::{AllocError, Global};
 
@@ -47,17 +47,6 @@ fn needs_quotes(field: &[u8]) -> bool
     false
 }
 
-fn add_shown(line: &mut Vec<u8>, byte: u8) -> Result<(), AllocError>
-    ensures { OnOk result (line.new.items ≡ line.old.items ++ shown_byte byte) }
-{
-    if is_control(byte) {
-        attempt!(line.extend_from_slice(b"\\x"));
-        line.extend_from_slice(byte_digits(byte).as_str().as_bytes())
-    } else {
-        line.extend_from_slice(&[byte])
-    }
-}
-
 #[tactic(auto, unfolding(crate::specs::Lines::quoted_byte))]
 fn add_quoted(line: &mut Vec<u8>, byte: u8) -> Result<(), AllocError>
     ensures { OnOk result (line.new.items ≡ line.old.items ++ quoted_byte byte) }
@@ -65,7 +54,7 @@ fn add_quoted(line: &mut Vec<u8>, byte: u8) -> Result<(), AllocError>
     if byte == b'"' {
         return line.extend_from_slice(b"\"\"");
     }
-    add_shown(line, byte)
+    line.extend_from_slice(&[byte])
 }
 
 fn add_all_quoted(line: &mut Vec<u8>, field: &[u8]) -> Result<(), AllocError>
@@ -87,15 +76,17 @@ fn add_in_quotes(line: &mut Vec<u8>, field: &[u8]) -> Result<(), AllocError>
     line.extend_from_slice(b"\"")
 }
 
-// a field after a comma
-fn add_csv_field(line: &mut Vec<u8>, field: &[u8]) -> Result<(), AllocError>
+// a field after a comma; `escaped` is scratch space
+fn add_csv_field(line: &mut Vec<u8>, escaped: &mut Vec<u8>, field: &[u8]) -> Result<(), AllocError>
     ensures { OnOk result (line.new.items ≡ line.old.items ++ codes "," ++ csv_field field.now) }
 {
+    escaped.clear();
+    attempt!(add_shown(escaped, field));
     if needs_quotes(field) {
-        return add_in_quotes(line, field);
+        return add_in_quotes(line, escaped.as_slice());
     }
     attempt!(line.extend_from_slice(b","));
-    line.extend_from_slice(field)
+    line.extend_from_slice(escaped.as_slice())
 }
 
 // the entry of a signal in the sheet that counts for its node on an interface
@@ -198,6 +189,7 @@ fn set_column_name(
 #[tactic(auto, unfolding(crate::specs::Lines::column))]
 fn add_column(
     line: &mut Vec<u8>,
+    escaped: &mut Vec<u8>,
     text: &mut String,
     sheets: &[KnownSheet<'_, '_>],
     signal: Signal,
@@ -206,11 +198,12 @@ fn add_column(
         (line.new.items ≡ line.old.items ++ column (map known_view sheets.now) signal) }
 {
     attempt!(set_column_name(text, row_of(sheets, signal), signal));
-    add_csv_field(line, text.as_bytes())
+    add_csv_field(line, escaped, text.as_bytes())
 }
 
 fn add_columns(
     line: &mut Vec<u8>,
+    escaped: &mut Vec<u8>,
     text: &mut String,
     sheets: &[KnownSheet<'_, '_>],
     signals: &[Signal],
@@ -219,15 +212,16 @@ fn add_columns(
         ++ flat_map (column (map known_view sheets.now)) signals.now) }
 {
     for signal in signals {
-        attempt!(add_column(line, text, sheets, *signal));
+        attempt!(add_column(line, escaped, text, sheets, *signal));
     }
     Ok(())
 }
 
-// `text` is scratch space
+// `escaped` and `text` are scratch space
 #[tactic(auto, unfolding(crate::specs::Lines::header))]
 fn add_header(
     line: &mut Vec<u8>,
+    escaped: &mut Vec<u8>,
     text: &mut String,
     sheets: &[KnownSheet<'_, '_>],
     signals: &[Signal],
@@ -236,15 +230,15 @@ fn add_header(
         (line.new.items ≡ line.old.items ++ header (map known_view sheets.now) signals.now) }
 {
     attempt!(line.extend_from_slice(b"time"));
-    attempt!(add_columns(line, text, sheets, signals));
+    attempt!(add_columns(line, escaped, text, sheets, signals));
     line.extend_from_slice(b"\n")
 }
 
 /// The first line of a table of the values of signals: `time`, and for each the node, the entry and
 /// its name, as `time,node 5 2001:01 Temperature`. The name is that of the sheet that counts on an
 /// interface that no sheet names, else that of the first interface on which the node has the entry.
-/// A name with a comma, a quote or a control character is quoted as RFC 4180 has it, the last as
-/// `\x07`. On an `Err` memory ran out.
+/// A name with a comma, a quote or a control character is quoted as RFC 4180 has it; control
+/// characters and the like are shown as in the other lines, as `\x07`. On an `Err` memory ran out.
 pub fn header(
     alloc: Global,
     sheets: &[KnownSheet<'_, '_>],
@@ -254,7 +248,8 @@ pub fn header(
         line.items ≡ header (map known_view sheets.now) signals.now) }
 {
     let mut text = String::new(alloc);
+    let mut escaped = Vec::new(alloc);
     let mut line = Vec::new(alloc);
-    attempt!(add_header(&mut line, &mut text, sheets, signals));
+    attempt!(add_header(&mut line, &mut escaped, &mut text, sheets, signals));
     Ok(line)
 }

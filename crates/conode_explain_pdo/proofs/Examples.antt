@@ -1,5 +1,5 @@
 -- The data of PDOs, evaluated on both sides of each edge.
-use Rattle.std.proofs.Common.{◌≡◌, ℕ, Bool, true, false, [], ◌∷◌, List, Option, Some, None, refl, pos}
+use Rattle.std.proofs.Common.{◌≡◌, ℕ, Bool, true, false, [], ◌∷◌, List, Option, Some, None, refl, pos, negsuc}
 use Rattle.std.specs.Prelude.{codes, length, map, not, ◌==◌, if◌then◌else◌}
 use Rattle.std.specs.Fmt.{digits}
 use Rattle.std.specs.Str.{is_utf8, chars}
@@ -16,14 +16,15 @@ use Rattle.conode_explain_values.specs.Unicode.{characters_text, pair_text, unit
 use Rattle.conode_explain_values.specs.Values.{entry_text, value_text}
 use Rattle.conode_explain_pdo.specs.declared.cob_id.SheetCobId.{SheetCobId}
 use Rattle.conode_explain_pdo.specs.declared.entry_bits.EntryBits.{EntryBits}
-use Rattle.conode_explain_pdo.specs.EntryBits.{entry_bits, place_from, shown_bits}
+use Rattle.conode_explain_pdo.specs.Content.{SheetMapping}
+use Rattle.conode_explain_pdo.specs.EntryBits.{assumed_bits, entry_bits, place_from, shown_bits}
 use Rattle.conode_explain_services.specs.Drives.{drive_words, meaning_at, mode_words, state_words, statusword_words, word_text}
 use Rattle.conode_explain_pdo.specs.KnownEntries.{Device, is_node_drive, known_text}
 use Rattle.conode_text.specs.Filled.{filled}
 use Rattle.conode_explain_pdo.specs.Mappings.{addressed_text, addressing_word, bits_at, data_text, mapped_text, missing_text, more_parts, more_text, multiplexed_data, multiplexed_text, part_bytes, part_text, parts_text, short_text, with_bits}
 use Rattle.co_value.specs.declared.key.Key.{Key}
 use Rattle.conode_explain_pdo.specs.CobIdWords.{cob_id_words, has_cob_id}
-use Rattle.conode_explain_pdo.specs.CobIds.{has_identifier, is_of, may_be_pdo, node_with}
+use Rattle.conode_explain_pdo.specs.CobIds.{has_identifier, is_default_rpdo, is_of, may_be_pdo, node_with}
 use Rattle.conode_explain_entries.specs.declared.entries.ShownPdo.{ShownPdo}
 use Rattle.conode_explain_entries.specs.declared.state.Value.{Value}
 use Rattle.conode_explain_entries.specs.declared.state.Value.TheVariants.{Assumed, Seen, Saved, Unknown}
@@ -33,7 +34,7 @@ use Rattle.conode_explain_pdo.specs.InForce.{assumed_text, data_in_force, device
 use Rattle.conode_explain_pdo.specs.Claims.{claims_with, sheet_claim, sheets_claims, shown_claim}
 use Rattle.conode_explain_pdo.specs.Known.{KnownSheet, known_sheet, names_for}
 use Rattle.conode_explain_pdo.specs.Pdos.{more_pdos, pdo_front, pdo_text, pdos_text}
-use Rattle.conode_explain_pdo.specs.Sheets.{mapping_at, number_at, pdo_of, pdos_in, sheet_pdos, words_at}
+use Rattle.conode_explain_pdo.specs.Sheets.{mapping_at, number_at, number_of, pdo_of, pdos_in, sheet_pdos, words_at}
 
 -- ---- the bits at an offset
 
@@ -333,10 +334,31 @@ said_with names entries id bytes = said_by (sheet_of names ∷ []) entries id by
 abbrev said : ℕ → List ℕ
 said id = said_with (names_with rows_of_pdos) [] id (1 ∷ [])
 
--- the PDO that the node sends, and after it the one that it receives
-two_pdos : said 0x185 ≡ codes "TPDO1 node 5: B 2002:00 = true | RPDO1 node 5"
+-- the PDO that a node sends. The low bits of its identifier don't name the node that receives it
+sent_alone : said 0x185 ≡ codes "TPDO1 node 5: B 2002:00 = true"
+unfolding claims_with sheets_claims sheet_claim shown_claim names_for pdos_text more_pdos pdo_text pdo_front data_in_force shown_text raw_text mapping_in_force words_in_force node_with is_of sheet_pdos pdos_in pdo_of mapping_at words_at number_at data_text mapped_text parts_text more_parts part_text part_bytes short_text more_text filled entry_of known_text meaning_at entry_text value_text number_text digits digits_text is_utf8 chars encode
+sent_alone = refl
+
+-- of a sheet for one node the PDO that it sends, and after it the one that it receives
+two_pdos : said_with (record (names_with rows_of_pdos) { only = Some 5 }) [] 0x185 (1 ∷ []) ≡ codes "TPDO1 node 5: B 2002:00 = true | RPDO1 node 5"
 unfolding claims_with sheets_claims sheet_claim shown_claim names_for pdos_text more_pdos pdo_text pdo_front data_in_force shown_text raw_text mapping_in_force words_in_force node_with is_of sheet_pdos pdos_in pdo_of mapping_at words_at number_at data_text mapped_text parts_text more_parts part_text part_bytes short_text more_text filled entry_of known_text meaning_at entry_text value_text number_text digits digits_text is_utf8 chars encode
 two_pdos = refl
+
+-- the identifiers that the pre-defined connection set has for RPDOs, and those beside them
+default_rpdos : map is_default_rpdo (0x200 ∷ 0x27F ∷ 0x305 ∷ 0x405 ∷ 0x500 ∷ 0x57F ∷ []) ≡ true ∷ true ∷ true ∷ true ∷ true ∷ true ∷ []
+default_rpdos = refl
+
+no_default_rpdos : map is_default_rpdo (0x105 ∷ 0x1FF ∷ 0x280 ∷ 0x2FF ∷ 0x480 ∷ 0x580 ∷ 0x605 ∷ 0x685 ∷ []) ≡ false ∷ false ∷ false ∷ false ∷ false ∷ false ∷ false ∷ false ∷ []
+no_default_rpdos = refl
+
+-- an RPDO with such a number, and with one beside them, in a sheet for every node; and with the node-ID added
+abbrev received : Default → ℕ → List ℕ
+received cob_id id = said_with (names_with (row 0x1400 1 Unsigned32 cob_id [] ∷ row 0x1600 0 Unsigned8 (number (pos 0)) [] ∷ [])) [] id (1 ∷ [])
+
+fixed_receivers : received (number (pos 0x205)) 0x205 ∷ received (number (pos 0x285)) 0x285 ∷ received (node_id 0x280) 0x285 ∷ []
+    ≡ codes "RPDO1 node 5" ∷ [] ∷ codes "RPDO1 node 5" ∷ []
+unfolding claims_with sheets_claims sheet_claim shown_claim names_for pdos_text more_pdos pdo_text pdo_front data_in_force shown_text raw_text mapping_in_force words_in_force node_with is_of sheet_pdos pdos_in pdo_of mapping_at words_at number_at data_text mapped_text parts_text more_parts part_text part_bytes short_text more_text filled entry_of known_text meaning_at entry_text value_text number_text digits digits_text is_utf8 chars encode
+fixed_receivers = refl
 
 one_pdo : said 0x186 ≡ codes "TPDO1 node 6: B 2002:00 = true"
 unfolding claims_with sheets_claims sheet_claim shown_claim names_for pdos_text more_pdos pdo_text pdo_front data_in_force shown_text raw_text mapping_in_force words_in_force node_with is_of sheet_pdos pdos_in pdo_of mapping_at words_at number_at data_text mapped_text parts_text more_parts part_text part_bytes short_text more_text filled entry_of known_text meaning_at entry_text value_text number_text digits digits_text is_utf8 chars encode
@@ -345,6 +367,47 @@ one_pdo = refl
 no_pdo : said 0x205 ≡ []
 unfolding claims_with sheets_claims sheet_claim shown_claim pdos_text node_with is_of sheet_pdos pdos_in pdo_of mapping_at words_at number_at
 no_pdo = refl
+
+-- ---- a mapping that the sheet has only in part
+
+-- a mapping of two words, and data of two bytes
+abbrev mapped_by : Default → Default → Default → List ℕ
+mapped_by count first second =
+    said_with (names_with (
+    row 0x1800 1 Unsigned32 (node_id 0x180) [] ∷ row 0x1A00 0 Unsigned8 count [] ∷ row 0x1A00 1 Unsigned32 first [] ∷ row 0x1A00 2 Unsigned32 second []
+    ∷ row 0x2001 1 Integer16 absent (codes "T") ∷ []
+    )) [] 0x185 (0xE8 ∷ 0x03 ∷ [])
+
+abbrev is_unknown : List ℕ
+is_unknown = codes "TPDO1 node 5: E803 (mapping is unknown)"
+
+-- a word above the count doesn't matter
+one_of_two : mapped_by (number (pos 1)) (number (pos 0x20010110)) absent ≡ codes "TPDO1 node 5: T 2001:01 = 1000"
+unfolding claims_with sheets_claims sheet_claim shown_claim names_for pdos_text more_pdos pdo_text pdo_front data_in_force shown_text raw_text mapping_in_force words_in_force node_with is_of sheet_pdos pdos_in pdo_of mapping_at words_at number_at data_text mapped_text parts_text more_parts part_text part_bytes short_text more_text filled entry_of known_text meaning_at entry_text value_text number_text digits digits_text is_utf8 chars encode
+one_of_two = refl
+
+-- no value is shown where the place of its bits isn't known
+words_missing : mapped_by (number (pos 2)) absent (number (pos 0x20010110)) ∷ mapped_by (number (pos 2)) (number (pos 0x20010110)) absent
+    ∷ mapped_by (number (pos 2)) (number (pos 0)) (number (pos 0x20010110)) ∷ mapped_by (number (pos 3)) (number (pos 0x20010108)) (number (pos 0x20010108)) ∷ []
+    ≡ is_unknown ∷ is_unknown ∷ is_unknown ∷ is_unknown ∷ []
+unfolding claims_with sheets_claims sheet_claim shown_claim names_for pdos_text more_pdos pdo_text pdo_front data_in_force shown_text raw_text mapping_in_force words_in_force node_with is_of sheet_pdos pdos_in pdo_of mapping_at words_at number_at data_text mapped_text parts_text more_parts part_text part_bytes short_text more_text filled entry_of known_text meaning_at entry_text value_text number_text digits digits_text is_utf8 chars encode
+words_missing = refl
+
+-- nothing is mapped where the count is 0, and not where there is none
+counts_missing : mapped_by (number (pos 0)) absent absent ∷ mapped_by absent (number (pos 0x20010110)) absent
+    ∷ mapped_by (node_id 1) (number (pos 0x20010110)) absent ∷ []
+    ≡ codes "TPDO1 node 5" ∷ is_unknown ∷ is_unknown ∷ []
+unfolding claims_with sheets_claims sheet_claim shown_claim names_for pdos_text more_pdos pdo_text pdo_front data_in_force shown_text raw_text mapping_in_force words_in_force node_with is_of sheet_pdos pdos_in pdo_of mapping_at words_at number_at data_text mapped_text parts_text more_parts part_text part_bytes short_text more_text filled entry_of known_text meaning_at entry_text value_text number_text digits digits_text is_utf8 chars encode
+counts_missing = refl
+
+no_mapping : said_with (names_with (row 0x1800 1 Unsigned32 (node_id 0x180) [] ∷ [])) [] 0x185 (0xE8 ∷ 0x03 ∷ []) ≡ is_unknown
+unfolding claims_with sheets_claims sheet_claim shown_claim names_for pdos_text more_pdos pdo_text pdo_front data_in_force shown_text raw_text mapping_in_force words_in_force node_with is_of sheet_pdos pdos_in pdo_of mapping_at words_at number_at data_text mapped_text parts_text more_parts part_text part_bytes short_text more_text filled entry_of known_text meaning_at entry_text value_text number_text digits digits_text is_utf8 chars encode
+no_mapping = refl
+
+-- the greatest number, one more, one below 0, one with the node-ID, none
+numbers_of : map number_of (number (pos 0) ∷ number (pos 0xFFFFFFFF) ∷ number (pos 0x100000000) ∷ number (negsuc 0) ∷ node_id 5 ∷ absent ∷ [])
+    ≡ Some 0 ∷ Some 0xFFFFFFFF ∷ None ∷ None ∷ None ∷ None ∷ []
+numbers_of = refl
 
 -- ---- what the recording shows
 
@@ -577,6 +640,20 @@ unknown_bits : bits_by_these (Seen 1 ∷ Assumed ∷ []) false ≡ None
 unfolding mapping_in_force words_in_force
 unknown_bits = refl
 
+-- by the mapping of the sheet alone: all of it, a word or the count missing, no sheet
+abbrev bits_by_sheet : Option SheetMapping → Option EntryBits
+bits_by_sheet sheet = assumed_bits (record { index = 0x2001; sub = 1 }) (0xE8 ∷ 0x03 ∷ []) sheet
+
+assumed_ones : bits_by_sheet (Some (record { count = Some 1; words = 0x20010110 ∷ [] })) ≡ is_bits 16 (0xE8 ∷ 0x03 ∷ [])
+unfolding entry_bits place_from part_bytes mapping_in_force words_in_force
+assumed_ones = refl
+
+assumed_none : bits_by_sheet (Some (record { count = Some 2; words = 0 ∷ 0x20010110 ∷ [] })) ∷ bits_by_sheet (Some (record { count = Some 2; words = 0x20010110 ∷ [] }))
+    ∷ bits_by_sheet (Some (record { count = None; words = 0x20010110 ∷ [] })) ∷ bits_by_sheet None ∷ []
+    ≡ None ∷ None ∷ None ∷ None ∷ []
+unfolding entry_bits place_from part_bytes mapping_in_force words_in_force
+assumed_none = refl
+
 -- a count that means nothing, and the counts of multiplexed PDOs
 no_counts : map (λ count. mapping_in_force (Seen count ∷ []) None) (0 ∷ 65 ∷ 0xFD ∷ 0xFE ∷ 0xFF ∷ [])
     ≡ Some (record { count = 0; words = [] }) ∷ None ∷ None ∷ Some (record { count = 0xFE; words = [] }) ∷ Some (record { count = 0xFF; words = [] }) ∷ []
@@ -588,7 +665,7 @@ greatest_count = refl
 
 -- of the recording and of the sheet: the data are raw
 raw_counts : shown_text (of_sheet names) 5 (0xE8 ∷ 0x03 ∷ []) None (shown 0x1800 Assumed (Seen 65 ∷ []) false).state
-    ∷ assumed_text (of_sheet names) 5 (0xE8 ∷ 0x03 ∷ []) (Some (record { count = 65; words = [] })) ∷ []
+    ∷ assumed_text (of_sheet names) 5 (0xE8 ∷ 0x03 ∷ []) (Some (record { count = Some 65; words = [] })) ∷ []
     ≡ codes ": E803 (mapping is unknown)" ∷ codes ": E803 (mapping is unknown)" ∷ []
 unfolding shown_text mapping_in_force words_in_force raw_text filled digits digits_text
 raw_counts = refl

@@ -10,7 +10,7 @@ use Rattle.conode_explain_entries.specs.declared.entries.ShownPdo.{ShownPdo}
 use Rattle.conode_explain_pdo.specs.declared.claim.Claim.{Claim}
 use Rattle.conode_explain_pdo.specs.declared.sheet.SheetPdo.{SheetPdo}
 use Rattle.conode_explain_pdo.specs.Buses.{Bus}
-use Rattle.conode_explain_pdo.specs.Claims.{both_claims, claim_of, sheet_may_have, may_be_shown, kind_claims, may_be_claimed, sheet_claim, sheet_claims, sheets_claims, shown_claim}
+use Rattle.conode_explain_pdo.specs.Claims.{both_claims, claim_of, sheet_may_have, may_be_shown, kind_claims, may_be_claimed, names_node, sheet_claim, sheet_claims, sheets_claims, shown_claim}
 use Rattle.conode_explain_pdo.specs.CobIds.{node_with}
 use Rattle.conode_explain_pdo.specs.Known.{KnownSheet, is_on}
 use Rattle.conode_explain_pdo.specs.Named.{may_have}
@@ -25,7 +25,7 @@ no_claim : (bus : Bus) (earlier : List KnownSheet) (only : Option ℕ) (range : 
     → may_have only id pdo ≡ false → sheet_claim bus earlier only range id pdo ≡ None
 unfolding sheet_claim
 no_claim bus earlier only range id pdo is =
-    if_none (is_within range pdo.index) (claim_of bus earlier pdo.index) (node_with only pdo.cob_id id) is
+    if_none (is_within range pdo.index && names_node only id pdo) (claim_of bus earlier pdo.index) (node_with only pdo.cob_id id) is
 
 no_pdos : (bus : Bus) (earlier : List KnownSheet) (only : Option ℕ) (range : IndexRange) (id : ℕ) (pdos : List SheetPdo)
     → list_any (may_have only id) pdos ≡ false → filter_map (sheet_claim bus earlier only range id) pdos ≡ []

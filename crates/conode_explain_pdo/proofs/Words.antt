@@ -5,13 +5,13 @@ use Rattle.std.proofs.lemmas.Bool.{eqb-true}
 use Rattle.std.proofs.lemmas.Bool.Decides.{nat_tests}
 use Rattle.co_text.proofs.Tests.{by_test}
 use Rattle.conode_explain_entries.specs.declared.state.Value.{Value}
-use Rattle.conode_explain_pdo.specs.Content.{Mapping}
+use Rattle.conode_explain_pdo.specs.Content.{SheetMapping}
 use Rattle.conode_explain_pdo.specs.InForce.{word_in_force, words_in_force}
 
-with_word : List Value → Option Mapping → ℕ → List ℕ → Option (List ℕ)
+with_word : List Value → Option SheetMapping → ℕ → List ℕ → Option (List ℕ)
 with_word values sheet place words = option_map (λ (word : ℕ). words ++ word ∷ []) (word_in_force values sheet place)
 
-none_from : (values : List Value) (sheet : Option Mapping) (place count : ℕ) → words_in_force values sheet (suc place) ≡ None → place < count
+none_from : (values : List Value) (sheet : Option SheetMapping) (place count : ℕ) → words_in_force values sheet (suc place) ≡ None → place < count
     → words_in_force values sheet count ≡ None
 unfolding words_in_force with_word
 none_from values sheet place zero none lt = absurd (omega (arith, lt))
@@ -23,7 +23,7 @@ none_from values sheet place (suc count) none lt =
     ap (option_and_then (with_word values sheet count)) (none_from values sheet place count none earlier))
 
 -- once a word isn't known, the words up to no count are
-pub none_until : (values : List Value) (sheet : Option Mapping) (words : List ℕ) (place count : ℕ) → place < count
+pub none_until : (values : List Value) (sheet : Option SheetMapping) (words : List ℕ) (place count : ℕ) → place < count
     → Some words ≡ words_in_force values sheet place → None ≡ word_in_force values sheet place
     → None ≡ words_in_force values sheet count
 unfolding words_in_force with_word

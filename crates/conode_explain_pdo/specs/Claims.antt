@@ -1,5 +1,5 @@
 -- Whose PDOs have an identifier, by the data sheets and by what the recording shows.
-use Rattle.std.specs.Prelude.{ℕ, Bool, false, not, ◌&&◌, ◌||◌, if◌then◌else◌, List, [], ◌∷◌, ◌++◌, filter_map, Option, Some, None, option_and_then, is_none}
+use Rattle.std.specs.Prelude.{ℕ, Bool, false, not, ◌&&◌, ◌||◌, if◌then◌else◌, List, [], ◌∷◌, ◌++◌, filter_map, Option, Some, None, option_and_then, is_none, is_some}
 use Rattle.std.specs.List.{list_any}
 use Rattle.std.specs.Option.{option_map_or}
 use Rattle.std.specs.Str.{bytes_eq}
@@ -12,7 +12,7 @@ use Rattle.conode_explain_pdo.specs.declared.claim.Claim.{Claim}
 use Rattle.conode_explain_pdo.specs.declared.in_force.Origin.TheVariants.{Sheet}
 use Rattle.conode_explain_pdo.specs.declared.sheet.SheetPdo.{SheetPdo}
 use Rattle.conode_explain_pdo.specs.Buses.{Bus}
-use Rattle.conode_explain_pdo.specs.CobIds.{has_identifier, may_be_pdo, node_with}
+use Rattle.conode_explain_pdo.specs.CobIds.{has_identifier, is_default_rpdo, may_be_pdo, node_with}
 use Rattle.conode_explain_pdo.specs.InForce.{is_from, state_at}
 use Rattle.conode_explain_pdo.specs.Known.{KnownSheet, is_on, sheet_for}
 use Rattle.conode_explain_pdo.specs.Named.{may_have}
@@ -31,11 +31,18 @@ is_said bus earlier node index = is_none (sheet_for earlier bus.interface node) 
 abbrev pub claim_of : Bus → List KnownSheet → ℕ → ℕ → Option Claim
 claim_of bus earlier index node = if is_said bus earlier node index then Some (record { node = node; index = index }) else None
 
+-- the node of a PDO follows from the sheet or the identifier: the sheet is for one node, or adds its
+-- node-ID; or the node sends the PDO; or the pre-defined connection set has the identifier for an RPDO.
+-- Another COB-ID of an RPDO is that of a sender, which the low bits name
+abbrev pub names_node : Option ℕ → ℕ → SheetPdo → Bool
+names_node only id pdo =
+    (is_some only || pdo.cob_id.with_node) || (not (is_within rpdo_communication pdo.index) || is_default_rpdo id)
+
 -- a sheet's PDO of a kind as one that has an identifier; the node that the sheet is for, if it is
 -- for one
 unfoldable pub sheet_claim : Bus → List KnownSheet → Option ℕ → IndexRange → ℕ → SheetPdo → Option Claim
 sheet_claim bus earlier only range id pdo =
-    if is_within range pdo.index then option_and_then (claim_of bus earlier pdo.index) (node_with only pdo.cob_id id) else None
+    if is_within range pdo.index && names_node only id pdo then option_and_then (claim_of bus earlier pdo.index) (node_with only pdo.cob_id id) else None
 
 -- those of a sheet after earlier ones
 abbrev pub sheet_claims : Bus → List KnownSheet → KnownSheet → IndexRange → ℕ → List Claim

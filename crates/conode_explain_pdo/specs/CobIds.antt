@@ -24,6 +24,11 @@ abbrev pub node_for : Option ℕ → SheetCobId → ℕ → ℕ
 node_for (Some node) cob_id id = node
 node_for None cob_id id = if cob_id.with_node then id - cob_id.word % 2 ^ 11 else id % 128
 
+-- an identifier that the pre-defined connection set has for an RPDO: 200h, 300h, 400h or 500h, and a
+-- node-ID (CiA 301, 7.3.5)
+abbrev pub is_default_rpdo : ℕ → Bool
+is_default_rpdo id = (nat_le 2 (id / 256) && nat_le (id / 256) 5) && (id / 128 % 2 == 0)
+
 abbrev pub word_for : SheetCobId → ℕ → ℕ
 word_for cob_id node = if cob_id.with_node then cob_id.word + node else cob_id.word
 

@@ -8,7 +8,7 @@ use Rattle.conode_explain_pdo.specs.declared.claim.Claim.{Claim}
 use Rattle.conode_explain_pdo.specs.declared.entry_bits.EntryBits.{EntryBits}
 use Rattle.conode_explain_pdo.specs.declared.entry_bits.Place.{Place}
 use Rattle.conode_explain_pdo.specs.Buses.{Bus}
-use Rattle.conode_explain_pdo.specs.Content.{Mapping}
+use Rattle.conode_explain_pdo.specs.Content.{Mapping, SheetMapping}
 use Rattle.conode_explain_pdo.specs.InForce.{mapping_in_force, sheet_mapping, state_at, word_count}
 use Rattle.conode_explain_pdo.specs.Mappings.{bytes_for, part_bytes, total_bits, word_bits, word_key}
 
@@ -34,13 +34,17 @@ unfoldable pub entry_bits : Key → List ℕ → Mapping → Option EntryBits
 entry_bits key bytes mapping = bits_by key bytes (take (word_count mapping.count) mapping.words)
 
 -- by the mapping of which the recording shows something: none while it is being changed
-abbrev pub shown_bits : Key → List ℕ → Option Mapping → PdoState → Option EntryBits
+abbrev pub shown_bits : Key → List ℕ → Option SheetMapping → PdoState → Option EntryBits
 shown_bits key bytes sheet state =
     if state.is_being_changed then None
     else option_and_then (entry_bits key bytes) (mapping_in_force state.now.mapping sheet)
+
+-- by that of the sheet, if the sheet has all of it
+abbrev pub assumed_bits : Key → List ℕ → Option SheetMapping → Option EntryBits
+assumed_bits key bytes sheet = option_and_then (entry_bits key bytes) (mapping_in_force [] sheet)
 
 -- by the mapping in force of a node's PDO, if all of it is known
 unfoldable pub bits_in_force : Bus → Claim → Key → List ℕ → Option EntryBits
 bits_in_force bus claim key bytes =
     option_map_or (shown_bits key bytes (sheet_mapping bus claim.node claim.index)) (state_at bus claim.node claim.index)
-    (option_and_then (entry_bits key bytes) (sheet_mapping bus claim.node claim.index))
+    (assumed_bits key bytes (sheet_mapping bus claim.node claim.index))

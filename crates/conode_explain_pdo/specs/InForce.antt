@@ -12,7 +12,7 @@ use Rattle.conode_explain_pdo.specs.declared.in_force.Origin.{Origin}
 use Rattle.conode_explain_pdo.specs.declared.in_force.Origin.TheVariants.{Sheet, Transfer, Store}
 use Rattle.conode_explain_pdo.specs.declared.sheet.SheetPdo.{SheetPdo}
 use Rattle.conode_explain_pdo.specs.Buses.{Bus, names_at}
-use Rattle.conode_explain_pdo.specs.Content.{Mapping}
+use Rattle.conode_explain_pdo.specs.Content.{Mapping, SheetMapping}
 use Rattle.conode_explain_pdo.specs.Known.{pdos_for}
 use Rattle.conode_explain_pdo.specs.KnownEntries.{Device, is_node_drive}
 use Rattle.conode_explain_pdo.specs.Mappings.{data_text}
@@ -57,33 +57,36 @@ is_drive_at bus node = is_node_drive (device_at bus node) node
 -- ---- the mapping of the sheet
 
 -- that of the PDO with this communication parameter
-abbrev pub mapping_of : List SheetPdo → ℕ → Option Mapping
+abbrev pub mapping_of : List SheetPdo → ℕ → Option SheetMapping
 mapping_of pdos index = option_map (λ pdo. pdo.mapping) (find (λ pdo. pdo.index == index) pdos)
 
 -- of the sheet that is for a node
-abbrev pub sheet_mapping : Bus → ℕ → ℕ → Option Mapping
+abbrev pub sheet_mapping : Bus → ℕ → ℕ → Option SheetMapping
 sheet_mapping bus node index = mapping_of (pdos_for bus.sheets bus.interface node) index
+
+-- the number of entries that it maps, where it has one
+abbrev pub sheet_count : Option SheetMapping → Option ℕ
+sheet_count sheet = option_and_then (λ mapping. mapping.count) sheet
 
 -- a word that the sheet has; one that it lacks is 0
 abbrev pub if_there : ℕ → Option ℕ
 if_there word = if word == 0 then None else Some word
 
-abbrev pub sheet_word : Option Mapping → ℕ → Option ℕ
+abbrev pub sheet_word : Option SheetMapping → ℕ → Option ℕ
 sheet_word sheet place = option_and_then (λ mapping. if_there (slice_index mapping.words place)) sheet
 
 -- ---- the mapping in force, by what its sub-indices have and by that of the sheet
 
 -- the number of entries that are mapped
-abbrev pub count_in_force : List Value → Option Mapping → Option ℕ
-count_in_force values sheet =
-    option_map (λ count. count % 256) (number_by (option_map (λ mapping. mapping.count) sheet) (value_at values 0))
+abbrev pub count_in_force : List Value → Option SheetMapping → Option ℕ
+count_in_force values sheet = option_map (λ count. count % 256) (number_by (sheet_count sheet) (value_at values 0))
 
 -- one of its words, counted from 0
-abbrev pub word_in_force : List Value → Option Mapping → ℕ → Option ℕ
+abbrev pub word_in_force : List Value → Option SheetMapping → ℕ → Option ℕ
 word_in_force values sheet place = number_by (sheet_word sheet place) (value_at values (place + 1))
 
 -- the first words, if all of them are known
-unfoldable pub words_in_force : List Value → Option Mapping → ℕ → Option (List ℕ)
+unfoldable pub words_in_force : List Value → Option SheetMapping → ℕ → Option (List ℕ)
 words_in_force values sheet zero = Some []
 words_in_force values sheet (suc count) =
     option_and_then (λ words. option_map (λ word. words ++ word ∷ []) (word_in_force values sheet count)) (words_in_force values sheet count)
@@ -96,13 +99,13 @@ word_count count = if nat_le count 64 then count else 0
 abbrev pub is_count : ℕ → Bool
 is_count count = nat_le count 64 || nat_le 0xFE count
 
-abbrev pub mapping_with : List Value → Option Mapping → ℕ → Option Mapping
+abbrev pub mapping_with : List Value → Option SheetMapping → ℕ → Option Mapping
 mapping_with values sheet count =
     if is_count count then option_map (λ words. record { count = count; words = words }) (words_in_force values sheet (word_count count))
     else None
 
 -- the mapping, if all of it is known
-unfoldable pub mapping_in_force : List Value → Option Mapping → Option Mapping
+unfoldable pub mapping_in_force : List Value → Option SheetMapping → Option Mapping
 mapping_in_force values sheet = option_and_then (mapping_with values sheet) (count_in_force values sheet)
 
 -- ---- where it is from
@@ -134,20 +137,17 @@ abbrev pub known_text : Device → ℕ → List ℕ → List Value → Mapping �
 known_text device node bytes values mapping = origin_text values (word_count mapping.count) ++ data_text device node mapping bytes
 
 -- the recording shows an entry of the PDO
-unfoldable pub shown_text : Device → ℕ → List ℕ → Option Mapping → PdoState → List ℕ
+unfoldable pub shown_text : Device → ℕ → List ℕ → Option SheetMapping → PdoState → List ℕ
 shown_text device node bytes sheet state =
     if state.is_being_changed then raw_text bytes (codes "mapping is being changed")
     else option_map_or (known_text device node bytes state.now.mapping) (mapping_in_force state.now.mapping sheet)
     (raw_text bytes (codes "mapping is unknown"))
 
--- it shows none: the mapping is the sheet's
-abbrev pub sheet_text : Device → ℕ → List ℕ → Mapping → List ℕ
-sheet_text device node bytes mapping =
-    if is_count mapping.count then data_text device node mapping bytes else raw_text bytes (codes "mapping is unknown")
-
-abbrev pub assumed_text : Device → ℕ → List ℕ → Option Mapping → List ℕ
+-- it shows none: the mapping is the sheet's, if the sheet has all of it
+abbrev pub assumed_text : Device → ℕ → List ℕ → Option SheetMapping → List ℕ
 assumed_text device node bytes sheet =
-    option_map_or (sheet_text device node bytes) sheet (raw_text bytes (codes "mapping is unknown"))
+    option_map_or (λ mapping. data_text device node mapping bytes) (mapping_in_force [] sheet)
+    (raw_text bytes (codes "mapping is unknown"))
 
 -- the data of a node's PDO
 unfoldable pub data_in_force : Bus → ℕ → ℕ → List ℕ → List ℕ

@@ -1,6 +1,6 @@
 -- An entry of a node's sheet with its value, and what that means: of a drive (CiA 402), and of a
 -- COB-ID.
-use Rattle.std.specs.Prelude.{ℕ, ◌%◌, ◌==◌, Bool, false, ◌&&◌, if◌then◌else◌, List, ◌++◌, Option, Some, None, option_map}
+use Rattle.std.specs.Prelude.{ℕ, ◌%◌, ◌==◌, Bool, false, ◌&&◌, if◌then◌else◌, List, ◌++◌, Option, Some, None, option_and_then}
 use Rattle.std.specs.Option.{option_map_or}
 use Rattle.co_value.specs.declared.key.Key.{Key}
 use Rattle.co_sheet.specs.Content.{Row}
@@ -28,7 +28,7 @@ device_type = record { index = 0x1000; sub = 0 }
 -- the one that the recording shows; else the one that the sheet begins with
 abbrev pub type_of_device : Option ℕ → Names → ℕ → Option ℕ
 type_of_device (Some shown) names node = Some shown
-type_of_device None names node = option_map (λ row. number_of row.default) (entry_of names node device_type)
+type_of_device None names node = option_and_then (λ row. number_of row.default) (entry_of names node device_type)
 
 -- a node is a drive, by its device type
 unfoldable pub is_node_drive : Device → ℕ → Bool

@@ -1,5 +1,5 @@
 -- The PDOs of a data sheet, as its entries begin (CiA 301, 7.5.2.35 to 7.5.2.38).
-use Rattle.std.specs.Prelude.{ℕ, zero, suc, ◌+◌, ◌%◌, ◌^◌, ◌==◌, nat_lt, Bool, ◌&&◌, if◌then◌else◌, pos, List, [], ◌∷◌, ◌++◌, filter_map, Option, None, option_map}
+use Rattle.std.specs.Prelude.{ℕ, zero, suc, ◌+◌, ◌%◌, ◌^◌, ◌==◌, nat_lt, Bool, ◌&&◌, if◌then◌else◌, pos, List, [], ◌∷◌, ◌++◌, filter_map, Option, Some, None, option_and_then, option_map, unwrap_or}
 use Rattle.std.specs.Option.{option_map_or}
 use Rattle.co_value.specs.declared.key.Key.{Key}
 use Rattle.co_profile.specs.declared.indices.IndexRange.{IndexRange}
@@ -9,24 +9,28 @@ use Rattle.co_sheet.specs.Content.{Row}
 use Rattle.co_sheet_changes.specs.Names.{Names, row_at}
 use Rattle.conode_explain_pdo.specs.declared.sheet.SheetPdo.{SheetPdo}
 use Rattle.conode_explain_pdo.specs.CobIds.{cob_id_of}
-use Rattle.conode_explain_pdo.specs.Content.{Mapping}
+use Rattle.conode_explain_pdo.specs.Content.{SheetMapping}
 
--- a number of 32 bits, without the node-ID; 0 where there is none
-abbrev pub number_of : Default → ℕ
-number_of (number (pos n)) = if nat_lt n (2 ^ 32) then n else 0
-number_of other = 0
+-- a number of 32 bits, without the node-ID; none where the sheet has none, also where it is at fault
+abbrev pub number_of : Default → Option ℕ
+number_of (number (pos n)) = if nat_lt n (2 ^ 32) then Some n else None
+number_of other = None
 
 -- the number that an entry begins with
-unfoldable pub number_at : List Row → ℕ → ℕ → ℕ
-number_at rows index sub = option_map_or (λ row. number_of row.default) (row_at rows (record { index = index; sub = sub })) 0
+unfoldable pub number_at : List Row → ℕ → ℕ → Option ℕ
+number_at rows index sub = option_and_then (λ row. number_of row.default) (row_at rows (record { index = index; sub = sub }))
 
--- the first words of a mapping parameter; one that isn't there is 0
+-- a word of a mapping parameter; 0, which names no entry, where the sheet has none
+abbrev pub word_at : List Row → ℕ → ℕ → ℕ
+word_at rows index sub = unwrap_or (number_at rows index sub) 0
+
+-- the first words of a mapping parameter
 unfoldable pub words_at : List Row → ℕ → ℕ → List ℕ
 words_at rows index zero = []
-words_at rows index (suc count) = words_at rows index count ++ number_at rows index (suc count) ∷ []
+words_at rows index (suc count) = words_at rows index count ++ word_at rows index (suc count) ∷ []
 
-unfoldable pub mapping_at : List Row → ℕ → Mapping
-mapping_at rows index = record { count = number_at rows index 0 % 256; words = words_at rows index 64 }
+unfoldable pub mapping_at : List Row → ℕ → SheetMapping
+mapping_at rows index = record { count = option_map (λ count. count % 256) (number_at rows index 0); words = words_at rows index 64 }
 
 -- the COB-ID of a PDO of a kind; the index of its mapping parameter is 200h more than that of its
 -- communication parameter

@@ -17,6 +17,7 @@ ghost use Rattle.conode_explain_pdo.specs.Claims.{
   is_shown,
   kind_claims,
   may_be_claimed,
+  names_node,
   sheet_claim,
   sheet_claims,
   sheets_claims,
@@ -25,7 +26,7 @@ ghost use Rattle.conode_explain_pdo.specs.Claims.{
 };
 
 use crate::bus::Bus;
-use crate::cob_id::{has_identifier, may_be_pdo};
+use crate::cob_id::{has_identifier, is_default_rpdo, may_be_pdo};
 use crate::in_force::{Origin, is_from};
 use crate::known::is_none_for;
 use crate::known_sheet::KnownSheet;
@@ -78,6 +79,14 @@ fn claim_of(
     }
 }
 
+// whether the node of a PDO follows from the sheet or the identifier
+fn names_node(only: Option<u8>, id: u16, pdo: &SheetPdo) -> bool
+    ensures { result ≡ names_node only id pdo.now }
+{
+    (only.is_some() || pdo.cob_id.with_node)
+        || (!IndexRange::RPDO_COMMUNICATION.contains(pdo.index) || is_default_rpdo(id))
+}
+
 #[tactic(auto, unfolding(crate::specs::Claims::sheet_claim))]
 fn sheet_claim(
     bus: Bus<'_, '_, '_, '_, '_>,
@@ -89,7 +98,7 @@ fn sheet_claim(
 ) -> Option<Claim>
     ensures { result ≡ sheet_claim (bus_view bus.entry) (map known_view earlier.now) only range id pdo.now }
 {
-    if !range.contains(pdo.index) {
+    if !(range.contains(pdo.index) && names_node(only, id, pdo)) {
         return None;
     }
     let Some(node) = pdo.cob_id.node_with(only, id) else {

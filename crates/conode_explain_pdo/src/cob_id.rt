@@ -5,6 +5,7 @@ ghost use Rattle.co_sheet.specs.Views.{default_view};
 ghost use Rattle.conode_explain_pdo.specs.CobIds.{
   cob_id_of,
   has_identifier,
+  is_default_rpdo,
   is_node,
   is_of,
   may_be_pdo,
@@ -58,6 +59,13 @@ pub fn has_identifier(word: u64, id: u16) -> bool
     ensures { result ≡ has_identifier word id }
 {
     (word < 0x8000_0000 && word / 0x2000_0000 % 2 == 0) && word % 0x800 == id as u64
+}
+
+/// Whether the pre-defined connection set has an identifier for an RPDO (CiA 301, 7.3.5).
+pub(crate) fn is_default_rpdo(id: u16) -> bool
+    ensures { result ≡ is_default_rpdo id }
+{
+    (2 <= id / 256 && id / 256 <= 5) && id / 128 % 2 == 0
 }
 
 pub(crate) fn is_node(node: u64) -> bool

@@ -5,6 +5,7 @@ ghost use Rattle.std.specs.Option.{option_copied};
 ghost use Rattle.conode_explain_values.specs.Values.{HasBits};
 ghost use Rattle.conode_explain_pdo.specs.Buses.{bus_view};
 ghost use Rattle.conode_explain_pdo.specs.EntryBits.{
+  assumed_bits,
   bits_by,
   bits_in_force,
   bits_of,
@@ -17,7 +18,7 @@ ghost use Rattle.conode_explain_pdo.specs.Mappings.{total_bits};
 use crate::bus::Bus;
 use crate::claim::Claim;
 use crate::in_force::{mapping_in_force, sheet_mapping, word_count};
-use crate::mapping::{Mapping, part_bytes, total_bits, word_bits, word_key};
+use crate::mapping::{Mapping, SheetMapping, part_bytes, total_bits, word_bits, word_key};
 use arrayvec::ArrayVec;
 use co_value::Key;
 use conode_explain_entries::PdoState;
@@ -99,7 +100,7 @@ fn entry_bits(mapping: &Mapping, key: Key, bytes: &[u8]) -> Option<EntryBits>
 
 // by the mapping of which the recording shows something
 fn shown_bits(
-    sheet: Option<&Mapping>,
+    sheet: Option<&SheetMapping>,
     state: &PdoState,
     key: Key,
     bytes: &[u8],
@@ -113,6 +114,18 @@ fn shown_bits(
         return None;
     }
     let Some(mapping) = mapping_in_force(state.now.mapping.as_slice(), sheet) else {
+        return None;
+    };
+    entry_bits(&mapping, key, bytes)
+}
+
+// by the mapping of the sheet
+fn assumed_bits(sheet: Option<&SheetMapping>, key: Key, bytes: &[u8]) -> Option<EntryBits>
+    requires { length bytes.now ≤ 8 }
+    ensures bits { result ≡ assumed_bits key bytes.now (option_copied sheet.entry) }
+    ensures count { IfSome result (λ found. HasBits found.bits found.bytes.items) }
+{
+    let Some(mapping) = mapping_in_force(&[], sheet) else {
         return None;
     };
     entry_bits(&mapping, key, bytes)
@@ -132,9 +145,6 @@ impl Bus<'_, '_, '_, '_, '_> {
         if let Some(state) = self.state(claim.node, claim.index) {
             return shown_bits(sheet, state, key, bytes);
         }
-        match sheet {
-            Some(mapping) => entry_bits(mapping, key, bytes),
-            None => None,
-        }
+        assumed_bits(sheet, key, bytes)
     }
 }

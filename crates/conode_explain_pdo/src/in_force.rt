@@ -1,6 +1,6 @@
 //! The mapping of a PDO that is in force, and what its data say.
 
-ghost use Rattle.std.specs.Prelude.{◌≡◌, ◌+◌, ◌≤◌, ◌++◌, OnOk, length, option_map, slice_index, slice_index_or, string_bytes, take};
+ghost use Rattle.std.specs.Prelude.{◌≡◌, ◌+◌, ◌≤◌, ◌++◌, OnOk, length, [], option_map, slice_index, slice_index_or, string_bytes, take};
 ghost use Rattle.std.specs.List.{list_all};
 ghost use Rattle.std.specs.Option.{option_copied};
 ghost use Rattle.conode_explain_pdo.specs.Buses.{bus_view};
@@ -23,8 +23,8 @@ ghost use Rattle.conode_explain_pdo.specs.InForce.{
   origin_text,
   origin_words,
   raw_text,
+  sheet_count,
   sheet_mapping,
-  sheet_text,
   sheet_word,
   shown_text,
   state_at,
@@ -39,9 +39,10 @@ use crate::bus::Bus;
 use crate::device::Device;
 use crate::known::sheet_for;
 use crate::known_entry::is_node_drive;
-use crate::mapping::{Mapping, push_data};
+use crate::mapping::{Mapping, SheetMapping, push_data};
 use crate::sheet::SheetPdo;
 use arrayvec::ArrayVec;
+use co_profile::DEVICE_TYPE;
 use co_text::push_bytes;
 use conode_explain_entries::{PdoState, Value};
 use conode_text::{Value as Filling, push_filled};
@@ -89,9 +90,6 @@ impl<'e> Bus<'_, 'e, '_, '_, '_> {
     }
 }
 
-/// The index of the device type (CiA 301, 7.5.2.1).
-const DEVICE_TYPE: u16 = 0x1000;
-
 fn type_shown(state: Option<&PdoState>) -> Option<u32>
     ensures { result ≡ type_shown (option_copied state.entry) }
 {
@@ -120,7 +118,7 @@ impl<'s, 'a> Bus<'_, '_, '_, 's, 'a> {
     }
 }
 
-fn mapping_of(pdos: &[SheetPdo], index: u16) -> Option<&Mapping>
+fn mapping_of(pdos: &[SheetPdo], index: u16) -> Option<&SheetMapping>
     ensures { option_copied result ≡ mapping_of pdos.now index }
 {
     for pdo in pdos {
@@ -136,7 +134,7 @@ pub(crate) fn sheet_mapping<'k>(
     bus: Bus<'k, '_, '_, '_, '_>,
     node: u8,
     index: u16,
-) -> Option<&'k Mapping>
+) -> Option<&'k SheetMapping>
     ensures { option_copied result ≡ sheet_mapping (bus_view bus.entry) node index }
 {
     match sheet_for(bus.sheets, bus.interface, node) {
@@ -152,11 +150,14 @@ fn word_at(words: &[u32], place: usize) -> u32
     if place < words.len() { words[place] } else { 0 }
 }
 
-fn sheet_count(sheet: Option<&Mapping>) -> Option<u32>
-    ensures { result ≡ option_map (λ mapping. mapping.count) (option_copied sheet.entry) }
+fn sheet_count(sheet: Option<&SheetMapping>) -> Option<u32>
+    ensures { result ≡ sheet_count (option_copied sheet.entry) }
 {
     match sheet {
-        Some(mapping) => Some(mapping.count as u32),
+        Some(mapping) => match mapping.count {
+            Some(count) => Some(count as u32),
+            None => None,
+        },
         None => None,
     }
 }
@@ -167,7 +168,7 @@ fn if_there(word: u32) -> Option<u32>
     if word == 0 { None } else { Some(word) }
 }
 
-fn sheet_word(sheet: Option<&Mapping>, place: u8) -> Option<u32>
+fn sheet_word(sheet: Option<&SheetMapping>, place: u8) -> Option<u32>
     ensures { result ≡ sheet_word (option_copied sheet.entry) place }
 {
     match sheet {
@@ -187,7 +188,7 @@ pub(crate) fn value_at(values: &[Value], place: usize) -> Value
     }
 }
 
-fn count_in_force(values: &[Value], sheet: Option<&Mapping>) -> Option<u8>
+fn count_in_force(values: &[Value], sheet: Option<&SheetMapping>) -> Option<u8>
     ensures { result ≡ count_in_force values.now (option_copied sheet.entry) }
 {
     match number_by(sheet_count(sheet), value_at(values, 0)) {
@@ -196,7 +197,7 @@ fn count_in_force(values: &[Value], sheet: Option<&Mapping>) -> Option<u8>
     }
 }
 
-fn word_in_force(values: &[Value], sheet: Option<&Mapping>, place: u8) -> Option<u32>
+fn word_in_force(values: &[Value], sheet: Option<&SheetMapping>, place: u8) -> Option<u32>
     ensures { result ≡ word_in_force values.now (option_copied sheet.entry) place }
 {
     number_by(
@@ -207,7 +208,11 @@ fn word_in_force(values: &[Value], sheet: Option<&Mapping>, place: u8) -> Option
 
 // the first words, if all of them are known
 #[tactic(auto, unfolding(crate::specs::InForce::words_in_force), using(crate::proofs::Words::none_until))]
-fn words_in_force(values: &[Value], sheet: Option<&Mapping>, count: u8) -> Option<ArrayVec<u32, 64>>
+fn words_in_force(
+    values: &[Value],
+    sheet: Option<&SheetMapping>,
+    count: u8,
+) -> Option<ArrayVec<u32, 64>>
     requires { count ≤ 64 }
     ensures { option_map (λ words. words.items) result
         ≡ words_in_force values.now (option_copied sheet.entry) count }
@@ -236,7 +241,7 @@ fn is_count(count: u8) -> bool
     count <= 64 || 0xFE <= count
 }
 
-fn mapping_with(values: &[Value], sheet: Option<&Mapping>, count: u8) -> Option<Mapping>
+fn mapping_with(values: &[Value], sheet: Option<&SheetMapping>, count: u8) -> Option<Mapping>
     ensures { result ≡ mapping_with values.now (option_copied sheet.entry) count }
 {
     if !is_count(count) {
@@ -249,7 +254,7 @@ fn mapping_with(values: &[Value], sheet: Option<&Mapping>, count: u8) -> Option<
 }
 
 #[tactic(auto, unfolding(crate::specs::InForce::mapping_in_force))]
-pub(crate) fn mapping_in_force(values: &[Value], sheet: Option<&Mapping>) -> Option<Mapping>
+pub(crate) fn mapping_in_force(values: &[Value], sheet: Option<&SheetMapping>) -> Option<Mapping>
     ensures { result ≡ mapping_in_force values.now (option_copied sheet.entry) }
 {
     match count_in_force(values, sheet) {
@@ -316,38 +321,20 @@ fn push_raw(text: &mut String, bytes: &[u8], why: &str) -> Result<(), AllocError
     push_filled(text, " (%)", &[Filling::Words(why)])
 }
 
-fn push_of_sheet(
-    text: &mut String,
-    device: Device<'_, '_>,
-    node: u8,
-    mapping: &Mapping,
-    bytes: &[u8],
-) -> Result<(), AllocError>
-    requires { length bytes.now ≤ 8 }
-    ensures { OnOk result (string_bytes text.new ≡ string_bytes text.old
-        ++ sheet_text (device_view device.entry) node bytes.now mapping.now) }
-{
-    if is_count(mapping.count) {
-        push_data(text, device, node, mapping, bytes)
-    } else {
-        push_raw(text, bytes, "mapping is unknown")
-    }
-}
-
 // by the sheet's mapping: the recording shows nothing of it
 fn push_assumed(
     text: &mut String,
     device: Device<'_, '_>,
     node: u8,
-    sheet: Option<&Mapping>,
+    sheet: Option<&SheetMapping>,
     bytes: &[u8],
 ) -> Result<(), AllocError>
     requires { length bytes.now ≤ 8 }
     ensures { OnOk result (string_bytes text.new ≡ string_bytes text.old
         ++ assumed_text (device_view device.entry) node bytes.now (option_copied sheet.entry)) }
 {
-    match sheet {
-        Some(mapping) => push_of_sheet(text, device, node, mapping, bytes),
+    match mapping_in_force(&[], sheet) {
+        Some(mapping) => push_data(text, device, node, &mapping, bytes),
         None => push_raw(text, bytes, "mapping is unknown"),
     }
 }
@@ -375,7 +362,7 @@ fn push_shown(
     text: &mut String,
     device: Device<'_, '_>,
     node: u8,
-    sheet: Option<&Mapping>,
+    sheet: Option<&SheetMapping>,
     state: &PdoState,
     bytes: &[u8],
 ) -> Result<(), AllocError>

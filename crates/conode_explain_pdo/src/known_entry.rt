@@ -38,7 +38,7 @@ fn type_of_device(shown: Option<u32>, names: Names<'_, '_>, node: u8) -> Option<
         return Some(shown);
     }
     match names.entry(node, DEVICE_TYPE) {
-        Some(row) => Some(number_of(row.default)),
+        Some(row) => number_of(row.default),
         None => None,
     }
 }

@@ -50,7 +50,7 @@ pub use entry_bits::EntryBits;
 pub use known::names_for;
 pub use known_entry::push_known;
 pub use known_sheet::KnownSheet;
-pub use mapping::{Mapping, push_data};
+pub use mapping::{Mapping, SheetMapping, push_data};
 pub use pdo::push_pdos;
 pub use service_ids::{NamedService, service_with};
 pub use sheet::{SheetPdo, sheet_pdos};

@@ -56,6 +56,25 @@ impl Model for Mapping {
     ghost view = { λ mapping. record { count = mapping.count; words = mapping.words.items } };
 }
 
+/// A mapping parameter as a data sheet has it.
+/// Contracts see its sub-index 0, if the sheet has a number there, and its sub-indices from 1 on, 0
+/// where the sheet has none.
+#[derive(Drop)]
+pub struct SheetMapping {
+    // how many entries are mapped
+    pub(crate) count: Option<u8>,
+    // index, sub-index and length in bits of each entry
+    pub(crate) words: ArrayVec<u32, 64>,
+}
+
+impl Model for SheetMapping {
+    ghost use Rattle.conode_explain_pdo.specs.Content.{SheetMapping as SheetMappingContent};
+
+    ghost Value = { SheetMappingContent };
+
+    ghost view = { λ mapping. record { count = mapping.count; words = mapping.words.items } };
+}
+
 pub(crate) fn word_key(word: u32) -> Key
     ensures { result ≡ word_key word }
 {

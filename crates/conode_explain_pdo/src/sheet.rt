@@ -1,6 +1,6 @@
 //! The PDOs of a data sheet.
 
-ghost use Rattle.std.specs.Prelude.{◌≡◌, ◌≤◌, ◌++◌, IfOk, OnOk, true, filter_map, map};
+ghost use Rattle.std.specs.Prelude.{◌≡◌, ◌≤◌, ◌++◌, ◌%◌, IfOk, OnOk, true, filter_map, map, option_map};
 ghost use Rattle.std.specs.List.{AllPairs};
 ghost use Rattle.std.specs.Option.{option_to_list};
 ghost use Rattle.co_profile.specs.Indices.{is_within};
@@ -16,11 +16,12 @@ ghost use Rattle.conode_explain_pdo.specs.Sheets.{
   pdo_of,
   pdos_in,
   sheet_pdos,
+  word_at,
   words_at,
 };
 
 use crate::cob_id::{BOUND, SheetCobId, cob_id_of};
-use crate::mapping::Mapping;
+use crate::mapping::SheetMapping;
 use arrayvec::ArrayVec;
 use co_profile::IndexRange;
 use co_sheet::{EntryRow, Preset};
@@ -36,27 +37,39 @@ pub struct SheetPdo {
     /// Its COB-ID.
     pub cob_id: SheetCobId,
     /// Its mapping parameter.
-    pub mapping: Mapping,
+    pub mapping: SheetMapping,
 }
 
-/// The number of 32 bits, without the node-ID, that an entry begins with; 0 where there is none.
-pub(crate) fn number_of(default: Preset<'_>) -> u32
+/// The number of 32 bits, without the node-ID, that an entry begins with; `None` where the sheet
+/// has none.
+pub(crate) fn number_of(default: Preset<'_>) -> Option<u32>
     ensures { result ≡ number_of (default_view default.entry) }
 {
     match default {
-        Preset::Number(number) if 0 <= number && number < i128::from(BOUND) => number as u32,
-        _ => 0,
+        Preset::Number(number) if 0 <= number && number < i128::from(BOUND) => Some(number as u32),
+        _ => None,
     }
 }
 
 // the number that an entry begins with, of rows in increasing key
 #[tactic(auto, unfolding(crate::specs::Sheets::number_at))]
-fn number_at(rows: &[EntryRow<'_>], index: u16, sub: u8) -> u32
+fn number_at(rows: &[EntryRow<'_>], index: u16, sub: u8) -> Option<u32>
     requires { AllPairs (λ e f. is_key_before e.key f.key ≡ true) rows.now }
     ensures { result ≡ number_at (map row_view rows.now) index sub }
 {
     match row_at(rows, Key { index, sub }) {
         Some(row) => number_of(row.default),
+        None => None,
+    }
+}
+
+// a word of a mapping parameter, 0 where the sheet has none
+fn word_at(rows: &[EntryRow<'_>], index: u16, sub: u8) -> u32
+    requires { AllPairs (λ e f. is_key_before e.key f.key ≡ true) rows.now }
+    ensures { result ≡ word_at (map row_view rows.now) index sub }
+{
+    match number_at(rows, index, sub) {
+        Some(word) => word,
         None => 0,
     }
 }
@@ -69,19 +82,27 @@ fn words_at(rows: &[EntryRow<'_>], index: u16) -> ArrayVec<u32, 64>
 {
     let mut words = ArrayVec::new();
     for count in 0u8..64 {
-        words.push(number_at(rows, index, count + 1));
+        words.push(word_at(rows, index, count + 1));
     }
     words
 }
 
+fn low_byte(number: Option<u32>) -> Option<u8>
+    ensures { result ≡ option_map (λ count. count % 256) number }
+{
+    match number {
+        Some(number) => Some((number % 256) as u8),
+        None => None,
+    }
+}
+
 #[tactic(auto, unfolding(crate::specs::Sheets::mapping_at))]
-fn mapping_at(rows: &[EntryRow<'_>], index: u16) -> Mapping
+fn mapping_at(rows: &[EntryRow<'_>], index: u16) -> SheetMapping
     requires { AllPairs (λ e f. is_key_before e.key f.key ≡ true) rows.now }
     ensures { result ≡ mapping_at (map row_view rows.now) index }
 {
-    let count = number_at(rows, index, 0);
-    Mapping {
-        count: (count % 256) as u8,
+    SheetMapping {
+        count: low_byte(number_at(rows, index, 0)),
         words: words_at(rows, index),
     }
 }

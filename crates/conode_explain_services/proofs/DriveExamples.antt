@@ -20,7 +20,7 @@ means index bytes = drive_words (record { index = index; sub = 0 }) bytes
 -- ---- the controlword: with other bits on both sides
 controls : map (λ low. means 0x6040 (low ∷ 0x00 ∷ []))
     (0x06 ∷ 0x0E ∷ 0x07 ∷ 0x0F ∷ 0x1F ∷ 0x00 ∷ 0x0D ∷ 0x02 ∷ 0x0B ∷ 0x80 ∷ 0xF0 ∷ 0x81 ∷ 0x82 ∷ 0x86 ∷ 0x88 ∷ 0x8F ∷ [])
-    ≡ codes " (0006, shutdown)" ∷ codes " (000E, shutdown)" ∷ codes " (0007, switch on)" ∷ codes " (000F, enable operation)"
+    ≡ codes " (0006, shutdown)" ∷ codes " (000E, shutdown)" ∷ codes " (0007, switch on or disable operation)" ∷ codes " (000F, enable operation)"
     ∷ codes " (001F, enable operation)" ∷ codes " (0000, disable voltage)" ∷ codes " (000D, disable voltage)"
     ∷ codes " (0002, quick stop)" ∷ codes " (000B, quick stop)" ∷ codes " (0080, fault reset)" ∷ codes " (00F0, fault reset)"
     ∷ codes " (0081, disable voltage, fault reset)" ∷ codes " (0082, quick stop, fault reset)" ∷ codes " (0086, shutdown, fault reset)"

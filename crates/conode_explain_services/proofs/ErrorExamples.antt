@@ -3,7 +3,7 @@ use Rattle.std.proofs.Common.{◌≡◌, ℕ, List, [], ◌∷◌, refl, map}
 use Rattle.std.specs.Prelude.{codes}
 use Rattle.std.specs.Fmt.{digits}
 use Rattle.conode_text.specs.Filled.{filled}
-use Rattle.conode_explain_services.specs.ErrorFrames.{class_text, classes_text, controller_words, counter_words, detail_words, error_words, flag_text, place_words, violation_words, wire_words}
+use Rattle.conode_explain_services.specs.ErrorFrames.{canh_words, canl_words, class_text, classes_text, controller_words, counter_words, detail_words, error_words, flag_text, place_words, violation_words, wire_words}
 
 -- each class with bytes of 0: bit 10 has no meaning, alone or beside another; and no class
 abbrev plain : ℕ → List ℕ
@@ -15,13 +15,13 @@ each_class : map plain (0x001 ∷ 0x002 ∷ 0x004 ∷ 0x008 ∷ 0x010 ∷ 0x020 
     ∷ codes "error frame: bus off" ∷ codes "error frame: bus error" ∷ codes "error frame: controller restarted"
     ∷ codes "error frame: error counters (transmit 0, receive 0)" ∷ codes "error frame" ∷ codes "error frame: bus error"
     ∷ codes "error frame" ∷ codes "error frame" ∷ []
-unfolding error_words classes_text class_text flag_text detail_words controller_words violation_words place_words wire_words counter_words filled digits
+unfolding error_words classes_text class_text flag_text detail_words controller_words violation_words place_words canh_words canl_words counter_words filled digits
 each_class = refl
 
 -- several, the lowest first, each with its own byte; the counters of a transmitter that nobody acknowledges
 several : error_words 0x2A4 (0x05 ∷ 0x30 ∷ 0x04 ∷ 0x19 ∷ 0x40 ∷ 0xFF ∷ 0x80 ∷ 0x07 ∷ [])
     ≡ codes "error frame: controller problem (receive error passive, transmit error passive), no acknowledgement, bus error, error counters (transmit 128, receive 7)"
-unfolding error_words classes_text class_text flag_text detail_words controller_words violation_words place_words wire_words counter_words filled digits
+unfolding error_words classes_text class_text flag_text detail_words controller_words violation_words place_words canh_words canl_words counter_words filled digits
 several = refl
 
 -- each byte
@@ -30,7 +30,7 @@ bytes_of_each : map (λ class. error_words class (0x05 ∷ 0x08 ∷ 0x84 ∷ 0x1
     ∷ codes "error frame: protocol violation (stuff error, on transmission) at the CRC delimiter" ∷ codes "error frame: transceiver problem (CANL not connected)"
     ∷ codes "error frame: no acknowledgement" ∷ codes "error frame: bus off" ∷ codes "error frame: bus error" ∷ codes "error frame: controller restarted"
     ∷ codes "error frame: error counters (transmit 96, receive 97)" ∷ []
-unfolding error_words classes_text class_text flag_text detail_words controller_words violation_words place_words wire_words counter_words filled digits
+unfolding error_words classes_text class_text flag_text detail_words controller_words violation_words place_words canh_words canl_words counter_words filled digits
 bytes_of_each = refl
 
 -- of another number of bytes only the class counts
@@ -71,10 +71,11 @@ no_places : map place_words (0x00 ∷ 0x01 ∷ 0x10 ∷ 0x11 ∷ 0x13 ∷ 0x17 �
 unfolding place_words
 no_places = refl
 
--- the wires: each state; two of them together aren't in that list
-wires : map wire_words (0x04 ∷ 0x05 ∷ 0x06 ∷ 0x07 ∷ 0x40 ∷ 0x50 ∷ 0x60 ∷ 0x70 ∷ 0x80 ∷ 0x00 ∷ 0x03 ∷ 0x08 ∷ 0x44 ∷ 0x90 ∷ [])
+-- the wires: each state of either, both of them, and numbers that have no words, alone or beside others
+wires : map wire_words (0x04 ∷ 0x05 ∷ 0x06 ∷ 0x07 ∷ 0x40 ∷ 0x50 ∷ 0x60 ∷ 0x70 ∷ 0x80 ∷ 0x00 ∷ 0x03 ∷ 0x08 ∷ 0x30 ∷ 0x90 ∷ 0x44 ∷ 0x87 ∷ 0x94 ∷ 0x48 ∷ [])
     ≡ codes " (CANH not connected)" ∷ codes " (CANH shorted to the battery)" ∷ codes " (CANH shorted to the supply)" ∷ codes " (CANH shorted to ground)"
     ∷ codes " (CANL not connected)" ∷ codes " (CANL shorted to the battery)" ∷ codes " (CANL shorted to the supply)" ∷ codes " (CANL shorted to ground)"
-    ∷ codes " (CANL shorted to CANH)" ∷ [] ∷ [] ∷ [] ∷ [] ∷ [] ∷ []
-unfolding wire_words
+    ∷ codes " (CANL shorted to CANH)" ∷ [] ∷ [] ∷ [] ∷ [] ∷ [] ∷ codes " (CANH not connected, CANL not connected)"
+    ∷ codes " (CANH shorted to ground, CANL shorted to CANH)" ∷ codes " (CANH not connected)" ∷ codes " (CANL not connected)" ∷ []
+unfolding canh_words canl_words filled
 wires = refl

@@ -50,13 +50,13 @@ abbrev pub where_set : ℕ → ℕ → List ℕ → List ℕ
 where_set word place text = if has_bit word place then text else []
 
 -- the commands of a controlword, by bits 0 to 3 (switch on, enable voltage, quick stop where 0, enable
--- operation)
+-- operation); 0111b is two of them, by the state of the drive
 unfoldable pub command_words : ℕ → List ℕ
 command_words word =
     if bit_and word 0x02 == 0 then codes "disable voltage"
     else (if bit_and word 0x04 == 0 then codes "quick stop"
     else (if bit_and word 0x01 == 0 then codes "shutdown"
-    else (if bit_and word 0x08 == 0 then codes "switch on" else codes "enable operation")))
+    else (if bit_and word 0x08 == 0 then codes "switch on or disable operation" else codes "enable operation")))
 
 -- Bit 7 resets a fault where it was 0 before. While it stays 1, bits 0 to 3 count as ever; without them
 -- it is that command alone.

@@ -1,6 +1,6 @@
 -- What an error frame says: the fault that the controller of the recorder reports, by the class in its identifier and its eight bytes, as
 -- SocketCAN has them (linux/can/error.h).
-use Rattle.std.specs.Prelude.{ℕ, ◌-◌, ◌%◌, ◌==◌, ◌&&◌, if◌then◌else◌, bit_and, List, [], ◌∷◌, ◌++◌, codes, decimal, length, slice_index}
+use Rattle.std.specs.Prelude.{ℕ, ◌-◌, ◌/◌, ◌%◌, ◌==◌, ◌&&◌, if◌then◌else◌, bit_and, List, [], ◌∷◌, ◌++◌, codes, decimal, length, slice_index}
 use Rattle.std.specs.List.{flat_map}
 use Rattle.conode_text.specs.Filled.{filled}
 use Rattle.conode_explain_services.specs.Parts.{words_in}
@@ -58,14 +58,31 @@ place_words place =
     ∷ (0x19, codes " at the ACK slot") ∷ (0x1A, codes " at the end of frame") ∷ (0x1B, codes " at the ACK delimiter") ∷ [])
     place
 
--- byte 4: the state of the transceiver's wires
-unfoldable pub wire_words : ℕ → List ℕ
-wire_words state =
+-- byte 4: the state of the transceiver's wires, CANH in bits 0 to 3
+unfoldable pub canh_words : ℕ → List ℕ
+canh_words state =
     words_in
-    ((0x04, codes " (CANH not connected)") ∷ (0x05, codes " (CANH shorted to the battery)") ∷ (0x06, codes " (CANH shorted to the supply)")
-    ∷ (0x07, codes " (CANH shorted to ground)") ∷ (0x40, codes " (CANL not connected)") ∷ (0x50, codes " (CANL shorted to the battery)")
-    ∷ (0x60, codes " (CANL shorted to the supply)") ∷ (0x70, codes " (CANL shorted to ground)") ∷ (0x80, codes " (CANL shorted to CANH)") ∷ [])
-    state
+    ((4, codes "CANH not connected") ∷ (5, codes "CANH shorted to the battery") ∷ (6, codes "CANH shorted to the supply")
+    ∷ (7, codes "CANH shorted to ground") ∷ [])
+    (state % 16)
+
+-- CANL in bits 4 to 7
+unfoldable pub canl_words : ℕ → List ℕ
+canl_words state =
+    words_in
+    ((4, codes "CANL not connected") ∷ (5, codes "CANL shorted to the battery") ∷ (6, codes "CANL shorted to the supply")
+    ∷ (7, codes "CANL shorted to ground") ∷ (8, codes "CANL shorted to CANH") ∷ [])
+    (state / 16)
+
+-- either in brackets, or both
+abbrev pub either_in_brackets : List ℕ → List ℕ → List ℕ
+either_in_brackets [] [] = []
+either_in_brackets (letter ∷ letters) [] = filled (codes " (%)") ((letter ∷ letters) ∷ [])
+either_in_brackets [] (letter ∷ letters) = filled (codes " (%)") ((letter ∷ letters) ∷ [])
+either_in_brackets (a ∷ first) (b ∷ second) = filled (codes " (%, %)") ((a ∷ first) ∷ (b ∷ second) ∷ [])
+
+abbrev pub wire_words : ℕ → List ℕ
+wire_words state = either_in_brackets (canh_words state) (canl_words state)
 
 -- bytes 6 and 7: the error counters
 unfoldable pub counter_words : ℕ → ℕ → List ℕ

@@ -78,7 +78,7 @@ fn command_words(word: u16) -> &'static str
     } else if word & 0x01 == 0 {
         "shutdown"
     } else if word & 0x08 == 0 {
-        "switch on"
+        "switch on or disable operation"
     } else {
         "enable operation"
     }

@@ -3,11 +3,14 @@
 
 ghost use Rattle.std.specs.Prelude.{◌≡◌, ◌++◌, OnOk, length, map, string_bytes};
 ghost use Rattle.conode_explain_services.specs.ErrorFrames.{
+  canh_words,
+  canl_words,
   class_text,
   classes_text,
   controller_words,
   counter_words,
   detail_words,
+  either_in_brackets,
   error_words,
   flag_text,
   flags_in_brackets,
@@ -16,7 +19,6 @@ ghost use Rattle.conode_explain_services.specs.ErrorFrames.{
   place_words,
   reported_text,
   violation_words,
-  wire_words,
 };
 ghost use Rattle.conode_explain_services.specs.Parts.{row_of};
 ghost use Rattle.std.specs.List.{flat_map};
@@ -86,17 +88,21 @@ const PLACES: [Row; 19] = [
     Row(0x1B, " at the ACK delimiter"),
 ];
 
-/// The state of the transceiver's wires, byte 4.
-const WIRES: [Row; 9] = [
-    Row(0x04, " (CANH not connected)"),
-    Row(0x05, " (CANH shorted to the battery)"),
-    Row(0x06, " (CANH shorted to the supply)"),
-    Row(0x07, " (CANH shorted to ground)"),
-    Row(0x40, " (CANL not connected)"),
-    Row(0x50, " (CANL shorted to the battery)"),
-    Row(0x60, " (CANL shorted to the supply)"),
-    Row(0x70, " (CANL shorted to ground)"),
-    Row(0x80, " (CANL shorted to CANH)"),
+/// The state of the transceiver's wires: CANH, bits 0 to 3 of byte 4.
+const CANH: [Row; 4] = [
+    Row(4, "CANH not connected"),
+    Row(5, "CANH shorted to the battery"),
+    Row(6, "CANH shorted to the supply"),
+    Row(7, "CANH shorted to ground"),
+];
+
+/// CANL, bits 4 to 7.
+const CANL: [Row; 5] = [
+    Row(4, "CANL not connected"),
+    Row(5, "CANL shorted to the battery"),
+    Row(6, "CANL shorted to the supply"),
+    Row(7, "CANL shorted to ground"),
+    Row(8, "CANL shorted to CANH"),
 ];
 
 #[tactic(auto, unfolding(crate::specs::ErrorFrames::flag_text))]
@@ -166,11 +172,36 @@ fn place_words(place: u8) -> &'static str
     words_in(&PLACES, place as u16)
 }
 
-#[tactic(auto, unfolding(crate::specs::ErrorFrames::wire_words))]
-fn wire_words(state: u8) -> &'static str
-    ensures { result.now ≡ wire_words state }
+#[tactic(auto, unfolding(crate::specs::ErrorFrames::canh_words))]
+fn canh_words(state: u8) -> &'static str
+    ensures { result.now ≡ canh_words state }
 {
-    words_in(&WIRES, state as u16)
+    words_in(&CANH, state as u16 % 16)
+}
+
+#[tactic(auto, unfolding(crate::specs::ErrorFrames::canl_words))]
+fn canl_words(state: u8) -> &'static str
+    ensures { result.now ≡ canl_words state }
+{
+    words_in(&CANL, state as u16 / 16)
+}
+
+// either in brackets, or both
+#[tactic(auto, unfolding(conode_text::specs::Filled::filled))]
+fn push_either(text: &mut String, first: &str, second: &str) -> Result<(), AllocError>
+    ensures { OnOk result (string_bytes text.new
+        ≡ string_bytes text.old ++ either_in_brackets first.now second.now) }
+{
+    match (first.is_empty(), second.is_empty()) {
+        (true, true) => Ok(()),
+        (false, true) => push_filled(text, " (%)", &[Value::Words(first)]),
+        (true, false) => push_filled(text, " (%)", &[Value::Words(second)]),
+        (false, false) => push_filled(
+            text,
+            " (%, %)",
+            &[Value::Words(first), Value::Words(second)],
+        ),
+    }
 }
 
 #[tactic(auto, unfolding(crate::specs::ErrorFrames::counter_words))]
@@ -199,7 +230,7 @@ fn push_details(text: &mut String, class: u16, bytes: &[u8]) -> Result<(), Alloc
             attempt!(push_violations(text, bytes[2]));
             text.push_str(place_words(bytes[3]))
         }
-        0x010 => text.push_str(wire_words(bytes[4])),
+        0x010 => push_either(text, canh_words(bytes[4]), canl_words(bytes[4])),
         0x200 => push_counters(text, bytes[6], bytes[7]),
         _ => Ok(()),
     }

@@ -1,5 +1,5 @@
 -- Dates, stamps, columns and lines, evaluated on both sides of each edge.
-use Rattle.std.proofs.Common.{◌≡◌, ℕ, true, false, List, [], ◌∷◌, refl}
+use Rattle.std.proofs.Common.{◌≡◌, ℕ, true, false, List, [], ◌∷◌, map, refl}
 use Rattle.std.specs.Prelude.{None, codes}
 use Rattle.std.specs.Fmt.{digits}
 use Rattle.co_text.specs.Printed.{digits_text}
@@ -78,7 +78,7 @@ since_first : stamp_text Relative (times 1000000 2000000 13345678) ≡ codes "  
 unfolding stamp_text difference_text time_text digits_text digits times
 since_first = refl
 
-since_a_later_first : stamp_text Relative (times 1000000 2000000 999999) ≡ codes "-    0.000001"
+since_a_later_first : stamp_text Relative (times 1000000 2000000 999999) ≡ codes "    -0.000001"
 unfolding stamp_text difference_text time_text digits_text digits times
 since_a_later_first = refl
 
@@ -162,6 +162,32 @@ controls : shown (0x1B ∷ 0x1F ∷ 0x20 ∷ 0x7E ∷ 0x7F ∷ 0x80 ∷ []) ≡ 
 unfolding digits_text
 controls = refl
 
+-- of U+0080 to U+00A0 the first and the last, and what is beside them; a first byte alone
+shorts : map shown ((0xC2 ∷ 0x80 ∷ []) ∷ (0x61 ∷ 0xC2 ∷ 0x9B ∷ 0x62 ∷ []) ∷ (0xC2 ∷ 0xA0 ∷ 0xC2 ∷ 0xA0 ∷ []) ∷ [])
+    ≡ codes "\\x80" ∷ codes "a\\x9Bb" ∷ codes "\\xA0\\xA0" ∷ []
+unfolding digits_text
+shorts = refl
+
+no_shorts : map shown ((0xC2 ∷ 0x7F ∷ []) ∷ (0xC2 ∷ 0xA1 ∷ []) ∷ (0xC3 ∷ 0x9B ∷ []) ∷ (0xC1 ∷ 0x9B ∷ 0x61 ∷ []) ∷ (0x61 ∷ 0xC2 ∷ []) ∷ (0xC2 ∷ 0xC2 ∷ 0x9B ∷ []) ∷ [])
+    ≡ (0xC2 ∷ codes "\\x7F") ∷ (0xC2 ∷ 0xA1 ∷ []) ∷ (0xC3 ∷ 0x9B ∷ []) ∷ (0xC1 ∷ 0x9B ∷ 0x61 ∷ []) ∷ (0x61 ∷ 0xC2 ∷ []) ∷ (0xC2 ∷ codes "\\x9B") ∷ []
+unfolding digits_text
+no_shorts = refl
+
+-- of each range of three bytes the first and the last
+longs : map shown ((0xE2 ∷ 0x80 ∷ 0x80 ∷ []) ∷ (0xE2 ∷ 0x80 ∷ 0x8F ∷ []) ∷ (0xE2 ∷ 0x80 ∷ 0xA8 ∷ []) ∷ (0x61 ∷ 0xE2 ∷ 0x80 ∷ 0xAF ∷ 0x62 ∷ []) ∷ (0xE2 ∷ 0x81 ∷ 0xA0 ∷ []) ∷ (0xE2 ∷ 0x81 ∷ 0xAF ∷ []) ∷ (0xEF ∷ 0xBB ∷ 0xBF ∷ []) ∷ [])
+    ≡ codes "\\u2000" ∷ codes "\\u200F" ∷ codes "\\u2028" ∷ codes "a\\u202Fb" ∷ codes "\\u2060" ∷ codes "\\u206F" ∷ codes "\\uFEFF" ∷ []
+unfolding digits_text
+longs = refl
+
+abbrev long : ℕ → ℕ → ℕ → List ℕ
+long first second third = first ∷ second ∷ third ∷ []
+
+-- and what is beside them; some of their bytes alone
+no_longs : map shown (long 0xE2 0x80 0x90 ∷ long 0xE2 0x80 0xA7 ∷ long 0xE2 0x80 0xB0 ∷ long 0xE2 0x81 0x9F ∷ long 0xE2 0x81 0xB0 ∷ long 0xE2 0x82 0xA8 ∷ long 0xE1 0x80 0x8B ∷ long 0xE3 0x80 0x80 ∷ long 0xEF 0xBB 0xBE ∷ long 0xEF 0xBC 0xBF ∷ long 0xEE 0xBB 0xBF ∷ (0x61 ∷ 0xE2 ∷ 0x80 ∷ []) ∷ (0xEF ∷ []) ∷ [])
+    ≡ long 0xE2 0x80 0x90 ∷ long 0xE2 0x80 0xA7 ∷ long 0xE2 0x80 0xB0 ∷ long 0xE2 0x81 0x9F ∷ long 0xE2 0x81 0xB0 ∷ long 0xE2 0x82 0xA8 ∷ long 0xE1 0x80 0x8B ∷ long 0xE3 0x80 0x80 ∷ long 0xEF 0xBB 0xBE ∷ long 0xEF 0xBC 0xBF ∷ long 0xEE 0xBB 0xBF ∷ (0x61 ∷ 0xE2 ∷ 0x80 ∷ []) ∷ (0xEF ∷ []) ∷ []
+unfolding digits_text
+no_longs = refl
+
 -- ---- what was seen
 
 started : SoFar
@@ -206,7 +232,7 @@ line_of_other : line_of started (sync 6 (codes "can1")) ≡ codes "     0.000001
 unfolding line_of started sync line_text line_parts odd_words stamp_text gap_text difference_text time_text bytes_text digits_text digits
 line_of_other = refl
 
-line_back : line_of started (sync 4 (codes "can0")) ≡ codes "-    0.000001  -0.000001  080  [0]                          SYNC  note: the stamp steps back\n"
+line_back : line_of started (sync 4 (codes "can0")) ≡ codes "    -0.000001  -0.000001  080  [0]                          SYNC  note: the stamp steps back\n"
 unfolding line_of started sync line_text line_parts odd_words stamp_text gap_text difference_text time_text bytes_text digits_text digits
 line_back = refl
 

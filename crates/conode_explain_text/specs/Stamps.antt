@@ -23,11 +23,15 @@ micros_text micros = digits_text 10 6 micros
 unfoldable pub time_text : ℕ → ℕ → List ℕ
 time_text width micros = padded width (micros / 1000000) ++ codes "." ++ micros_text (micros % 1000000)
 
--- the time from one stamp to another, with a hyphen before it where the other is the earlier one,
--- else with this text
+-- the same with a hyphen right before the seconds
+abbrev pub minus_text : ℕ → ℕ → List ℕ
+minus_text width micros = replicate (width - length (decimal (micros / 1000000))) 32 ++ codes "-" ++ time_text 0 micros
+
+-- the time from one stamp to another, with a hyphen where the other is the earlier one, else with this
+-- text before it
 unfoldable pub difference_text : List ℕ → ℕ → ℕ → ℕ → List ℕ
 difference_text plus width from to =
-    if nat_le from to then plus ++ time_text width (to - from) else codes "-" ++ time_text width (from - to)
+    if nat_le from to then plus ++ time_text width (to - from) else minus_text width (from - to)
 
 -- whether the time since the frame before isn't known: a log without stamps has each frame at 0
 abbrev pub lacks_gap : Times → Bool

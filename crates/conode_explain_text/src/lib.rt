@@ -23,5 +23,6 @@ mod stamps;
 pub use columns::{push_id, push_name};
 pub use line::{odd_words, set_line};
 pub use own_line::set_own_line;
+pub use said::add_shown;
 pub use so_far::{Seen, Times};
 pub use stamps::{StampForm, push_day, push_micros, push_moment, push_time_of_day};

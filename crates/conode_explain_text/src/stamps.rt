@@ -5,6 +5,7 @@ ghost use Rattle.std.specs.Prelude.{◌≡◌, [], ◌∷◌, ◌++◌, ◌<◌,
 ghost use Rattle.co_text.specs.Printed.{digits_text, printed_digit};
 ghost use Rattle.conode_explain_text.specs.Dates.{date_of};
 ghost use Rattle.conode_explain_text.specs.Stamps.{
+  minus_text,
   padded,
   micros_text,
   time_text,
@@ -110,8 +111,20 @@ fn push_signed(text: &mut String, sign: char, width: usize, micros: u64) -> Resu
     push_time(text, micros, width)
 }
 
-// the time from one stamp to another: a hyphen before it where the other is the earlier one, else
-// this sign
+// a time with a hyphen right before the seconds
+fn push_minus(text: &mut String, width: usize, micros: u64) -> Result<(), AllocError>
+    ensures { OnOk result
+        (string_bytes text.new ≡ string_bytes text.old ++ minus_text width micros) }
+{
+    let mut buffer = Buffer::new();
+    let digits = buffer.format(micros / 1_000_000);
+    attempt!(push_blanks(text, width.saturating_sub(digits.len())));
+    attempt!(text.push('-'));
+    push_time(text, micros, 0)
+}
+
+// the time from one stamp to another: a hyphen in it where the other is the earlier one, else this
+// sign before it
 #[tactic(auto, unfolding(crate::specs::Stamps::difference_text))]
 fn push_difference(
     text: &mut String,
@@ -127,7 +140,7 @@ fn push_difference(
     if from <= to {
         push_signed(text, plus, width, to - from)
     } else {
-        push_signed(text, '-', width, from - to)
+        push_minus(text, width, from - to)
     }
 }
 

@@ -1,6 +1,6 @@
 -- What is kept and what is done in a recording, after every log.
 use Rattle.std.proofs.Common.{◌≡◌, ℕ, List, [], ◌∷◌, refl}
-use Rattle.std.specs.Prelude.{◌==◌, Bool, true, false, if◌then◌else◌, slice_index, Option, Some, None, IfSome}
+use Rattle.std.specs.Prelude.{Bool, true, false, if◌then◌else◌, Option, Some, None, IfSome}
 use Rattle.co_frame.specs.SdoResponses.{response_in}
 use Rattle.co_value.specs.declared.key.Key.{Key}
 use Rattle.conode_explain_transfers.specs.declared.channel.Heard.{Heard}
@@ -19,7 +19,7 @@ use Rattle.conode_explain_transfers.specs.Data.{IfDone, IsDoneWith, data_by}
 use Rattle.conode_explain_transfers.specs.Doubtful.{begun_by, freed, freed_by, if_answered, is_answer, noted, shown_by}
 use Rattle.conode_explain_transfers.specs.Followed.{Event, Framed, BootedUp, Following, ends_as, followed}
 use Rattle.conode_explain_transfers.specs.HeardData.{heard_after, heard_of, data_freed, data_heard, heard_data, IsDoneHeard}
-use Rattle.conode_explain_transfers.specs.Hearings.{after_aside, aside, heard_next, hearing_by, hearing_in, hearing_where, is_over, is_unsure, lacks_acknowledge, lacks_start, leaves_after_last, made_up, sure_end, sure_ending}
+use Rattle.conode_explain_transfers.specs.Hearings.{after_aside, aside, awaits_answer, heard_next, hearing_by, hearing_in, hearing_where, is_over, lacks_acknowledge, lacks_start, last_again, leaves_after_last, left_awaiting, made_up, may_mean_this, named, sure_end, sure_ending}
 use Rattle.conode_explain_transfers.specs.Readings.{plain_reading, reading_of}
 use Rattle.conode_explain_transfers.specs.Turns.{turn_of}
 use Rattle.conode_explain_transfers.proofs.DataLemmas.{IsOpenWith, StaysOpen, frame_step}
@@ -27,10 +27,10 @@ use Rattle.conode_explain_transfers.proofs.DoneLemmas.{frame_done}
 
 -- ---- what the code makes of a frame
 
-pub says_next : (old x : Following) (said : Heard) (unsure : Bool) (end : Option Ended) (micros : ℕ) (side : Side) (frame : List ℕ)
-    → x ≡ record old { transfer = made_up old.transfer side frame } → said ≡ (followed x micros side frame).says → unsure ≡ is_unsure old.transfer
-    → end ≡ sure_end unsure said.ended → record { what = said.what; of = said.of; ended = end } ≡ (heard_next old micros side frame).says
-says_next old x said unsure end micros side frame made is was sure = rw (sure, was, is, made) refl
+pub says_next : (old x : Following) (said : Heard) (awaits : Option Bool) (again : Option What) (what : What) (end : Option Ended) (micros : ℕ) (side : Side) (frame : List ℕ)
+    → x ≡ record old { transfer = made_up old.transfer side frame } → said ≡ (followed x micros side frame).says → awaits ≡ awaits_answer old.transfer
+    → again ≡ last_again old.transfer side frame → what ≡ named again said.what → end ≡ sure_end awaits said.ended → record { what = what; of = said.of; ended = end } ≡ (heard_next old micros side frame).says
+says_next old x said awaits again what end micros side frame made is was came name sure = rw (sure, name, came, was, is, made) refl
 
 pub next_next : (old x y new : Following) (what : What) (micros : ℕ) (side : Side) (frame : List ℕ)
     → x ≡ record old { transfer = made_up old.transfer side frame } → y ≡ (followed x micros side frame).next → what ≡ (followed x micros side frame).says.what
@@ -56,22 +56,27 @@ made_open (Some transfer) side frame bytes h = by (lacks_start transfer side fra
 -- nor does one that is put aside
 aside_open : (current : Option Transfer) (frame bytes : List ℕ) → StaysOpen current bytes → StaysOpen (after_aside current frame) bytes
 aside_open None frame bytes h = tt
-aside_open (Some transfer) frame bytes h = by (slice_index frame 0 == 128)
+aside_open (Some transfer) frame bytes h = by (may_mean_this frame transfer)
   where
     by : (abort : Bool) → IsOpenWith (if abort then record transfer { put_aside = true; by = Server } else record transfer { put_aside = true }) bytes
     by true = record { unconfirmed = h.unconfirmed; taken = h.taken }
     by false = record { unconfirmed = h.unconfirmed; taken = h.taken }
 
-sure_done : (unsure : Bool) (end : Option Ended) (fact : Bool → Type 0) → IfSome end (λ e. IfDone e.ending fact) → IfSome (sure_end unsure end) (λ e. IfDone e.ending fact)
-sure_done unsure None fact h = h
-sure_done unsure (Some e) fact h = by unsure e.ending h
+sure_done : (awaits : Option Bool) (end : Option Ended) (fact : Bool → Type 0) → IfSome end (λ e. IfDone e.ending fact) → IfSome (sure_end awaits end) (λ e. IfDone e.ending fact)
+sure_done awaits None fact h = h
+sure_done awaits (Some e) fact h = by awaits e.ending h
   where
-    by : (i : Bool) (ending : Ending) → IfDone ending fact → IfDone (sure_ending i ending) fact
-    by false ending h = h
-    by true (Done crc) h = h
-    by true Unanswered h = tt
-    by true Repeated h = tt
-    by true _ h = tt
+    left : (x : Bool) → IfDone (left_awaiting x) fact
+    left true = tt
+    left false = tt
+
+    by : (x : Option Bool) (ending : Ending) → IfDone ending fact → IfDone (sure_ending x ending) fact
+    by None ending h = h
+    by (Some x) (Done crc) h = h
+    by (Some x) Unanswered h = left x
+    by (Some x) Repeated h = left x
+    by (Some x) Interrupted h = left x
+    by (Some x) _ h = tt
 
 -- one that is left isn't done
 left_open : (current : Option Transfer) (micros : ℕ) (fact : Bool → Type 0) → IfSome (ends_as current micros Interrupted) (λ e. IfDone e.ending fact)
@@ -171,7 +176,7 @@ heard_done log micros side frame = where_over (is_over following.transfer side f
     by : (x : Option What) → IfSome (hearing_by x following micros side frame).says.ended (λ e. IfDone e.ending (Fact x))
     by (Some what) = tt
     by None =
-        sure_done (is_unsure following.transfer) _ (Fact None)
+        sure_done (awaits_answer following.transfer) _ (Fact None)
         (frame_done following.heard current (reading_of current side frame) micros side frame kept
         (made_open following.transfer side frame kept (before_open log side frame (heard_open log))))
 

@@ -1,15 +1,18 @@
 -- What is heard of transfers in a recording: answers to earlier requests, and frames that are missing (CiA 301, 7.2.4.3).
 use Rattle.std.proofs.Common.{◌≡◌, ℕ, true, false, List, [], ◌∷◌, ◌++◌, refl, codes}
-use Rattle.std.specs.Prelude.{map}
+use Rattle.std.specs.Prelude.{Bool, map, Some, None}
+use Rattle.std.specs.Option.{option_map_or}
 use Rattle.co_frame.specs.SdoRequests.{request_row_in}
 use Rattle.co_frame.specs.SdoResponses.{response_row_in}
 use Rattle.conode_explain_transfers.specs.declared.ended.Ending.TheVariants.{Done, Aborted, Unanswered, Repeated as AskedAgain, Interrupted, Irregular}
 use Rattle.conode_explain_transfers.specs.declared.kinds.Protocol.TheVariants.{Undecided, Expedited, Segmented, Block}
 use Rattle.conode_explain_transfers.specs.declared.kinds.Side.TheVariants.{Client, Server}
-use Rattle.conode_explain_transfers.specs.declared.kinds.What.TheVariants.{Initiate, Part, Segment, OutOfSequence, Overtaken, Unexpected, Stray, BegunBefore}
+use Rattle.conode_explain_transfers.specs.declared.kinds.What.{What}
+use Rattle.conode_explain_transfers.specs.declared.kinds.What.TheVariants.{Initiate, Part, Segment, OutOfSequence, LastAgain, Overtaken, Unexpected, Stray, BegunBefore}
 use Rattle.conode_explain_transfers.specs.Crc.{shifted, crc_with}
-use Rattle.conode_explain_transfers.specs.Hearings.{begins_as_last, is_low_last, is_low_segment}
-use Rattle.conode_explain_transfers.proofs.Dialogues.{End, Sent, Told, c, hex, s, shown}
+use Rattle.conode_explain_transfers.specs.Followed.{nothing_heard}
+use Rattle.conode_explain_transfers.specs.Hearings.{begins_as_last, is_last_again, is_low_last, is_low_segment, named}
+use Rattle.conode_explain_transfers.proofs.Dialogues.{End, Sent, Told, c, heard_all, hex, s, shown}
 
 -- a segment of a block download, of a block upload
 abbrev segment : ℕ → Sent
@@ -150,6 +153,34 @@ late_segments : map (λ frames. (shown frames).whats)
     ≡ (Initiate ∷ Unexpected ∷ []) ∷ (Initiate ∷ Overtaken ∷ []) ∷ (Initiate ∷ Overtaken ∷ []) ∷ (Initiate ∷ Overtaken ∷ []) ∷ []
 unfolding request_row_in response_row_in shifted crc_with
 late_segments = refl
+
+-- an answer of the same entry is awaited by its protocol: here a download is acknowledged, an upload answered at once and in segments, and a
+-- block download and a block upload answered; to an upload, two downloads, a block upload, which may be answered by another one, and a
+-- block download
+abbrev answered : List ℕ → List (List What)
+answered request =
+    map (λ answer. (shown (c request ∷ s answer ∷ [])).whats)
+    (codes "6000210000000000" ∷ codes "4F002100AA000000" ∷ codes "4100210009000000" ∷ codes "A00021007F000000" ∷ codes "C000210000000000" ∷ [])
+
+answers_by_request : map answered (codes "4000210000000000" ∷ codes "2F002100AA000000" ∷ codes "2100210009000000" ∷ codes "A00021007F000000" ∷ codes "C000210000000000" ∷ [])
+    ≡ ((Initiate ∷ Overtaken ∷ []) ∷ (Initiate ∷ Part ∷ []) ∷ (Initiate ∷ Part ∷ []) ∷ (Initiate ∷ Overtaken ∷ []) ∷ (Initiate ∷ Overtaken ∷ []) ∷ [])
+    ∷ ((Initiate ∷ Part ∷ []) ∷ (Initiate ∷ Overtaken ∷ []) ∷ (Initiate ∷ Overtaken ∷ []) ∷ (Initiate ∷ Overtaken ∷ []) ∷ (Initiate ∷ Overtaken ∷ []) ∷ [])
+    ∷ ((Initiate ∷ Part ∷ []) ∷ (Initiate ∷ Overtaken ∷ []) ∷ (Initiate ∷ Overtaken ∷ []) ∷ (Initiate ∷ Overtaken ∷ []) ∷ (Initiate ∷ Overtaken ∷ []) ∷ [])
+    ∷ ((Initiate ∷ Overtaken ∷ []) ∷ (Initiate ∷ Part ∷ []) ∷ (Initiate ∷ Part ∷ []) ∷ (Initiate ∷ Overtaken ∷ []) ∷ (Initiate ∷ Part ∷ []) ∷ [])
+    ∷ ((Initiate ∷ Overtaken ∷ []) ∷ (Initiate ∷ Overtaken ∷ []) ∷ (Initiate ∷ Overtaken ∷ []) ∷ (Initiate ∷ Part ∷ []) ∷ (Initiate ∷ Overtaken ∷ []) ∷ [])
+    ∷ []
+unfolding request_row_in response_row_in shifted crc_with
+answers_by_request = refl
+
+-- 2100:00 is written, without an answer in time, and read back: the acknowledge comes before what was read
+read_back : shown (c (codes "2B00210001000000") ∷ c (codes "4000210000000000") ∷ s (codes "6000210000000000") ∷ s (codes "4B00210001000000") ∷ [])
+    ≡ record {
+      whats = Initiate ∷ Initiate ∷ Overtaken ∷ Part ∷ [];
+      ends = record { protocol = Expedited; bytes = 0; first = []; frames = 1; ending = Unanswered }
+          ∷ record { protocol = Expedited; bytes = 2; first = 0x01 ∷ 0x00 ∷ []; frames = 2; ending = Done false } ∷ [];
+    }
+unfolding request_row_in response_row_in shifted crc_with
+read_back = refl
 
 -- ---- an answer to another request in a sub-block of a download
 
@@ -379,6 +410,52 @@ within_last : map (λ frames. (shown frames).whats)
 unfolding request_row_in response_row_in shifted crc_with
 within_last = refl
 
+-- ---- the last segment again
+
+-- nine bytes; 82h, the last segment, is in the recording twice
+last_twice : shown (c (codes "C200210009000000") ∷ s (codes "A000210004000000") ∷ c (codes "0131323334353637") ∷ c (codes "8238390000000000") ∷ c (codes "8238390000000000") ∷ s (codes "A202040000000000") ∷ c (codes "D500000000000000") ∷ s (codes "A100000000000000") ∷ [])
+    ≡ record {
+      whats = Initiate ∷ Part ∷ Segment 1 ∷ Segment 2 ∷ LastAgain 2 ∷ Part ∷ Part ∷ Part ∷ [];
+      ends = record { protocol = Block; bytes = 9; first = codes "123456789"; frames = 8; ending = Irregular } ∷ [];
+    }
+unfolding request_row_in response_row_in shifted crc_with
+last_twice = refl
+
+-- of an upload too
+last_uploaded_twice : (shown (c (codes "A00021007F000000") ∷ s (codes "C000210000000000") ∷ c (codes "A300000000000000") ∷ uploaded 0x81 ∷ uploaded 0x81 ∷ [])).whats
+    ≡ Initiate ∷ Part ∷ Part ∷ Segment 1 ∷ LastAgain 1 ∷ []
+unfolding request_row_in response_row_in shifted crc_with
+last_uploaded_twice = refl
+
+-- another end, number or length, and one that isn't the last; and before the last one came
+abbrev again_after_segment : ℕ → List Sent → List Bool
+again_after_segment first sent =
+    let current = (heard_all nothing_heard (c (codes "C000210000000000") ∷ s (codes "A000210004000000") ∷ segment 1 ∷ segment first ∷ [])).transfer in
+    map (λ frame. option_map_or (λ t. is_last_again t frame.side frame.bytes) current false) sent
+
+again_by_frame : again_after_segment 0x82 (segment 0x82 ∷ uploaded 0x82 ∷ segment 0x81 ∷ segment 0x83 ∷ segment 2 ∷ c (codes "82414243444546") ∷ [])
+    ≡ true ∷ false ∷ false ∷ false ∷ false ∷ false ∷ []
+unfolding request_row_in response_row_in shifted crc_with
+again_by_frame = refl
+
+again_before_last : again_after_segment 2 (segment 0x82 ∷ []) ≡ false ∷ []
+unfolding request_row_in response_row_in shifted crc_with
+again_before_last = refl
+
+-- C1h is the end of a block transfer too, and so may be one that comes after segment 65; C2h is none
+abbrev again_at : ℕ → List ℕ → Bool
+again_at next bytes =
+    option_map_or (λ t. is_last_again (record t { next_number = next }) Client bytes)
+    (heard_all nothing_heard (c (codes "C000210000000000") ∷ s (codes "A000210004000000") ∷ segment 0x81 ∷ [])).transfer false
+
+end_or_again : again_at 66 (0xC1 ∷ 0xAB ∷ 0xCD ∷ 0 ∷ 0 ∷ 0 ∷ 0 ∷ 0 ∷ []) ∷ again_at 67 (0xC2 ∷ 0xAB ∷ 0xCD ∷ 0 ∷ 0 ∷ 0 ∷ 0 ∷ 0 ∷ []) ∷ [] ≡ false ∷ true ∷ []
+unfolding request_row_in response_row_in shifted crc_with
+end_or_again = refl
+
+-- A0h of the last segment may be a request, which isn't renamed
+named_again : map (named (Some (LastAgain 32))) (Unexpected ∷ Initiate ∷ Part ∷ []) ++ named None Unexpected ∷ [] ≡ LastAgain 32 ∷ Initiate ∷ Part ∷ Unexpected ∷ []
+named_again = refl
+
 -- ---- no answer
 
 -- the client awaits one when it begins another transfer: where a frame came twice, it isn't said that there was none
@@ -389,3 +466,37 @@ no_answer : map (λ asks. (shown (c (codes "4000210000000000") ∷ s (codes "410
     ∷ []
 unfolding request_row_in response_row_in shifted crc_with
 no_answer = refl
+
+-- within a sub-block it is the turn of the end that sends the data, until all segments of it came, or the last one: after segment 1 of 2 it is
+-- the client of a download that stops, and the server of an upload. Where a segment came twice, it isn't said that there was no answer
+abbrev unanswered : ℕ → List End
+unanswered frames = record { protocol = Block; bytes = 0; first = []; frames = frames; ending = Unanswered } ∷ []
+
+left_in_download : map (λ frames. (shown (c (codes "C000210000000000") ∷ s (codes "A000210002000000") ∷ frames ++ c (codes "4000100000000000") ∷ [])).ends)
+    ([] ∷ (segment 1 ∷ []) ∷ (segment 1 ∷ segment 2 ∷ []) ∷ (segment 0x81 ∷ []) ∷ [])
+    ≡ left 2 ∷ left 3 ∷ unanswered 4 ∷ unanswered 3 ∷ []
+unfolding request_row_in response_row_in shifted crc_with
+left_in_download = refl
+
+left_in_upload : map (λ frames. (shown (c (codes "A000210002000000") ∷ s (codes "C000210000000000") ∷ c (codes "A300000000000000") ∷ frames ++ c (codes "4000100000000000") ∷ [])).ends)
+    ([] ∷ (uploaded 1 ∷ []) ∷ (uploaded 1 ∷ uploaded 2 ∷ []) ∷ (uploaded 0x81 ∷ []) ∷ (uploaded 1 ∷ uploaded 1 ∷ []) ∷ [])
+    ≡ unanswered 3 ∷ unanswered 4 ∷ left 5 ∷ left 4 ∷ left 5 ∷ []
+unfolding request_row_in response_row_in shifted crc_with
+left_in_upload = refl
+
+-- segment 2 of 4 is missing, and 83h is the last one: it isn't known whether others are left, so it is as the newest frame has it
+gap_in_download : (shown (c (codes "C000210000000000") ∷ s (codes "A000210004000000") ∷ segment 1 ∷ segment 0x83 ∷ c (codes "4000100000000000") ∷ [])).ends ≡ unanswered 4
+unfolding request_row_in response_row_in shifted crc_with
+gap_in_download = refl
+
+gap_in_upload : (shown (c (codes "A000210004000000") ∷ s (codes "C000210000000000") ∷ c (codes "A300000000000000") ∷ uploaded 1 ∷ uploaded 0x83 ∷ c (codes "4000100000000000") ∷ [])).ends ≡ left 5
+unfolding request_row_in response_row_in shifted crc_with
+gap_in_upload = refl
+
+-- a response of this entry that the request doesn't ask for may be meant for it: the server isn't silent
+wrong_response : map (λ answer. (shown (c (codes "4000210000000000") ∷ s answer ∷ c (codes "4001210000000000") ∷ [])).ends)
+    (codes "6000210000000000" ∷ codes "6005210000000000" ∷ [])
+    ≡ (record { protocol = Undecided; bytes = 0; first = []; frames = 1; ending = Interrupted } ∷ [])
+    ∷ (record { protocol = Undecided; bytes = 0; first = []; frames = 1; ending = Unanswered } ∷ []) ∷ []
+unfolding request_row_in response_row_in shifted crc_with
+wrong_response = refl

@@ -6,6 +6,7 @@ pub mod DoneLemmas
 pub mod HeardLemmas
 pub mod Kept
 mod DoubtfulExamples
+mod DoubtfulLemmas
 mod HearingExamples
 mod SegmentedExamples
 pub mod Places

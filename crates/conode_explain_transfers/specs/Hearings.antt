@@ -1,6 +1,6 @@
 -- What is heard on a channel of a recording. Not each frame is of the transfer that is open, and some
 -- of its frames may be missing in the recording.
-use Rattle.std.specs.Prelude.{ℕ, ◌==◌, ◌&&◌, ◌||◌, ◌%◌, nat_le, nat_lt, not, Bool, true, false, if◌then◌else◌, List, length, slice_index, Option, Some, None}
+use Rattle.std.specs.Prelude.{ℕ, ◌+◌, ◌==◌, ◌&&◌, ◌||◌, ◌%◌, ◌/◌, nat_le, nat_lt, not, Bool, true, false, if◌then◌else◌, List, length, slice_index, Option, Some, None}
 use Rattle.co_frame.specs.SdoResponses.{response_in}
 use Rattle.co_frame.specs.declared.sdo_response.SdoResponse.{SdoResponse}
 use Rattle.co_frame.specs.declared.sdo_response.SdoResponse.TheVariants.{Abort, UploadSegment, BlockDownloadInitiated}
@@ -12,18 +12,18 @@ use Rattle.conode_explain_transfers.specs.declared.ended.Ending.TheVariants.{Una
 use Rattle.conode_explain_transfers.specs.declared.kinds.Side.{Side}
 use Rattle.conode_explain_transfers.specs.declared.kinds.Side.TheVariants.{Client, Server}
 use Rattle.conode_explain_transfers.specs.declared.kinds.What.{What}
-use Rattle.conode_explain_transfers.specs.declared.kinds.What.TheVariants.{Segment, Overtaken, Unexpected}
+use Rattle.conode_explain_transfers.specs.declared.kinds.What.TheVariants.{Segment, LastAgain, Overtaken, Unexpected}
 use Rattle.conode_explain_transfers.specs.declared.reading.Reading.{Reading}
 use Rattle.conode_explain_transfers.specs.declared.reading.Reading.TheVariants.{Begin}
 use Rattle.conode_explain_transfers.specs.declared.stage.Stage.{Stage}
 use Rattle.conode_explain_transfers.specs.declared.stage.Stage.TheVariants.{BlockInitiated, SubBlock, AllAcknowledged}
 use Rattle.conode_explain_transfers.specs.declared.transfer.Transfer.{Transfer}
 use Rattle.conode_explain_transfers.specs.BlockTurns.{is_block, most_segments}
-use Rattle.conode_explain_transfers.specs.Doubtful.{freed, names_other, noted}
+use Rattle.conode_explain_transfers.specs.Doubtful.{asks_for, freed, names_other, noted}
 use Rattle.conode_explain_transfers.specs.Followed.{Following, Followed, after_boot, ends_as, followed}
 use Rattle.conode_explain_transfers.specs.Readings.{answers_key, is_in_sub_block, is_sender, plain_reading}
 use Rattle.conode_explain_transfers.specs.Stages.{is_initiated}
-use Rattle.conode_explain_transfers.specs.Transfers.{is_download}
+use Rattle.conode_explain_transfers.specs.Transfers.{awaited_number, is_download}
 use Rattle.conode_explain_transfers.specs.Unanswered.{is_client, multiplexer_of, number_of, refuses_with}
 
 -- ---- segments by their first byte
@@ -57,18 +57,18 @@ earlier_abort transfer bytes =
     if slice_index bytes 0 == 128 then Some Overtaken
     else (if is_block_upload transfer then None else Some (Segment (number_of bytes)))
 
--- a response to initiate, of this entry
-abbrev pub answers_this : Key → SdoResponse → List ℕ → Bool
-answers_this key response bytes = answers_key response && same_key (multiplexer_of bytes) key
+-- the response to initiate that its request asks for, of its entry
+abbrev pub answers_this : Transfer → SdoResponse → List ℕ → Bool
+answers_this transfer response bytes = asks_for transfer response && same_key (multiplexer_of bytes) transfer.key
 
 -- A server answers in turn, so what can't answer this request answers an earlier one: an abort of
--- another entry, a response to initiate of another entry, or a response that isn't one to initiate. A
--- segment may be of the sub-block of a block upload.
+-- another entry, a response to initiate of another entry or of another protocol, or a response that
+-- isn't one to initiate. A segment may be of the sub-block of a block upload.
 abbrev pub earlier : Transfer → Option SdoResponse → List ℕ → Option What
 earlier transfer None bytes = None
 earlier transfer (Some (Abort key code)) bytes = if names_other (multiplexer_of bytes) transfer.key then earlier_abort transfer bytes else None
 earlier transfer (Some (UploadSegment toggle segment last)) bytes = overtaken_if (not (is_block_upload transfer))
-earlier transfer (Some response) bytes = overtaken_if (not (answers_this transfer.key response bytes))
+earlier transfer (Some response) bytes = overtaken_if (not (answers_this transfer response bytes))
 
 -- A frame that is of no transfer which is followed, and what it is then: where none is open, a segment
 -- of one whose begin isn't in the recording.
@@ -77,11 +77,15 @@ aside None side bytes = if is_low_last bytes then Some (Segment (number_of bytes
 aside (Some transfer) Client bytes = None
 aside (Some transfer) Server bytes = if awaits_first transfer then earlier transfer (response_in bytes) bytes else None
 
--- The server sent something since the request. After an abort it sent the newest frame: it may have
--- meant this request, and named it wrongly.
+-- an abort, or a response of its entry, may be meant for this request: one that is wrong
+abbrev pub may_mean_this : List ℕ → Transfer → Bool
+may_mean_this bytes transfer =
+    (slice_index bytes 0 == 128) || same_key (multiplexer_of bytes) transfer.key
+
+-- The server sent something since the request, and the newest frame, where it may mean this request.
 abbrev pub with_aside : List ℕ → Transfer → Transfer
 with_aside bytes transfer =
-    if slice_index bytes 0 == 128 then record transfer { put_aside = true; by = Server } else record transfer { put_aside = true }
+    if may_mean_this bytes transfer then record transfer { put_aside = true; by = Server } else record transfer { put_aside = true }
 
 abbrev pub after_aside : Option Transfer → List ℕ → Option Transfer
 after_aside None bytes = None
@@ -171,23 +175,61 @@ abbrev pub made_up : Option Transfer → Side → List ℕ → Option Transfer
 made_up None side bytes = None
 made_up (Some transfer) side bytes = Some (with_missing side bytes transfer)
 
+-- ---- segments that are in the recording twice
+
+-- the end of a block transfer begins as the last segment 65, 69, .. or 93 does (C1h, C5h, .., DDh)
+abbrev pub begins_as_end : ℕ → Bool
+begins_as_end byte = (byte / 32 == 6) && (byte % 4 == 1)
+
+-- the last segment of the transfer comes again: with 128 more than its number, the one before the next
+abbrev pub is_last_again : Transfer → Side → List ℕ → Bool
+is_last_again transfer side bytes =
+    (is_after_last transfer.stage && is_sender transfer.direction side)
+    && (((length bytes == 8) && not (begins_as_end (slice_index bytes 0)))
+    && (nat_lt 128 (slice_index bytes 0) && (number_of bytes + 1 == transfer.next_number)))
+
+abbrev pub last_again : Option Transfer → Side → List ℕ → Option What
+last_again None side bytes = None
+last_again (Some transfer) side bytes = if is_last_again transfer side bytes then Some (LastAgain (number_of bytes)) else None
+
+-- a frame that isn't expected is named so
+abbrev pub named : Option What → What → What
+named (Some again) Unexpected = again
+named again what = what
+
 -- ---- ends
 
--- frames of it are missing, maybe the answer too; or the server sent the newest one, as an abort that may
--- have been meant for it
-abbrev pub is_unsure : Option Transfer → Bool
-is_unsure None = false
-is_unsure (Some transfer) = transfer.irregular || not (is_client transfer.by)
+-- The end that sends the data has segments of the sub-block left to send, so it is its turn, whoever sent
+-- the newest frame (7.2.4.3.10, 7.2.4.3.14). Where one is missing, it isn't known whether the last one came.
+abbrev pub has_segments_left : Transfer → Bool
+has_segments_left transfer =
+    is_within_sub_block transfer.stage
+    && (nat_le transfer.next_number transfer.block_size && (awaited_number transfer == transfer.next_number))
 
--- then it isn't said that there was no answer, also where the same request comes again
-abbrev pub sure_ending : Bool → Ending → Ending
-sure_ending true Unanswered = Interrupted
-sure_ending true Repeated = Interrupted
-sure_ending unsure ending = ending
+-- Whether a client that leaves the transfer awaited an answer, where the end that sent the newest frame
+-- doesn't show it. Frames of it are missing, maybe the answer too; or the server sent the newest one, as
+-- an abort that may have been meant for it: then it isn't said that there was no answer.
+abbrev pub awaits_answer : Option Transfer → Option Bool
+awaits_answer None = None
+awaits_answer (Some transfer) =
+    if transfer.irregular then Some false
+    else (if has_segments_left transfer then Some (not (is_download transfer.direction))
+    else (if is_client transfer.by then None else Some false))
 
-abbrev pub sure_end : Bool → Option Ended → Option Ended
-sure_end unsure None = None
-sure_end unsure (Some e) = Some (record e { ending = sure_ending unsure e.ending })
+abbrev pub left_awaiting : Bool → Ending
+left_awaiting true = Unanswered
+left_awaiting false = Interrupted
+
+-- one that is left ends so, also where the same request comes again
+abbrev pub sure_ending : Option Bool → Ending → Ending
+sure_ending (Some awaits) Unanswered = left_awaiting awaits
+sure_ending (Some awaits) Repeated = left_awaiting awaits
+sure_ending (Some awaits) Interrupted = left_awaiting awaits
+sure_ending awaits ending = ending
+
+abbrev pub sure_end : Option Bool → Option Ended → Option Ended
+sure_end awaits None = None
+sure_end awaits (Some e) = Some (record e { ending = sure_ending awaits e.ending })
 
 -- ---- a frame
 
@@ -205,8 +247,11 @@ cut following micros = record {
   next = after_boot following;
 }
 
-abbrev pub with_end : Bool → Followed → Followed
-with_end unsure f = record { says = record f.says { ended = sure_end unsure f.says.ended }; next = f.next }
+abbrev pub with_end : Option Bool → Followed → Followed
+with_end awaits f = record { says = record f.says { ended = sure_end awaits f.says.ended }; next = f.next }
+
+abbrev pub with_name : Option What → Followed → Followed
+with_name again f = record { says = record f.says { what = named again f.says.what }; next = f.next }
 
 -- the client's newest frame is kept, where it may be a request
 abbrev pub with_note : ℕ → Side → List ℕ → Followed → Followed
@@ -216,8 +261,8 @@ with_note micros side bytes f =
 -- the channel takes it
 abbrev pub heard_next : Following → ℕ → Side → List ℕ → Followed
 heard_next following micros side bytes =
-    with_note micros side bytes
-    (with_end (is_unsure following.transfer) (followed (record following { transfer = made_up following.transfer side bytes }) micros side bytes))
+    with_name (last_again following.transfer side bytes) (with_note micros side bytes
+    (with_end (awaits_answer following.transfer) (followed (record following { transfer = made_up following.transfer side bytes }) micros side bytes)))
 
 abbrev pub hearing_by : Option What → Following → ℕ → Side → List ℕ → Followed
 hearing_by (Some what) following micros side bytes = passed following what bytes

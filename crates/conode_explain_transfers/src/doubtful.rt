@@ -88,8 +88,8 @@ impl Transfer {
         }
     }
 
-    // Whether its request asks for a response to initiate.
-    fn asks_for(&self, response: &SdoResponse) -> bool
+    /// Whether its request asks for a response to initiate.
+    pub(crate) fn asks_for(&self, response: &SdoResponse) -> bool
         ensures { result ≡ asks_for self.now response.now }
     {
         match response {
@@ -153,11 +153,19 @@ impl Transfer {
 
 impl Channel {
     /// The transfer of a request that was taken for a segment, and that a frame answers.
+    // (most transfers have no such frame, and a transfer that isn't there costs as much as one)
+    #[tactic(auto, using(crate::proofs::DoubtfulLemmas::shown_none))]
     pub(crate) fn shown_by(&self, side: Side, frame: &Frame) -> Option<Transfer>
         ensures { result ≡ shown_by self.now.transfer side frame.now.bytes }
     {
         match (&self.transfer, side) {
-            (Some(transfer), Side::Server) => transfer.answered(frame),
+            (Some(transfer), Side::Server) => {
+                if transfer.doubtful.bytes().is_empty() {
+                    None
+                } else {
+                    transfer.answered(frame)
+                }
+            }
             _ => None,
         }
     }

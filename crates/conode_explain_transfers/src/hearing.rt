@@ -1,6 +1,6 @@
 //! What is heard on a channel of a recording.
 
-ghost use Rattle.std.specs.Prelude.{◌≡◌, ◌∷◌, ◌&&◌, List};
+ghost use Rattle.std.specs.Prelude.{◌≡◌, ◌∷◌, ◌&&◌, List, Some};
 ghost use Rattle.co_frame.specs.SdoResponses.{response_in};
 ghost use Rattle.conode_explain_transfers.specs.Doubtful.{noted};
 ghost use Rattle.conode_explain_transfers.specs.Followed.{Event, Framed};
@@ -9,29 +9,36 @@ ghost use Rattle.conode_explain_transfers.specs.Hearings.{
   answers_another,
   answers_this,
   aside,
+  awaits_answer,
   awaits_first,
   awaits_last_acknowledge,
+  begins_as_end,
   begins_any,
   begins_as_last,
   cut,
   earlier,
   earlier_abort,
+  has_segments_left,
   heard_next,
   hearing,
   hearing_in,
   is_after_last,
   is_block_initiated,
   is_block_upload,
+  is_last_again,
   is_low_last,
   is_low_segment,
   is_over,
-  is_unsure,
   is_within_sub_block,
   lacks_acknowledge,
   lacks_start,
+  last_again,
   leaves_after_last,
+  left_awaiting,
   made_up,
   may_have_request,
+  may_mean_this,
+  named,
   overtaken_if,
   passed,
   sure_end,
@@ -97,22 +104,51 @@ fn begins_any(side: Side, frame: &Frame) -> bool
     }
 }
 
-fn sure_ending(unsure: bool, ending: Ending) -> Ending
-    ensures { result ≡ sure_ending unsure ending }
+// Whether a frame may be the end of a block transfer, by its first byte.
+fn begins_as_end(byte: u8) -> bool
+    ensures { result ≡ begins_as_end byte }
 {
-    match ending {
-        Ending::Unanswered if unsure => Ending::Interrupted,
-        Ending::Repeated if unsure => Ending::Interrupted,
+    byte / 32 == 6 && byte % 4 == 1
+}
+
+// What a frame is named that isn't expected, if it is the last segment again.
+fn named(again: Option<What>, what: What) -> What
+    ensures { result ≡ named again what }
+{
+    match (again, what) {
+        (Some(again), What::Unexpected) => again,
+        _ => what,
+    }
+}
+
+// How a transfer ends that is left.
+fn left_awaiting(awaits: bool) -> Ending
+    ensures { result ≡ left_awaiting awaits }
+{
+    if awaits {
+        Ending::Unanswered
+    } else {
+        Ending::Interrupted
+    }
+}
+
+fn sure_ending(awaits: Option<bool>, ending: Ending) -> Ending
+    ensures { result ≡ sure_ending awaits ending }
+{
+    match (awaits, ending) {
+        (Some(awaits), Ending::Unanswered | Ending::Repeated | Ending::Interrupted) => {
+            left_awaiting(awaits)
+        }
         _ => ending,
     }
 }
 
-fn sure_end(unsure: bool, ended: Option<Ended>) -> Option<Ended>
-    ensures { result ≡ sure_end unsure ended }
+fn sure_end(awaits: Option<bool>, ended: Option<Ended>) -> Option<Ended>
+    ensures { result ≡ sure_end awaits ended }
 {
     match ended {
         Some(ended) => {
-            let ending = sure_ending(unsure, ended.ending);
+            let ending = sure_ending(awaits, ended.ending);
             Some(Ended { ending, ..ended })
         }
         None => None,
@@ -184,9 +220,9 @@ impl Transfer {
 
     // Whether a response that a frame has answers its initiate request.
     fn answers_this(&self, response: &SdoResponse, frame: &Frame) -> bool
-        ensures { result ≡ answers_this self.now.key response.now frame.now.bytes }
+        ensures { result ≡ answers_this self.now response.now frame.now.bytes }
     {
-        answers_key(response) && self.has_key(multiplexer_of(frame.bytes()))
+        self.asks_for(response) && self.has_key(multiplexer_of(frame.bytes()))
     }
 
     // What a response is that can't answer its initiate request, and so answers an earlier one.
@@ -274,12 +310,58 @@ impl Transfer {
         (self.awaits_last_acknowledge() && self.is_sender(side)) && begins_any(side, frame)
     }
 
+    // Whether the end that sends the data has segments of the sub-block left to send, as far as none
+    // is missing.
+    fn has_segments_left(&self) -> bool
+        ensures { result ≡ has_segments_left self.now }
+    {
+        self.stage.is_within_sub_block()
+            && (self.next_number <= self.block_size && self.awaited_number() == self.next_number)
+    }
+
+    // Whether a client that leaves it awaited an answer, where the end that sent the newest frame
+    // doesn't show it: frames of it are missing, segments are left to send, or the server sent an
+    // abort of another entry.
+    fn awaits_answer(&self) -> Option<bool>
+        ensures { result ≡ awaits_answer (Some self.now) }
+    {
+        if self.irregular {
+            return Some(false);
+        }
+        if self.has_segments_left() {
+            return Some(!self.is_download());
+        }
+        if is_client(self.by) {
+            None
+        } else {
+            Some(false)
+        }
+    }
+
+    // Whether its last segment comes again.
+    fn is_last_again(&self, side: Side, frame: &Frame) -> bool
+        ensures { result ≡ is_last_again self.now side frame.now.bytes }
+    {
+        let bytes = frame.bytes();
+        (self.stage.is_after_last() && self.is_sender(side))
+            && ((bytes.len() == 8 && !begins_as_end(byte_at(bytes, 0)))
+                && (ABORT < byte_at(bytes, 0)
+                    && number_of(frame) as u16 + 1 == self.next_number as u16))
+    }
+
+    // Whether a frame of the server that is put aside may be meant for its request.
+    fn may_mean_this(&self, frame: &Frame) -> bool
+        ensures { result ≡ may_mean_this frame.now.bytes self.now }
+    {
+        byte_at(frame.bytes(), 0) == ABORT || self.has_key(multiplexer_of(frame.bytes()))
+    }
+
     // Notes that the server sent a frame which isn't of this transfer.
     fn note_aside(&mut self, frame: &Frame)
         ensures { self.new ≡ with_aside frame.now.bytes self.old }
     {
         self.put_aside = true;
-        if byte_at(frame.bytes(), 0) == ABORT {
+        if self.may_mean_this(frame) {
             self.by = Side::Server;
         }
     }
@@ -334,14 +416,26 @@ impl Channel {
         }
     }
 
-    // Whether the open transfer may have had an answer: a frame of it didn't go on with the others,
-    // or the server sent the newest one.
-    fn is_unsure(&self) -> bool
-        ensures { result ≡ is_unsure self.now.transfer }
+    // Whether a client that leaves the open transfer awaited an answer, where the end that sent the
+    // newest frame doesn't show it.
+    fn awaits_answer(&self) -> Option<bool>
+        ensures { result ≡ awaits_answer self.now.transfer }
     {
         match &self.transfer {
-            Some(transfer) => transfer.irregular || !is_client(transfer.by),
-            None => false,
+            Some(transfer) => transfer.awaits_answer(),
+            None => None,
+        }
+    }
+
+    // What the last segment of a transfer is, where it comes again.
+    fn last_again(&self, side: Side, frame: &Frame) -> Option<What>
+        ensures { result ≡ last_again self.now.transfer side frame.now.bytes }
+    {
+        match &self.transfer {
+            Some(transfer) if transfer.is_last_again(side, frame) => Some(What::LastAgain {
+                number: number_of(frame),
+            }),
+            _ => None,
         }
     }
 
@@ -402,14 +496,15 @@ impl Channel {
         ensures says { result ≡ (heard_next self.old micros side frame.now.bytes).says }
         ensures next { self.new ≡ (heard_next self.old micros side frame.now.bytes).next }
     {
-        let unsure = self.is_unsure();
+        let awaits = self.awaits_answer();
+        let again = self.last_again(side, frame);
         self.make_up(side, frame);
         let heard = self.take(micros, side, frame);
         self.note(side, heard.what, micros, frame);
         Heard {
-            what: heard.what,
+            what: named(again, heard.what),
             of: heard.of,
-            ended: sure_end(unsure, heard.ended),
+            ended: sure_end(awaits, heard.ended),
         }
     }
 
@@ -429,12 +524,14 @@ impl Channel {
 
     /// Hears a frame of a recording as `take` does, but for this: an answer to an earlier request
     /// is `Overtaken`, and after one no request is a segment; one to a request that was taken for a
-    /// segment of a block download is of the transfer that this request begins, or ends the download
-    /// where the request isn't known; where no transfer is open, 81h to 9Fh is a segment; of a
-    /// transfer that lacks the start of a block upload, or an acknowledge with a larger block size,
-    /// the segments are followed; and none of which frames are missing, or an abort was put aside,
-    /// is `Unanswered` or `Repeated`. What the frame reveals of a transfer that was left has to be
-    /// asked for before (`reveals`).
+    /// segment of a block download is of the transfer that this request begins, or ends the
+    /// download where the request isn't known; where no transfer is open, 81h to 9Fh is a segment;
+    /// of a transfer that lacks the start of a block upload, or an acknowledge with a larger block
+    /// size, the segments are followed; none of which frames are missing, or an abort was put
+    /// aside, is `Unanswered` or `Repeated`; where segments of a sub-block are left, a download
+    /// that the client leaves is `Interrupted`, an upload `Unanswered`; and the last segment of a
+    /// sub-block that comes again is `LastAgain`. What the frame reveals of a transfer that was
+    /// left has to be asked for before (`reveals`).
     pub fn hear(&mut self, micros: u64, side: Side, frame: &Frame) -> Heard
         ensures heard { result ≡ (hearing self.old micros side frame.now.bytes).says }
         ensures next { self.new ≡ (hearing self.old micros side frame.now.bytes).next }

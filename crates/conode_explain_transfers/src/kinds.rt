@@ -43,10 +43,12 @@ pub enum What {
     /// A segment of a sub-block that isn't the next: its number, and the one after the newest
     /// segment's.
     OutOfSequence { number: u8, awaited: u8 },
+    /// The last segment of a transfer, by its number, where it came before.
+    LastAgain { number: u8 },
     /// By its toggle bit it came before.
     Repeated,
-    /// An initiate response for another entry than the open transfer's: it answers an earlier
-    /// request.
+    /// A response that the open transfer's request doesn't ask for, or of another entry: it answers
+    /// an earlier request.
     Overtaken,
     /// The open transfer's protocol has no such frame here.
     Unexpected,

@@ -1,5 +1,5 @@
 -- The text of values, evaluated on both sides of each edge.
-use Rattle.std.proofs.Common.{◌≡◌, [], ◌∷◌, refl, Some, None, map}
+use Rattle.std.proofs.Common.{◌≡◌, true, false, [], ◌∷◌, refl, Some, None, map}
 use Rattle.std.specs.Prelude.{codes}
 use Rattle.std.specs.Fmt.{digits}
 use lib.Utf8.{encode}
@@ -11,7 +11,7 @@ use Rattle.conode_explain_values.specs.declared.value_type.ValueType.TheVariants
 use Rattle.conode_explain_values.specs.Numbers.{number_text}
 use Rattle.conode_explain_values.specs.Times.{difference_text, moment_text, ms_text}
 use Rattle.conode_explain_values.specs.Types.{type_of}
-use Rattle.conode_explain_values.specs.Unicode.{characters_text, pair_text, unit_text}
+use Rattle.conode_explain_values.specs.Unicode.{characters_text, is_escaped, pair_text, unit_text}
 use Rattle.conode_explain_values.specs.Values.{value_text}
 
 -- ---- types
@@ -124,6 +124,20 @@ odd_bytes : value_text UnicodeString 24 (0x41 ∷ 0x00 ∷ 0x4F ∷ []) ∷ valu
     ≡ codes "\"A\\x4F\"" ∷ codes "\"\\x41\"" ∷ codes "\"\"" ∷ []
 unfolding value_text characters_text pair_text unit_text digits_text encode
 odd_bytes = refl
+
+-- both sides of each range that is escaped
+escaped : map is_escaped (0x1F ∷ 0x7F ∷ 0xA0 ∷ 0x2000 ∷ 0x200F ∷ 0x2028 ∷ 0x202F ∷ 0x2060 ∷ 0x206F ∷ 0xD800 ∷ 0xDFFF ∷ 0xFEFF ∷ [])
+    ≡ true ∷ true ∷ true ∷ true ∷ true ∷ true ∷ true ∷ true ∷ true ∷ true ∷ true ∷ true ∷ []
+escaped = refl
+
+not_escaped : map is_escaped (0x20 ∷ 0x7E ∷ 0xA1 ∷ 0x1FFF ∷ 0x2010 ∷ 0x2027 ∷ 0x2030 ∷ 0x205F ∷ 0x2070 ∷ 0xD7FF ∷ 0xE000 ∷ 0xFEFE ∷ 0xFF00 ∷ [])
+    ≡ false ∷ false ∷ false ∷ false ∷ false ∷ false ∷ false ∷ false ∷ false ∷ false ∷ false ∷ false ∷ false ∷ []
+not_escaped = refl
+
+-- from right to left (U+202E)
+turned_around : value_text UnicodeString 32 (0x2E ∷ 0x20 ∷ 0x41 ∷ 0x00 ∷ []) ≡ codes "\"\\u202EA\""
+unfolding value_text characters_text pair_text unit_text digits_text encode
+turned_around = refl
 
 -- ---- times
 

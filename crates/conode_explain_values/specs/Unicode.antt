@@ -13,11 +13,21 @@ is_first unit = nat_le 0xD800 unit && nat_lt unit 0xDC00
 abbrev pub is_second : ℕ → Bool
 is_second unit = nat_le 0xDC00 unit && nat_lt unit 0xE000
 
--- a control character, the quote and the backslash; a unit of a pair alone is no character
+abbrev pub is_within : ℕ → ℕ → ℕ → Bool
+is_within low high unit = nat_le low unit && nat_le unit high
+
+-- blanks and marks that can't be seen, or that turn the text around: U+2000 to U+200F, U+2028 to U+202F,
+-- U+2060 to U+206F, and U+FEFF
+abbrev pub is_invisible : ℕ → Bool
+is_invisible unit =
+    (is_within 0x2000 0x200F unit || is_within 0x2028 0x202F unit) || (is_within 0x2060 0x206F unit || (unit == 0xFEFF))
+
+-- these, a control character, a no-break space (U+00A0), the quote and the backslash; a unit of a pair alone
+-- is no character
 abbrev pub is_escaped : ℕ → Bool
 is_escaped unit =
-    (nat_lt unit 0x20 || (nat_le 0x7F unit && nat_lt unit 0xA0))
-    || ((unit == 0x22 || unit == 0x5C) || (nat_le 0xD800 unit && nat_lt unit 0xE000))
+    (nat_lt unit 0x20 || is_within 0x7F 0xA0 unit)
+    || ((unit == 0x22 || unit == 0x5C) || (is_invisible unit || is_within 0xD800 0xDFFF unit))
 
 -- a unit alone
 unfoldable pub unit_text : ℕ → List ℕ

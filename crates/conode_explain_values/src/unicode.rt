@@ -7,7 +7,9 @@ ghost use Rattle.conode_explain_values.specs.Unicode.{
   characters_text,
   is_escaped,
   is_first,
+  is_invisible,
   is_second,
+  is_within,
   left_over,
   pair_text,
   unicode_text,
@@ -30,11 +32,26 @@ fn is_pair(first: u16, second: u16) -> bool
     (0xD800 <= first && first < 0xDC00) && (0xDC00 <= second && second < 0xE000)
 }
 
+fn is_within(low: u16, high: u16, unit: u16) -> bool
+    ensures { result ≡ is_within low high unit }
+{
+    low <= unit && unit <= high
+}
+
+// blanks and marks that can't be seen, or that turn the text around
+fn is_invisible(unit: u16) -> bool
+    ensures { result ≡ is_invisible unit }
+{
+    (is_within(0x2000, 0x200F, unit) || is_within(0x2028, 0x202F, unit))
+        || (is_within(0x2060, 0x206F, unit) || unit == 0xFEFF)
+}
+
 fn is_escaped(unit: u16) -> bool
     ensures { result ≡ is_escaped unit }
 {
-    (unit < 0x20 || (0x7F <= unit && unit < 0xA0))
-        || ((unit == 0x22 || unit == 0x5C) || (0xD800 <= unit && unit < 0xE000))
+    (unit < 0x20 || is_within(0x7F, 0xA0, unit))
+        || ((unit == 0x22 || unit == 0x5C)
+            || (is_invisible(unit) || is_within(0xD800, 0xDFFF, unit)))
 }
 
 fn scalar(code: u32) -> char
@@ -107,7 +124,8 @@ fn push_left_over(text: &mut String, bytes: &[u8]) -> Result<(), AllocError>
     push_filled(text, "\\x%", &[Value::Byte(bytes[bytes.len() - 1])])
 }
 
-/// Appends a UNICODE_STRING in double quotes, its control characters as `\u0007`, and the last byte
+/// Appends a UNICODE_STRING in double quotes, its control characters as `\u0007`, blanks and marks
+/// that can't be seen, or that turn the text around, as `\u202E`, and the last byte
 /// of an odd number of them as `\x41`.
 pub(crate) fn push_unicode(text: &mut String, bytes: &[u8]) -> Result<(), AllocError>
     ensures { OnOk result

@@ -27,6 +27,15 @@ ethernet_ip : other_format (codes "VendCode = 1;" ∷ codes "[device]" ∷ []) �
 unfolding other_format has_line
 ethernet_ip = refl
 
+-- a sheet of CANopen may have a section [Device] of its maker
+of_canopen : other_format (codes "[Device]" ∷ codes "VendCode=1" ∷ codes " [deviceinfo]" ∷ []) ≡ None
+unfolding other_format has_line
+of_canopen = refl
+
+of_canopen_too : other_format (codes "[MandatoryObjects]" ∷ codes "[Device]" ∷ codes "VendCode=1" ∷ []) ≡ None
+unfolding other_format has_line
+of_canopen_too = refl
+
 device_alone : other_format (codes "[Device]" ∷ codes "Vendor = 1" ∷ []) ≡ None
 unfolding other_format has_line
 device_alone = refl

@@ -1,7 +1,7 @@
 -- The tables of words have each reason's words in its row.
 use Rattle.std.proofs.Common.{◌≡◌, ℕ, ◌<◌, List, [], get_or, map, refl, arith}
 use Rattle.co_dict_faults.specs.declared.mapping_fault.MappingReason.{MappingReason}
-use Rattle.co_dict_faults.specs.declared.mapping_fault.MappingReason.TheVariants.{CountsMore, TooLong, Missing, Zero, NoEntry, NotMappable, NoNumber, BelowProfile, WrongAccess, OneBit, WrongLength}
+use Rattle.co_dict_faults.specs.declared.mapping_fault.MappingReason.TheVariants.{CountsMore, TooLong, Multiplexed, Missing, Zero, NoEntry, NotMappable, NoNumber, BelowProfile, WrongAccess, OneBit, WrongLength}
 use Rattle.conode_lint.specs.declared.mapping_words.TheConstants.{MEANINGS, FIXES}
 use Rattle.conode_lint.specs.MappingWords.{mapping_meaning, mapping_fix, reason_row}
 
@@ -11,7 +11,7 @@ meanings = map (λ text. text.now) MEANINGS
 abbrev pub fixes : List (List ℕ)
 fixes = map (λ text. text.now) FIXES
 
-pub few_reasons : (reason : MappingReason) → reason_row reason < 11
+pub few_reasons : (reason : MappingReason) → reason_row reason < 12
 few_reasons CountsMore = omega arith
 few_reasons (TooLong bits) = omega arith
 few_reasons Missing = omega arith
@@ -23,6 +23,7 @@ few_reasons BelowProfile = omega arith
 few_reasons WrongAccess = omega arith
 few_reasons OneBit = omega arith
 few_reasons WrongLength = omega arith
+few_reasons Multiplexed = omega arith
 
 pub meant : (reason : MappingReason) → get_or meanings (reason_row reason) [] ≡ mapping_meaning reason
 meant CountsMore = refl
@@ -36,6 +37,7 @@ meant BelowProfile = refl
 meant WrongAccess = refl
 meant OneBit = refl
 meant WrongLength = refl
+meant Multiplexed = refl
 
 pub fixed : (reason : MappingReason) → get_or fixes (reason_row reason) [] ≡ mapping_fix reason
 fixed CountsMore = refl
@@ -49,3 +51,4 @@ fixed BelowProfile = refl
 fixed WrongAccess = refl
 fixed OneBit = refl
 fixed WrongLength = refl
+fixed Multiplexed = refl

@@ -1,5 +1,5 @@
 -- Which texts with faults are of another format, and no data sheet of CANopen.
-use Rattle.std.specs.Prelude.{ℕ, nat_eq, nat_le, Bool, false, ◌&&◌, ◌||◌, if◌then◌else◌, List, [], ◌∷◌, length, take, codes, Option, Some, None}
+use Rattle.std.specs.Prelude.{ℕ, nat_eq, nat_le, Bool, false, not, ◌&&◌, ◌||◌, if◌then◌else◌, List, [], ◌∷◌, length, take, codes, Option, Some, None}
 use Rattle.std.specs.List.{list_any, starts_with}
 use Rattle.co_sheet_text.specs.Text.{same_name, trim}
 use Rattle.co_sheet_warnings.specs.Lines.{text_lines}
@@ -24,13 +24,19 @@ abbrev pub begins_in_utf16 : List (List ℕ) → Bool
 begins_in_utf16 [] = false
 begins_in_utf16 (line ∷ lines) = is_utf16 line
 
+-- an EDS of EtherNet/IP, without a section that each EDS of CANopen has: a maker's own section may be
+-- named [Device]
+abbrev pub is_ethernet_ip : List (List ℕ) → Bool
+is_ethernet_ip lines =
+    has_line lines (codes "[Device]") && has_line lines (codes "VendCode")
+    && not (has_line lines (codes "[DeviceInfo]") || has_line lines (codes "[MandatoryObjects]"))
+
 -- a text in UTF-16; XML, as an XDD (CiA 311); an EDS of EtherNet/IP
 unfoldable pub other_format : List (List ℕ) → Option OtherFormat
 other_format lines =
     if begins_in_utf16 lines then Some Utf16
     else if has_line lines (codes "<?xml") || has_line lines (codes "<ISO15745") then Some Xml
-    else if has_line lines (codes "[Device]") && has_line lines (codes "VendCode")
-    then Some EtherNetIp
+    else if is_ethernet_ip lines then Some EtherNetIp
     else None
 
 -- the format of a text, if it is another one

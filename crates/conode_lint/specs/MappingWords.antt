@@ -2,7 +2,7 @@
 use Rattle.std.specs.Prelude.{List, ℕ, codes}
 use Rattle.co_dict_faults.specs.declared.mapping_fault.MappingFault.{MappingFault}
 use Rattle.co_dict_faults.specs.declared.mapping_fault.MappingReason.{MappingReason}
-use Rattle.co_dict_faults.specs.declared.mapping_fault.MappingReason.TheVariants.{CountsMore, TooLong, Missing, Zero, NoEntry, NotMappable, NoNumber, BelowProfile, WrongAccess, OneBit, WrongLength}
+use Rattle.co_dict_faults.specs.declared.mapping_fault.MappingReason.TheVariants.{CountsMore, TooLong, Multiplexed, Missing, Zero, NoEntry, NotMappable, NoNumber, BelowProfile, WrongAccess, OneBit, WrongLength}
 use Rattle.co_value.specs.declared.key.Key.{Key}
 use Rattle.conode_lint_text.specs.declared.finding.About.{About}
 use Rattle.conode_lint_text.specs.declared.finding.About.TheVariants.{Entry, Bits}
@@ -28,11 +28,12 @@ mapping_meaning BelowProfile = codes "an RPDO maps no entry below 2000h"
 mapping_meaning WrongAccess = codes "it maps an entry with an access that doesn't fit"
 mapping_meaning OneBit = codes "it maps 1 bit of an entry of 8 bits"
 mapping_meaning WrongLength = codes "its length isn't that of the entry"
+mapping_meaning Multiplexed = codes "the PDO is multiplexed: FEh and FFh count no words"
 
 -- how to fix it
 abbrev pub mapping_fix : MappingReason → List ℕ
 mapping_fix CountsMore =
-    codes "lower the count, or describe the sub-indices that are missing; multiplexed PDOs (254, 255) aren't supported"
+    codes "lower the count, or describe the sub-indices that are missing"
 mapping_fix (TooLong bits) = codes "lower the count, or map some of them in another PDO"
 mapping_fix Missing = codes "describe this sub-index"
 mapping_fix Zero = codes "give an entry to map, or lower the count"
@@ -41,12 +42,16 @@ mapping_fix NoEntry =
     "list and describe that entry, or map another; an RPDO may map dummies 0002h to 0007h, sub-index 0, by DummyUsage, as Dummy0005=1"
 mapping_fix NotMappable = codes "set PDOMapping=1 for that entry, or map another"
 mapping_fix NoNumber = codes "map an entry of a numeric type"
-mapping_fix BelowProfile = codes "map an entry from 2000h on"
+mapping_fix BelowProfile =
+    codes "map an entry from 2000h on; CiA 301 permits others too, but conode's node doesn't"
 mapping_fix WrongAccess = codes "an RPDO maps rw, rww and wo, a TPDO ro, rw, rwr and const"
 mapping_fix OneBit =
     codes
-    "give the length as 8 bits (08h), for a BOOLEAN too; conode adapt --force empties the mapping"
+    "give the length as 8 bits (08h); of a BOOLEAN 1 bit is legal, but conode's node maps whole bytes; conode adapt --force empties the mapping"
 mapping_fix WrongLength = codes "give 8 bits for each byte of the type of that entry"
+mapping_fix Multiplexed =
+    codes
+    "this is legal, but conode's node sends and receives no multiplexed PDO: give a count of words to build"
 
 -- the subject of the standard
 abbrev pub mapping_subject : List ℕ
@@ -65,3 +70,4 @@ reason_row BelowProfile = 7
 reason_row WrongAccess = 8
 reason_row OneBit = 9
 reason_row WrongLength = 10
+reason_row Multiplexed = 11

@@ -60,9 +60,10 @@ place_of other = Beginning
 -- what it is about, at a line with this text among these sections: what the line alone doesn't show
 abbrev pub fault_about : List TextSection → ℕ → List ℕ → FaultKind → About
 fault_about sections line text fault.TooLarge = facts.too_large line
-fault_about sections line text fault.MissingSection = facts.missing_section line
+fault_about sections line text fault.MissingSection = facts.missing_section line text
 fault_about sections line text fault.MissingMandatory = facts.missing_mandatory sections
 fault_about sections line text fault.BadNumber = facts.bad_number text
+fault_about sections line text fault.BadAccess = facts.bad_access text
 fault_about sections line text fault.BadType = facts.bad_type line sections text
 fault_about sections line text fault.BadList = facts.bad_list line sections
 fault_about sections line text fault.ListedTwice = facts.listed_twice sections text
@@ -88,7 +89,11 @@ warning_about sections line text (warning.HeartbeatTwice given) =
     facts.first_at (first_equal (warning.HeartbeatTwice given) line sections)
 warning_about sections line text warning.EqualNames =
     facts.first_at (first_equal warning.EqualNames line sections)
-warning_about sections line text (warning.MisspeltKey known) = about.Misspelt known
+warning_about sections line text (warning.MisspeltKey known) =
+    facts.misspelt_key line sections known
+warning_about sections line text warning.MisspeltSection = facts.misspelt_section text
+warning_about sections line text warning.WrongList = facts.wrong_list text
+warning_about sections line text warning.Utf8 = facts.utf8 text
 warning_about sections line text other = about.Line
 
 abbrev pub about_of : List TextSection → ℕ → List ℕ → Subject → About

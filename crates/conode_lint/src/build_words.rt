@@ -83,7 +83,7 @@ const FIXES: [&str; 9] = [
     "",
     "give a node-ID from 1 to 127",
     "correct the default or the limits",
-    "give a free COB-ID",
+    "give a free COB-ID; bit 29 is legal, but conode's node has no 29-bit identifiers: clear it to build",
     "list or describe what is missing",
     "correct the mapping, or set PDOMapping=1 for the entry",
     "take objects out of the lists, or lower --domains or --strings",

@@ -38,11 +38,12 @@ fn row(reason: MappingReason) -> usize
         MappingReason::WrongAccess => 8,
         MappingReason::OneBit => 9,
         MappingReason::WrongLength => 10,
+        MappingReason::Multiplexed => 11,
     }
 }
 
 /// What is wrong by each reason, by row.
-const MEANINGS: [&str; 11] = [
+const MEANINGS: [&str; 12] = [
     "the count is greater than the number of mapping words",
     "a PDO has at most 64",
     "the mapping counts this word, and it is missing",
@@ -54,6 +55,7 @@ const MEANINGS: [&str; 11] = [
     "it maps an entry with an access that doesn't fit",
     "it maps 1 bit of an entry of 8 bits",
     "its length isn't that of the entry",
+    "the PDO is multiplexed: FEh and FFh count no words",
 ];
 
 /// What is wrong, in one line.
@@ -64,18 +66,19 @@ pub(crate) fn mapping_meaning(reason: MappingReason) -> &'static str
 }
 
 /// How each is fixed, likewise.
-const FIXES: [&str; 11] = [
-    "lower the count, or describe the sub-indices that are missing; multiplexed PDOs (254, 255) aren't supported",
+const FIXES: [&str; 12] = [
+    "lower the count, or describe the sub-indices that are missing",
     "lower the count, or map some of them in another PDO",
     "describe this sub-index",
     "give an entry to map, or lower the count",
     "list and describe that entry, or map another; an RPDO may map dummies 0002h to 0007h, sub-index 0, by DummyUsage, as Dummy0005=1",
     "set PDOMapping=1 for that entry, or map another",
     "map an entry of a numeric type",
-    "map an entry from 2000h on",
+    "map an entry from 2000h on; CiA 301 permits others too, but conode's node doesn't",
     "an RPDO maps rw, rww and wo, a TPDO ro, rw, rwr and const",
-    "give the length as 8 bits (08h), for a BOOLEAN too; conode adapt --force empties the mapping",
+    "give the length as 8 bits (08h); of a BOOLEAN 1 bit is legal, but conode's node maps whole bytes; conode adapt --force empties the mapping",
     "give 8 bits for each byte of the type of that entry",
+    "this is legal, but conode's node sends and receives no multiplexed PDO: give a count of words to build",
 ];
 
 /// How to fix it, in one line.

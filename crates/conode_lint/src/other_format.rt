@@ -5,6 +5,7 @@ ghost use Rattle.conode_lint.specs.Formats.{
   begins_in_utf16,
   begins_with,
   has_line,
+  is_ethernet_ip,
   is_utf16,
   other_format,
   text_format,
@@ -50,6 +51,15 @@ fn begins_in_utf16(lines: &[&[u8]]) -> bool
     }
 }
 
+// an EDS of EtherNet/IP; a maker's own section of a sheet of CANopen may be named [Device]
+fn is_ethernet_ip(lines: &[&[u8]]) -> bool
+    ensures { result ≡ is_ethernet_ip (map (λ line. line.now) lines.now) }
+{
+    has_line(lines, b"[Device]")
+        && has_line(lines, b"VendCode")
+        && !(has_line(lines, b"[DeviceInfo]") || has_line(lines, b"[MandatoryObjects]"))
+}
+
 /// The format of a text with faults, if it is no data sheet of CANopen.
 #[tactic(auto, unfolding(crate::specs::Formats::other_format))]
 pub(crate) fn other_format(lines: &[&[u8]]) -> Option<OtherFormat>
@@ -59,7 +69,7 @@ pub(crate) fn other_format(lines: &[&[u8]]) -> Option<OtherFormat>
         Some(OtherFormat::Utf16)
     } else if has_line(lines, b"<?xml") || has_line(lines, b"<ISO15745") {
         Some(OtherFormat::Xml)
-    } else if has_line(lines, b"[Device]") && has_line(lines, b"VendCode") {
+    } else if is_ethernet_ip(lines) {
         Some(OtherFormat::EtherNetIp)
     } else {
         None

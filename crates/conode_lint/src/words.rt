@@ -24,9 +24,10 @@ use co_sheet_text::TextSection;
 use co_sheet_warnings::{WarningKind, first_equal};
 use conode_lint_marks::{Mark, Subject};
 use conode_lint_text::{
-    About, Place, Severity, bad_default, bad_limits, bad_list, bad_number, bad_type, device_info,
-    duplicate_key, duplicate_section, file_info, first_at, identity_number, listed_twice,
-    missing_key, missing_mandatory, missing_section, pdo_count, sub_index_0, sub_number, too_large,
+    About, Place, Severity, bad_access, bad_default, bad_limits, bad_list, bad_number, bad_type,
+    device_info, duplicate_key, duplicate_section, file_info, first_at, identity_number,
+    listed_twice, missing_key, missing_mandatory, missing_section, misspelt_key, misspelt_section,
+    pdo_count, sub_index_0, sub_number, too_large, utf8, wrong_list,
 };
 
 /// Its name, as `BadList`.
@@ -89,9 +90,10 @@ fn fault_about(sections: &[TextSection<'_, '_>], line: usize, text: &[u8], kind:
 {
     match kind {
         FaultKind::TooLarge => too_large(line),
-        FaultKind::MissingSection => missing_section(line),
+        FaultKind::MissingSection => missing_section(line, text),
         FaultKind::MissingMandatory => missing_mandatory(sections),
         FaultKind::BadNumber => bad_number(text),
+        FaultKind::BadAccess => bad_access(text),
         FaultKind::BadType => bad_type(sections, line, text),
         FaultKind::BadList => bad_list(sections, line),
         FaultKind::ListedTwice => listed_twice(sections, text),
@@ -122,7 +124,10 @@ fn warning_about(
         WarningKind::SharedCobId(_) | WarningKind::HeartbeatTwice(_) | WarningKind::EqualNames => {
             first_at(first_equal(kind, sections, line))
         }
-        WarningKind::MisspeltKey(known) => About::Misspelt(known),
+        WarningKind::MisspeltKey(known) => misspelt_key(sections, line, known),
+        WarningKind::MisspeltSection => misspelt_section(text),
+        WarningKind::WrongList => wrong_list(text),
+        WarningKind::Utf8 => utf8(text),
         _ => About::Line,
     }
 }

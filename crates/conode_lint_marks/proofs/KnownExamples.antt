@@ -13,7 +13,7 @@ use Rattle.co_sheet_text.specs.declared.section_kind.SectionKind.TheVariants.{De
 use Rattle.co_sheet_text.specs.Sections.{TextSection}
 use Rattle.co_dict_build.specs.declared.build_fault.BuildFault.TheVariants.{NodeId, ValueRange, BadCobId, PdoPair, BadMapping, TooMany}
 use Rattle.co_dict_faults.specs.declared.mapping_fault.MappingReason.{MappingReason}
-use Rattle.co_dict_faults.specs.declared.mapping_fault.MappingReason.TheVariants.{CountsMore, TooLong, Missing, Zero, NoEntry, NotMappable}
+use Rattle.co_dict_faults.specs.declared.mapping_fault.MappingReason.TheVariants.{CountsMore, TooLong, Multiplexed, Missing, Zero, NoEntry, NotMappable}
 use Rattle.conode_lint_marks.specs.declared.mark.Subject.TheVariants.{Build, Mapping}
 use Rattle.conode_lint_marks.specs.AtFault.{is_complete, kinds_at_fault}
 use Rattle.conode_lint_marks.specs.Concerns.{is_same_pdo}
@@ -126,6 +126,10 @@ mapped = refl
 not_there : map (reason 2 NoEntry) ([] ∷ (Object 0x2000 ∷ []) ∷ (SubIndex (key 0x3000 0) ∷ []) ∷ (OptionalObjects ∷ []) ∷ []) ≡ true ∷ true ∷ false ∷ false ∷ []
 unfolding is_complete
 not_there = refl
+
+-- a multiplexed PDO rests on its mapping
+multiplexed : map (reason 0 Multiplexed) ([] ∷ (OptionalObjects ∷ []) ∷ (Object 0x1A00 ∷ []) ∷ []) ≡ true ∷ true ∷ false ∷ []
+multiplexed = refl
 
 -- 0; missing, and counted beyond what is there
 unmapped : map (reason 1 Zero) ([] ∷ (OptionalObjects ∷ []) ∷ (Object 0x1A00 ∷ []) ∷ []) ≡ true ∷ true ∷ false ∷ []

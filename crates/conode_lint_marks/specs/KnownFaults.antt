@@ -17,7 +17,7 @@ use Rattle.co_dict_build.specs.declared.build_fault.BuildFault.TheVariants.{Node
 use Rattle.co_dict_faults.specs.AllBuildFaults.{build_faults_of, mapping_faults_of}
 use Rattle.co_dict_faults.specs.declared.mapping_fault.MappingFault.{MappingFault}
 use Rattle.co_dict_faults.specs.declared.mapping_fault.MappingReason.{MappingReason}
-use Rattle.co_dict_faults.specs.declared.mapping_fault.MappingReason.TheVariants.{CountsMore, TooLong, Missing, Zero}
+use Rattle.co_dict_faults.specs.declared.mapping_fault.MappingReason.TheVariants.{CountsMore, TooLong, Multiplexed, Missing, Zero}
 use Rattle.conode_lint_marks.specs.declared.mark.Mark.{Mark}
 use Rattle.conode_lint_marks.specs.declared.mark.Subject.TheVariants.{Build, Mapping}
 use Rattle.conode_lint_marks.specs.declared.concerns.Concern.TheVariants.{Channel, EntryOf, ObjectOf, PdoOf}
@@ -83,11 +83,12 @@ is_any_word_unknown rows sections kinds index =
 
 -- ---- what each fault rests on
 
--- a word that is 0 on nothing else; one that is missing, and a count of more words than are there, on
+-- a word that is 0, and a multiplexed PDO, on nothing else; a word that is missing, and a count of more words than are there, on
 -- what may be hidden; a length in all on all words; any other reason on its word
 abbrev pub is_reason_known : List Row → List TextSection → List SectionKind → Key → MappingReason
     → Bool
 is_reason_known rows sections kinds key Zero = true
+is_reason_known rows sections kinds key Multiplexed = true
 is_reason_known rows sections kinds key Missing = is_complete sections kinds
 is_reason_known rows sections kinds key CountsMore = is_complete sections kinds
 is_reason_known rows sections kinds key (TooLong bits) =

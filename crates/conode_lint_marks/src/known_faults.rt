@@ -195,7 +195,7 @@ fn is_reason_known(
         kinds.now fault.now.key fault.now.reason }
 {
     match fault.reason {
-        MappingReason::Zero => true,
+        MappingReason::Zero | MappingReason::Multiplexed => true,
         MappingReason::Missing | MappingReason::CountsMore => is_complete(sections, kinds),
         MappingReason::TooLong(_) => {
             !is_any_word_unknown(rows, sections, kinds, fault.key.index)

@@ -2,16 +2,17 @@
 use Rattle.std.proofs.Common.{◌≡◌, ℕ, true, false, List, Some, None, [], ◌∷◌, ◌++◌, codes, map, refl}
 use Rattle.std.specs.Prelude.{replicate}
 use Rattle.std.specs.Fmt.{digits}
-use Rattle.co_sheet_warnings.specs.declared.known_key.KnownKey.TheVariants.{NrOfRxPdo}
+use Rattle.co_sheet_warnings.specs.declared.known_key.KnownKey.TheVariants.{AccessType, DataType, NrOfRxPdo}
 use Rattle.co_text.specs.Printed.{digits_text}
 use Rattle.conode_text.specs.Filled.{filled}
 use Rattle.co_sheet_text.specs.declared.section_kind.SectionKind.{SectionKind}
 use Rattle.co_sheet_text.specs.declared.section_kind.SectionKind.TheVariants.{MandatoryObjects, OptionalObjects, ManufacturerObjects, Object, SubIndex}
 use Rattle.co_sheet_text.specs.Sections.{Property, TextSection}
-use Rattle.conode_lint_text.specs.declared.finding.About.TheVariants.{Line, FirstAt, Misspelt, Fact}
+use Rattle.conode_lint_text.specs.declared.finding.About.TheVariants.{Line, FirstAt, Misspelt, MisspeltBeside, Fact}
 use Rattle.conode_lint_text.specs.declared.fact.Fact.TheVariants as fact
+use Rattle.conode_lint_text.specs.declared.meant_section.MeantSection.TheVariants as meant
 use Rattle.conode_lint_text.specs.FactTexts.{fact_text, hexadecimal, missing_text, texts_of, words_of}
-use Rattle.conode_lint_text.specs.Facts.{bad_list, bad_number, bad_type, count_fact, device_info, duplicate_key, duplicate_section, file_info, first_at, identity_number, list_fact, listed_twice, missing_key, missing_mandatory, missing_section, pdo_count, sub_index_0, sub_number, too_large}
+use Rattle.conode_lint_text.specs.Facts.{bad_access, bad_list, bad_number, bad_type, count_fact, device_info, duplicate_key, duplicate_section, file_info, first_at, identity_number, list_fact, listed_twice, missing_key, missing_mandatory, missing_section, misspelt_key, misspelt_section, pdo_count, sub_index_0, sub_number, too_large, utf8, wrong_list}
 use Rattle.conode_lint_text.specs.Bounds.{bad_default, bad_limits}
 use Rattle.conode_lint_text.specs.Findings.{about_message, fix_with}
 
@@ -61,7 +62,7 @@ mandatory_objects : map (λ missing. fact_text missing) (fact.NotListed true tru
 unfolding fact_text words_of texts_of filled
 mandatory_objects = refl
 
-whole_texts : fact_text fact.NoMandatoryList ∷ fact_text fact.LargeText ∷ fact_text fact.NoValue ∷ [] ≡ codes "there is no section [MandatoryObjects]" ∷ codes "the text has more than 1,048,576 bytes" ∷ codes "the value is no number" ∷ []
+whole_texts : fact_text fact.NoMandatoryList ∷ fact_text fact.LargeText ∷ fact_text fact.NoValue ∷ [] ≡ codes "there is no section [MandatoryObjects]" ∷ codes "the text has more than 1,048,576 bytes" ∷ codes "the value is no whole number of at most 64 bits" ∷ []
 unfolding fact_text words_of texts_of filled
 whole_texts = refl
 
@@ -141,7 +142,7 @@ high_indices : list_fact (section 1 MandatoryObjects
 high_indices = refl
 
 -- the whole text, and a line
-no_line : too_large 0 ∷ too_large 1 ∷ missing_section 0 ∷ missing_section 1 ∷ [] ≡ Fact fact.LargeText ∷ Line ∷ Fact fact.NoMandatoryList ∷ Line ∷ []
+no_line : too_large 0 ∷ too_large 1 ∷ missing_section 0 [] ∷ missing_section 1 (codes "1=0x2000") ∷ [] ≡ Fact fact.LargeText ∷ Line ∷ Fact fact.NoMandatoryList ∷ Line ∷ []
 no_line = refl
 
 -- of the lists above: 1018h is past the count of the first
@@ -158,12 +159,59 @@ right_types : bad_type 35 sections (codes "DataType = 0x0007") ∷ bad_type 45 s
     ≡ Line ∷ Line ∷ Fact (fact.FixedType 7) ∷ Fact (fact.FixedType 7) ∷ []
 right_types = refl
 
-type_text : fact_text (fact.FixedType 7) ∷ fix_with (Fact (fact.FixedType 7)) (codes "f") ∷ [] ≡ codes "CiA 301 has DataType=0x0007 here" ∷ codes "give that type, or take the object out of its list" ∷ []
+type_text : fact_text (fact.FixedType 7) ∷ fix_with (Fact (fact.FixedType 7)) (codes "f") ∷ [] ≡ codes "CiA 301 has DataType=0x0007 here" ∷ codes "give that type, or take the object out of its list, unless it is mandatory" ∷ []
 unfolding fact_text words_of texts_of fix_with filled digits digits_text
 type_text = refl
 
 bad_numbers : bad_number (codes " defaultvalue = x") ∷ bad_number (codes "ParameterValue=x") ∷ bad_number (codes "LowLimit=x") ∷ [] ≡ Fact fact.NoValue ∷ Fact fact.NoValue ∷ Line ∷ []
 bad_numbers = refl
+
+-- quotes come first, and `;` may be anywhere in the value; before `=` it is none
+odd_values : map bad_number (codes "DataType=7 ; x" ∷ codes "DataType=7;" ∷ codes "DataType = \"7\"" ∷ codes "DataType='7' ; x" ∷ codes "DefaultValue=5;6" ∷ codes "Data;Type=x" ∷ codes "DataType=" ∷ [])
+    ≡ Fact fact.CommentInValue ∷ Fact fact.CommentInValue ∷ Fact fact.QuotedValue ∷ Fact fact.QuotedValue ∷ Fact fact.CommentInValue ∷ Line ∷ Line ∷ []
+odd_values = refl
+
+odd_accesses : map bad_access (codes "AccessType=ro ; x" ∷ codes "AccessType=\"ro\"" ∷ codes "AccessType=Read" ∷ []) ≡ Fact fact.CommentInValue ∷ Fact fact.QuotedValue ∷ Line ∷ []
+odd_accesses = refl
+
+-- of at most four decimal digits an index may have been meant in hexadecimal
+decimal_indices : map (missing_section 1) (codes "1=6110" ∷ codes "1=9999" ∷ codes "1=10000" ∷ codes "1=0x6110" ∷ codes "1=x" ∷ []) ≡ Fact (fact.DecimalIndex 6110) ∷ Fact (fact.DecimalIndex 9999) ∷ Line ∷ Line ∷ Line ∷ []
+decimal_indices = refl
+
+low_indices : map wrong_list (codes "1=1008" ∷ codes "1=1000" ∷ codes "1=999" ∷ codes "1=4095" ∷ codes "1=4096" ∷ codes "1=0xFFF" ∷ codes "1=0x1000" ∷ codes "1=x" ∷ [])
+    ≡ Fact (fact.LowDecimal 1008) ∷ Fact (fact.LowDecimal 1000) ∷ Fact (fact.LowIndex 999) ∷ Fact (fact.LowDecimal 4095) ∷ Line ∷ Fact (fact.LowIndex 0xFFF) ∷ Line ∷ Line ∷ []
+low_indices = refl
+
+listed_texts : map fact_text (fact.DecimalIndex 6110 ∷ fact.LowDecimal 1008 ∷ fact.LowIndex 5 ∷ [])
+    ≡ codes "the listed object 0x17DE has no section: 6110 is decimal, 0x6110 is hexadecimal" ∷ codes "0x3F0 is below 0x1000, so it isn't read: 1008 is decimal, 0x1008 is hexadecimal" ∷ codes "0x5 is below 0x1000, so it isn't read" ∷ []
+unfolding fact_text words_of texts_of hexadecimal filled digits
+listed_texts = refl
+
+-- a line without a byte above 7Fh
+marks : map utf8 (codes "a" ∷ (0x7F ∷ []) ∷ (0xC3 ∷ 0xA4 ∷ []) ∷ []) ≡ Fact fact.ByteOrderMark ∷ Fact fact.ByteOrderMark ∷ Line ∷ []
+marks = refl
+
+odd_texts : map fact_text (fact.CommentInValue ∷ fact.QuotedValue ∷ fact.NoPairs ∷ fact.ByteOrderMark ∷ fact.LimitOutside ∷ [])
+    ≡ codes "`;` begins a comment only at the beginning of a line, so it belongs to the value" ∷ codes "the value is in quotes, which belong to it" ∷ codes "an OCTET_STRING is pairs of hexadecimal digits"
+    ∷ codes "the text begins with a byte order mark of UTF-8, which older tools read as characters" ∷ codes "the limit is outside the type's range" ∷ []
+unfolding fact_text words_of texts_of filled
+odd_texts = refl
+
+odd_fixes : map (λ about. fix_with about (codes "f")) (Fact fact.CommentInValue ∷ Fact fact.QuotedValue ∷ Fact fact.NoPairs ∷ Fact fact.ByteOrderMark ∷ Fact (fact.DecimalIndex 6110) ∷ Fact (fact.LowDecimal 1008) ∷ Fact (fact.LowIndex 5) ∷ MisspeltBeside NrOfRxPdo ∷ Misspelt NrOfRxPdo ∷ [])
+    ≡ codes "put the comment on a line of its own" ∷ codes "take the quotes out" ∷ codes "write pairs of hexadecimal digits without blanks, as 00A1FF" ∷ codes "save it without the mark" ∷ codes "write the index in hexadecimal, after 0x; or add the section"
+    ∷ codes "write the index in hexadecimal, after 0x" ∷ codes "take it out of the list" ∷ codes "take it out" ∷ codes "f" ∷ []
+unfolding fix_with
+odd_fixes = refl
+
+-- of a name that is one slip away from one of the standard; not of one like that of a sub-index
+meant_sections : map misspelt_section (codes "[FileInf]" ∷ codes " [deviceinf] ; x" ∷ codes "[DummyUsages]" ∷ codes "[DeviceComisioning]" ∷ codes "[DeviceCommissionin]" ∷ codes "[MandatoryObject]" ∷ codes "[OptionalObject]" ∷ codes "[ManufacturersObjects]" ∷ codes "[1018.1]" ∷ codes "[" ∷ [])
+    ≡ Fact (fact.MeantSection meant.FileInfo) ∷ Fact (fact.MeantSection meant.DeviceInfo) ∷ Fact (fact.MeantSection meant.DummyUsage) ∷ Fact (fact.MeantSection meant.DeviceComissioning) ∷ Fact (fact.MeantSection meant.DeviceCommissioning)
+    ∷ Fact (fact.MeantSection meant.MandatoryObjects) ∷ Fact (fact.MeantSection meant.OptionalObjects) ∷ Fact (fact.MeantSection meant.ManufacturerObjects) ∷ Line ∷ Line ∷ []
+meant_sections = refl
+
+meant_words : fact_text (fact.MeantSection meant.DeviceInfo) ≡ codes "nothing reads a section of this name: did you mean [DeviceInfo]"
+unfolding fact_text words_of texts_of filled
+meant_words = refl
 
 -- 2, 1 and then 4: the key after them isn't known from their order
 other_order : list_fact (section 1 MandatoryObjects
@@ -183,6 +231,15 @@ missing_keys = refl
 duplicate_keys : duplicate_key 35 sections (codes " datatype = 8") ∷ duplicate_key 45 sections (codes "AccessType=rw") ∷ duplicate_key 45 sections (codes "DataType=7") ∷ []
     ≡ FirstAt 31 ∷ FirstAt 41 ∷ Line ∷ []
 duplicate_keys = refl
+
+-- the key that is meant is there too, in the section that the line is in
+besides : misspelt_key 35 sections DataType ∷ misspelt_key 45 sections DataType ∷ misspelt_key 45 sections AccessType ∷ misspelt_key 1 sections DataType ∷ []
+    ≡ MisspeltBeside DataType ∷ Misspelt DataType ∷ MisspeltBeside AccessType ∷ Misspelt DataType ∷ []
+besides = refl
+
+beside_text : about_message (MisspeltBeside NrOfRxPdo) (codes "m") ≡ codes "the standard has no such key: did you mean NrOfRXPDO, which is there too"
+unfolding about_message filled
+beside_text = refl
 
 -- in any spelling of the index
 duplicate_sections : duplicate_section sections (codes "[1018]") ∷ duplicate_section sections (codes " [ 1018SUB01 ] ; again") ∷ duplicate_section sections (codes "[2000]") ∷ []
@@ -239,14 +296,19 @@ odd_defaults : bad_default 5 limited (codes "DefaultValue=65535") ∷ bad_defaul
     ≡ Fact (fact.AboveHigh 4) ∷ Line ∷ Line ∷ Fact (fact.BelowLow 42) ∷ []
 odd_defaults = refl
 
--- the limits of an OCTET_STRING, and of an entry without a type, are passed over; before the first section there is none
+-- the limits of an OCTET_STRING, which has a form, and of an entry without a type, are passed over; before the first section there is none
 other_defaults : bad_default 24 limited (codes "DefaultValue=0") ∷ bad_default 34 limited (codes "DefaultValue=0") ∷ bad_default 1 limited (codes "DefaultValue=9") ∷ []
-    ≡ Line ∷ Line ∷ Line ∷ []
+    ≡ Fact fact.NoPairs ∷ Line ∷ Line ∷ []
 other_defaults = refl
 
 limits : bad_limits 4 limited (codes "HighLimit=9") ∷ bad_limits 4 limited (codes "HighLimit=10") ∷ bad_limits 3 limited (codes "LowLimit=10") ∷ bad_limits 24 limited (codes "HighLimit=0") ∷ bad_limits 1 limited (codes "HighLimit=0") ∷ []
     ≡ Fact (fact.LimitsCrossed 3) ∷ Line ∷ Line ∷ Line ∷ Line ∷ []
 limits = refl
+
+-- a limit outside the type is that alone, whatever the other limit
+outside : bad_limits 4 limited (codes "HighLimit=65535") ∷ bad_limits 4 limited (codes "HighLimit=65536") ∷ bad_limits 4 limited (codes "HighLimit=-1") ∷ bad_limits 3 limited (codes "LowLimit=0x10000") ∷ bad_limits 14 limited (codes "HighLimit=128") ∷ bad_limits 4 limited (codes "HighLimit=x") ∷ []
+    ≡ Line ∷ Fact fact.LimitOutside ∷ Fact fact.LimitOutside ∷ Fact fact.LimitOutside ∷ Fact fact.LimitOutside ∷ Line ∷ []
+outside = refl
 
 -- a HighLimit of an INTEGER8 that is negative in two's complement, beside one that is 0
 abbrev negative : List TextSection

@@ -1,15 +1,13 @@
 -- Which bound of its entry a value or a limit exceeds (CiA 306-1, object description).
-use Rattle.std.specs.Prelude.{ℕ, ℤ, pos, Bool, true, false, not, if◌then◌else◌, List, [], codes, Option, Some, None, option_and_then}
-use Rattle.std.specs.List.{list_any, after_first}
+use Rattle.std.specs.Prelude.{ℕ, ℤ, pos, Bool, true, false, not, if◌then◌else◌, List, codes, Option, Some, None, option_and_then}
 use Rattle.std.specs.Option.{option_map_or}
 use Rattle.std.specs.Result.{result_ok}
 use Rattle.co_value.specs.declared.data_type.DataType.{DataType}
 use Rattle.co_sheet_text.specs.Properties.{number_at}
-use Rattle.co_sheet_text.specs.Sections.{Property, TextSection, is_equals, property_at}
-use Rattle.co_sheet_text.specs.Text.{trim}
+use Rattle.co_sheet_text.specs.Sections.{Property, TextSection, property_at}
 use Rattle.co_sheet.specs.Entries.{data_type_with}
 use Rattle.co_sheet.specs.Limits.{Default, number, at_most, is_in_type, is_numeric, numeric_default}
-use Rattle.conode_lint_text.specs.Facts.{section_before}
+use Rattle.conode_lint_text.specs.Facts.{is_number, key_value, section_before}
 use Rattle.conode_lint_text.specs.declared.fact.Fact.TheVariants as fact
 use Rattle.conode_lint_text.specs.declared.finding.About.{About}
 use Rattle.conode_lint_text.specs.declared.finding.About.TheVariants.{Line, Fact}
@@ -68,10 +66,6 @@ crossed_fact false line = Fact (fact.LimitsCrossed line)
 abbrev pub limit_fact : Bool → Option ℕ → About
 limit_fact negative low = option_map_or (crossed_fact negative) low Line
 
--- the value of the key on a line
-abbrev pub key_value : List ℕ → List ℕ
-key_value text = if list_any is_equals text then trim (after_first is_equals text) else []
-
 -- of the BadDefault of a line: LowLimit comes first, since a HighLimit below it is itself at fault;
 -- of a value outside the type no limit is named
 abbrev pub limit_passed : DataType → Option ℤ → TextSection → About
@@ -84,16 +78,26 @@ value_of s t None = Line
 abbrev pub value_at_type : List ℕ → TextSection → DataType → About
 value_at_type text s t = value_of s t (number_of t (key_value text))
 
+-- an OCTET_STRING (CiA 301, data types)
+abbrev pub pairs_fact : TextSection → About
+pairs_fact s =
+    if is_number 0xA (number_at (codes "DataType") s) then Fact fact.NoPairs else Line
+
 abbrev pub value_in : List ℕ → TextSection → About
-value_in text s = option_map_or (value_at_type text s) (numeric_type s) Line
+value_in text s = option_map_or (value_at_type text s) (numeric_type s) (pairs_fact s)
 
 abbrev pub bad_default : ℕ → List TextSection → List ℕ → About
 bad_default line sections text = option_map_or (value_in text) (section_before line sections) Line
 
--- of the BadLimits of a line
+-- of the BadLimits of a line: a limit outside the type, or below LowLimit
+abbrev pub limit_of : TextSection → DataType → Option ℤ → About
+limit_of s t (Some n) =
+    if is_in_type t n then limit_fact (is_negative (Some n)) (below_low t (Some n) s)
+    else Fact fact.LimitOutside
+limit_of s t None = Line
+
 abbrev pub limit_at_type : List ℕ → TextSection → DataType → About
-limit_at_type text s t =
-    let n = number_of t (key_value text) in limit_fact (is_negative n) (below_low t n s)
+limit_at_type text s t = limit_of s t (number_of t (key_value text))
 
 abbrev pub limit_in : List ℕ → TextSection → About
 limit_in text s = option_map_or (limit_at_type text s) (numeric_type s) Line

@@ -6,10 +6,11 @@ use Rattle.co_sheet_warnings.specs.Infos.{device_keys, file_keys}
 use Rattle.co_sheet_warnings.specs.KnownKeys.{key_text}
 use Rattle.co_text.specs.Printed.{digits_text}
 use Rattle.conode_text.specs.Filled.{filled}
+use Rattle.conode_lint_text.specs.MeantSections.{meant_text}
 use Rattle.conode_lint_text.specs.declared.fact.Fact.{Fact}
 use Rattle.conode_lint_text.specs.declared.fact.Part.{Part}
 use Rattle.conode_lint_text.specs.declared.fact.Part.TheVariants.{Number, Code, Hexadecimal}
-use Rattle.conode_lint_text.specs.declared.fact.Fact.TheVariants.{NoCount, ListCount, ListGap, HighIndex, NoMandatoryList, NotListed, LargeText, NoValue, FixedType, NoType, NoAccess, NoTypeOrAccess, NoFileInfo, FileInfoLacks, NoDeviceInfo, DeviceInfoLacks, NoSubNumber, SubNumber, SubIndex0, RpdoCount, TpdoCount, NoRpdoCount, NoTpdoCount, Identity, NoIdentity, BelowLow, AboveHigh, AboveNegative, LimitsCrossed, NegativeHigh}
+use Rattle.conode_lint_text.specs.declared.fact.Fact.TheVariants.{NoCount, ListCount, ListGap, HighIndex, NoMandatoryList, NotListed, LargeText, NoValue, MeantSection, ByteOrderMark, CommentInValue, QuotedValue, NoPairs, DecimalIndex, LowDecimal, LowIndex, FixedType, NoType, NoAccess, NoTypeOrAccess, NoFileInfo, FileInfoLacks, NoDeviceInfo, DeviceInfoLacks, NoSubNumber, SubNumber, SubIndex0, RpdoCount, TpdoCount, NoRpdoCount, NoTpdoCount, Identity, NoIdentity, BelowLow, AboveHigh, AboveNegative, LimitOutside, LimitsCrossed, NegativeHigh}
 
 -- a number as sheets have it, in hexadecimal digits
 unfoldable pub hexadecimal : ℕ → List ℕ
@@ -48,7 +49,19 @@ words_of (HighIndex number) = codes "the index of line % is above 0xFFFF"
 words_of NoMandatoryList = codes "there is no section [MandatoryObjects]"
 words_of (NotListed device error identity) = not_listed device error identity
 words_of LargeText = codes "the text has more than 1,048,576 bytes"
-words_of NoValue = codes "the value is no number"
+words_of NoValue = codes "the value is no whole number of at most 64 bits"
+words_of (MeantSection section) = meant_text section
+words_of ByteOrderMark =
+    codes "the text begins with a byte order mark of UTF-8, which older tools read as characters"
+words_of CommentInValue =
+    codes "`;` begins a comment only at the beginning of a line, so it belongs to the value"
+words_of QuotedValue = codes "the value is in quotes, which belong to it"
+words_of NoPairs = codes "an OCTET_STRING is pairs of hexadecimal digits"
+words_of (DecimalIndex number) =
+    codes "the listed object % has no section: % is decimal, 0x% is hexadecimal"
+words_of (LowDecimal number) =
+    codes "% is below 0x1000, so it isn't read: % is decimal, 0x% is hexadecimal"
+words_of (LowIndex number) = codes "% is below 0x1000, so it isn't read"
 words_of (FixedType number) = codes "CiA 301 has DataType=0x% here"
 words_of (NoType is_sub) = codes "the entry has no DataType"
 words_of (NoAccess is_sub) = codes "the entry has no AccessType"
@@ -76,6 +89,7 @@ words_of (BelowLow number) = codes "the value is below the LowLimit of line %"
 words_of (AboveHigh number) = codes "the value is above the HighLimit of line %"
 words_of (AboveNegative number) =
     codes "the value is above the HighLimit of line %, which is a negative number"
+words_of LimitOutside = codes "the limit is outside the type's range"
 words_of (LimitsCrossed number) = codes "HighLimit is below the LowLimit of line %"
 words_of (NegativeHigh number) =
     codes "HighLimit is a negative number, below the LowLimit of line %"
@@ -103,6 +117,9 @@ texts_of (LimitsCrossed line) = numbers line 0 0
 texts_of (NegativeHigh line) = numbers line 0 0
 texts_of (Identity number other) = hexadecimal number ∷ hexadecimal other ∷ decimal 0 ∷ []
 texts_of (NoIdentity other) = hexadecimal other ∷ decimal 0 ∷ decimal 0 ∷ []
+texts_of (LowIndex index) = hexadecimal index ∷ decimal 0 ∷ decimal 0 ∷ []
+texts_of (DecimalIndex index) = hexadecimal index ∷ decimal index ∷ decimal index ∷ []
+texts_of (LowDecimal index) = hexadecimal index ∷ decimal index ∷ decimal index ∷ []
 texts_of (FixedType code) = digits_text 16 4 code ∷ decimal 0 ∷ decimal 0 ∷ []
 texts_of other = numbers 0 0 0
 

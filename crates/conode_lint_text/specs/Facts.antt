@@ -16,10 +16,14 @@ use Rattle.co_sheet_text.specs.Properties.{number_at, property_number}
 use Rattle.co_sheet_text.specs.Sections.{Property, TextSection, is_bracket, is_equals, property_at, section_at}
 use Rattle.co_sheet_text.specs.Text.{same_name, trim}
 use Rattle.co_sheet_warnings.specs.Infos.{object_count}
+use Rattle.co_sheet_warnings.specs.KnownKeys.{key_text}
+use Rattle.co_sheet_warnings.specs.Lines.{has_other_byte}
 use Rattle.co_sheet_warnings.specs.Repeats.{value_in}
+use Rattle.co_sheet_warnings.specs.declared.known_key.KnownKey.{KnownKey}
+use Rattle.conode_lint_text.specs.MeantSections.{meant_section}
 use Rattle.conode_lint_text.specs.declared.fact.Fact.TheVariants as fact
 use Rattle.conode_lint_text.specs.declared.finding.About.{About}
-use Rattle.conode_lint_text.specs.declared.finding.About.TheVariants.{Line, FirstAt, Fact}
+use Rattle.conode_lint_text.specs.declared.finding.About.TheVariants.{Line, FirstAt, Misspelt, MisspeltBeside, Fact}
 
 -- ---- sections
 
@@ -44,6 +48,10 @@ abbrev pub key_number : List ℕ → Option ℕ
 key_number text =
     if list_any is_equals text
     then result_ok (unsigned_number (trim (after_first is_equals text))) else None
+
+-- the value on it
+abbrev pub key_value : List ℕ → List ℕ
+key_value text = if list_any is_equals text then trim (after_first is_equals text) else []
 
 -- ---- object lists
 
@@ -142,8 +150,28 @@ listed_twice sections text = option_map_or (first_listed sections) (key_number t
 abbrev pub too_large : ℕ → About
 too_large line = if line == 0 then Fact fact.LargeText else Line
 
-abbrev pub missing_section : ℕ → About
-missing_section line = if line == 0 then Fact fact.NoMandatoryList else Line
+-- an index of at most four decimal digits, which were meant in hexadecimal
+abbrev pub is_decimal_index : List ℕ → ℕ → Bool
+is_decimal_index value index = is_number_in 10 value && nat_le index 9999
+
+abbrev pub listed_fact : List ℕ → ℕ → About
+listed_fact value index = if is_decimal_index value index then Fact (fact.DecimalIndex index) else Line
+
+abbrev pub missing_section : ℕ → List ℕ → About
+missing_section line text =
+    if line == 0 then Fact fact.NoMandatoryList
+    else option_map_or (listed_fact (key_value text)) (key_number text) Line
+
+-- of the WrongList of a line: an index below 1000h; one of four decimal digits was meant in
+-- hexadecimal
+abbrev pub low_fact : List ℕ → ℕ → About
+low_fact value index =
+    if nat_le 0x1000 index then Line
+    else if is_decimal_index value index && nat_le 1000 index
+    then Fact (fact.LowDecimal index) else Fact (fact.LowIndex index)
+
+abbrev pub wrong_list : List ℕ → About
+wrong_list text = option_map_or (low_fact (key_value text)) (key_number text) Line
 
 -- of MissingMandatory: which are listed nowhere
 abbrev pub is_listed_nowhere : List TextSection → ℕ → Bool
@@ -156,12 +184,34 @@ missing_mandatory sections =
 
 -- ---- keys and sections
 
+-- a value that begins with a quote, or has `;` in it, or else what is said of others
+abbrev pub is_quote : ℕ → Bool
+is_quote b = (b == 34) || (b == 39)
+
+abbrev pub is_quoted : List ℕ → Bool
+is_quoted [] = false
+is_quoted (b ∷ value) = is_quote b
+
+abbrev pub is_semicolon : ℕ → Bool
+is_semicolon b = b == 59
+
+abbrev pub odd_value : List ℕ → About → About
+odd_value value other =
+    if is_quoted value then Fact fact.QuotedValue
+    else if list_any is_semicolon value then Fact fact.CommentInValue
+    else other
+
 -- of the BadNumber of a line: a value may be a sum with `$NODEID`
+abbrev pub is_value_key : List ℕ → Bool
+is_value_key name = same_name name (codes "DefaultValue") || same_name name (codes "ParameterValue")
+
 abbrev pub bad_number : List ℕ → About
 bad_number text =
-    if same_name (key_name text) (codes "DefaultValue")
-    || same_name (key_name text) (codes "ParameterValue")
-    then Fact fact.NoValue else Line
+    odd_value (key_value text) (if is_value_key (key_name text) then Fact fact.NoValue else Line)
+
+-- of the BadAccess of a line
+abbrev pub bad_access : List ℕ → About
+bad_access text = odd_value (key_value text) Line
 
 -- of an object or a sub-index that has DataType or AccessType, or not
 abbrev pub key_fact : Bool → Bool → Bool → About
@@ -228,9 +278,27 @@ abbrev pub duplicate_section : List TextSection → List ℕ → About
 duplicate_section sections text =
     option_map_or first_section (section_at (section_kind text) sections) Line
 
+-- of the MisspeltSection of a line: the section that is meant, where it is no object's
+abbrev pub misspelt_section : List ℕ → About
+misspelt_section text =
+    option_map_or (λ section. Fact (fact.MeantSection section)) (meant_section (section_name text)) Line
+
 -- of what comes twice: the line of the first, if it is known
 abbrev pub first_at : Option ℕ → About
 first_at line = option_map_or (λ n. FirstAt n) line Line
+
+-- of the Utf8 of a line: one without a byte above 7Fh begins with a byte order mark
+abbrev pub utf8 : List ℕ → About
+utf8 text = if has_other_byte text then Line else Fact fact.ByteOrderMark
+
+-- of the MisspeltKey of a line, by the key that is meant: whether it is there too
+abbrev pub beside : KnownKey → TextSection → About
+beside known s =
+    if is_some (property_at (key_text known) s) then MisspeltBeside known else Misspelt known
+
+abbrev pub misspelt_key : ℕ → List TextSection → KnownKey → About
+misspelt_key line sections known =
+    option_map_or (beside known) (section_before line sections) (Misspelt known)
 
 -- ---- sub-indices
 

@@ -7,9 +7,9 @@ use Rattle.conode_text.specs.Filled.{filled}
 use Rattle.conode_json.specs.Characters.{characters_of}
 use Rattle.conode_lint_text.specs.Characters.{blanks}
 use Rattle.conode_lint_text.specs.FactTexts.{fact_text}
-use Rattle.conode_lint_text.specs.declared.fact.Fact.TheVariants.{HighIndex, NoMandatoryList, NotListed, LargeText, NoValue, FixedType, NoType, NoAccess, NoTypeOrAccess}
+use Rattle.conode_lint_text.specs.declared.fact.Fact.TheVariants.{HighIndex, NoMandatoryList, NotListed, LargeText, NoValue, ByteOrderMark, CommentInValue, QuotedValue, NoPairs, DecimalIndex, LowDecimal, LowIndex, FixedType, NoType, NoAccess, NoTypeOrAccess}
 use Rattle.conode_lint_text.specs.declared.finding.About.{About}
-use Rattle.conode_lint_text.specs.declared.finding.About.TheVariants.{Line, Object, Entry, Bits, FirstAt, Misspelt, Fact}
+use Rattle.conode_lint_text.specs.declared.finding.About.TheVariants.{Line, Object, Entry, Bits, FirstAt, Misspelt, MisspeltBeside, Fact}
 use Rattle.conode_lint_text.specs.declared.finding.Finding.{Finding}
 use Rattle.conode_lint_text.specs.declared.finding.Place.{Place}
 use Rattle.conode_lint_text.specs.declared.finding.Place.TheVariants.{Beginning, Value}
@@ -52,6 +52,8 @@ about_message (FirstAt line) meaning =
     filled (codes "%, first at line %") (meaning ∷ decimal line ∷ [])
 about_message (Misspelt known) meaning =
     filled (codes "the standard has no such key: did you mean %") (key_text known ∷ [])
+about_message (MisspeltBeside known) meaning =
+    filled (codes "the standard has no such key: did you mean %, which is there too") (key_text known ∷ [])
 about_message (Fact fact) meaning = fact_text fact
 
 -- what is wrong
@@ -68,7 +70,17 @@ fix_with (Fact (NotListed device error identity)) fix =
 fix_with (Fact LargeText) fix = codes "take out comments and sections that are passed over"
 fix_with (Fact NoValue) fix =
     codes "write decimal digits, 0x and hexadecimal digits, or a sum as $NODEID+0x180"
-fix_with (Fact (FixedType code)) fix = codes "give that type, or take the object out of its list"
+fix_with (Fact ByteOrderMark) fix = codes "save it without the mark"
+fix_with (Fact CommentInValue) fix = codes "put the comment on a line of its own"
+fix_with (Fact QuotedValue) fix = codes "take the quotes out"
+fix_with (Fact NoPairs) fix = codes "write pairs of hexadecimal digits without blanks, as 00A1FF"
+fix_with (Fact (DecimalIndex index)) fix =
+    codes "write the index in hexadecimal, after 0x; or add the section"
+fix_with (Fact (LowDecimal index)) fix = codes "write the index in hexadecimal, after 0x"
+fix_with (Fact (LowIndex index)) fix = codes "take it out of the list"
+fix_with (MisspeltBeside known) fix = codes "take it out"
+fix_with (Fact (FixedType code)) fix =
+    codes "give that type, or take the object out of its list, unless it is mandatory"
 fix_with (Fact (NoType true)) fix = codes "add DataType"
 fix_with (Fact (NoAccess true)) fix = codes "add AccessType"
 fix_with (Fact (NoTypeOrAccess true)) fix = codes "add DataType and AccessType"

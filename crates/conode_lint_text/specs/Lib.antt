@@ -1,4 +1,5 @@
 pub mod Characters
+pub mod MeantSections
 pub mod FactTexts
 pub mod Facts
 pub mod Bounds

@@ -1,6 +1,6 @@
 //! Which bound of its entry a value or a limit exceeds.
 
-ghost use Rattle.std.specs.Prelude.{◌≡◌, map};
+ghost use Rattle.std.specs.Prelude.{◌≡◌, Some, map};
 ghost use Rattle.co_sheet_text.specs.Views.{section_view};
 ghost use Rattle.conode_lint_text.specs.Bounds.{
   above_high,
@@ -11,20 +11,20 @@ ghost use Rattle.conode_lint_text.specs.Bounds.{
   high_fact,
   is_high_negative,
   is_negative,
-  key_value,
   limit_in,
+  limit_of,
   limit_passed,
   number_of,
   numeric_type,
+  pairs_fact,
   value_in,
 };
 
 use crate::fact::Fact;
-use crate::facts::section_before;
+use crate::facts::{key_value, section_before};
 use crate::finding::About;
 use co_sheet::{Preset, at_most, data_type_with, is_in_type, numeric_default};
-use co_sheet_text::{TextSection, trim};
-use co_text::split_at_first;
+use co_sheet_text::TextSection;
 use co_value::DataType;
 
 // the type of a section whose values are numbers
@@ -114,16 +114,6 @@ fn crossed_fact(negative: bool, line: usize) -> About
     }
 }
 
-// the value of the key on a line
-fn key_value(text: &[u8]) -> &[u8]
-    ensures { result.now ≡ key_value text.now }
-{
-    match split_at_first(text, b'=') {
-        Some((_, value)) => trim(value),
-        None => &[],
-    }
-}
-
 // the limit that a number exceeds
 fn limit_passed(data_type: DataType, number: Option<i128>, section: &TextSection<'_, '_>) -> About
     ensures { result ≡ limit_passed data_type number (section_view section.now) }
@@ -137,11 +127,21 @@ fn limit_passed(data_type: DataType, number: Option<i128>, section: &TextSection
     }
 }
 
+// what is said of a value of another type: an OCTET_STRING has a form of its own
+fn pairs_fact(section: &TextSection<'_, '_>) -> About
+    ensures { result ≡ pairs_fact (section_view section.now) }
+{
+    match section.number_at(b"DataType") {
+        Some(0xA) => About::Fact(Fact::NoPairs),
+        _ => About::Line,
+    }
+}
+
 fn value_in(section: &TextSection<'_, '_>, text: &[u8]) -> About
     ensures { result ≡ value_in text.now (section_view section.now) }
 {
     let Some(data_type) = numeric_type(section) else {
-        return About::Line;
+        return pairs_fact(section);
     };
     match number_of(data_type, key_value(text)) {
         Some(number) if is_in_type(data_type, number) => {
@@ -151,12 +151,25 @@ fn value_in(section: &TextSection<'_, '_>, text: &[u8]) -> About
     }
 }
 
-/// Of the BadDefault of a line: the limit that its value exceeds.
+/// Of the BadDefault of a line: the limit that its value exceeds, or the form of its type.
 pub fn bad_default(sections: &[TextSection<'_, '_>], line: usize, text: &[u8]) -> About
     ensures { result ≡ bad_default line (map section_view sections.now) text.now }
 {
     match section_before(sections, line) {
         Some(section) => value_in(section, text),
+        None => About::Line,
+    }
+}
+
+// which of both a limit that is a number is: outside the type, or below LowLimit
+fn limit_of(section: &TextSection<'_, '_>, data_type: DataType, number: i128) -> About
+    ensures { result ≡ limit_of (section_view section.now) data_type (Some number) }
+{
+    if !is_in_type(data_type, number) {
+        return About::Fact(Fact::LimitOutside);
+    }
+    match below_low(data_type, Some(number), section) {
+        Some(line) => crossed_fact(is_negative(Some(number)), line),
         None => About::Line,
     }
 }
@@ -167,15 +180,13 @@ fn limit_in(section: &TextSection<'_, '_>, text: &[u8]) -> About
     let Some(data_type) = numeric_type(section) else {
         return About::Line;
     };
-    let number = number_of(data_type, key_value(text));
-    let negative = is_negative(number);
-    match below_low(data_type, number, section) {
-        Some(line) => crossed_fact(negative, line),
+    match number_of(data_type, key_value(text)) {
+        Some(number) => limit_of(section, data_type, number),
         None => About::Line,
     }
 }
 
-/// Of the BadLimits of a line: the LowLimit that its limit is below.
+/// Of the BadLimits of a line: its limit is outside the type, or below this LowLimit.
 pub fn bad_limits(sections: &[TextSection<'_, '_>], line: usize, text: &[u8]) -> About
     ensures { result ≡ bad_limits line (map section_view sections.now) text.now }
 {

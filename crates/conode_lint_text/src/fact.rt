@@ -12,6 +12,7 @@ ghost use Rattle.conode_lint_text.specs.FactTexts.{
   words_of,
 };
 
+use crate::meant_section::{MeantSection, meant_text};
 use co_sheet_warnings::{KnownKey, device_keys, file_keys};
 use co_text::{push_decimal, push_u16};
 use conode_text::{HasText, push_filled};
@@ -36,6 +37,22 @@ pub enum Fact {
     LargeText,
     /// A value that is no number.
     NoValue,
+    /// A byte order mark of UTF-8.
+    ByteOrderMark,
+    /// The section that a misspelt name means.
+    MeantSection(MeantSection),
+    /// A value with `;` in it.
+    CommentInValue,
+    /// A value that begins with a quote.
+    QuotedValue,
+    /// The value of an OCTET_STRING that is no pairs of digits.
+    NoPairs,
+    /// A listed index of an object without a section, in decimal digits.
+    DecimalIndex(u64),
+    /// A listed index below 1000h, in as many decimal digits as an index has in hexadecimal.
+    LowDecimal(u64),
+    /// Another listed index below 1000h.
+    LowIndex(u64),
     /// A type that isn't the one of CiA 301 for this entry, by its code.
     FixedType(u16),
     /// An entry without DataType, and whether it is a sub-index.
@@ -77,6 +94,8 @@ pub enum Fact {
     AboveHigh(usize),
     /// The same, where that limit is below 0.
     AboveNegative(usize),
+    /// A limit outside the range of its type.
+    LimitOutside,
     /// A HighLimit below its LowLimit, by the line of LowLimit.
     LimitsCrossed(usize),
     /// The same, where HighLimit is below 0.
@@ -141,7 +160,23 @@ fn words_of(fact: Fact) -> &'static str
         Fact::NoMandatoryList => "there is no section [MandatoryObjects]",
         Fact::NotListed(device, error, identity) => not_listed(device, error, identity),
         Fact::LargeText => "the text has more than 1,048,576 bytes",
-        Fact::NoValue => "the value is no number",
+        Fact::NoValue => "the value is no whole number of at most 64 bits",
+        Fact::MeantSection(section) => meant_text(section),
+        Fact::ByteOrderMark => {
+            "the text begins with a byte order mark of UTF-8, which older tools read as characters"
+        }
+        Fact::CommentInValue => {
+            "`;` begins a comment only at the beginning of a line, so it belongs to the value"
+        }
+        Fact::QuotedValue => "the value is in quotes, which belong to it",
+        Fact::NoPairs => "an OCTET_STRING is pairs of hexadecimal digits",
+        Fact::DecimalIndex(_) => {
+            "the listed object % has no section: % is decimal, 0x% is hexadecimal"
+        }
+        Fact::LowDecimal(_) => {
+            "% is below 0x1000, so it isn't read: % is decimal, 0x% is hexadecimal"
+        }
+        Fact::LowIndex(_) => "% is below 0x1000, so it isn't read",
         Fact::FixedType(_) => "CiA 301 has DataType=0x% here",
         Fact::NoType(_) => "the entry has no DataType",
         Fact::NoAccess(_) => "the entry has no AccessType",
@@ -168,6 +203,7 @@ fn words_of(fact: Fact) -> &'static str
         Fact::AboveNegative(_) => {
             "the value is above the HighLimit of line %, which is a negative number"
         }
+        Fact::LimitOutside => "the limit is outside the type's range",
         Fact::LimitsCrossed(_) => "HighLimit is below the LowLimit of line %",
         Fact::NegativeHigh(_) => "HighLimit is a negative number, below the LowLimit of line %",
     }
@@ -210,7 +246,14 @@ fn values_of(fact: Fact) -> [Part; 3]
             Part::Hexadecimal(other),
             Part::Number(0),
         ],
-        Fact::NoIdentity(other) => [Part::Hexadecimal(other), Part::Number(0), Part::Number(0)],
+        Fact::NoIdentity(other) | Fact::LowIndex(other) => {
+            [Part::Hexadecimal(other), Part::Number(0), Part::Number(0)]
+        }
+        Fact::DecimalIndex(index) | Fact::LowDecimal(index) => [
+            Part::Hexadecimal(index),
+            Part::Number(index),
+            Part::Number(index),
+        ],
         Fact::FixedType(code) => [Part::Code(code), Part::Number(0), Part::Number(0)],
         _ => numbers(0, 0, 0),
     }

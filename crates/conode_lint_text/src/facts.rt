@@ -4,8 +4,10 @@ ghost use Rattle.std.specs.Prelude.{◌≡◌, map, option_map};
 ghost use Rattle.std.specs.Option.{option_copied};
 ghost use Rattle.co_sheet_text.specs.Views.{section_view};
 ghost use Rattle.conode_lint_text.specs.Facts.{
+  bad_access,
   bad_number,
   bad_type,
+  beside,
   device_info,
   duplicate_key,
   duplicate_section,
@@ -20,14 +22,23 @@ ghost use Rattle.conode_lint_text.specs.Facts.{
   identity_at,
   identity_number,
   initial_number,
+  is_decimal_index,
+  is_quoted,
   is_sub_index,
   is_sub_index_of,
+  is_value_key,
   key_fact,
   key_name,
   key_number,
+  key_value,
+  listed_fact,
+  low_fact,
+  misspelt_key,
+  misspelt_section,
   missing_key,
   missing_section,
   no_pdo_fact,
+  odd_value,
   other_type,
   pdo_count,
   pdo_fact,
@@ -43,14 +54,17 @@ ghost use Rattle.conode_lint_text.specs.Facts.{
   sub_number_of,
   too_large,
   type_fact,
+  utf8,
+  wrong_list,
 };
 
 use crate::fact::Fact;
 use crate::finding::About;
+use crate::meant_section::meant_section;
 use co_profile::fixed_type;
 use co_sheet::section_at;
-use co_sheet_text::{SectionKind, TextSection, same_name, trim, unsigned_number};
-use co_sheet_warnings::{object_count, value_in};
+use co_sheet_text::{SectionKind, TextSection, number_in, same_name, trim, unsigned_number};
+use co_sheet_warnings::{KnownKey, has_other_byte, object_count, value_in};
 use co_text::split_at_first;
 use co_value::Key;
 
@@ -107,6 +121,16 @@ pub(crate) fn key_number(text: &[u8]) -> Option<u64>
     }
 }
 
+/// The value of the key on a line.
+pub(crate) fn key_value(text: &[u8]) -> &[u8]
+    ensures { result.now ≡ key_value text.now }
+{
+    match split_at_first(text, b'=') {
+        Some((_, value)) => trim(value),
+        None => &[],
+    }
+}
+
 /// Of the TooLarge of a line, 0 where the text has too many bytes.
 pub fn too_large(line: usize) -> About
     ensures { result ≡ too_large line }
@@ -118,27 +142,101 @@ pub fn too_large(line: usize) -> About
     }
 }
 
-/// Of the MissingSection of a line, 0 where there is no list of the mandatory objects.
-pub fn missing_section(line: usize) -> About
-    ensures { result ≡ missing_section line }
+// at most four decimal digits, which were meant in hexadecimal
+fn is_decimal_index(value: &[u8], index: u64) -> bool
+    ensures { result ≡ is_decimal_index value.now index }
 {
-    if line == 0 {
-        About::Fact(Fact::NoMandatoryList)
+    number_in(10, value).is_some() && index <= 9999
+}
+
+fn listed_fact(value: &[u8], index: u64) -> About
+    ensures { result ≡ listed_fact value.now index }
+{
+    if is_decimal_index(value, index) {
+        About::Fact(Fact::DecimalIndex(index))
     } else {
         About::Line
     }
 }
 
-/// Of the BadNumber of a line: a value may be a sum with `$NODEID`.
+/// Of the MissingSection of a line, 0 where there is no list of the mandatory objects: an index in
+/// decimal digits.
+pub fn missing_section(line: usize, text: &[u8]) -> About
+    ensures { result ≡ missing_section line text.now }
+{
+    if line == 0 {
+        return About::Fact(Fact::NoMandatoryList);
+    }
+    match key_number(text) {
+        Some(index) => listed_fact(key_value(text), index),
+        None => About::Line,
+    }
+}
+
+fn low_fact(value: &[u8], index: u64) -> About
+    ensures { result ≡ low_fact value.now index }
+{
+    if 0x1000 <= index {
+        About::Line
+    } else if is_decimal_index(value, index) && 1000 <= index {
+        About::Fact(Fact::LowDecimal(index))
+    } else {
+        About::Fact(Fact::LowIndex(index))
+    }
+}
+
+/// Of the WrongList of a line: an index below 1000h.
+pub fn wrong_list(text: &[u8]) -> About
+    ensures { result ≡ wrong_list text.now }
+{
+    match key_number(text) {
+        Some(index) => low_fact(key_value(text), index),
+        None => About::Line,
+    }
+}
+
+fn is_quoted(value: &[u8]) -> bool
+    ensures { result ≡ is_quoted value.now }
+{
+    matches!(value, [b'"' | b'\'', ..])
+}
+
+// of a value that begins with a quote or has `;` in it; of others this
+fn odd_value(value: &[u8], other: About) -> About
+    ensures { result ≡ odd_value value.now other }
+{
+    if is_quoted(value) {
+        About::Fact(Fact::QuotedValue)
+    } else if split_at_first(value, b';').is_some() {
+        About::Fact(Fact::CommentInValue)
+    } else {
+        other
+    }
+}
+
+fn is_value_key(name: &[u8]) -> bool
+    ensures { result ≡ is_value_key name.now }
+{
+    same_name(name, b"DefaultValue") || same_name(name, b"ParameterValue")
+}
+
+/// Of the BadNumber of a line: quotes or a comment in its value, which may be a sum with `$NODEID`.
 pub fn bad_number(text: &[u8]) -> About
     ensures { result ≡ bad_number text.now }
 {
-    let name = key_name(text);
-    if same_name(name, b"DefaultValue") || same_name(name, b"ParameterValue") {
+    let other = if is_value_key(key_name(text)) {
         About::Fact(Fact::NoValue)
     } else {
         About::Line
-    }
+    };
+    odd_value(key_value(text), other)
+}
+
+/// Of the BadAccess of a line: quotes or a comment in its value.
+pub fn bad_access(text: &[u8]) -> About
+    ensures { result ≡ bad_access text.now }
+{
+    odd_value(key_value(text), About::Line)
 }
 
 fn key_fact(is_sub: bool, has_type: bool, has_access: bool) -> About
@@ -192,6 +290,37 @@ pub fn duplicate_key(sections: &[TextSection<'_, '_>], line: usize, text: &[u8])
     match section_before(sections, line) {
         Some(section) => first_key(key_name(text), section),
         None => About::Line,
+    }
+}
+
+/// Of the Utf8 of a line: without a byte above 7Fh it has a byte order mark in front.
+pub fn utf8(text: &[u8]) -> About
+    ensures { result ≡ utf8 text.now }
+{
+    if has_other_byte(text) {
+        About::Line
+    } else {
+        About::Fact(Fact::ByteOrderMark)
+    }
+}
+
+fn beside(section: &TextSection<'_, '_>, known: KnownKey) -> About
+    ensures { result ≡ beside known (section_view section.now) }
+{
+    if section.property(known.name().as_bytes()).is_some() {
+        About::MisspeltBeside(known)
+    } else {
+        About::Misspelt(known)
+    }
+}
+
+/// Of the MisspeltKey of a line, by the key that is meant: whether it is there too.
+pub fn misspelt_key(sections: &[TextSection<'_, '_>], line: usize, known: KnownKey) -> About
+    ensures { result ≡ misspelt_key line (map section_view sections.now) known }
+{
+    match section_before(sections, line) {
+        Some(section) => beside(section, known),
+        None => About::Misspelt(known),
     }
 }
 
@@ -284,6 +413,16 @@ pub fn duplicate_section(sections: &[TextSection<'_, '_>], text: &[u8]) -> About
     let kind = section_kind(text);
     match section_at(sections, kind) {
         Some(section) => first_section(section),
+        None => About::Line,
+    }
+}
+
+/// Of the MisspeltSection of a line: the section that is meant, where it is no object's.
+pub fn misspelt_section(text: &[u8]) -> About
+    ensures { result ≡ misspelt_section text.now }
+{
+    match meant_section(section_name(text)) {
+        Some(section) => About::Fact(Fact::MeantSection(section)),
         None => About::Line,
     }
 }

@@ -36,6 +36,8 @@ pub enum About {
     FirstAt(usize),
     /// A key that the standard doesn't have, by the one that is meant.
     Misspelt(KnownKey),
+    /// The same, where the one that is meant is there too.
+    MisspeltBeside(KnownKey),
     /// What the sheet has there, which is said in place of what is wrong.
     Fact(Fact),
 }

@@ -58,6 +58,11 @@ fn push_about(text: &mut String, about: About, meaning: &str) -> Result<(), Allo
             "the standard has no such key: did you mean %",
             &[Value::Words(known.name())],
         ),
+        About::MisspeltBeside(known) => push_filled(
+            text,
+            "the standard has no such key: did you mean %, which is there too",
+            &[Value::Words(known.name())],
+        ),
         About::Fact(fact) => push_fact(text, fact),
     }
 }
@@ -85,7 +90,19 @@ pub(crate) fn fix_of<'a>(finding: &Finding<'a>) -> &'a str
         About::Fact(Fact::NoValue) => {
             "write decimal digits, 0x and hexadecimal digits, or a sum as $NODEID+0x180"
         }
-        About::Fact(Fact::FixedType(_)) => { "give that type, or take the object out of its list" }
+        About::Fact(Fact::ByteOrderMark) => "save it without the mark",
+        About::Fact(Fact::CommentInValue) => "put the comment on a line of its own",
+        About::Fact(Fact::QuotedValue) => "take the quotes out",
+        About::Fact(Fact::NoPairs) => "write pairs of hexadecimal digits without blanks, as 00A1FF",
+        About::Fact(Fact::DecimalIndex(_)) => {
+            "write the index in hexadecimal, after 0x; or add the section"
+        }
+        About::Fact(Fact::LowDecimal(_)) => "write the index in hexadecimal, after 0x",
+        About::Fact(Fact::LowIndex(_)) => "take it out of the list",
+        About::MisspeltBeside(_) => "take it out",
+        About::Fact(Fact::FixedType(_)) => {
+            "give that type, or take the object out of its list, unless it is mandatory"
+        }
         About::Fact(Fact::NoType(true)) => "add DataType",
         About::Fact(Fact::NoAccess(true)) => "add AccessType",
         About::Fact(Fact::NoTypeOrAccess(true)) => "add DataType and AccessType",

@@ -1,9 +1,8 @@
 -- Which form a log has, by its first lines, evaluated.
-use Rattle.std.proofs.Common.{◌≡◌, ℕ, List, [], ◌∷◌, Result, Ok, Err, false, refl}
+use Rattle.std.proofs.Common.{◌≡◌, ℕ, List, [], ◌∷◌, Ok, Err, refl}
 use Rattle.std.specs.Prelude.{codes}
 use Rattle.conode_record.specs.declared.bad_log_line.BadLogLine.{BadLogLine}
 use Rattle.conode_record.specs.declared.bad_log_line.BadLogLine.TheVariants as bad
-use Rattle.conode_record.specs.declared.frame.LogLine.{LogLine}
 use Rattle.conode_record.specs.declared.frame.LogLine.TheVariants.{Skipped, AsItIs}
 use Rattle.conode_logs.specs.declared.log.Form.{Form}
 use Rattle.conode_logs.specs.declared.log.Form.TheVariants.{Unknown, Candump, Screen, Deltas, Trc, Asc}

@@ -1,5 +1,5 @@
 -- What a line of a log says, and what is known of the log after it.
-use Rattle.std.specs.Prelude.{ℕ, ◌==◌, nat_eq, Bool, true, false, ◌||◌, if◌then◌else◌, List, [], ◌∷◌, drop, slice_index, Option, Some, None, Result, Ok, Err, codes, bytes_eq}
+use Rattle.std.specs.Prelude.{ℕ, nat_eq, Bool, true, false, ◌||◌, if◌then◌else◌, List, [], ◌∷◌, drop, Result, Ok, Err, codes, bytes_eq}
 use Rattle.std.specs.List.{starts_with}
 use Rattle.std.specs.Option.{option_map_or}
 use Rattle.conode_record.specs.declared.bad_line.BadLine.{BadLine}
@@ -17,7 +17,7 @@ use Rattle.conode_logs.specs.declared.log.Log.{Log}
 use Rattle.conode_record.specs.declared.numbers.Base.TheVariants.{Hexadecimal}
 use Rattle.conode_logs.specs.Asc.{asc_line}
 use Rattle.conode_record.specs.BadWords.{of_record}
-use Rattle.conode_logs.specs.Screen.{is_screen_note, screen_line}
+use Rattle.conode_logs.specs.Screen.{screen_line}
 use Rattle.conode_logs.specs.Trc.{is_version, trc_line, version_of}
 use Rattle.conode_record.specs.Words.{is_over, word_at}
 

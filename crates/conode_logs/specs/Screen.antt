@@ -1,7 +1,7 @@
 -- What candump shows on a screen: a stamp, if there is one, the interface, with `-x` the direction
 -- and the flags of a CAN FD frame, the identifier, the length in brackets, the bytes, and with `-a`
 -- their characters.
-use Rattle.std.specs.Prelude.{ℕ, ◌+◌, ◌-◌, ◌==◌, nat_lt, Bool, true, false, ◌&&◌, ◌||◌, if◌then◌else◌, List, length, take, drop, slice_index, Option, Some, None, is_some, Result, Ok, Err, codes, bytes_eq}
+use Rattle.std.specs.Prelude.{ℕ, ◌+◌, ◌-◌, ◌==◌, Bool, true, false, ◌&&◌, ◌||◌, if◌then◌else◌, List, length, take, drop, slice_index, Option, Some, None, is_some, Result, Ok, Err, codes, bytes_eq}
 use Rattle.std.specs.Option.{option_map, option_map_or}
 use Rattle.co_text.specs.Texts.{◌>>=◌, decimal_in}
 use Rattle.conode_record.specs.declared.content.Direction.{Direction}

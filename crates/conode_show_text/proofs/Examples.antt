@@ -117,7 +117,7 @@ first_indented : line_of Text (part 0 [] ∷ part 2 (codes "b") ∷ []) ≡ code
 unfolding placed
 first_indented = refl
 
-table_row : line_of Markdown (part 0 (codes "a|b&c") ∷ part 2 [] ∷ part 4 (codes "$d") ∷ []) ≡ codes "| a\\|b\\&c |  | \\$d |\n"
+table_row : line_of Markdown (part 0 (codes "a|b&c") ∷ part 2 [] ∷ part 4 (codes "$d~") ∷ []) ≡ codes "| a\\|b\\&c |  | \\$d\\~ |\n"
 unfolding placed
 table_row = refl
 

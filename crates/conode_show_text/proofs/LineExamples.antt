@@ -19,7 +19,7 @@ use Rattle.conode_show_text.specs.Values.{default_text, known_text, limit_text, 
 use Rattle.conode_show_text.specs.CobIds.{cob_id_text, identifier_text, pdo_cob_id_text}
 use Rattle.conode_show_text.specs.Meanings.{consumer_text, millis_text, said, time_text, word_text}
 use Rattle.conode_show_text.specs.declared.meaning.Meaning.TheVariants.{Consumer, PdoCobId}
-use Rattle.conode_show_text.specs.Entries.{entry_line, entry_type, has_sub_indices, is_split, mappable_text, object_heading, object_line, one_line, section_text, two_lines, type_name, type_text}
+use Rattle.conode_show_text.specs.Entries.{entry_line, entry_type, has_sub_indices, heading_with, is_split, mappable_text, object_heading, object_line, one_line, section_text, sub_heading, two_lines, type_name, type_text}
 use Rattle.conode_show_text.specs.Services.{service_name, service_of}
 use Rattle.conode_show_text.specs.Pdos.{inhibit_text, is_counted, is_pdo_cob_id, mapped_lines, mapped_name, mapping_count, multiplexed_line, multiplexed_words, pdo_line, pdo_lines, pdo_name, pdo_text, said_at}
 use Rattle.conode_show_text.specs.Document.{rank}
@@ -59,6 +59,20 @@ table_of_records : section_text Markdown None [] (section (Object 0x1018) (prope
     ≡ codes "\n### 1018h Identity\n\n| Entry | Name | Type | Access | PDO | Default | Limits |\n| --- | --- | --- | --- | --- | --- | --- |\n| 1018 | Identity | RECORD |  |  |  |  |\n"
 unfolding object_heading object_line placed property_text plain_text shown_character characters_of is_utf8 chars encode type_text digits_text
 table_of_records = refl
+
+-- the first sub-index of an object without a section has a heading, in Markdown; one of an object with a section has none, nor a later one
+abbrev alone : List TextSection
+alone = section (Object 0x3000) [] ∷ section (SubIndex (record { index = 0x3000; sub = 0 })) [] ∷ section (SubIndex (record { index = 0x3001; sub = 1 })) [] ∷ section (SubIndex (record { index = 0x3001; sub = 2 })) [] ∷ []
+
+headings_alone : map (λ key. sub_heading Markdown key alone) (record { index = 0x3000; sub = 0 } ∷ record { index = 0x3001; sub = 1 } ∷ record { index = 0x3001; sub = 2 } ∷ [])
+    ≡ [] ∷ codes "\n### 3001h\n\n| Entry | Name | Type | Access | PDO | Default | Limits |\n| --- | --- | --- | --- | --- | --- | --- |\n" ∷ [] ∷ []
+unfolding digits_text
+headings_alone = refl
+
+-- an object without a name has no blank at its end
+nameless : heading_with 0x2000 [] ∷ heading_with 0x2000 (codes "a~") ∷ [] ≡ codes "\n### 2000h" ∷ codes "\n### 2000h a\\~" ∷ []
+unfolding digits_text
+nameless = refl
 
 -- an ObjectType that is no number, as `RECORD`: with a section of a sub-index, and with that of another object
 abbrev unread : List Property

@@ -8,6 +8,7 @@ use Rattle.co_value.specs.KeyTexts.{key_text}
 use Rattle.co_sheet_text.specs.declared.section_kind.SectionKind.{SectionKind}
 use Rattle.co_sheet_text.specs.declared.section_kind.SectionKind.TheVariants.{Object, SubIndex}
 use Rattle.co_sheet_text.specs.Sections.{TextSection, property_at}
+use Rattle.co_sheet_text.specs.Text.{is_empty}
 use Rattle.co_sheet_text.specs.Properties.{property_number, number_at}
 use Rattle.co_sheet.specs.ObjectLists.{is_one_of}
 use Rattle.co_sheet.specs.Entries.{object_code, is_other_than_zero}
@@ -142,13 +143,41 @@ entries_head Text = codes "Entry   Name                          Type           
 entries_head Markdown =
     codes "| Entry | Name | Type | Access | PDO | Default | Limits |\n| --- | --- | --- | --- | --- | --- | --- |\n"
 
+-- the end of an index in a heading; a blank before a name
+abbrev pub index_end : List ℕ → List ℕ
+index_end name = if is_empty name then codes "h" else codes "h "
+
+abbrev pub heading_with : ℕ → List ℕ → List ℕ
+heading_with index name =
+    codes "\n### " ++ digits_text 16 4 index ++ index_end name ++ flat_map cell_byte name
+
 -- what comes before an object: in Markdown a heading, as `### 1018h Identity object`, and the head of
 -- its table
 unfoldable pub object_heading : Format → ℕ → TextSection → List ℕ
 object_heading Text index section = []
 object_heading Markdown index section =
-    codes "\n### " ++ digits_text 16 4 index ++ codes "h "
-    ++ flat_map cell_byte (property_text (codes "ParameterName") section) ++ codes "\n\n" ++ entries_head Markdown
+    heading_with index (property_text (codes "ParameterName") section) ++ codes "\n\n" ++ entries_head Markdown
+
+-- whether a sub-index comes first of its object, which then has no section
+abbrev pub is_of_object : ℕ → SectionKind → Bool
+is_of_object index (Object other) = other == index
+is_of_object index other = is_sub_index index other
+
+abbrev pub is_of_key : Key → SectionKind → Bool
+is_of_key key (SubIndex other) = other.index == key.index && other.sub == key.sub
+is_of_key key other = false
+
+abbrev pub begins_object : Key → List TextSection → Bool
+begins_object key [] = false
+begins_object key (s ∷ sections) =
+    if is_of_object key.index s.kind then is_of_key key s.kind else begins_object key sections
+
+-- what comes before it: the heading of an object without a name
+abbrev pub sub_heading : Format → Key → List TextSection → List ℕ
+sub_heading Text key sections = []
+sub_heading Markdown key sections =
+    if begins_object key sections
+    then heading_with key.index [] ++ codes "\n\n" ++ entries_head Markdown else []
 
 -- the lines of a section: an object with sub-indices, or else its entry; or the entry of a sub-index
 abbrev pub described : Format → Option ℕ → List TextSection → TextSection → SectionKind → List ℕ
@@ -156,7 +185,8 @@ described format given sections section (Object index) =
     object_heading format index section
     ++ (if has_sub_indices sections index section then object_line format index section
     else entry_line format given (record { index = index; sub = 0 }) section)
-described format given sections section (SubIndex key) = entry_line format given key section
+described format given sections section (SubIndex key) =
+    sub_heading format key sections ++ entry_line format given key section
 described format given sections section other = []
 
 abbrev pub section_text : Format → Option ℕ → List TextSection → TextSection → List ℕ

@@ -24,7 +24,7 @@ gap column line = if nat_lt (columns line) column then column - columns line els
 
 -- a character that Markdown would take for markup
 abbrev pub is_markup : ℕ → Bool
-is_markup byte = list_any (λ other. byte == other) (codes "\\|<&*_`[$")
+is_markup byte = list_any (λ other. byte == other) (codes "\\|<&*_`[$~")
 
 -- a byte of a table's cell
 abbrev pub cell_byte : ℕ → List ℕ

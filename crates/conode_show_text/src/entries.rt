@@ -3,6 +3,7 @@
 ghost use Rattle.std.specs.Prelude.{◌≡◌, ◌++◌, ℕ, Option, OnOk, flat_map, map, string_bytes};
 ghost use Rattle.co_sheet_text.specs.Views.{section_view};
 ghost use Rattle.conode_show_text.specs.Entries.{
+  begins_object,
   compound_type,
   entries_head,
   entry_line,
@@ -10,12 +11,16 @@ ghost use Rattle.conode_show_text.specs.Entries.{
   entry_type,
   has_sub_index,
   has_sub_indices,
+  index_end,
   is_mappable,
+  is_of_key,
+  is_of_object,
   is_split,
   is_sub_index,
   object_heading,
   object_line,
   section_text,
+  sub_heading,
   two_lines,
   type_text,
 };
@@ -232,6 +237,12 @@ fn push_all(text: &mut Vec<u8>, parts: &[&str]) -> Result<(), AllocError>
     Ok(())
 }
 
+fn index_end(name: &str) -> &'static str
+    ensures { result.now ≡ index_end name.now }
+{
+    if name.is_empty() { "h" } else { "h " }
+}
+
 // in Markdown the heading of an object, and the head of its table
 #[tactic(auto, unfolding(crate::specs::Entries::object_heading))]
 fn push_heading(
@@ -249,9 +260,63 @@ fn push_heading(
     };
     part.clear();
     attempt!(push_property(part, section, b"ParameterName"));
-    attempt!(push_all(text, &["\n### ", word_digits(index).as_str(), "h "]));
+    let end = index_end(part.as_str());
+    attempt!(push_all(text, &["\n### ", word_digits(index).as_str(), end]));
     attempt!(push_cell(text, part.as_bytes()));
     push_all(text, &["\n\n", entries_head(Format::Markdown)])
+}
+
+fn is_of_object(index: u16, kind: SectionKind) -> bool
+    ensures { result ≡ is_of_object index kind }
+{
+    match kind {
+        SectionKind::Object(other) => other == index,
+        _ => is_sub_index(index, kind),
+    }
+}
+
+fn is_of_key(key: Key, kind: SectionKind) -> bool
+    ensures { result ≡ is_of_key key kind }
+{
+    match kind {
+        SectionKind::SubIndex(other) => other.index == key.index && other.sub == key.sub,
+        _ => false,
+    }
+}
+
+// whether a sub-index comes first of its object, which then has no section
+fn begins_object(key: Key, sections: &[TextSection]) -> bool
+    ensures { result ≡ begins_object key (map section_view sections.now) }
+{
+    for section in sections {
+        if is_of_object(key.index, section.kind) {
+            return is_of_key(key, section.kind);
+        }
+    }
+    false
+}
+
+// in Markdown the heading of an object without a section, before its first sub-index
+fn push_sub_heading(
+    text: &mut Vec<u8>,
+    format: Format,
+    key: Key,
+    sections: &[TextSection],
+) -> Result<(), AllocError>
+    ensures { OnOk result (text.new.items
+        ≡ text.old.items ++ sub_heading format key (map section_view sections.now)) }
+{
+    let Format::Markdown = format else {
+        return Ok(());
+    };
+    if !begins_object(key, sections) {
+        return Ok(());
+    }
+    let head = entries_head(Format::Markdown);
+    push_all(
+        text,
+        &["\n### ", word_digits(key.index).as_str(), "h", "\n\n", head],
+    )
 }
 
 // an object with sub-indices
@@ -307,7 +372,10 @@ pub(crate) fn push_section<'p>(
             }
             Key { index, sub: 0 }
         }
-        SectionKind::SubIndex(key) => key,
+        SectionKind::SubIndex(key) => {
+            attempt!(push_sub_heading(text, format, key, sections));
+            key
+        }
         _ => return Ok(()),
     };
     push_entry_line(text, line, part, format, node, key, section)

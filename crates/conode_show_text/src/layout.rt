@@ -62,7 +62,7 @@ fn is_markup(byte: u8) -> bool
 {
     matches!(
         byte,
-        b'\\' | b'|' | b'<' | b'&' | b'*' | b'_' | b'`' | b'[' | b'$'
+        b'\\' | b'|' | b'<' | b'&' | b'*' | b'_' | b'`' | b'[' | b'$' | b'~'
     )
 }
 

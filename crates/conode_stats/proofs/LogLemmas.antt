@@ -1,5 +1,5 @@
 -- A line of a log of which it is known that it is as `candump -L` writes it.
-use Rattle.std.proofs.Common.{◌≡◌, ℕ, List, Option, Result, Ok, Err, refl, sym, ap, ◌∙◌}
+use Rattle.std.proofs.Common.{◌≡◌, ℕ, List, Result, Ok, Err, refl, ap}
 use Rattle.conode_logs.specs.declared.log.Form.{Form}
 use Rattle.conode_logs.specs.declared.log.Form.TheVariants.{Candump}
 use Rattle.conode_logs.specs.declared.log.Log.{Log}

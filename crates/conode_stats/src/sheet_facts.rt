@@ -1,12 +1,10 @@
 //! What the statistics take of a data sheet.
 
 use crate::bit_rate::bit_rate_in;
+use co_profile::PRODUCER_HEARTBEAT;
 use co_sheet::{EntryRow, Preset, Sheet};
 use conode_convert::SheetWord;
 use conode_stats_text::SheetFacts;
-
-/// The index of the producer heartbeat time (CiA 301, 7.5.2.20).
-const PRODUCER_HEARTBEAT: u16 = 0x1017;
 
 // the number that a sheet has for an entry, if it has 16 bits
 fn number_in(entry: &EntryRow<'_>) -> Option<u16> {

@@ -3,10 +3,8 @@
 ghost use Rattle.std.specs.Prelude.{◌≡◌};
 ghost use Rattle.conode_stats_counts.specs.ShownTimes.{first_word, time_by, time_of};
 
+use co_profile::PRODUCER_HEARTBEAT;
 use conode_explain_transfers::{Direction, Ended, Ending, Told};
-
-/// The index of the producer heartbeat time (CiA 301, 7.5.2.20).
-const PRODUCER_HEARTBEAT: u16 = 0x1017;
 
 /// The producer heartbeat time, 1017:00, of a node, by an SDO transfer that is done.
 #[derive(Clone, Copy)]

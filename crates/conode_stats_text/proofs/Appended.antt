@@ -1,5 +1,5 @@
 -- What is appended one part after another.
-use Rattle.std.proofs.Common.{◌≡◌, List, Option, [], ◌++◌, Some, None, sym, ap, ◌∙◌, append_assoc, append-nil}
+use Rattle.std.proofs.Common.{List, Option, [], ◌++◌, Some, None, sym, ap, ◌∙◌, append_assoc, append-nil}
 use Rattle.conode_stats_text.specs.Papers.{IsAppended, is_appended}
 
 module _ {A : Type 0} where

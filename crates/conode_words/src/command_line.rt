@@ -1,7 +1,15 @@
 //! The command line.
 
 ghost use Rattle.std.specs.Prelude.{◌≡◌, map, IfOk, IfSome, IsSomeAnd, option_map, is_some};
-ghost use Rattle.clap.specs.Words.{FailsBy, found_of, rows_of, subcommand_of, subcommand_rows_of};
+ghost use Rattle.clap.specs.Words.{
+  FailsBy,
+  found_of,
+  kind_of,
+  rows_of,
+  subcommand_of,
+  subcommand_rows_of,
+};
+ghost use Rattle.clap.specs.declared.error.kind.ErrorKind.TheVariants.{InvalidValue};
 ghost use Rattle.conode_words.specs.Commands.{IsCommand, conode_command};
 ghost use Rattle.conode_words.specs.Fields.{AsksFor};
 ghost use Rattle.conode_words.specs.Tasks.{
@@ -23,9 +31,10 @@ use crate::choices::{
     colours_for, format_for, lines_as_for, log_form_for, mode_for, report_as_for, shown_for,
     stamps_for, zeros_for,
 };
-use crate::commands::conode_command;
+use crate::commands::{COMMANDS, conode_command, subcommand_alone};
 use crate::found::{is, is_used};
 use crate::help;
+use crate::options::Subcommand;
 use crate::tasks::{ReportAs, Task};
 use clap::error::ErrorKind;
 use clap::{ArgMatches, Command, Error};
@@ -134,11 +143,24 @@ fn asked_of<'a>(alloc: Global, matches: &ArgMatches<'a>) -> Result<Option<Task<'
     }
 }
 
+// the error about a word of the subcommand that is used, with its usage
+fn word_error(
+    alloc: Global,
+    rows: &[Subcommand],
+    matches: &ArgMatches<'_>,
+    text: &str,
+) -> Result<Error, AllocError>
+    ensures { IfOk result (λ error. kind_of error ≡ InvalidValue) }
+{
+    let mut command = subcommand_alone(alloc, rows, matches.subcommand_name().unwrap_or(""))?;
+    command.error(ErrorKind::InvalidValue, text)
+}
+
 // what words that the command accepts ask for, unless one of them is none of the choices
 #[tactic(auto, unfolding(crate::specs::Tasks::word_fault))]
 fn task_of<'a>(
     alloc: Global,
-    command: &mut Command<'a>,
+    rows: &[Subcommand],
     matches: &ArgMatches<'a>,
 ) -> Result<Option<Task<'a>>, Error>
     ensures ok { IfOk result (λ task.
@@ -146,7 +168,7 @@ fn task_of<'a>(
     ensures fault { FailsBy (word_fault (subcommand_rows_of matches.now)) result }
 {
     if let Some(text) = other_word(matches) {
-        return Err(command.error(ErrorKind::InvalidValue, text)?);
+        return Err(word_error(alloc, rows, matches, text)?);
     }
     Ok(asked_of(alloc, matches)?)
 }
@@ -154,6 +176,7 @@ fn task_of<'a>(
 // what the words ask for, by the program's command
 fn task_by<'a>(
     alloc: Global,
+    rows: &[Subcommand],
     command: &mut Command<'a>,
     words: &'a [&'a str],
 ) -> Result<Option<Task<'a>>, Error>
@@ -163,7 +186,7 @@ fn task_by<'a>(
     ensures fault { FailsBy (task_fault (map (λ word. word.now) words.entry.now)) result }
 {
     match command.try_get_matches_from_mut(words) {
-        Ok(matches) => task_of(alloc, command, &matches),
+        Ok(matches) => task_of(alloc, rows, &matches),
         Err(error) => Err(error),
     }
 }
@@ -180,6 +203,7 @@ pub fn task<'a>(alloc: Global, words: &'a [&'a str]) -> Result<Option<Task<'a>>,
         (λ m. AsksFor m.0 m.1 (asked_by t)))) }
     ensures fault { FailsBy (task_fault (map (λ word. word.now) words.entry.now)) result }
 {
-    let mut command = conode_command(alloc)?;
-    task_by(alloc, &mut command, words)
+    let rows = &COMMANDS;
+    let mut command = conode_command(alloc, rows)?;
+    task_by(alloc, rows, &mut command, words)
 }

@@ -2,13 +2,14 @@
 
 ghost use Rattle.std.specs.Prelude.{◌≡◌, IfOk, codes};
 ghost use Rattle.clap.specs.Words.{new_app};
-ghost use Rattle.conode_words.specs.Commands.{IsCommand, conode_command, versioned};
+ghost use Rattle.conode_words.specs.Commands.{IsCommand, versioned};
+ghost use Rattle.conode_words.specs.Tables.{with_commands};
 
 use crate::help;
 use crate::options::Kind::{
     Flag, Lettered, ManyWanted, Numbered, NumberedOr, Repeated, Valued, Wanted, Worded,
 };
-use crate::options::{Subcommand, Word, new_command, with_commands};
+use crate::options::{Subcommand, Word, command_of, new_command, with_commands};
 use clap::Command;
 use std::alloc::{AllocError, Global};
 
@@ -325,69 +326,81 @@ const COMPARE: [Word; 16] = [
     ),
 ];
 
-const COMMANDS: [Subcommand; 11] = [
+/// The subcommands.
+pub(crate) const COMMANDS: [Subcommand; 11] = [
     Subcommand {
         name: "check",
+        usage: "conode check",
         about: "Checks a data sheet: what it has, or its first fault and its line",
         after_help: help::FAULTS,
         words: &CHECK,
     },
     Subcommand {
         name: "lint",
+        usage: "conode lint",
         about: "Finds all faults of data sheets, and what is suspicious in them",
         after_help: help::LINTED,
         words: &LINT,
     },
     Subcommand {
         name: "decode",
+        usage: "conode decode",
         about: "Decodes a CAN trace: each frame with what it says, by CiA 301",
         after_help: help::DECODED,
         words: &DECODE,
     },
     Subcommand {
         name: "replay",
+        usage: "conode replay",
         about: "Plays a CAN trace to the device of a data sheet",
         after_help: help::REPLAYED,
         words: &REPLAY,
     },
     Subcommand {
         name: "loop",
+        usage: "conode loop",
         about: "Downloads bytes to the device of a data sheet by an SDO client",
         after_help: help::LOOPED,
         words: &LOOP,
     },
     Subcommand {
         name: "show",
+        usage: "conode show",
         about: "Shows the object dictionary of a data sheet as people read it",
         after_help: help::SHOWN,
         words: &SHOW,
     },
     Subcommand {
         name: "adapt",
+        usage: "conode adapt",
         about: "Rewrites a vendor's data sheet to be accepted, and lists each change",
         after_help: help::ADAPTED,
         words: &ADAPT,
     },
     Subcommand {
         name: "explain",
+        usage: "conode explain",
         about: "Explains a recording: each frame with its times and what it says",
         after_help: help::EXPLAINED,
         words: &EXPLAIN,
     },
     Subcommand {
         name: "convert",
+        usage: "conode convert",
         about: "Writes a log of another recorder as `candump -L` does",
         after_help: help::CONVERTED,
         words: &CONVERT,
     },
     Subcommand {
         name: "stats",
+        usage: "conode stats",
         about: "Prints bus statistics on one page, what looks wrong first",
         after_help: help::COUNTED,
         words: &STATS,
     },
     Subcommand {
         name: "compare",
+        usage: "conode compare",
         about: "Reports where a recorded device deviates from CiA 301",
         after_help: help::COMPARED,
         words: &COMPARE,
@@ -407,9 +420,27 @@ fn only_conode<'a>(alloc: Global) -> Command<'a>
     .version(help::VERSION)
 }
 
-/// The program's command with its subcommands.
-pub(crate) fn conode_command<'a>(alloc: Global) -> Result<Command<'a>, AllocError>
-    ensures { IfOk result (λ command. IsCommand command conode_command) }
+/// The program's command with the subcommands of a table.
+pub(crate) fn conode_command<'a>(
+    alloc: Global,
+    rows: &[Subcommand],
+) -> Result<Command<'a>, AllocError>
+    ensures { IfOk result (λ command. IsCommand command
+        (with_commands (versioned (new_app (codes "conode"))) rows.now)) }
 {
-    with_commands(alloc, only_conode(alloc), &COMMANDS)
+    with_commands(alloc, only_conode(alloc), rows)
+}
+
+/// A subcommand by itself: an error about its words shows its usage.
+pub(crate) fn subcommand_alone<'a>(
+    alloc: Global,
+    rows: &[Subcommand],
+    name: &str,
+) -> Result<Command<'a>, AllocError> {
+    for row in rows {
+        if row.name == name {
+            return command_of(alloc, row)?.bin_name(row.usage);
+        }
+    }
+    Ok(only_conode(alloc))
 }

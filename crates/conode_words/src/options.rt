@@ -50,11 +50,12 @@ pub(crate) struct Word(
     pub(crate) &'static str,
 );
 
-/// A subcommand: its name, its line in help, the text at the end of its help, and its words and
-/// options.
+/// A subcommand: its name, the words that start it, its line in help, the text at the end of its help,
+/// and its words and options.
 #[derive(Clone, Copy)]
 pub(crate) struct Subcommand {
     pub(crate) name: &'static str,
+    pub(crate) usage: &'static str,
     pub(crate) about: &'static str,
     pub(crate) after_help: &'static str,
     pub(crate) words: &'static [Word],
@@ -217,8 +218,8 @@ fn with_words<'a>(
     Ok(command)
 }
 
-// the command of a row in a table
-fn command_of<'a>(alloc: Global, row: &Subcommand) -> Result<Command<'a>, AllocError>
+/// The command of a row in a table.
+pub(crate) fn command_of<'a>(alloc: Global, row: &Subcommand) -> Result<Command<'a>, AllocError>
     ensures { IfOk result (λ command. IsCommand command (app_by row.now)) }
 {
     let command = new_command(alloc, row.name, row.about, row.after_help);

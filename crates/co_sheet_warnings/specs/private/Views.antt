@@ -53,7 +53,7 @@ use Rattle.co_sheet.specs.ObjectLists.{Listing, is_listed}
 use Rattle.co_sheet_warnings.specs.Infos.{is_date, is_time}
 use Rattle.co_sheet_warnings.specs.Keys.{WrittenKey}
 use Rattle.co_sheet_warnings.specs.Lines.{first_other, numbered}
-use Rattle.co_sheet_warnings.specs.Lists.{first_fall, uncounted_key, wrong_listing}
+use Rattle.co_sheet_warnings.specs.Lists.{first_fall, uncounted_key, wrong_listings}
 use Rattle.co_sheet_warnings.specs.ReadTexts.{ReadText}
 use Rattle.co_sheet_warnings.specs.Repeats.{Placed, ScopedName, consumed_in, equal_names, identifier_name, is_at, is_before, name_in, repeats, same_scoped, shared_cob_ids}
 use Rattle.co_sheet_warnings.specs.SubIndices.{is_constant_word}
@@ -93,7 +93,7 @@ kind_row LineEnds = 29
 
 -- the lines of a list that fail a check
 abbrev pub list_places : ListCheck → TextSection → List ℕ
-list_places Objects s = filter_map (wrong_listing s.kind) (named_by s)
+list_places Objects s = wrong_listings s
 list_places Order s = first_fall 0 (named_by s)
 list_places Count s = uncounted_key s
 

@@ -1,7 +1,7 @@
-use Rattle.std.proofs.Common.{◌≡◌, List, ℕ, refl, ap, sym, ◌∙◌, map}
-use Rattle.co_sheet_changes.specs.Pieces.{Piece, piece_view}
+use Rattle.std.proofs.Common.{refl, ap, sym, ◌∙◌, map}
+use Rattle.co_sheet_changes.specs.Pieces.{piece_view}
 use Rattle.co_sheet_changes.specs.Requested.{has_changes}
-use Rattle.conode_adapt.specs.Written.{forced_text, orders_view, sheet_of}
+use Rattle.conode_adapt.specs.Written.{orders_view}
 use Rattle.conode_adapt.proofs.WrittenLemmas.{accepted_sheet, changes_same, forced_pieces_same, forced_same, read_pieces_same, read_same, sheet_same, stays_same}
 use Rattle.conode_adapt.proofs.outcome.outcome_of.Goals as goal
 

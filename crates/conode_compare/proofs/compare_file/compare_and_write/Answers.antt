@@ -1,5 +1,5 @@
 -- The lines of the recording, and then its end.
-use Rattle.std.proofs.Common.{List, Option, IfSome, subst}
+use Rattle.std.proofs.Common.{Option, IfSome, subst}
 use Rattle.conode_compare_report.specs.Views.{Kept}
 use Rattle.conode_compare.specs.Taking.{Compares}
 use Rattle.conode_compare.specs.Views.{comparison_view}

@@ -1,4 +1,4 @@
-use Rattle.conode_compare_laws.proofs.TpdoSyncs.{no_pdo_sync}
+use Rattle.conode_compare_laws.proofs.TpdoCycles.{no_pdo_sync}
 use Rattle.conode_compare_laws.proofs.tpdo_laws.no_pdo_sync.Goals as goal
 
 pub returns : goal.returns

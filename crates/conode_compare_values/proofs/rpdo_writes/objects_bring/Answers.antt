@@ -1,5 +1,5 @@
 -- One object more, and the end of the mapping.
-use Rattle.std.proofs.Common.{◌≡◌, ◌∙◌, None, sym}
+use Rattle.std.proofs.Common.{◌∙◌, None, sym}
 use Rattle.conode_compare_values.proofs.Objects.{brought_end, brought_turn}
 use Rattle.conode_compare_values.proofs.rpdo_writes.objects_bring.Goals as goal
 

@@ -1,5 +1,5 @@
 -- An object that doesn't fit, one that does, and the end of the mapping.
-use Rattle.std.proofs.Common.{◌≡◌, ◌∙◌, None, sym, map}
+use Rattle.std.proofs.Common.{◌∙◌, None, sym, map}
 use Rattle.co_sheet.specs.SheetViews.{row_view}
 use Rattle.conode_compare_values.proofs.Objects.{fit_end, fit_off, fit_on}
 use Rattle.conode_compare_values.proofs.rpdo_writes.objects_fit.Goals as goal

@@ -1,5 +1,5 @@
 -- One entry more.
-use Rattle.std.proofs.Common.{◌≡◌, ◌∙◌, ◌<◌, length, sym}
+use Rattle.std.proofs.Common.{◌∙◌, ◌<◌, length, sym}
 use Rattle.conode_compare_values.proofs.Objects.{settled_turn}
 use Rattle.conode_compare_values.proofs.rpdo_writes.RpdoWrites.settle.Goals as goal
 

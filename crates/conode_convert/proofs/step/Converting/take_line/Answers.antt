@@ -1,5 +1,5 @@
 -- What is found next, and what is written of it.
-use Rattle.std.proofs.Common.{◌≡◌, ℕ, List, refl, sym, subst}
+use Rattle.std.proofs.Common.{ℕ, List, refl, sym, subst}
 use Rattle.co_stream.specs.declared.bounded_lines.Found.{Found}
 use Rattle.co_stream.specs.declared.bounded_lines.Found.TheVariants.{Line, Last}
 use Rattle.co_stream.specs.Founds.{Finds}
