@@ -34,6 +34,8 @@ SPEED = 16000
 SECONDS, SECONDS_A_LINE, MEGABYTES = 10, 0.08, 1500
 # How much faster a crate is proved by each further job.
 GAIN = 0.8
+# How many seconds of proving say as much of this machine's speed as its small loop does: few crates say little.
+TRUSTED = 300
 
 
 class Crate:
@@ -359,9 +361,10 @@ def build(crates, kit, version, held):
                         # (another processor's archive takes what was proved for x86-64)
                         took[it.crate.name] = it.used, it.megabytes
                         write_measured(took, speed.rate())
-                    # what has ended says how fast this machine really is
+                    # what has ended says how fast this machine really is, the more the longer it took
+                    slower = (used + TRUSTED) / (foreseen + TRUSTED)
                     at_work = [(it.seconds_left(), it.crate, it.jobs) for it in running]
-                    rest = used / foreseen * estimate([*schedule.left.values()], at_work, cores)
+                    rest = slower * estimate([*schedule.left.values()], at_work, cores)
                     after = f"; about {minutes(rest)} left" if ended < count else ""
                     say(f"{ended} of {count}: {it.crate.name}, {minutes(time.monotonic() - it.begun)}{after}")
                 if not done:
