@@ -1,3 +1,4 @@
+mod AssumedExamples
 pub mod Claims
 pub mod Examples
 pub mod NamedIds
