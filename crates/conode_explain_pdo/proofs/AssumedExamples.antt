@@ -1,5 +1,5 @@
 -- PDOs of which the recording shows the mapping and not the COB-ID, on both sides of each edge.
-use Rattle.std.proofs.Common.{◌≡◌, ℕ, ◌+◌, Bool, true, false, [], ◌∷◌, List, Option, Some, None, refl, pos}
+use Rattle.std.proofs.Common.{◌≡◌, ℕ, ◌+◌, Bool, true, false, [], ◌∷◌, List, Some, None, refl, pos}
 use Rattle.std.specs.Prelude.{codes, map}
 use Rattle.std.specs.Fmt.{digits}
 use Rattle.std.specs.Str.{is_utf8, chars}
@@ -10,7 +10,7 @@ use Rattle.co_profile.specs.declared.access.Access.TheVariants.{Rw}
 use Rattle.co_sheet.specs.Limits.{Default, absent, number}
 use Rattle.co_sheet.specs.Content.{Row}
 use Rattle.co_text.specs.Printed.{digits_text}
-use Rattle.co_sheet_changes.specs.Names.{Names, entry_of}
+use Rattle.co_sheet_changes.specs.Names.{entry_of}
 use Rattle.conode_explain_values.specs.Numbers.{number_text}
 use Rattle.conode_explain_values.specs.Values.{entry_text, value_text}
 use Rattle.conode_explain_services.specs.Drives.{meaning_at}

@@ -323,7 +323,8 @@ fn push_raw(text: &mut String, bytes: &[u8], why: &str) -> Result<(), AllocError
     push_filled(text, " (%)", &[Filling::Words(why)])
 }
 
-/// Whether no COB-ID of a PDO is known: its node's sheet doesn't have it, and the recording shows none.
+/// Whether no COB-ID of a PDO is known: its node's sheet doesn't have the PDO, and the recording
+/// shows none.
 pub(crate) fn is_assumed(sheet: Option<&SheetMapping>, cob_id: Value) -> bool
     ensures { result ≡ is_assumed (option_copied sheet.entry) cob_id }
 {
