@@ -1,11 +1,11 @@
 -- The PDOs of one sheet after another.
-use Rattle.std.proofs.Common.{◌≡◌, ℕ, ◌+◌, ◌<◌, ◌≤◌, List, [], ◌∷◌, ◌++◌, length, map, take, drop, get_or, refl, sym, ap, ◌∙◌, append_assoc, append-nil}
+use Rattle.std.proofs.Common.{◌≡◌, ℕ, ◌+◌, ◌<◌, ◌≤◌, List, [], ◌∷◌, ◌++◌, length, map, take, drop, get_or, refl, sym, ap, ◌∙◌, append_assoc, append-nil, length-append, arith}
 use Rattle.std.proofs.lemmas.List.{at_drop_all, at_drop_more, take_more}
 use Rattle.co_profile.specs.declared.indices.IndexRange.{IndexRange}
 use Rattle.conode_explain_pdo.specs.declared.claim.Claim.{Claim}
 use Rattle.conode_explain_pdo.specs.declared.known_sheet.KnownSheet.{KnownSheet as KnownSheetOfCode}
 use Rattle.conode_explain_pdo.specs.Buses.{Bus}
-use Rattle.conode_explain_pdo.specs.Claims.{sheet_claims, sheets_claims}
+use Rattle.conode_explain_pdo.specs.Claims.{or_assumed, sheet_claims, sheets_claims}
 use Rattle.conode_explain_pdo.specs.Known.{KnownSheet, known_view}
 
 views_push : (xs : List KnownSheetOfCode) (x : KnownSheetOfCode) → map known_view (xs ++ x ∷ []) ≡ map known_view xs ++ known_view x ∷ []
@@ -46,3 +46,16 @@ all_there bus range id sheets place found all le so_far =
     ∙ ap (λ (l : List Claim). found ++ l)
     (sym (at_drop_all (λ (l : List KnownSheetOfCode). sheets_claims bus range id earlier (map known_view l)) sheets place le))
     ∙ so_far
+
+-- those that were added, where any were, else those that are assumed
+pub some_added : (old sent assumed : List Claim) → length old < length (old ++ sent) → old ++ sent ≡ old ++ or_assumed sent assumed
+some_added old [] assumed lt =
+    let count = length-append old [] in
+    absurd (omega (arith, lt, count))
+some_added old (claim ∷ sent) assumed lt = refl
+
+pub none_added : (old sent assumed : List Claim) → length (old ++ sent) ≤ length old → (old ++ sent) ++ assumed ≡ old ++ or_assumed sent assumed
+none_added old [] assumed le = rw (append-nil old) refl
+none_added old (claim ∷ sent) assumed le =
+    let count = length-append old (claim ∷ sent) in
+    absurd (omega (arith, le, count))

@@ -33,7 +33,7 @@ use Rattle.conode_explain_pdo.specs.Buses.{Bus}
 use Rattle.conode_explain_pdo.specs.InForce.{assumed_text, data_in_force, device_at, is_count, mapping_in_force, raw_text, shown_text, words_in_force}
 use Rattle.conode_explain_pdo.specs.Claims.{claims_with, sheet_claim, sheets_claims, shown_claim}
 use Rattle.conode_explain_pdo.specs.Known.{KnownSheet, known_sheet, names_for}
-use Rattle.conode_explain_pdo.specs.Pdos.{more_pdos, pdo_front, pdo_text, pdos_text}
+use Rattle.conode_explain_pdo.specs.Pdos.{more_pdos, pdo_by, pdo_front, pdo_text, pdos_text}
 use Rattle.conode_explain_pdo.specs.Sheets.{mapping_at, number_at, number_of, pdo_of, pdos_in, sheet_pdos, words_at}
 
 -- ---- the bits at an offset
@@ -336,12 +336,12 @@ said id = said_with (names_with rows_of_pdos) [] id (1 ∷ [])
 
 -- the PDO that a node sends. The low bits of its identifier don't name the node that receives it
 sent_alone : said 0x185 ≡ codes "TPDO1 node 5: B 2002:00 = true"
-unfolding claims_with sheets_claims sheet_claim shown_claim names_for pdos_text more_pdos pdo_text pdo_front data_in_force shown_text raw_text mapping_in_force words_in_force node_with is_of sheet_pdos pdos_in pdo_of mapping_at words_at number_at data_text mapped_text parts_text more_parts part_text part_bytes short_text more_text filled entry_of known_text meaning_at entry_text value_text number_text digits digits_text is_utf8 chars encode
+unfolding claims_with sheets_claims sheet_claim shown_claim names_for pdos_text more_pdos pdo_text pdo_by pdo_front data_in_force shown_text raw_text mapping_in_force words_in_force node_with is_of sheet_pdos pdos_in pdo_of mapping_at words_at number_at data_text mapped_text parts_text more_parts part_text part_bytes short_text more_text filled entry_of known_text meaning_at entry_text value_text number_text digits digits_text is_utf8 chars encode
 sent_alone = refl
 
 -- of a sheet for one node the PDO that it sends, and after it the one that it receives
 two_pdos : said_with (record (names_with rows_of_pdos) { only = Some 5 }) [] 0x185 (1 ∷ []) ≡ codes "TPDO1 node 5: B 2002:00 = true | RPDO1 node 5"
-unfolding claims_with sheets_claims sheet_claim shown_claim names_for pdos_text more_pdos pdo_text pdo_front data_in_force shown_text raw_text mapping_in_force words_in_force node_with is_of sheet_pdos pdos_in pdo_of mapping_at words_at number_at data_text mapped_text parts_text more_parts part_text part_bytes short_text more_text filled entry_of known_text meaning_at entry_text value_text number_text digits digits_text is_utf8 chars encode
+unfolding claims_with sheets_claims sheet_claim shown_claim names_for pdos_text more_pdos pdo_text pdo_by pdo_front data_in_force shown_text raw_text mapping_in_force words_in_force node_with is_of sheet_pdos pdos_in pdo_of mapping_at words_at number_at data_text mapped_text parts_text more_parts part_text part_bytes short_text more_text filled entry_of known_text meaning_at entry_text value_text number_text digits digits_text is_utf8 chars encode
 two_pdos = refl
 
 -- the identifiers that the pre-defined connection set has for RPDOs, and those beside them
@@ -357,11 +357,11 @@ received cob_id id = said_with (names_with (row 0x1400 1 Unsigned32 cob_id [] �
 
 fixed_receivers : received (number (pos 0x205)) 0x205 ∷ received (number (pos 0x285)) 0x285 ∷ received (node_id 0x280) 0x285 ∷ []
     ≡ codes "RPDO1 node 5" ∷ [] ∷ codes "RPDO1 node 5" ∷ []
-unfolding claims_with sheets_claims sheet_claim shown_claim names_for pdos_text more_pdos pdo_text pdo_front data_in_force shown_text raw_text mapping_in_force words_in_force node_with is_of sheet_pdos pdos_in pdo_of mapping_at words_at number_at data_text mapped_text parts_text more_parts part_text part_bytes short_text more_text filled entry_of known_text meaning_at entry_text value_text number_text digits digits_text is_utf8 chars encode
+unfolding claims_with sheets_claims sheet_claim shown_claim names_for pdos_text more_pdos pdo_text pdo_by pdo_front data_in_force shown_text raw_text mapping_in_force words_in_force node_with is_of sheet_pdos pdos_in pdo_of mapping_at words_at number_at data_text mapped_text parts_text more_parts part_text part_bytes short_text more_text filled entry_of known_text meaning_at entry_text value_text number_text digits digits_text is_utf8 chars encode
 fixed_receivers = refl
 
 one_pdo : said 0x186 ≡ codes "TPDO1 node 6: B 2002:00 = true"
-unfolding claims_with sheets_claims sheet_claim shown_claim names_for pdos_text more_pdos pdo_text pdo_front data_in_force shown_text raw_text mapping_in_force words_in_force node_with is_of sheet_pdos pdos_in pdo_of mapping_at words_at number_at data_text mapped_text parts_text more_parts part_text part_bytes short_text more_text filled entry_of known_text meaning_at entry_text value_text number_text digits digits_text is_utf8 chars encode
+unfolding claims_with sheets_claims sheet_claim shown_claim names_for pdos_text more_pdos pdo_text pdo_by pdo_front data_in_force shown_text raw_text mapping_in_force words_in_force node_with is_of sheet_pdos pdos_in pdo_of mapping_at words_at number_at data_text mapped_text parts_text more_parts part_text part_bytes short_text more_text filled entry_of known_text meaning_at entry_text value_text number_text digits digits_text is_utf8 chars encode
 one_pdo = refl
 
 no_pdo : said 0x205 ≡ []
@@ -383,25 +383,25 @@ is_unknown = codes "TPDO1 node 5: E803 (mapping is unknown)"
 
 -- a word above the count doesn't matter
 one_of_two : mapped_by (number (pos 1)) (number (pos 0x20010110)) absent ≡ codes "TPDO1 node 5: T 2001:01 = 1000"
-unfolding claims_with sheets_claims sheet_claim shown_claim names_for pdos_text more_pdos pdo_text pdo_front data_in_force shown_text raw_text mapping_in_force words_in_force node_with is_of sheet_pdos pdos_in pdo_of mapping_at words_at number_at data_text mapped_text parts_text more_parts part_text part_bytes short_text more_text filled entry_of known_text meaning_at entry_text value_text number_text digits digits_text is_utf8 chars encode
+unfolding claims_with sheets_claims sheet_claim shown_claim names_for pdos_text more_pdos pdo_text pdo_by pdo_front data_in_force shown_text raw_text mapping_in_force words_in_force node_with is_of sheet_pdos pdos_in pdo_of mapping_at words_at number_at data_text mapped_text parts_text more_parts part_text part_bytes short_text more_text filled entry_of known_text meaning_at entry_text value_text number_text digits digits_text is_utf8 chars encode
 one_of_two = refl
 
 -- no value is shown where the place of its bits isn't known
 words_missing : mapped_by (number (pos 2)) absent (number (pos 0x20010110)) ∷ mapped_by (number (pos 2)) (number (pos 0x20010110)) absent
     ∷ mapped_by (number (pos 2)) (number (pos 0)) (number (pos 0x20010110)) ∷ mapped_by (number (pos 3)) (number (pos 0x20010108)) (number (pos 0x20010108)) ∷ []
     ≡ is_unknown ∷ is_unknown ∷ is_unknown ∷ is_unknown ∷ []
-unfolding claims_with sheets_claims sheet_claim shown_claim names_for pdos_text more_pdos pdo_text pdo_front data_in_force shown_text raw_text mapping_in_force words_in_force node_with is_of sheet_pdos pdos_in pdo_of mapping_at words_at number_at data_text mapped_text parts_text more_parts part_text part_bytes short_text more_text filled entry_of known_text meaning_at entry_text value_text number_text digits digits_text is_utf8 chars encode
+unfolding claims_with sheets_claims sheet_claim shown_claim names_for pdos_text more_pdos pdo_text pdo_by pdo_front data_in_force shown_text raw_text mapping_in_force words_in_force node_with is_of sheet_pdos pdos_in pdo_of mapping_at words_at number_at data_text mapped_text parts_text more_parts part_text part_bytes short_text more_text filled entry_of known_text meaning_at entry_text value_text number_text digits digits_text is_utf8 chars encode
 words_missing = refl
 
 -- nothing is mapped where the count is 0, and not where there is none
 counts_missing : mapped_by (number (pos 0)) absent absent ∷ mapped_by absent (number (pos 0x20010110)) absent
     ∷ mapped_by (node_id 1) (number (pos 0x20010110)) absent ∷ []
     ≡ codes "TPDO1 node 5" ∷ is_unknown ∷ is_unknown ∷ []
-unfolding claims_with sheets_claims sheet_claim shown_claim names_for pdos_text more_pdos pdo_text pdo_front data_in_force shown_text raw_text mapping_in_force words_in_force node_with is_of sheet_pdos pdos_in pdo_of mapping_at words_at number_at data_text mapped_text parts_text more_parts part_text part_bytes short_text more_text filled entry_of known_text meaning_at entry_text value_text number_text digits digits_text is_utf8 chars encode
+unfolding claims_with sheets_claims sheet_claim shown_claim names_for pdos_text more_pdos pdo_text pdo_by pdo_front data_in_force shown_text raw_text mapping_in_force words_in_force node_with is_of sheet_pdos pdos_in pdo_of mapping_at words_at number_at data_text mapped_text parts_text more_parts part_text part_bytes short_text more_text filled entry_of known_text meaning_at entry_text value_text number_text digits digits_text is_utf8 chars encode
 counts_missing = refl
 
 no_mapping : said_with (names_with (row 0x1800 1 Unsigned32 (node_id 0x180) [] ∷ [])) [] 0x185 (0xE8 ∷ 0x03 ∷ []) ≡ is_unknown
-unfolding claims_with sheets_claims sheet_claim shown_claim names_for pdos_text more_pdos pdo_text pdo_front data_in_force shown_text raw_text mapping_in_force words_in_force node_with is_of sheet_pdos pdos_in pdo_of mapping_at words_at number_at data_text mapped_text parts_text more_parts part_text part_bytes short_text more_text filled entry_of known_text meaning_at entry_text value_text number_text digits digits_text is_utf8 chars encode
+unfolding claims_with sheets_claims sheet_claim shown_claim names_for pdos_text more_pdos pdo_text pdo_by pdo_front data_in_force shown_text raw_text mapping_in_force words_in_force node_with is_of sheet_pdos pdos_in pdo_of mapping_at words_at number_at data_text mapped_text parts_text more_parts part_text part_bytes short_text more_text filled entry_of known_text meaning_at entry_text value_text number_text digits digits_text is_utf8 chars encode
 no_mapping = refl
 
 -- the greatest number, one more, one below 0, one with the node-ID, none
@@ -493,77 +493,77 @@ abbrev as_it_was : List Value → List ℕ
 as_it_was mapping = after_these (shown 0x1800 Assumed mapping false ∷ [])
 
 at_first : after_these [] ≡ codes "TPDO1 node 5: B 2002:00 = true; +1 byte"
-unfolding claims_with sheets_claims sheet_claim shown_claim names_for pdos_text more_pdos pdo_text pdo_front data_in_force shown_text raw_text mapping_in_force words_in_force node_with is_of sheet_pdos pdos_in pdo_of mapping_at words_at number_at data_text mapped_text parts_text more_parts part_text part_bytes short_text more_text filled entry_of known_text meaning_at entry_text value_text number_text digits digits_text is_utf8 chars encode
+unfolding claims_with sheets_claims sheet_claim shown_claim names_for pdos_text more_pdos pdo_text pdo_by pdo_front data_in_force shown_text raw_text mapping_in_force words_in_force node_with is_of sheet_pdos pdos_in pdo_of mapping_at words_at number_at data_text mapped_text parts_text more_parts part_text part_bytes short_text more_text filled entry_of known_text meaning_at entry_text value_text number_text digits digits_text is_utf8 chars encode
 at_first = refl
 
 cob_id_alone : enabled (Assumed ∷ Assumed ∷ []) false ≡ codes "TPDO1 node 5: B 2002:00 = true; +1 byte"
-unfolding claims_with sheets_claims sheet_claim shown_claim names_for pdos_text more_pdos pdo_text pdo_front data_in_force shown_text raw_text mapping_in_force words_in_force node_with is_of sheet_pdos pdos_in pdo_of mapping_at words_at number_at data_text mapped_text parts_text more_parts part_text part_bytes short_text more_text filled entry_of known_text meaning_at entry_text value_text number_text digits digits_text is_utf8 chars encode
+unfolding claims_with sheets_claims sheet_claim shown_claim names_for pdos_text more_pdos pdo_text pdo_by pdo_front data_in_force shown_text raw_text mapping_in_force words_in_force node_with is_of sheet_pdos pdos_in pdo_of mapping_at words_at number_at data_text mapped_text parts_text more_parts part_text part_bytes short_text more_text filled entry_of known_text meaning_at entry_text value_text number_text digits digits_text is_utf8 chars encode
 cob_id_alone = refl
 
 no_count : enabled (Seen 0 ∷ Assumed ∷ []) true ≡ codes "TPDO1 node 5: 0103 (mapping is being changed)"
-unfolding claims_with sheets_claims sheet_claim shown_claim names_for pdos_text more_pdos pdo_text pdo_front data_in_force shown_text raw_text filled node_with is_of sheet_pdos pdos_in pdo_of mapping_at words_at number_at digits digits_text
+unfolding claims_with sheets_claims sheet_claim shown_claim names_for pdos_text more_pdos pdo_text pdo_by pdo_front data_in_force shown_text raw_text filled node_with is_of sheet_pdos pdos_in pdo_of mapping_at words_at number_at digits digits_text
 no_count = refl
 
 no_count_and_word : enabled (Seen 0 ∷ Seen 0x20010110 ∷ []) true
     ≡ codes "TPDO1 node 5: 0103 (mapping is being changed)"
-unfolding claims_with sheets_claims sheet_claim shown_claim names_for pdos_text more_pdos pdo_text pdo_front data_in_force shown_text raw_text filled node_with is_of sheet_pdos pdos_in pdo_of mapping_at words_at number_at digits digits_text
+unfolding claims_with sheets_claims sheet_claim shown_claim names_for pdos_text more_pdos pdo_text pdo_by pdo_front data_in_force shown_text raw_text filled node_with is_of sheet_pdos pdos_in pdo_of mapping_at words_at number_at digits digits_text
 no_count_and_word = refl
 
 mapped_anew : enabled (Seen 1 ∷ Seen 0x20010110 ∷ Assumed ∷ []) false
     ≡ codes "TPDO1 node 5 (mapping seen): T 2001:01 = 769"
-unfolding claims_with sheets_claims sheet_claim shown_claim names_for pdos_text more_pdos pdo_text pdo_front data_in_force shown_text raw_text mapping_in_force words_in_force node_with is_of sheet_pdos pdos_in pdo_of mapping_at words_at number_at data_text mapped_text parts_text more_parts part_text part_bytes short_text more_text filled entry_of known_text meaning_at entry_text value_text number_text digits digits_text is_utf8 chars encode
+unfolding claims_with sheets_claims sheet_claim shown_claim names_for pdos_text more_pdos pdo_text pdo_by pdo_front data_in_force shown_text raw_text mapping_in_force words_in_force node_with is_of sheet_pdos pdos_in pdo_of mapping_at words_at number_at data_text mapped_text parts_text more_parts part_text part_bytes short_text more_text filled entry_of known_text meaning_at entry_text value_text number_text digits digits_text is_utf8 chars encode
 mapped_anew = refl
 
 -- a word above the count doesn't matter
 above_count : as_it_was (Seen 1 ∷ Seen 0x20010110 ∷ Unknown ∷ [])
     ≡ codes "TPDO1 node 5 (mapping seen): T 2001:01 = 769"
-unfolding claims_with sheets_claims sheet_claim shown_claim names_for pdos_text more_pdos pdo_text pdo_front data_in_force shown_text raw_text mapping_in_force words_in_force node_with is_of sheet_pdos pdos_in pdo_of mapping_at words_at number_at data_text mapped_text parts_text more_parts part_text part_bytes short_text more_text filled entry_of known_text meaning_at entry_text value_text number_text digits digits_text is_utf8 chars encode
+unfolding claims_with sheets_claims sheet_claim shown_claim names_for pdos_text more_pdos pdo_text pdo_by pdo_front data_in_force shown_text raw_text mapping_in_force words_in_force node_with is_of sheet_pdos pdos_in pdo_of mapping_at words_at number_at data_text mapped_text parts_text more_parts part_text part_bytes short_text more_text filled entry_of known_text meaning_at entry_text value_text number_text digits digits_text is_utf8 chars encode
 above_count = refl
 
 saved_mapping : as_it_was (Saved 1 ∷ Saved 0x20010110 ∷ [])
     ≡ codes "TPDO1 node 5 (mapping saved): T 2001:01 = 769"
-unfolding claims_with sheets_claims sheet_claim shown_claim names_for pdos_text more_pdos pdo_text pdo_front data_in_force shown_text raw_text mapping_in_force words_in_force node_with is_of sheet_pdos pdos_in pdo_of mapping_at words_at number_at data_text mapped_text parts_text more_parts part_text part_bytes short_text more_text filled entry_of known_text meaning_at entry_text value_text number_text digits digits_text is_utf8 chars encode
+unfolding claims_with sheets_claims sheet_claim shown_claim names_for pdos_text more_pdos pdo_text pdo_by pdo_front data_in_force shown_text raw_text mapping_in_force words_in_force node_with is_of sheet_pdos pdos_in pdo_of mapping_at words_at number_at data_text mapped_text parts_text more_parts part_text part_bytes short_text more_text filled entry_of known_text meaning_at entry_text value_text number_text digits digits_text is_utf8 chars encode
 saved_mapping = refl
 
 -- the count alone was shown: the word is the sheet's
 count_shown : as_it_was (Seen 1 ∷ Assumed ∷ [])
     ≡ codes "TPDO1 node 5 (mapping partly seen): B 2002:00 = true; +1 byte"
-unfolding claims_with sheets_claims sheet_claim shown_claim names_for pdos_text more_pdos pdo_text pdo_front data_in_force shown_text raw_text mapping_in_force words_in_force node_with is_of sheet_pdos pdos_in pdo_of mapping_at words_at number_at data_text mapped_text parts_text more_parts part_text part_bytes short_text more_text filled entry_of known_text meaning_at entry_text value_text number_text digits digits_text is_utf8 chars encode
+unfolding claims_with sheets_claims sheet_claim shown_claim names_for pdos_text more_pdos pdo_text pdo_by pdo_front data_in_force shown_text raw_text mapping_in_force words_in_force node_with is_of sheet_pdos pdos_in pdo_of mapping_at words_at number_at data_text mapped_text parts_text more_parts part_text part_bytes short_text more_text filled entry_of known_text meaning_at entry_text value_text number_text digits digits_text is_utf8 chars encode
 count_shown = refl
 
 -- of the second word neither the sheet nor the recording has anything
 word_unknown : as_it_was (Seen 2 ∷ Assumed ∷ Assumed ∷ []) ≡ codes "TPDO1 node 5: 0103 (mapping is unknown)"
-unfolding claims_with sheets_claims sheet_claim shown_claim names_for pdos_text more_pdos pdo_text pdo_front data_in_force shown_text raw_text filled mapping_in_force words_in_force node_with is_of sheet_pdos pdos_in pdo_of mapping_at words_at number_at digits digits_text
+unfolding claims_with sheets_claims sheet_claim shown_claim names_for pdos_text more_pdos pdo_text pdo_by pdo_front data_in_force shown_text raw_text filled mapping_in_force words_in_force node_with is_of sheet_pdos pdos_in pdo_of mapping_at words_at number_at digits digits_text
 word_unknown = refl
 
 word_missing : as_it_was (Assumed ∷ Unknown ∷ []) ≡ codes "TPDO1 node 5: 0103 (mapping is unknown)"
-unfolding claims_with sheets_claims sheet_claim shown_claim names_for pdos_text more_pdos pdo_text pdo_front data_in_force shown_text raw_text filled mapping_in_force words_in_force node_with is_of sheet_pdos pdos_in pdo_of mapping_at words_at number_at digits digits_text
+unfolding claims_with sheets_claims sheet_claim shown_claim names_for pdos_text more_pdos pdo_text pdo_by pdo_front data_in_force shown_text raw_text filled mapping_in_force words_in_force node_with is_of sheet_pdos pdos_in pdo_of mapping_at words_at number_at digits digits_text
 word_missing = refl
 
 -- a sheet that isn't there, or is for another node: what the recording shows is all that is known
 no_sheet : said_with (record { sheet = None; only = None; originals = λ line. None })
     (shown 0x1801 (Seen 0x285) (Seen 1 ∷ Seen 0x20010110 ∷ []) false ∷ []) 0x285 (0xE8 ∷ 0x03 ∷ [])
-    ≡ codes "TPDO2 node 5 (mapping seen): 2001:01 = E803 (not in sheet)"
-unfolding claims_with sheets_claims sheet_claim shown_claim names_for pdos_text more_pdos pdo_text pdo_front data_in_force shown_text raw_text mapping_in_force words_in_force sheet_pdos data_text mapped_text parts_text more_parts part_text missing_text with_bits part_bytes short_text more_text filled entry_of known_text meaning_at entry_text value_text number_text digits digits_text is_utf8 chars encode
+    ≡ codes "TPDO2 node 5 (mapping seen): 2001:01 = E803"
+unfolding claims_with sheets_claims sheet_claim shown_claim names_for pdos_text more_pdos pdo_text pdo_by pdo_front data_in_force shown_text raw_text mapping_in_force words_in_force sheet_pdos data_text mapped_text parts_text more_parts part_text missing_text with_bits part_bytes short_text more_text filled entry_of known_text meaning_at entry_text value_text number_text digits digits_text is_utf8 chars encode
 no_sheet = refl
 
 no_data : said_with (record { sheet = None; only = None; originals = λ line. None }) (shown 0x1401 (Seen 0x305) [] false ∷ []) 0x305 []
     ≡ codes "RPDO2 node 5: (mapping is unknown)"
-unfolding claims_with sheets_claims sheet_claim shown_claim names_for pdos_text more_pdos pdo_text pdo_front data_in_force shown_text raw_text filled mapping_in_force words_in_force sheet_pdos digits
+unfolding claims_with sheets_claims sheet_claim shown_claim names_for pdos_text more_pdos pdo_text pdo_by pdo_front data_in_force shown_text raw_text filled mapping_in_force words_in_force sheet_pdos digits
 no_data = refl
 
 -- the PDO that a node sends, before those that receive it
 sent_first : said_with (record { sheet = None; only = None; originals = λ line. None })
     (shown 0x1401 (Seen 0x285) [] false ∷ shown 0x1801 (Seen 0x285) [] false ∷ []) 0x285 (1 ∷ [])
     ≡ codes "TPDO2 node 5: 01 (mapping is unknown) | RPDO2 node 5: 01 (mapping is unknown)"
-unfolding claims_with sheets_claims sheet_claim shown_claim names_for pdos_text more_pdos pdo_text pdo_front data_in_force shown_text raw_text filled mapping_in_force words_in_force sheet_pdos digits digits_text
+unfolding claims_with sheets_claims sheet_claim shown_claim names_for pdos_text more_pdos pdo_text pdo_by pdo_front data_in_force shown_text raw_text filled mapping_in_force words_in_force sheet_pdos digits digits_text
 sent_first = refl
 
 -- FEh and FFh map no words
 multiplexed : said_with (record { sheet = None; only = None; originals = λ line. None })
     (shown 0x1800 (Seen 0x185) (Seen 0xFF ∷ Assumed ∷ []) false ∷ []) 0x185 (0x85 ∷ 0x01 ∷ [])
     ≡ codes "TPDO1 node 5 (mapping seen): 2 bytes, mapping has 8"
-unfolding claims_with sheets_claims sheet_claim shown_claim names_for pdos_text more_pdos pdo_text pdo_front data_in_force shown_text raw_text mapping_in_force words_in_force sheet_pdos data_text multiplexed_data short_text filled digits
+unfolding claims_with sheets_claims sheet_claim shown_claim names_for pdos_text more_pdos pdo_text pdo_by pdo_front data_in_force shown_text raw_text mapping_in_force words_in_force sheet_pdos data_text multiplexed_data short_text filled digits
 multiplexed = refl
 
 -- ---- several sheets
@@ -577,7 +577,7 @@ unfolding claims_with sheets_claims sheet_claim shown_claim pdos_text node_with 
 own_sheet = refl
 
 other_node : said_by (sheet_of (no_rows_for 5) ∷ sheet_of (names_with rows_of_tpdo) ∷ []) [] 0x186 (1 ∷ []) ≡ codes "TPDO1 node 6: B 2002:00 = true"
-unfolding claims_with sheets_claims sheet_claim shown_claim names_for pdos_text more_pdos pdo_text pdo_front data_in_force shown_text raw_text mapping_in_force words_in_force node_with is_of sheet_pdos pdos_in pdo_of mapping_at words_at number_at data_text mapped_text parts_text more_parts part_text part_bytes short_text more_text filled entry_of known_text meaning_at entry_text value_text number_text digits digits_text is_utf8 chars encode
+unfolding claims_with sheets_claims sheet_claim shown_claim names_for pdos_text more_pdos pdo_text pdo_by pdo_front data_in_force shown_text raw_text mapping_in_force words_in_force node_with is_of sheet_pdos pdos_in pdo_of mapping_at words_at number_at data_text mapped_text parts_text more_parts part_text part_bytes short_text more_text filled entry_of known_text meaning_at entry_text value_text number_text digits digits_text is_utf8 chars encode
 other_node = refl
 
 -- the PDO that one node sends, and then the node that receives it, each by its own sheet
@@ -586,7 +586,7 @@ rows_of_rpdo = row 0x1400 1 Unsigned32 (number (pos 0x185)) [] ∷ row 0x1600 0 
 
 consumer : said_by (sheet_of (record (names_with rows_of_rpdo) { only = Some 6 }) ∷ sheet_of (record (names_with rows_of_tpdo) { only = Some 5 }) ∷ []) []
     0x185 (1 ∷ []) ≡ codes "TPDO1 node 5: B 2002:00 = true | RPDO1 node 6"
-unfolding claims_with sheets_claims sheet_claim shown_claim names_for pdos_text more_pdos pdo_text pdo_front data_in_force shown_text raw_text mapping_in_force words_in_force node_with is_of sheet_pdos pdos_in pdo_of mapping_at words_at number_at data_text mapped_text parts_text more_parts part_text part_bytes short_text more_text filled entry_of known_text meaning_at entry_text value_text number_text digits digits_text is_utf8 chars encode
+unfolding claims_with sheets_claims sheet_claim shown_claim names_for pdos_text more_pdos pdo_text pdo_by pdo_front data_in_force shown_text raw_text mapping_in_force words_in_force node_with is_of sheet_pdos pdos_in pdo_of mapping_at words_at number_at data_text mapped_text parts_text more_parts part_text part_bytes short_text more_text filled entry_of known_text meaning_at entry_text value_text number_text digits digits_text is_utf8 chars encode
 consumer = refl
 
 -- a sheet for another interface
@@ -664,7 +664,7 @@ greatest_count : is_count 64 ≡ true
 greatest_count = refl
 
 -- of the recording and of the sheet: the data are raw
-raw_counts : shown_text (of_sheet names) 5 (0xE8 ∷ 0x03 ∷ []) None (shown 0x1800 Assumed (Seen 65 ∷ []) false).state
+raw_counts : shown_text (of_sheet names) 5 (0xE8 ∷ 0x03 ∷ []) None (shown 0x1800 (Seen 0x185) (Seen 65 ∷ []) false).state
     ∷ assumed_text (of_sheet names) 5 (0xE8 ∷ 0x03 ∷ []) (Some (record { count = Some 65; words = [] })) ∷ []
     ≡ codes ": E803 (mapping is unknown)" ∷ codes ": E803 (mapping is unknown)" ∷ []
 unfolding shown_text mapping_in_force words_in_force raw_text filled digits digits_text

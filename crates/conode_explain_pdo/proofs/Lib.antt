@@ -1,4 +1,6 @@
+mod AssumedExamples
 pub mod Claims
+mod EntryWordExamples
 pub mod Examples
 pub mod NamedIds
 pub mod NoClaims

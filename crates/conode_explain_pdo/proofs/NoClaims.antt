@@ -1,17 +1,20 @@
 -- Where no sheet and no COB-ID that is shown may have an identifier, it is no PDO's.
 use Rattle.std.proofs.Common.{◌≡◌, ℕ, Bool, true, false, List, [], ◌∷◌, ◌++◌, Option, Some, None, refl, sym}
 use Rattle.std.proofs.lemmas.List.{append-nil}
-use Rattle.std.specs.Prelude.{◌&&◌, filter_map, is_some, option_and_then, if◌then◌else◌}
+use Rattle.std.specs.Prelude.{◌&&◌, filter_map, ◌==◌, is_some, option_and_then, if◌then◌else◌}
 use Rattle.std.specs.List.{list_any}
+use Rattle.std.specs.Str.{bytes_eq}
 use Rattle.std.proofs.lemmas.Bool.{or_parts}
 use Rattle.co_profile.specs.declared.indices.IndexRange.{IndexRange}
 use Rattle.co_profile.specs.Indices.{is_within, rpdo_communication, tpdo_communication}
 use Rattle.conode_explain_entries.specs.declared.entries.ShownPdo.{ShownPdo}
+use Rattle.conode_explain_entries.specs.Tables.{state_in}
 use Rattle.conode_explain_pdo.specs.declared.claim.Claim.{Claim}
 use Rattle.conode_explain_pdo.specs.declared.sheet.SheetPdo.{SheetPdo}
 use Rattle.conode_explain_pdo.specs.Buses.{Bus}
-use Rattle.conode_explain_pdo.specs.Claims.{both_claims, claim_of, sheet_may_have, may_be_shown, kind_claims, may_be_claimed, names_node, sheet_claim, sheet_claims, sheets_claims, shown_claim}
+use Rattle.conode_explain_pdo.specs.Claims.{assumed_claims, both_claims, claim_of, default_claim, is_claim_of, sheet_may_have, may_be_shown, kind_claims, mapped_claim, may_be_claimed, names_node, sheet_claim, sheet_claims, sheets_claims, shown_claim, shows}
 use Rattle.conode_explain_pdo.specs.CobIds.{node_with}
+use Rattle.conode_explain_pdo.specs.InForce.{state_at}
 use Rattle.conode_explain_pdo.specs.Known.{KnownSheet, is_on}
 use Rattle.conode_explain_pdo.specs.Named.{may_have}
 
@@ -59,7 +62,9 @@ if_hidden false second third x is = refl
 
 not_shown : (bus : Bus) (range : IndexRange) (id : ℕ) (pdo : ShownPdo) → may_be_shown id pdo ≡ false → shown_claim bus range id pdo ≡ None
 unfolding shown_claim
-not_shown bus range id pdo is = if_hidden (is_within range pdo.index) (may_be_shown id pdo) _ _ is
+not_shown bus range id pdo is =
+    let parts = or_parts (shows pdo.state.now.cob_id id) (is_claim_of (default_claim id) pdo) is in
+    if_hidden (is_within range pdo.index) (shows pdo.state.now.cob_id id) _ _ parts.0
 
 no_states : (bus : Bus) (range : IndexRange) (id : ℕ) (pdos : List ShownPdo)
     → list_any (may_be_shown id) pdos ≡ false → filter_map (shown_claim bus range id) pdos ≡ []
@@ -67,6 +72,38 @@ no_states bus range id [] is = refl
 no_states bus range id (pdo ∷ pdos) is =
     let parts = or_parts (may_be_shown id pdo) (list_any (may_be_shown id) pdos) is in
     rw (not_shown bus range id pdo parts.0) (no_states bus range id pdos parts.1)
+
+-- nor does the recording show the PDO that the pre-defined connection set has
+other_order : (a b c : Bool) → a && b ≡ false → b && (a && c) ≡ false
+other_order true true c is = absurd cc
+other_order true false c is = refl
+other_order false true c is = refl
+other_order false false c is = refl
+
+not_found : (interface : List ℕ) (id : ℕ) (claim : Claim) (pdos : List ShownPdo) → default_claim id ≡ Some claim
+    → list_any (may_be_shown id) pdos ≡ false → state_in pdos interface claim.node claim.index ≡ None
+not_found interface id claim [] at is = refl
+not_found interface id claim (pdo ∷ pdos) at is =
+    let parts = or_parts (may_be_shown id pdo) (list_any (may_be_shown id) pdos) is in
+    let both = or_parts (shows pdo.state.now.cob_id id) (is_claim_of (default_claim id) pdo) parts.0 in
+    let here : is_claim_of (Some claim) pdo ≡ false = rw at at both.1 in
+    let hidden = other_order (pdo.node == claim.node) (pdo.index == claim.index) (bytes_eq pdo.interface.items interface) here in
+    rw hidden (not_found interface id claim pdos at parts.1)
+
+if_unknown : {A B : Type 0} (within known : Bool) (state : Option A) (x : B) → state ≡ None → (if within && (is_some state && known) then x ∷ [] else []) ≡ []
+if_unknown true known state x is = rw is refl
+if_unknown false known state x is = refl
+
+no_mapped : (bus : Bus) (range : IndexRange) (id : ℕ) (claim : Option Claim) → default_claim id ≡ claim
+    → list_any (may_be_shown id) bus.entries ≡ false → mapped_claim bus range claim ≡ []
+no_mapped bus range id None at is = refl
+no_mapped bus range id (Some claim) at is =
+    if_unknown (is_within range claim.index) _ (state_at bus claim.node claim.index) claim (not_found bus.interface id claim bus.entries at is)
+
+no_assumed : (bus : Bus) (range : IndexRange) (id : ℕ) → may_be_claimed bus id ≡ false → assumed_claims bus range id ≡ []
+no_assumed bus range id is =
+    let parts = or_parts (list_any (sheet_may_have id) bus.sheets) (list_any (may_be_shown id) bus.entries) is in
+    no_mapped bus range id (default_claim id) refl parts.1
 
 no_kind : (bus : Bus) (range : IndexRange) (id : ℕ) → may_be_claimed bus id ≡ false → kind_claims bus range id ≡ []
 no_kind bus range id is =
@@ -80,4 +117,6 @@ pub none_added : (bus : Bus) (id : ℕ) (claims : List Claim) → may_be_claimed
 none_added bus id claims is =
     let sent = no_kind bus tpdo_communication id is in
     let received = no_kind bus rpdo_communication id is in
-    rw (sent, received) (sym (append-nil claims))
+    let assumed = no_assumed bus tpdo_communication id is in
+    let mapped = no_assumed bus rpdo_communication id is in
+    rw (sent, received, assumed, mapped) (sym (append-nil claims))

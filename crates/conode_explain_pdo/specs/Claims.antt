@@ -1,5 +1,5 @@
--- Whose PDOs have an identifier, by the data sheets and by what the recording shows.
-use Rattle.std.specs.Prelude.{ℕ, Bool, false, not, ◌&&◌, ◌||◌, if◌then◌else◌, List, [], ◌∷◌, ◌++◌, filter_map, Option, Some, None, option_and_then, is_none, is_some}
+-- Whose PDOs have an identifier, by the data sheets and by what the recording shows, else by the pre-defined connection set.
+use Rattle.std.specs.Prelude.{ℕ, ◌/◌, ◌%◌, ◌==◌, Bool, false, not, ◌&&◌, ◌||◌, if◌then◌else◌, List, [], ◌∷◌, ◌++◌, filter_map, Option, Some, None, option_map, option_and_then, is_none, is_some}
 use Rattle.std.specs.List.{list_any}
 use Rattle.std.specs.Option.{option_map_or}
 use Rattle.std.specs.Str.{bytes_eq}
@@ -7,13 +7,13 @@ use Rattle.co_profile.specs.declared.indices.IndexRange.{IndexRange}
 use Rattle.co_profile.specs.Indices.{is_within, rpdo_communication, tpdo_communication}
 use Rattle.conode_explain_entries.specs.declared.entries.ShownPdo.{ShownPdo}
 use Rattle.conode_explain_entries.specs.declared.state.Value.{Value}
-use Rattle.conode_explain_entries.specs.declared.state.Value.TheVariants.{Seen, Saved}
+use Rattle.conode_explain_entries.specs.declared.state.Value.TheVariants.{Assumed, Seen, Saved}
 use Rattle.conode_explain_pdo.specs.declared.claim.Claim.{Claim}
 use Rattle.conode_explain_pdo.specs.declared.in_force.Origin.TheVariants.{Sheet}
 use Rattle.conode_explain_pdo.specs.declared.sheet.SheetPdo.{SheetPdo}
 use Rattle.conode_explain_pdo.specs.Buses.{Bus}
 use Rattle.conode_explain_pdo.specs.CobIds.{has_identifier, is_default_rpdo, may_be_pdo, node_with}
-use Rattle.conode_explain_pdo.specs.InForce.{is_from, state_at}
+use Rattle.conode_explain_pdo.specs.InForce.{is_assumed, is_from, sheet_mapping, state_at}
 use Rattle.conode_explain_pdo.specs.Known.{KnownSheet, is_on, sheet_for}
 use Rattle.conode_explain_pdo.specs.Named.{may_have}
 
@@ -71,24 +71,71 @@ unfoldable pub shown_claim : Bus → IndexRange → ℕ → ShownPdo → Option 
 shown_claim bus range id pdo =
     if is_shown bus range id pdo then Some (record { node = pdo.node; index = pdo.index }) else None
 
--- ---- all
-
--- the PDOs of a kind that have an identifier
+-- the PDOs of a kind whose COB-IDs have an identifier
 abbrev pub kind_claims : Bus → IndexRange → ℕ → List Claim
 kind_claims bus range id = sheets_claims bus range id [] bus.sheets ++ filter_map (shown_claim bus range id) bus.entries
 
--- those that nodes send, and then those that they receive
+-- ---- by the pre-defined connection set, where no COB-ID is known
+
+-- the PDO that it has an identifier for, by the function code: identifiers in steps of 128 (CiA 301, 7.3.3)
+abbrev pub default_index : ℕ → Option ℕ
+default_index code =
+    if code == 3 then Some 0x1800
+    else (if code == 4 then Some 0x1400
+    else (if code == 5 then Some 0x1801
+    else (if code == 6 then Some 0x1401
+    else (if code == 7 then Some 0x1802
+    else (if code == 8 then Some 0x1402
+    else (if code == 9 then Some 0x1803
+    else (if code == 10 then Some 0x1403 else None)))))))
+
+abbrev pub default_claim : ℕ → Option Claim
+default_claim id = option_map (λ index. record { node = id % 128; index = index }) (default_index (id / 128))
+
+-- the recording shows another entry of it than its COB-ID, which its node's sheet doesn't have either
+abbrev pub is_mapped : Bus → Claim → Bool
+is_mapped bus claim =
+    is_some (state_at bus claim.node claim.index)
+    && (is_assumed (sheet_mapping bus claim.node claim.index) Assumed && not (is_cob_id_shown bus claim.node claim.index))
+
+-- where it is of a kind
+abbrev pub mapped_claim : Bus → IndexRange → Option Claim → List Claim
+mapped_claim bus range None = []
+mapped_claim bus range (Some claim) = if is_within range claim.index && is_mapped bus claim then claim ∷ [] else []
+
+abbrev pub assumed_claims : Bus → IndexRange → ℕ → List Claim
+assumed_claims bus range id = mapped_claim bus range (default_claim id)
+
+-- ---- all
+
+-- those that nodes send: no two have the same identifier (CiA 301, 7.3.3), so one is assumed only where none has it by its COB-ID
+abbrev pub or_assumed : List Claim → List Claim → List Claim
+or_assumed [] assumed = assumed
+or_assumed (claim ∷ claims) assumed = claim ∷ claims
+
+abbrev pub sent_claims : Bus → ℕ → List Claim
+sent_claims bus id = or_assumed (kind_claims bus tpdo_communication id) (assumed_claims bus tpdo_communication id)
+
+-- those that nodes receive
+abbrev pub received_claims : Bus → ℕ → List Claim
+received_claims bus id = kind_claims bus rpdo_communication id ++ assumed_claims bus rpdo_communication id
+
 abbrev pub both_claims : Bus → ℕ → List Claim
-both_claims bus id = kind_claims bus tpdo_communication id ++ kind_claims bus rpdo_communication id
+both_claims bus id = sent_claims bus id ++ received_claims bus id
 
 -- ---- a look before: most identifiers are no PDO's
 
 abbrev pub sheet_may_have : ℕ → KnownSheet → Bool
 sheet_may_have id sheet = list_any (may_have sheet.names.only id) sheet.pdos
 
+-- it is the PDO that the pre-defined connection set has
+abbrev pub is_claim_of : Option Claim → ShownPdo → Bool
+is_claim_of None pdo = false
+is_claim_of (Some claim) pdo = (pdo.node == claim.node) && (pdo.index == claim.index)
+
 -- a PDO with it would be shown, on some bus
 abbrev pub may_be_shown : ℕ → ShownPdo → Bool
-may_be_shown id pdo = shows pdo.state.now.cob_id id
+may_be_shown id pdo = shows pdo.state.now.cob_id id || is_claim_of (default_claim id) pdo
 
 abbrev pub may_be_claimed : Bus → ℕ → Bool
 may_be_claimed bus id = list_any (sheet_may_have id) bus.sheets || list_any (may_be_shown id) bus.entries

@@ -1,5 +1,5 @@
 -- The mapping of a PDO that is in force, by the data sheet and by what the recording shows.
-use Rattle.std.specs.Prelude.{ℕ, zero, suc, ◌+◌, ◌%◌, ◌==◌, nat_le, Bool, ◌||◌, true, false, if◌then◌else◌, List, [], ◌∷◌, ◌++◌, slice_index, slice_index_or, take, codes, find, Option, Some, None, option_map, option_and_then}
+use Rattle.std.specs.Prelude.{ℕ, zero, suc, ◌+◌, ◌%◌, ◌==◌, nat_le, Bool, ◌&&◌, ◌||◌, true, false, if◌then◌else◌, List, [], ◌∷◌, ◌++◌, slice_index, slice_index_or, take, codes, find, Option, Some, None, option_map, option_and_then, is_none}
 use Rattle.std.specs.List.{flat_map, list_all}
 use Rattle.std.specs.Option.{option_map_or}
 use Rattle.co_text.specs.Printed.{byte_text}
@@ -124,6 +124,10 @@ origin_text values count = origin_words (take (count + 1) values)
 
 -- ---- what data say
 
+-- no COB-ID of a PDO is known: its node's sheet doesn't have the PDO, and the recording doesn't show its COB-ID
+abbrev pub is_assumed : Option SheetMapping → Value → Bool
+is_assumed sheet cob_id = is_none sheet && is_from Sheet cob_id
+
 -- data of which no more is known, and why
 abbrev pub digits_of : List ℕ → List ℕ
 digits_of [] = []
@@ -136,21 +140,24 @@ raw_text bytes why = codes ":" ++ digits_of bytes ++ filled (codes " (%)") (why 
 abbrev pub known_text : Device → ℕ → List ℕ → List Value → Mapping → List ℕ
 known_text device node bytes values mapping = origin_text values (word_count mapping.count) ++ data_text device node mapping bytes
 
+-- by a mapping that isn't known; of a PDO without a COB-ID no more is said
+abbrev pub unknown_text : Bool → List ℕ → List ℕ
+unknown_text assumed bytes = if assumed then [] else raw_text bytes (codes "mapping is unknown")
+
 -- the recording shows an entry of the PDO
 unfoldable pub shown_text : Device → ℕ → List ℕ → Option SheetMapping → PdoState → List ℕ
 shown_text device node bytes sheet state =
     if state.is_being_changed then raw_text bytes (codes "mapping is being changed")
     else option_map_or (known_text device node bytes state.now.mapping) (mapping_in_force state.now.mapping sheet)
-    (raw_text bytes (codes "mapping is unknown"))
+    (unknown_text (is_assumed sheet state.now.cob_id) bytes)
 
 -- it shows none: the mapping is the sheet's, if the sheet has all of it
 abbrev pub assumed_text : Device → ℕ → List ℕ → Option SheetMapping → List ℕ
 assumed_text device node bytes sheet =
     option_map_or (λ mapping. data_text device node mapping bytes) (mapping_in_force [] sheet)
-    (raw_text bytes (codes "mapping is unknown"))
+    (unknown_text (is_assumed sheet Assumed) bytes)
 
--- the data of a node's PDO
-unfoldable pub data_in_force : Bus → ℕ → ℕ → List ℕ → List ℕ
-data_in_force bus node index bytes =
-    option_map_or (shown_text (device_at bus node) node bytes (sheet_mapping bus node index)) (state_at bus node index)
-    (assumed_text (device_at bus node) node bytes (sheet_mapping bus node index))
+-- the data of a node's PDO, by its mapping in the sheet and what the recording shows
+unfoldable pub data_in_force : Device → ℕ → List ℕ → Option SheetMapping → Option PdoState → List ℕ
+data_in_force device node bytes sheet state =
+    option_map_or (shown_text device node bytes sheet) state (assumed_text device node bytes sheet)

@@ -1,5 +1,5 @@
--- An entry of a node's sheet with its value, and what that means: of a drive (CiA 402), and of a
--- COB-ID.
+-- An entry of a node's sheet with its value, and what that means: of a drive (CiA 402), of a COB-ID, and
+-- of an entry with several parts.
 use Rattle.std.specs.Prelude.{ℕ, ◌%◌, ◌==◌, Bool, false, ◌&&◌, if◌then◌else◌, List, ◌++◌, Option, Some, None, option_and_then}
 use Rattle.std.specs.Option.{option_map_or}
 use Rattle.co_value.specs.declared.key.Key.{Key}
@@ -9,6 +9,7 @@ use Rattle.conode_explain_services.specs.Drives.{drive_words, has_meaning, is_dr
 use Rattle.conode_explain_values.specs.Values.{entry_text}
 use Rattle.conode_explain_pdo.specs.declared.device.Device.{Device as DeviceOfCode}
 use Rattle.conode_explain_pdo.specs.CobIdWords.{cob_id_words}
+use Rattle.conode_explain_pdo.specs.EntryWords.{entry_words}
 use Rattle.conode_explain_pdo.specs.Sheets.{number_of}
 use Rattle.conode_explain_pdo.specs.Types.{type_in}
 
@@ -42,4 +43,4 @@ shows_meaning device node key bits = (has_meaning key && (bits % 8 == 0)) && is_
 unfoldable pub known_text : Device → ℕ → Key → Row → ℕ → List ℕ → List ℕ
 known_text device node key row bits bytes =
     entry_text (shown_name row) key (type_in device.names row) bits bytes
-    ++ (if shows_meaning device node key bits then drive_words key bytes else cob_id_words key bits bytes)
+    ++ (if shows_meaning device node key bits then drive_words key bytes else cob_id_words key bits bytes ++ entry_words key bits bytes)

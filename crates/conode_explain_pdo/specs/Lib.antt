@@ -5,6 +5,7 @@ pub mod CobIdWords
 pub mod CobIds
 pub mod Content
 pub mod EntryBits
+pub mod EntryWords
 pub mod InForce
 pub mod Known
 pub mod KnownEntries

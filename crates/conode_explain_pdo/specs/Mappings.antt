@@ -1,5 +1,5 @@
 -- What a mapping says of data: each part is the bits at its offset (CiA 301, 7.2.2.1 and 7.5.2.36).
-use Rattle.std.specs.Prelude.{ℕ, ◌+◌, ◌-◌, ◌/◌, ◌%◌, ◌^◌, ◌==◌, nat_lt, nat_le, Bool, ◌&&◌, if◌then◌else◌, List, [], ◌∷◌, ◌++◌, length, take, drop, slice_index, codes, decimal}
+use Rattle.std.specs.Prelude.{ℕ, ◌+◌, ◌-◌, ◌/◌, ◌%◌, ◌^◌, ◌==◌, nat_lt, nat_le, Bool, ◌&&◌, if◌then◌else◌, List, [], ◌∷◌, ◌++◌, length, take, drop, slice_index, codes, decimal, is_some}
 use Rattle.std.specs.List.{flat_map}
 use Rattle.std.specs.Option.{option_map_or}
 use Rattle.co_text.specs.Printed.{byte_text}
@@ -47,7 +47,7 @@ is_gap key = (nat_lt 0 key.index && nat_lt key.index 0x20) && (key.sub == 0)
 abbrev pub value_part : Device → ℕ → Key → List ℕ → ℕ → ℕ → Row → List ℕ
 value_part device node key bytes offset bits row = known_text device node key row bits (part_bytes bytes offset bits)
 
--- an entry that the sheet lacks, with its bits
+-- an entry without a name, with its bits
 abbrev pub bits_text : List ℕ → List ℕ
 bits_text [] = []
 bits_text (byte ∷ bytes) = codes " = " ++ flat_map byte_text (byte ∷ bytes)
@@ -55,15 +55,16 @@ bits_text (byte ∷ bytes) = codes " = " ++ flat_map byte_text (byte ∷ bytes)
 unfoldable pub with_bits : Key → List ℕ → List ℕ
 with_bits key bytes = key_text key ++ bits_text bytes
 
-unfoldable pub missing_text : Key → List ℕ → List ℕ
-missing_text key bytes = with_bits key bytes ++ codes " (not in sheet)"
+-- one that the node's sheet lacks; of a node without a sheet no more is said
+unfoldable pub missing_text : Bool → Key → List ℕ → List ℕ
+missing_text has_sheet key bytes = with_bits key bytes ++ (if has_sheet then codes " (not in sheet)" else [])
 
 -- what a word says of the data from an offset on
 unfoldable pub part_text : Device → ℕ → List ℕ → ℕ → ℕ → List ℕ
 part_text device node bytes offset word =
     if is_gap (word_key word) then codes "-"
     else option_map_or (value_part device node (word_key word) bytes offset (word_bits word))
-    (entry_of device.names node (word_key word)) (missing_text (word_key word) (part_bytes bytes offset (word_bits word)))
+    (entry_of device.names node (word_key word)) (missing_text (is_some device.names.sheet) (word_key word) (part_bytes bytes offset (word_bits word)))
 
 -- the parts one after another from an offset on, each after a semicolon
 unfoldable pub more_parts : Device → ℕ → List ℕ → ℕ → List ℕ → List ℕ

@@ -1,4 +1,5 @@
-//! Whose PDOs have an identifier, by the data sheets and by what the recording shows.
+//! Whose PDOs have an identifier, by the data sheets and by what the recording shows, else by the
+//! pre-defined connection set.
 
 ghost use Rattle.std.specs.Prelude.{◌≡◌, ◌++◌, [], false, OnOk, filter_map, map};
 ghost use Rattle.std.specs.List.{list_any};
@@ -7,10 +8,15 @@ ghost use Rattle.co_sheet_changes.specs.Names.{names_view};
 ghost use Rattle.conode_explain_pdo.specs.Buses.{bus_view};
 ghost use Rattle.conode_explain_pdo.specs.Known.{known_view};
 ghost use Rattle.conode_explain_pdo.specs.Claims.{
+  assumed_claims,
   both_claims,
   claim_of,
   claims_with,
+  default_claim,
+  default_index,
+  is_claim_of,
   is_cob_id_shown,
+  is_mapped,
   sheet_may_have,
   may_be_shown,
   is_said,
@@ -18,6 +24,8 @@ ghost use Rattle.conode_explain_pdo.specs.Claims.{
   kind_claims,
   may_be_claimed,
   names_node,
+  received_claims,
+  sent_claims,
   sheet_claim,
   sheet_claims,
   sheets_claims,
@@ -27,7 +35,7 @@ ghost use Rattle.conode_explain_pdo.specs.Claims.{
 
 use crate::bus::Bus;
 use crate::cob_id::{has_identifier, is_default_rpdo, may_be_pdo};
-use crate::in_force::{Origin, is_from};
+use crate::in_force::{Origin, is_assumed, is_from, sheet_mapping};
 use crate::known::is_none_for;
 use crate::known_sheet::KnownSheet;
 use crate::sheet::SheetPdo;
@@ -240,6 +248,96 @@ fn add_kind(
     add_shown(claims, bus, range, id)
 }
 
+// the index of the PDO that the pre-defined connection set has by a function code
+fn default_index(code: u16) -> Option<u16>
+    ensures { result ≡ default_index code }
+{
+    match code {
+        3 => Some(0x1800),
+        4 => Some(0x1400),
+        5 => Some(0x1801),
+        6 => Some(0x1401),
+        7 => Some(0x1802),
+        8 => Some(0x1402),
+        9 => Some(0x1803),
+        10 => Some(0x1403),
+        _ => None,
+    }
+}
+
+fn default_claim(id: u16) -> Option<Claim>
+    ensures { result ≡ default_claim id }
+{
+    match default_index(id / 128) {
+        Some(index) => Some(Claim {
+            node: (id % 128) as u8,
+            index,
+        }),
+        None => None,
+    }
+}
+
+// whether the recording shows another entry of a PDO than its COB-ID, which the sheet doesn't have
+// either
+fn is_mapped(bus: Bus<'_, '_, '_, '_, '_>, claim: Claim) -> bool
+    ensures { result ≡ is_mapped (bus_view bus.entry) claim }
+{
+    if bus.state(claim.node, claim.index).is_none() {
+        return false;
+    }
+    let sheet = sheet_mapping(bus, claim.node, claim.index);
+    is_assumed(sheet, Value::Assumed) && !is_cob_id_shown(bus, claim.node, claim.index)
+}
+
+// adds the PDO of a kind that the pre-defined connection set has an identifier for, if it is mapped
+fn add_assumed(
+    claims: &mut Vec<Claim>,
+    bus: Bus<'_, '_, '_, '_, '_>,
+    range: IndexRange,
+    id: u16,
+) -> Result<(), AllocError>
+    ensures { OnOk result (claims.new.items
+        ≡ claims.old.items ++ assumed_claims (bus_view bus.entry) range id) }
+{
+    match default_claim(id) {
+        Some(claim) if range.contains(claim.index) && is_mapped(bus, claim) => {
+            add_claim(claims, Some(claim))
+        }
+        _ => Ok(()),
+    }
+}
+
+// adds the PDOs with an identifier that nodes send
+#[tactic(auto, using(crate::proofs::Claims::some_added, crate::proofs::Claims::none_added))]
+fn add_sent(
+    claims: &mut Vec<Claim>,
+    bus: Bus<'_, '_, '_, '_, '_>,
+    id: u16,
+) -> Result<(), AllocError>
+    ensures { OnOk result (claims.new.items
+        ≡ claims.old.items ++ sent_claims (bus_view bus.entry) id) }
+{
+    let before = claims.len();
+    attempt!(add_kind(claims, bus, IndexRange::TPDO_COMMUNICATION, id));
+    if before < claims.len() {
+        return Ok(());
+    }
+    add_assumed(claims, bus, IndexRange::TPDO_COMMUNICATION, id)
+}
+
+// adds those that nodes receive
+fn add_received(
+    claims: &mut Vec<Claim>,
+    bus: Bus<'_, '_, '_, '_, '_>,
+    id: u16,
+) -> Result<(), AllocError>
+    ensures { OnOk result (claims.new.items
+        ≡ claims.old.items ++ received_claims (bus_view bus.entry) id) }
+{
+    attempt!(add_kind(claims, bus, IndexRange::RPDO_COMMUNICATION, id));
+    add_assumed(claims, bus, IndexRange::RPDO_COMMUNICATION, id)
+}
+
 // whether one may have a PDO with an identifier, or names it otherwise
 fn sheets_may_have(sheets: &[KnownSheet<'_, '_>], id: u16) -> bool
     ensures { result ≡ false → list_any (sheet_may_have id) (map known_view sheets.now) ≡ false }
@@ -252,11 +350,21 @@ fn sheets_may_have(sheets: &[KnownSheet<'_, '_>], id: u16) -> bool
     false
 }
 
+fn is_claim_of(claim: Option<Claim>, pdo: &ShownPdo) -> bool
+    ensures { result ≡ is_claim_of claim pdo.now }
+{
+    match claim {
+        Some(claim) => pdo.node == claim.node && pdo.index == claim.index,
+        None => false,
+    }
+}
+
 fn any_may_be_shown(pdos: &[ShownPdo], id: u16) -> bool
     ensures { result ≡ list_any (may_be_shown id) pdos.now }
 {
+    let claim = default_claim(id);
     for pdo in pdos {
-        if shows(pdo.state.now.cob_id, id) {
+        if shows(pdo.state.now.cob_id, id) || is_claim_of(claim, pdo) {
             return true;
         }
     }
@@ -281,13 +389,13 @@ fn add_both(
     if !may_be_claimed(bus, id) {
         return Ok(());
     }
-    attempt!(add_kind(claims, bus, IndexRange::TPDO_COMMUNICATION, id));
-    add_kind(claims, bus, IndexRange::RPDO_COMMUNICATION, id)
+    attempt!(add_sent(claims, bus, id));
+    add_received(claims, bus, id)
 }
 
 /// Adds the PDOs that have an identifier, by the data sheets and by the COB-IDs that the recording
-/// shows: first those that nodes send, and then those that they receive. On an `Err` memory ran
-/// out.
+/// shows, and by the pre-defined connection set one of which the recording shows the mapping alone:
+/// first those that nodes send, and then those that they receive. On an `Err` memory ran out.
 #[tactic(auto, unfolding(crate::specs::Claims::claims_with))]
 pub fn add_claims(
     claims: &mut Vec<Claim>,

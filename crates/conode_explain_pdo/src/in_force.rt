@@ -12,6 +12,7 @@ ghost use Rattle.conode_explain_pdo.specs.InForce.{
   device_at,
   digits_of,
   if_there,
+  is_assumed,
   is_count,
   is_drive_at,
   is_from,
@@ -29,6 +30,7 @@ ghost use Rattle.conode_explain_pdo.specs.InForce.{
   shown_text,
   state_at,
   type_shown,
+  unknown_text,
   value_at,
   word_count,
   word_in_force,
@@ -321,6 +323,25 @@ fn push_raw(text: &mut String, bytes: &[u8], why: &str) -> Result<(), AllocError
     push_filled(text, " (%)", &[Filling::Words(why)])
 }
 
+/// Whether no COB-ID of a PDO is known: its node's sheet doesn't have the PDO, and the recording
+/// shows none.
+pub(crate) fn is_assumed(sheet: Option<&SheetMapping>, cob_id: Value) -> bool
+    ensures { result ≡ is_assumed (option_copied sheet.entry) cob_id }
+{
+    sheet.is_none() && is_from(Origin::Sheet, cob_id)
+}
+
+// by a mapping that isn't known
+fn push_unknown(text: &mut String, assumed: bool, bytes: &[u8]) -> Result<(), AllocError>
+    ensures { OnOk result
+        (string_bytes text.new ≡ string_bytes text.old ++ unknown_text assumed bytes.now) }
+{
+    if assumed {
+        return Ok(());
+    }
+    push_raw(text, bytes, "mapping is unknown")
+}
+
 // by the sheet's mapping: the recording shows nothing of it
 fn push_assumed(
     text: &mut String,
@@ -335,7 +356,7 @@ fn push_assumed(
 {
     match mapping_in_force(&[], sheet) {
         Some(mapping) => push_data(text, device, node, &mapping, bytes),
-        None => push_raw(text, bytes, "mapping is unknown"),
+        None => push_unknown(text, is_assumed(sheet, Value::Assumed), bytes),
     }
 }
 
@@ -376,7 +397,7 @@ fn push_shown(
     let values = state.now.mapping.as_slice();
     match mapping_in_force(values, sheet) {
         Some(mapping) => push_known(text, device, node, values, &mapping, bytes),
-        None => push_raw(text, bytes, "mapping is unknown"),
+        None => push_unknown(text, is_assumed(sheet, state.now.cob_id), bytes),
     }
 }
 
@@ -387,18 +408,18 @@ fn push_shown(
 #[tactic(auto, unfolding(crate::specs::InForce::data_in_force))]
 pub(crate) fn push_data_in_force(
     text: &mut String,
-    bus: Bus<'_, '_, '_, '_, '_>,
+    device: Device<'_, '_>,
     node: u8,
-    index: u16,
+    sheet: Option<&SheetMapping>,
+    state: Option<&PdoState>,
     bytes: &[u8],
 ) -> Result<(), AllocError>
     requires { length bytes.now ≤ 8 }
-    ensures { OnOk result (string_bytes text.new
-        ≡ string_bytes text.old ++ data_in_force (bus_view bus.entry) node index bytes.now) }
+    ensures { OnOk result (string_bytes text.new ≡ string_bytes text.old
+        ++ data_in_force (device_view device.entry) node bytes.now
+        (option_copied sheet.entry) (option_copied state.entry)) }
 {
-    let device = bus.device(node);
-    let sheet = sheet_mapping(bus, node, index);
-    match bus.state(node, index) {
+    match state {
         Some(state) => push_shown(text, device, node, sheet, state, bytes),
         None => push_assumed(text, device, node, sheet, bytes),
     }

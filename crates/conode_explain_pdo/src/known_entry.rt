@@ -1,5 +1,5 @@
-//! An entry of a node's sheet with its value, and what that means: of a drive (CiA 402), and of a
-//! COB-ID.
+//! An entry of a node's sheet with its value, and what that means: of a drive (CiA 402), of a
+//! COB-ID, and of an entry with several parts.
 
 ghost use Rattle.std.specs.Prelude.{◌≡◌, ◌++◌, OnOk, string_bytes};
 ghost use Rattle.co_sheet.specs.SheetViews.{row_view};
@@ -15,6 +15,7 @@ ghost use Rattle.conode_explain_pdo.specs.KnownEntries.{
 
 use crate::cob_id_words::push_cob_id;
 use crate::device::Device;
+use crate::entry_words::push_entry_words;
 use crate::sheet::number_of;
 use crate::value_type::type_in;
 use co_sheet::EntryRow;
@@ -63,7 +64,8 @@ fn shows_meaning(device: Device<'_, '_>, node: u8, key: Key, bits: usize) -> boo
 
 /// Appends an entry of a node's sheet with its value, and where the device is a drive what that
 /// means: `Statusword 6041:00 = 1079 (operation enabled, target reached)`; of a COB-ID its
-/// hexadecimal digits. On an `Err` memory ran out, and a part of it may be there.
+/// hexadecimal digits, and of an entry with several parts these. On an `Err` memory ran out, and a
+/// part of it may be there.
 #[tactic(auto, unfolding(crate::specs::KnownEntries::known_text))]
 pub fn push_known(
     text: &mut String,
@@ -83,5 +85,6 @@ pub fn push_known(
     if shows_meaning(device, node, key, bits) {
         return push_drive(text, key, bytes);
     }
-    push_cob_id(text, key, bits, bytes)
+    attempt!(push_cob_id(text, key, bits, bytes));
+    push_entry_words(text, key, bits, bytes)
 }

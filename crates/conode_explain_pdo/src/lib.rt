@@ -29,6 +29,7 @@ mod cob_id;
 mod cob_id_words;
 mod device;
 mod entry_bits;
+mod entry_words;
 mod in_force;
 mod known;
 mod known_entry;

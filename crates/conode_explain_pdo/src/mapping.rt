@@ -1,7 +1,7 @@
 //! What a mapping says of data. Each function appends a text; on an `Err` memory ran out, and a
 //! part of it may be there.
 
-ghost use Rattle.std.specs.Prelude.{◌≡◌, ◌+◌, ◌*◌, ◌/◌, ◌%◌, ◌^◌, ◌++◌, ◌≤◌, [], OnOk, length, string_bytes, take};
+ghost use Rattle.std.specs.Prelude.{◌≡◌, ◌+◌, ◌*◌, ◌/◌, ◌%◌, ◌^◌, ◌++◌, ◌≤◌, [], OnOk, is_some, length, string_bytes, take};
 ghost use Rattle.co_value.specs.Numbers.{low_bytes, unsigned_of};
 ghost use Rattle.conode_explain_pdo.specs.KnownEntries.{device_view};
 ghost use Rattle.conode_explain_values.specs.Values.{HasBits};
@@ -163,14 +163,31 @@ fn push_with_bits(text: &mut String, key: Key, bytes: &[u8]) -> Result<(), Alloc
     push_bits(text, bytes)
 }
 
-// an entry that the sheet lacks, with its bits
+fn has_sheet(device: Device<'_, '_>) -> bool
+    ensures { result ≡ is_some (device_view device.entry).names.sheet }
+{
+    match device.names.sheet {
+        Some(_) => true,
+        None => false,
+    }
+}
+
+// an entry without a name, with its bits, and whether the node's sheet lacks it
 #[tactic(auto, unfolding(crate::specs::Mappings::missing_text))]
-fn push_missing(text: &mut String, key: Key, bytes: &[u8]) -> Result<(), AllocError>
-    ensures { OnOk result
-        (string_bytes text.new ≡ string_bytes text.old ++ missing_text key bytes.now) }
+fn push_missing(
+    text: &mut String,
+    has_sheet: bool,
+    key: Key,
+    bytes: &[u8],
+) -> Result<(), AllocError>
+    ensures { OnOk result (string_bytes text.new
+        ≡ string_bytes text.old ++ missing_text has_sheet key bytes.now) }
 {
     attempt!(push_with_bits(text, key, bytes));
-    text.push_str(" (not in sheet)")
+    if has_sheet {
+        return text.push_str(" (not in sheet)");
+    }
+    Ok(())
 }
 
 // what a word says of the data from an offset on
@@ -196,7 +213,7 @@ fn push_part(
     let part = part_bytes(bytes, offset, bits);
     match device.names.entry(node, key) {
         Some(row) => push_known(text, device, node, key, row, bits, part.as_slice()),
-        None => push_missing(text, key, part.as_slice()),
+        None => push_missing(text, has_sheet(device), key, part.as_slice()),
     }
 }
 

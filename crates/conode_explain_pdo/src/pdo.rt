@@ -1,13 +1,24 @@
 //! What data say as PDOs.
 
 ghost use Rattle.std.specs.Prelude.{◌≡◌, ◌≤◌, ◌++◌, OnOk, decimal, length, string_bytes};
+ghost use Rattle.std.specs.Option.{option_copied};
 ghost use Rattle.conode_explain_pdo.specs.Buses.{bus_view};
-ghost use Rattle.conode_explain_pdo.specs.Pdos.{more_pdos, pdo_front, pdo_text, pdos_text};
+ghost use Rattle.conode_explain_pdo.specs.Pdos.{
+  assumed_mark,
+  cob_id_at,
+  more_pdos,
+  pdo_by,
+  pdo_front,
+  pdo_text,
+  pdos_text,
+};
 
 use crate::bus::Bus;
 use crate::claim::Claim;
-use crate::in_force::push_data_in_force;
+use crate::in_force::{is_assumed, push_data_in_force, sheet_mapping};
+use crate::mapping::SheetMapping;
 use co_text::push_decimal;
+use conode_explain_entries::{PdoState, Value};
 use std::alloc::AllocError;
 
 fn push_numbered(text: &mut String, words: &str, number: u64) -> Result<(), AllocError>
@@ -33,6 +44,49 @@ fn push_front(text: &mut String, index: u16, node: u8) -> Result<(), AllocError>
     push_numbered(text, " node ", node as u64)
 }
 
+fn cob_id_at(state: Option<&PdoState>) -> Value
+    ensures { result ≡ cob_id_at (option_copied state.entry) }
+{
+    match state {
+        Some(state) => state.now.cob_id,
+        None => Value::Assumed,
+    }
+}
+
+fn assumed_mark(assumed: bool) -> &'static str
+    ensures { result.now ≡ assumed_mark assumed }
+{
+    if assumed { "~" } else { "" }
+}
+
+// by its mapping in the sheet and what the recording shows
+#[tactic(auto, unfolding(crate::specs::Pdos::pdo_by))]
+fn push_pdo_by(
+    text: &mut String,
+    bus: Bus<'_, '_, '_, '_, '_>,
+    bytes: &[u8],
+    claim: Claim,
+    sheet: Option<&SheetMapping>,
+    state: Option<&PdoState>,
+) -> Result<(), AllocError>
+    requires { length bytes.now ≤ 8 }
+    ensures { OnOk result (string_bytes text.new ≡ string_bytes text.old
+        ++ pdo_by (bus_view bus.entry) bytes.now claim
+        (option_copied sheet.entry) (option_copied state.entry)) }
+{
+    let mark = assumed_mark(is_assumed(sheet, cob_id_at(state)));
+    attempt!(text.push_str(mark));
+    attempt!(push_front(text, claim.index, claim.node));
+    push_data_in_force(
+        text,
+        bus.device(claim.node),
+        claim.node,
+        sheet,
+        state,
+        bytes,
+    )
+}
+
 #[tactic(auto, unfolding(crate::specs::Pdos::pdo_text))]
 fn push_pdo(
     text: &mut String,
@@ -44,8 +98,9 @@ fn push_pdo(
     ensures { OnOk result (string_bytes text.new
         ≡ string_bytes text.old ++ pdo_text (bus_view bus.entry) bytes.now claim) }
 {
-    attempt!(push_front(text, claim.index, claim.node));
-    push_data_in_force(text, bus, claim.node, claim.index, bytes)
+    let sheet = sheet_mapping(bus, claim.node, claim.index);
+    let state = bus.state(claim.node, claim.index);
+    push_pdo_by(text, bus, bytes, claim, sheet, state)
 }
 
 #[tactic(auto, unfolding(crate::specs::Pdos::more_pdos))]
