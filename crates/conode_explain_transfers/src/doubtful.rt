@@ -1,6 +1,6 @@
 //! Initiate requests that were taken for segments of a sub-block.
 
-ghost use Rattle.std.specs.Prelude.{◌≡◌, ◌-◌, Some};
+ghost use Rattle.std.specs.Prelude.{◌≡◌, ◌-◌, ℕ, List, false, None, Some};
 ghost use Rattle.co_frame.specs.SdoResponses.{response_in};
 ghost use Rattle.conode_explain_transfers.specs.Doubtful.{
   answers,
@@ -152,20 +152,25 @@ impl Transfer {
 }
 
 impl Channel {
-    /// The transfer of a request that was taken for a segment, and that a frame answers.
-    // (most transfers have no such frame, and a transfer that isn't there costs as much as one)
+    /// Whether a frame of an end may answer a request that was taken for a segment: the newest frame
+    /// of the client may be one. `false` for nearly all, and nothing else is asked of those.
     #[tactic(auto, using(crate::proofs::DoubtfulLemmas::shown_none))]
+    pub(crate) fn may_show(&self, side: Side) -> bool
+        ensures { result ≡ false →
+            (bytes : List ℕ) → shown_by self.now.transfer side bytes ≡ None }
+    {
+        match (&self.transfer, side) {
+            (Some(transfer), Side::Server) => !transfer.doubtful.bytes().is_empty(),
+            _ => false,
+        }
+    }
+
+    /// The transfer of a request that was taken for a segment, and that a frame answers.
     pub(crate) fn shown_by(&self, side: Side, frame: &Frame) -> Option<Transfer>
         ensures { result ≡ shown_by self.now.transfer side frame.now.bytes }
     {
         match (&self.transfer, side) {
-            (Some(transfer), Side::Server) => {
-                if transfer.doubtful.bytes().is_empty() {
-                    None
-                } else {
-                    transfer.answered(frame)
-                }
-            }
+            (Some(transfer), Side::Server) => transfer.answered(frame),
             _ => None,
         }
     }
@@ -180,13 +185,25 @@ impl Channel {
         }
     }
 
-    /// Goes on with the transfer of such a request.
-    pub(crate) fn free(&mut self, side: Side, frame: &Frame)
+    // Goes on with the transfer of such a request, if a frame answers one. Apart from most frames,
+    // since a transfer is large.
+    #[inline(never)]
+    fn free_shown(&mut self, side: Side, frame: &Frame)
         ensures { self.new
             ≡ record self.old { transfer = freed self.old.transfer side frame.now.bytes } }
     {
         if let Some(request) = self.shown_by(side, frame) {
             self.transfer = Some(request);
+        }
+    }
+
+    /// Goes on with the transfer of such a request.
+    pub(crate) fn free(&mut self, side: Side, frame: &Frame)
+        ensures { self.new
+            ≡ record self.old { transfer = freed self.old.transfer side frame.now.bytes } }
+    {
+        if self.may_show(side) {
+            self.free_shown(side, frame);
         }
     }
 }

@@ -1,6 +1,6 @@
 //! What a frame reveals of those before it.
 
-ghost use Rattle.std.specs.Prelude.{◌≡◌};
+ghost use Rattle.std.specs.Prelude.{◌≡◌, None};
 ghost use Rattle.conode_explain_transfers.specs.Reveals.{
   accepted,
   is_expected,
@@ -70,11 +70,13 @@ impl Channel {
         }
     }
 
-    fn unclear_by(&self, request: &Option<Transfer>, side: Side, frame: &Frame) -> Option<Key>
-        ensures { result ≡ unclear_by request.now self.now side frame.now.bytes }
+    // Where no request is shown.
+    fn unclear(&self, side: Side, frame: &Frame) -> Option<Key>
+        ensures { result ≡ unclear_by None self.now side frame.now.bytes }
     {
-        match (request, side) {
-            (None, Side::Server) => {
+        match side {
+            Side::Client => None,
+            Side::Server => {
                 let accepted = accepted(frame);
                 if self.is_over(side, frame) {
                     accepted
@@ -82,7 +84,27 @@ impl Channel {
                     self.unexpected(accepted)
                 }
             }
-            _ => None,
+        }
+    }
+
+    fn unclear_by(&self, request: &Option<Transfer>, side: Side, frame: &Frame) -> Option<Key>
+        ensures { result ≡ unclear_by request.now self.now side frame.now.bytes }
+    {
+        match request {
+            None => self.unclear(side, frame),
+            Some(_) => None,
+        }
+    }
+
+    // Apart from most frames, since a transfer is large.
+    #[inline(never)]
+    fn reveals_shown(&self, micros: u64, side: Side, frame: &Frame) -> Revealed
+        ensures { result ≡ revealed self.now micros side frame.now.bytes }
+    {
+        let request = self.shown_by(side, frame);
+        Revealed {
+            left: self.left_for(micros, &request),
+            unclear: self.unclear_by(&request, side, frame),
         }
     }
 
@@ -91,10 +113,12 @@ impl Channel {
     pub fn reveals(&self, micros: u64, side: Side, frame: &Frame) -> Revealed
         ensures { result ≡ revealed self.now micros side frame.now.bytes }
     {
-        let request = self.shown_by(side, frame);
+        if self.may_show(side) {
+            return self.reveals_shown(micros, side, frame);
+        }
         Revealed {
-            left: self.left_for(micros, &request),
-            unclear: self.unclear_by(&request, side, frame),
+            left: None,
+            unclear: self.unclear(side, frame),
         }
     }
 }
