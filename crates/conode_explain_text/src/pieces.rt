@@ -4,7 +4,7 @@
 ghost use Rattle.std.specs.Prelude.{◌≡◌, ◌<◌, ◌≤◌, ◌+◌, ◌-◌, ◌*◌, ◌/◌, ◌%◌, ◌^◌, ◌∷◌, ◌++◌, codes, length};
 ghost use Rattle.std.specs.List.{flat_map};
 ghost use Rattle.arrayvec.specs.ArrayVec.{array_vec_len};
-ghost use Rattle.co_text.specs.Printed.{digits_text, printed_digit};
+ghost use Rattle.co_text.specs.Printed.{byte_text, digits_text, printed_digit};
 ghost use Rattle.conode_explain_text.specs.Columns.{blank_byte, bytes_text, length_text};
 ghost use Rattle.conode_explain_text.specs.Stamps.{column, micros_text, padded, time_text};
 
@@ -15,6 +15,16 @@ pub(crate) type Piece = ArrayVec<u8, 34>;
 
 /// The hexadecimal digits: a look-up needs no branch between digits and letters.
 static DIGITS: [u8; 16] = *b"0123456789ABCDEF";
+
+/// Each byte in two hexadecimal digits: one look-up for both.
+static PAIRS: [u8; 512] = *b"000102030405060708090A0B0C0D0E0F101112131415161718191A1B1C1D1E1F\
+    202122232425262728292A2B2C2D2E2F303132333435363738393A3B3C3D3E3F\
+    404142434445464748494A4B4C4D4E4F505152535455565758595A5B5C5D5E5F\
+    606162636465666768696A6B6C6D6E6F707172737475767778797A7B7C7D7E7F\
+    808182838485868788898A8B8C8D8E8F909192939495969798999A9B9C9D9E9F\
+    A0A1A2A3A4A5A6A7A8A9AAABACADAEAFB0B1B2B3B4B5B6B7B8B9BABBBCBDBEBF\
+    C0C1C2C3C4C5C6C7C8C9CACBCCCDCECFD0D1D2D3D4D5D6D7D8D9DADBDCDDDEDF\
+    E0E1E2E3E4E5E6E7E8E9EAEBECEDEEEFF0F1F2F3F4F5F6F7F8F9FAFBFCFDFEFF";
 
 /// The width of eight bytes, each after a blank.
 static BLANKS: [u8; 24] = *b"                        ";
@@ -86,7 +96,9 @@ fn put_five_columns(piece: &mut Piece, number: u32)
     put(piece, &columns);
 }
 
-/// A blank, and a time of less than 100,000 seconds in the width of a stamp.
+/// A blank, and a time of less than 100,000 seconds in the width of a stamp. Its length is known
+/// where it is compiled, so it is written where it is appended.
+#[inline(always)]
 #[tactic(auto, unfolding(crate::specs::Stamps::time_text))]
 pub(crate) fn stamp_piece(micros: u64) -> Piece
     requires { micros < 10 ^ 11 }
@@ -148,16 +160,24 @@ fn put_length(piece: &mut Piece, count: u8)
     put(piece, &digits);
 }
 
+// a byte in two hexadecimal digits
 #[inline(always)]
-#[tactic(auto, unfolding(co_text::specs::Printed::digits_text))]
+fn pair_of(byte: u8) -> &'static [u8]
+    ensures digits { result.now ≡ byte_text byte }
+    ensures two { length result.now ≡ 2 }
+{
+    let place = byte as usize * 2;
+    &PAIRS[place..place + 2]
+}
+
+#[inline(always)]
 fn put_byte(piece: &mut Piece, byte: u8)
     requires { array_vec_len piece.old + 3 ≤ 34 }
     ensures items { piece.new.items ≡ piece.old.items ++ blank_byte byte }
     ensures len { array_vec_len piece.new ≡ array_vec_len piece.old + 3 }
 {
-    let number = byte as u16;
-    let digits = [b' ', last_hex_digit(number / 16), last_hex_digit(number)];
-    put(piece, &digits);
+    put(piece, b" ");
+    put(piece, pair_of(byte));
 }
 
 // eight bytes: without a loop

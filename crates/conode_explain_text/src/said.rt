@@ -19,6 +19,28 @@ ghost use Rattle.conode_explain_text.specs.Said.{
 use co_text::byte_digits;
 use std::alloc::AllocError;
 
+/// Of each byte whether it stays as it is, whatever follows: all but control characters, C2h, E2h
+/// and EFh. Words are short, and a look-up takes less of each byte than comparisons.
+static PLAIN: [bool; 256] = [
+    false, false, false, false, false, false, false, false, false, false, false, false, false,
+    false, false, false, false, false, false, false, false, false, false, false, false, false,
+    false, false, false, false, false, false, true, true, true, true, true, true, true, true, true,
+    true, true, true, true, true, true, true, true, true, true, true, true, true, true, true, true,
+    true, true, true, true, true, true, true, true, true, true, true, true, true, true, true, true,
+    true, true, true, true, true, true, true, true, true, true, true, true, true, true, true, true,
+    true, true, true, true, true, true, true, true, true, true, true, true, true, true, true, true,
+    true, true, true, true, true, true, true, true, true, true, true, true, true, true, true, true,
+    true, true, true, true, true, true, false, true, true, true, true, true, true, true, true,
+    true, true, true, true, true, true, true, true, true, true, true, true, true, true, true, true,
+    true, true, true, true, true, true, true, true, true, true, true, true, true, true, true, true,
+    true, true, true, true, true, true, true, true, true, true, true, true, true, true, true, true,
+    true, true, true, true, true, true, true, true, true, true, false, true, true, true, true,
+    true, true, true, true, true, true, true, true, true, true, true, true, true, true, true, true,
+    true, true, true, true, true, true, true, true, true, true, true, false, true, true, true,
+    true, true, true, true, true, true, true, true, true, false, true, true, true, true, true,
+    true, true, true, true, true, true, true, true, true, true, true,
+];
+
 fn is_control(byte: u8) -> bool
     ensures { result ≡ is_control byte }
 {
@@ -53,17 +75,18 @@ fn is_long(first: u8, second: u8, third: u8) -> bool
         || (first == 0xEF && (second == 0xBB && third == 0xBF))
 }
 
+#[inline(always)]
 fn is_plain(byte: u8) -> bool
     ensures { result ≡ is_plain byte }
 {
-    !is_control(byte) && (byte != 0xC2 && (byte != 0xE2 && byte != 0xEF))
+    PLAIN[byte as usize]
 }
 
 // each byte stays as it is
 fn are_plain(said: &[u8]) -> bool
     ensures { result ≡ list_all is_plain said.now }
 {
-    // no early end: a loop over all bytes takes many of them at once
+    // no early end, and no branch on a byte
     let mut are_plain = true;
     for byte in said {
         are_plain = are_plain & is_plain(*byte);
