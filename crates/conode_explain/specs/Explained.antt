@@ -1,13 +1,15 @@
 -- What a log is explained as: the lines of its frames that are asked for, in order, each with that
 -- of the transfer that ended with it, and at the end those of the transfers that are open. A bad
 -- line has none here, and is counted.
-use Rattle.std.specs.Prelude.{ℕ, ◌+◌, ◌-◌, ◌==◌, Bool, true, false, min, nat_lt, ◌&&◌, ◌||◌, if◌then◌else◌, List, [], ◌∷◌, ◌++◌, length, Option, Some, None}
+use Rattle.std.specs.Prelude.{ℕ, ◌+◌, ◌-◌, ◌==◌, Bool, true, false, min, nat_lt, ◌&&◌, ◌||◌, if◌then◌else◌, List, [], ◌∷◌, ◌++◌, length, slice_index, Option, Some, None}
 use Rattle.std.specs.List.{flat_map}
 use Rattle.std.specs.Str.Lines.{lines}
 use Rattle.co_stream.specs.Founds.{is_closed}
 use Rattle.conode_convert.specs.Converted.{at_start}
 use Rattle.conode_logs.specs.declared.log.Log.{Log}
 use Rattle.conode_logs.specs.Logs.{says}
+use Rattle.conode_record.specs.declared.content.Content.{Content}
+use Rattle.conode_record.specs.declared.content.Content.TheVariants.{Data}
 use Rattle.conode_record.specs.declared.fields.Identifier.{Identifier}
 use Rattle.conode_record.specs.declared.fields.Identifier.TheVariants.{Base}
 use Rattle.conode_record.specs.declared.line.Record.{Record}
@@ -92,11 +94,11 @@ further_in further frame place None = record { told = None; channels = further }
 unfoldable pub further_of : List FurtherChannel → Record → Place → FurtherTelling
 further_of further frame place = further_in further frame place (packed_of frame.id frame.content)
 
--- a default channel may take a frame, or it may be a boot-up: its identifier is above those of PDOs in the
--- pre-defined connection set
-abbrev pub may_be_told : Identifier → Bool
-may_be_told (Base id) = nat_lt 0x580 id
-may_be_told _ = false
+-- a default channel may take a frame, by its identifier, or it may be a boot-up, by its data too
+abbrev pub may_be_told : Identifier → Content → Bool
+may_be_told (Base id) (Data bytes) =
+    nat_lt 0x580 id && (nat_lt id 0x680 || ((length bytes == 1) && (slice_index bytes 0 == 0)))
+may_be_told id has = false
 
 -- what is known of the PDOs of a frame's bus
 abbrev pub bus_of : List KnownSheet → List ShownPdo → Record → Bus

@@ -1,6 +1,6 @@
 //! How far a recording is, and how it is explained.
 
-ghost use Rattle.std.specs.Prelude.{◌≡◌, IfOk, OnOk};
+ghost use Rattle.std.specs.Prelude.{◌≡◌, ◌==◌, ◌&&◌, None, Some, IfOk, OnOk, length, slice_index};
 ghost use Rattle.conode_record.specs.Grammar.{IsIdentifier};
 ghost use Rattle.conode_explain_entries.specs.Tables.{entries_with};
 ghost use Rattle.conode_explain_text.specs.SoFar.{seen_with};
@@ -18,6 +18,7 @@ ghost use Rattle.conode_explain.specs.Explained.{
 ghost use Rattle.conode_explain.specs.Nodes.{last_at, nodes_with, packed_of};
 
 use co_frame::Frame;
+use co_value::PackedBytes;
 use conode_explain_entries::{Entries, FurtherChannels, Place};
 use conode_explain_filter::{Filter, Lasts};
 use conode_explain_forms::Signal;
@@ -73,13 +74,22 @@ pub(crate) struct Progress {
     pub(crate) lasts: Lasts,
 }
 
-/// Whether an SDO channel may take a frame with this identifier. Of no other one there is anything
-/// to tell.
-pub(crate) fn may_be_told(id: Identifier) -> bool
-    ensures { result ≡ may_be_told id }
+// Whether these bytes are those of a boot-up: one, which is 0.
+fn is_zero(bytes: &PackedBytes) -> bool
+    ensures { result ≡ ((length bytes.now == 1) && (slice_index bytes.now 0 == 0)) }
 {
-    match id {
-        Identifier::Base(id) => id > 0x580,
+    bytes.len() == 1 && bytes.padded()[0] == 0
+}
+
+/// Whether a default SDO channel may take a frame, or it may be a boot-up. Of no other one there is
+/// anything to tell.
+pub(crate) fn may_be_told(id: Identifier, content: &Content<'_>) -> bool
+    ensures { result ≡ may_be_told id content.now }
+{
+    match (id, content) {
+        (Identifier::Base(id), Content::Data(bytes)) => {
+            id > 0x580 && (id < 0x680 || is_zero(bytes))
+        }
         _ => false,
     }
 }
@@ -122,6 +132,22 @@ fn boot_further(further: &mut FurtherChannels, interface: &[u8], told: &Option<T
     }
 }
 
+// What is said about a boot-up of a node on whose default channel nothing was heard. Apart from most
+// frames, since what is said is large.
+#[inline(never)]
+fn booted(node: u8) -> Option<Told>
+    ensures { result
+        ≡ Some (record { node = node; part = None; left = None; ended = None; unclear = None }) }
+{
+    Some(Told {
+        node,
+        part: None,
+        left: None,
+        ended: None,
+        unclear: None,
+    })
+}
+
 // what is said about a frame, of a boot-up at least its node
 fn or_boot_up(frame: &Frame, told: Option<Told>) -> Option<Told>
     ensures { result ≡ or_boot_up frame.now told }
@@ -129,13 +155,7 @@ fn or_boot_up(frame: &Frame, told: Option<Told>) -> Option<Told>
     if told.is_some() || !is_boot_up(frame) {
         return told;
     }
-    Some(Told {
-        node: (frame.id() - 0x700) as u8,
-        part: None,
-        left: None,
-        ended: None,
-        unclear: None,
-    })
+    booted((frame.id() - 0x700) as u8)
 }
 
 // a data frame that is read as one with an identifier of 11 bits

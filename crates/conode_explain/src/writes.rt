@@ -44,6 +44,9 @@ use conode_record::{Identifier, Record};
 use std::alloc::{AllocError, Global};
 use std::io::Write;
 
+/// Of a frame of no SDO channel nothing is said. A constant, since what is said is large.
+const UNTOLD: Option<Told> = None;
+
 /// Scratch space for a line, reused for each one.
 #[derive(Drop)]
 pub(crate) struct Room {
@@ -399,8 +402,8 @@ pub(crate) fn write_frame<W: Write>(
     let bus = bus_of(settings, &progress.entries, frame);
     match place_of(bus, frame.id, &frame.content, settings.channels) {
         // most frames are of no SDO channel
-        None if !may_be_told(frame.id) => {
-            write_by(room, claims, progress, settings, None, frame, &None, out)
+        None if !may_be_told(frame.id, &frame.content) => {
+            write_by(room, claims, progress, settings, None, frame, &UNTOLD, out)
         }
         place => write_heard(room, claims, progress, settings, place, frame, out),
     }

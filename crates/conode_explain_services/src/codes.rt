@@ -17,7 +17,6 @@ ghost use Rattle.conode_explain_services.specs.Codes.{
 };
 
 use crate::texts::{Row, words_in};
-use conode_text::{Value, push_filled};
 use std::alloc::AllocError;
 
 /// The classes of codes, which are their two upper digits.
@@ -275,6 +274,7 @@ fn single_for(drive: bool, code: u16) -> &'static str
     or_else(single_words(code), own)
 }
 
+#[tactic(auto, unfolding(conode_text::specs::Filled::filled))]
 fn push_in_brackets<'a>(
     text: &mut String,
     class: &'a str,
@@ -286,14 +286,13 @@ fn push_in_brackets<'a>(
     if class.is_empty() {
         return Ok(());
     }
-    if single.is_empty() {
-        return push_filled(text, " (%)", &[Value::Words(class)]);
+    attempt!(text.push_str(" ("));
+    attempt!(text.push_str(class));
+    if !single.is_empty() {
+        attempt!(text.push_str(": "));
+        attempt!(text.push_str(single));
     }
-    push_filled(
-        text,
-        " (%: %)",
-        &[Value::Words(class), Value::Words(single)],
-    )
+    text.push_str(")")
 }
 
 /// Appends the words of a code in brackets, of a device that is a drive or isn't; nothing where the

@@ -13,7 +13,7 @@ ghost use Rattle.conode_explain_services.specs.Registers.{
 };
 
 use crate::texts::{Row, words_in};
-use conode_text::{HasText, Value, push_filled};
+use conode_text::HasText;
 use std::alloc::AllocError;
 
 /// The bits of the register, each by its place.
@@ -43,7 +43,7 @@ struct Bit(u8, u8);
 impl HasText for Bit {
     ghost text_of = { text_of_bit };
 
-    #[tactic(auto, unfolding(crate::specs::Registers::bit_text))]
+    #[tactic(auto, unfolding(crate::specs::Registers::bit_text, conode_text::specs::Filled::filled))]
     fn push(&self, text: &mut String) -> Result<(), AllocError> {
         if self.0 & self.1 == 0 {
             return Ok(());
@@ -52,7 +52,8 @@ impl HasText for Bit {
         if self.0 & self.1.saturating_sub(1) == 0 {
             text.push_str(word)
         } else {
-            push_filled(text, ", %", &[Value::Words(word)])
+            attempt!(text.push_str(", "));
+            text.push_str(word)
         }
     }
 }

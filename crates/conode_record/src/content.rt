@@ -1,6 +1,6 @@
 //! What follows the number sign of a frame line.
 
-ghost use Rattle.std.specs.Prelude.{◌≡◌, ◌+◌, ◌≤◌, length, slice_index, ◌==◌, true};
+ghost use Rattle.std.specs.Prelude.{◌≡◌, ◌+◌, ◌≤◌, [], length, slice_index, ◌==◌, true, Some, IfSome};
 ghost use Rattle.std.specs.Option.{option_map, option_copied};
 ghost use Rattle.std.specs.List.{list_all};
 ghost use Rattle.co_text.specs.Texts.{is_blank};
@@ -111,14 +111,13 @@ fn is_marked(text: &[u8]) -> bool
     last > 0 && is_mark(text[last]) && are_blanks(&text[..last])
 }
 
-// the direction in the rest of a line, if there is one
-#[inline(always)]
-fn ending_in(text: &[u8]) -> Result<Option<Direction>, BadLine>
+// The direction in the rest of a line that doesn't end with its data. Apart from most lines, which
+// do.
+#[inline(never)]
+fn marked_ending(text: &[u8]) -> Result<Option<Direction>, BadLine>
+    requires { 1 ≤ length text.now }
     ensures { result ≡ ending_in text.now }
 {
-    if text.is_empty() {
-        return Ok(None);
-    }
     if !is_blank(text[0]) {
         return Err(BadLine::Data);
     }
@@ -129,9 +128,21 @@ fn ending_in(text: &[u8]) -> Result<Option<Direction>, BadLine>
     }
 }
 
-// the bytes of the pairs at the front, if they are at most 8, and what follows
+// the direction in the rest of a line, if there is one
 #[inline(always)]
-fn few_pairs_at(text: &[u8]) -> Option<(PackedBytes, &[u8])>
+fn ending_in(text: &[u8]) -> Result<Option<Direction>, BadLine>
+    ensures { result ≡ ending_in text.now }
+{
+    if text.is_empty() {
+        return Ok(None);
+    }
+    marked_ending(text)
+}
+
+// The bytes of the pairs at the front, if they are at most 8, and what follows. Apart from eight
+// bytes at the end, as most frames have.
+#[inline(never)]
+fn any_pairs_at(text: &[u8]) -> Option<(PackedBytes, &[u8])>
     ensures { option_map (λ found. (found.0, found.1.now)) result ≡ few_pairs 8 text.now }
 {
     let mut bytes = PackedBytes::new();
@@ -144,6 +155,38 @@ fn few_pairs_at(text: &[u8]) -> Option<(PackedBytes, &[u8])>
         rest = after;
     }
     Some((bytes, rest))
+}
+
+// The eight bytes that a text of sixteen digits spells; `None` for every other text. The number of
+// turns is known where it is compiled, so that there is no loop.
+#[inline(always)]
+fn eight_in(text: &[u8]) -> Option<PackedBytes>
+    ensures { IfSome result (λ bytes. Some (bytes, []) ≡ few_pairs 8 text.now) }
+{
+    if text.len() != 16 {
+        return None;
+    }
+    let mut bytes = PackedBytes::new();
+    let mut rest = text;
+    for _pair in 0..8usize {
+        let Some((byte, after)) = pair_at(rest) else {
+            return None;
+        };
+        bytes.append(&[byte]);
+        rest = after;
+    }
+    if rest.is_empty() { Some(bytes) } else { None }
+}
+
+// the bytes of the pairs at the front, if they are at most 8, and what follows
+#[inline(always)]
+fn few_pairs_at(text: &[u8]) -> Option<(PackedBytes, &[u8])>
+    ensures { option_map (λ found. (found.0, found.1.now)) result ≡ few_pairs 8 text.now }
+{
+    match eight_in(text) {
+        Some(bytes) => Some((bytes, &[])),
+        None => any_pairs_at(text),
+    }
 }
 
 // how many pairs are at the front, and what follows
@@ -240,7 +283,9 @@ pub(crate) fn is_other(text: &[u8]) -> bool
     !text.is_empty() && (text[0] == b'#' || text[0] == b'R')
 }
 
-/// What follows the number sign where that isn't data, and the direction, if there is one.
+/// What follows the number sign where that isn't data, and the direction, if there is one. Apart from
+/// data, which most frames have.
+#[inline(never)]
 #[tactic(auto, unfolding(crate::specs::Contents::content_in))]
 pub(crate) fn other_in(text: &[u8]) -> Result<(Content<'_>, Option<Direction>), BadLine>
     requires { is_other text.now ≡ true }

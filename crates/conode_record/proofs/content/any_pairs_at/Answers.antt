@@ -2,7 +2,7 @@ use Rattle.std.proofs.Common.{ℕ, List, ◌≡◌, ◌∷◌, [], ◌++◌, len
 use Rattle.std.proofs.lemmas.Bool.Decides.{nat_tests}
 use Rattle.co_text.proofs.Pairs.{AreRead, read_more}
 use Rattle.conode_record.proofs.FieldNumbers.{pairs_all}
-use Rattle.conode_record.proofs.content.few_pairs_at.Goals as goal
+use Rattle.conode_record.proofs.content.any_pairs_at.Goals as goal
 
 pub loop-byte-preserved : goal.loop-byte-preserved
 loop-byte-preserved c =

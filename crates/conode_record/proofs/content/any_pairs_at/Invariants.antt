@@ -1,6 +1,6 @@
 use Rattle.std.proofs.Common.{◌≤◌, length}
 use Rattle.co_text.proofs.Pairs.{AreRead}
-use Rattle.conode_record.proofs.content.few_pairs_at.Given as goal
+use Rattle.conode_record.proofs.content.any_pairs_at.Given as goal
 
 abbrev pub invariant-loop-byte : goal.invariant-loop-byte
 invariant-loop-byte l = record {
