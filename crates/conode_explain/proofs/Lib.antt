@@ -2,6 +2,7 @@ mod AbortExamples
 pub mod AbortLemmas
 pub mod AssumedLemmas
 pub mod Explaining
+mod ChangeExamples
 mod FilterExamples
 pub mod LogLemmas
 pub mod NodeExamples

@@ -1,6 +1,11 @@
 -- Which lines are printed.
-use Rattle.std.specs.Prelude.{ℕ, ◌==◌, nat_lt, Bool, true, false, not, ◌&&◌, ◌||◌, if◌then◌else◌, List, [], ◌∷◌, length, Option, Some, None}
+use Rattle.std.specs.Prelude.{ℕ, ◌+◌, ◌-◌, ◌==◌, nat_lt, Bool, true, false, not, ◌&&◌, ◌||◌, if◌then◌else◌, List, [], ◌∷◌, length, take, drop, codes, Option, Some, None}
 use Rattle.std.specs.List.{list_any}
+use Rattle.std.specs.Str.{bytes_eq}
+use Rattle.conode_record.specs.declared.content.Content.{Content}
+use Rattle.conode_record.specs.declared.content.Content.TheVariants.{Remote}
+use Rattle.conode_record.specs.declared.fields.Identifier.{Identifier}
+use Rattle.conode_record.specs.declared.fields.Identifier.TheVariants.{Base}
 use Rattle.conode_record.specs.declared.line.Record.{Record}
 use Rattle.conode_explain_filter.specs.Changes.{Said, is_new, kept}
 use Rattle.conode_explain_filter.specs.declared.kind.Kind.{Kind}
@@ -111,13 +116,29 @@ repeats _ = false
 abbrev pub is_repeating : Layout → Subject → Bool
 is_repeating form subject = form.changes && repeats subject.kind
 
--- what a frame says, by its interface and identifier
+-- the toggle bit at the end of a guarding answer, which changes from answer to answer; one that isn't awaited isn't at the end
+abbrev pub ends_with : List ℕ → List ℕ → Bool
+ends_with words end = bytes_eq (drop (length words - length end) words) end
+
+abbrev pub has_toggle : Kind → List ℕ → Bool
+has_toggle Heartbeat words = ends_with words (codes " toggle 0") || ends_with words (codes " toggle 1")
+has_toggle _ words = false
+
+abbrev pub without_toggle : List ℕ → List ℕ
+without_toggle words = take (length words - 1) words
+
+-- a remote frame asks for what the data frames of its identifier say: bit 30 tells it apart, as in Linux (SocketCAN)
+abbrev pub said_id : ℕ → Identifier → Content → ℕ
+said_id number (Base id) (Remote count) = 0x40000000 + id
+said_id number id content = number
+
+-- what a frame says, by its interface and identifier; the words of a guarding answer have its byte
 abbrev pub said_of : Subject → Record → List ℕ → Said
 said_of subject frame words = record {
   interface = frame.interface;
-  id = subject.id.number;
-  bytes = data_of frame.content;
-  words = words;
+  id = said_id subject.id.number frame.id frame.content;
+  bytes = if has_toggle subject.kind words then [] else data_of frame.content;
+  words = if has_toggle subject.kind words then without_toggle words else words;
 }
 
 -- a frame says something new since what was said last

@@ -7,7 +7,9 @@ ghost use Rattle.conode_explain_filter.specs.Filters.{passes};
 ghost use Rattle.conode_explain.specs.Filtered.{
   are_of_several,
   channel_subject,
+  ends_with,
   first_node,
+  has_toggle,
   is_news,
   is_repeating,
   is_rival,
@@ -18,10 +20,12 @@ ghost use Rattle.conode_explain.specs.Filtered.{
   passes_end,
   passes_frame,
   repeats,
+  said_id,
   service_subject,
   shows_end,
   shows_frame,
   subject_by,
+  without_toggle,
 };
 
 use crate::progress::Layout;
@@ -31,7 +35,7 @@ use conode_explain_filter::{Filter, Kind, Lasts, Subject, Written};
 use conode_explain_forms::data_of;
 use conode_explain_pdo::{Claim, NamedService};
 use conode_explain_text::{Seen, Times};
-use conode_record::Record;
+use conode_record::{Content, Identifier, Record};
 use std::alloc::AllocError;
 
 fn first_node(claims: &[Claim]) -> Option<u8>
@@ -241,8 +245,45 @@ fn is_repeating(form: &Layout<'_>, whose: Whose, claims: &[Claim], frame: &Recor
     form.changes && repeats(subject_by(whose, claims, frame).kind)
 }
 
+fn ends_with(words: &[u8], end: &[u8]) -> bool
+    ensures { result ≡ ends_with words.now end.now }
+{
+    let start = words.len().saturating_sub(end.len());
+    &words[start..] == end
+}
+
+// whether words end with the toggle bit of a guarding answer
+fn has_toggle(kind: Kind, words: &[u8]) -> bool
+    ensures { result ≡ has_toggle kind words.now }
+{
+    match kind {
+        Kind::Heartbeat => ends_with(words, b" toggle 0") || ends_with(words, b" toggle 1"),
+        _ => false,
+    }
+}
+
+fn without_toggle(words: &[u8]) -> &[u8]
+    ensures { result.now ≡ without_toggle words.now }
+{
+    &words[..words.len().saturating_sub(1)]
+}
+
+// the identifier, and for a remote frame bit 30
+fn said_id(number: u32, id: Identifier, content: &Content<'_>) -> u32
+    requires { IsIdentifier id }
+    ensures { result ≡ said_id number id content.now }
+{
+    match content {
+        Content::Remote(_) => match id {
+            Identifier::Base(id) => 0x4000_0000 + id as u32,
+            _ => number,
+        },
+        _ => number,
+    }
+}
+
 /// Whether a frame that is these PDOs and says these words has a line. Where only changes are asked
-/// for, a PDO, a heartbeat or a SYNC has one only if it says something new, and its words are kept.
+/// for, a PDO, error control or a SYNC has one only if it says something new, and its words are kept.
 /// On an `Err` memory ran out.
 #[tactic(auto, unfolding(crate::specs::Filtered::is_news, crate::specs::Filtered::lasts_told))]
 pub(crate) fn is_news(
@@ -263,11 +304,10 @@ pub(crate) fn is_news(
         return Ok(true);
     }
     let subject = subject_by(whose, claims, frame);
-    let data = data_of(&frame.content);
-    lasts.take(
-        frame.interface.bytes(),
-        subject.id.number,
-        data.as_slice(),
-        words,
-    )
+    let id = said_id(subject.id.number, frame.id, &frame.content);
+    let interface = frame.interface.bytes();
+    if has_toggle(subject.kind, words) {
+        return lasts.take(interface, id, &[], without_toggle(words));
+    }
+    lasts.take(interface, id, data_of(&frame.content).as_slice(), words)
 }

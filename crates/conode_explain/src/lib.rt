@@ -44,6 +44,7 @@ macro_rules! attempt_value_in_memory {
 
 mod abort_words;
 mod bad_words;
+mod cut_off;
 mod ends;
 mod explain_file;
 mod explained;

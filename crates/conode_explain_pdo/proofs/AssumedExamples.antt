@@ -148,3 +148,26 @@ its_sender : said (sheet_for 6 (rows_with 0x1800 0x205) ∷ []) (shown 0x1400 As
     ≡ codes "TPDO1 node 6 | ~RPDO1 node 5 (mapping seen): 2001:01 = E803"
 unfolding claims_with sheets_claims sheet_claim shown_claim names_for pdos_text more_pdos pdo_text pdo_by pdo_front data_in_force shown_text mapping_in_force words_in_force node_with is_of sheet_pdos pdos_in pdo_of mapping_at words_at number_at data_text mapped_text parts_text more_parts part_text missing_text with_bits part_bytes short_text more_text filled entry_of digits digits_text
 its_sender = refl
+
+-- ---- receivers alone: the sender of that set, of which nothing is known
+
+abbrev heard : ℕ → List ℕ
+heard id = said (sheet_for 6 (rows_with 0x1400 id) ∷ []) [] id
+
+its_receiver_alone : heard 0x185 ≡ codes "~TPDO1 node 5 | RPDO1 node 6"
+unfolding claims_with sheets_claims sheet_claim shown_claim names_for pdos_text more_pdos pdo_text pdo_by pdo_front data_in_force mapping_in_force node_with is_of sheet_pdos pdos_in pdo_of mapping_at words_at number_at data_text digits words_in_force
+its_receiver_alone = refl
+
+last_sender : heard 0x4FF ≡ codes "~TPDO4 node 127 | RPDO1 node 6"
+unfolding claims_with sheets_claims sheet_claim shown_claim names_for pdos_text more_pdos pdo_text pdo_by pdo_front data_in_force mapping_in_force node_with is_of sheet_pdos pdos_in pdo_of mapping_at words_at number_at data_text digits words_in_force
+last_sender = refl
+
+-- an identifier of another node's RPDO, of no PDO, of no node; of a node with a sheet
+no_sender : map heard (0x205 ∷ 0x685 ∷ 0x280 ∷ 0x186 ∷ []) ≡ codes "RPDO1 node 6" ∷ codes "RPDO1 node 6" ∷ codes "RPDO1 node 6" ∷ codes "RPDO1 node 6" ∷ []
+unfolding claims_with sheets_claims sheet_claim shown_claim names_for pdos_text more_pdos pdo_text pdo_by pdo_front data_in_force mapping_in_force node_with is_of sheet_pdos pdos_in pdo_of mapping_at words_at number_at data_text digits words_in_force
+no_sender = refl
+
+-- one that has another COB-ID by the recording
+moved_sender : said (sheet_for 6 (rows_with 0x1400 0x185) ∷ []) (shown 0x1800 (Seen 0x190) [] false ∷ []) 0x185 ≡ codes "RPDO1 node 6"
+unfolding claims_with sheets_claims sheet_claim shown_claim names_for pdos_text more_pdos pdo_text pdo_by pdo_front data_in_force shown_text mapping_in_force node_with is_of sheet_pdos pdos_in pdo_of mapping_at words_at number_at data_text digits words_in_force
+moved_sender = refl

@@ -1,11 +1,12 @@
 -- The PDOs of one sheet after another.
 use Rattle.std.proofs.Common.{◌≡◌, ℕ, ◌+◌, ◌<◌, ◌≤◌, List, [], ◌∷◌, ◌++◌, length, map, take, drop, get_or, refl, sym, ap, ◌∙◌, append_assoc, append-nil, length-append, arith}
 use Rattle.std.proofs.lemmas.List.{at_drop_all, at_drop_more, take_more}
+use Rattle.std.proofs.Math.Seq.{take-append_seam}
 use Rattle.co_profile.specs.declared.indices.IndexRange.{IndexRange}
 use Rattle.conode_explain_pdo.specs.declared.claim.Claim.{Claim}
 use Rattle.conode_explain_pdo.specs.declared.known_sheet.KnownSheet.{KnownSheet as KnownSheetOfCode}
 use Rattle.conode_explain_pdo.specs.Buses.{Bus}
-use Rattle.conode_explain_pdo.specs.Claims.{or_assumed, sheet_claims, sheets_claims}
+use Rattle.conode_explain_pdo.specs.Claims.{or_assumed, sheet_claims, sheets_claims, with_sender}
 use Rattle.conode_explain_pdo.specs.Known.{KnownSheet, known_view}
 
 views_push : (xs : List KnownSheetOfCode) (x : KnownSheetOfCode) → map known_view (xs ++ x ∷ []) ≡ map known_view xs ++ known_view x ∷ []
@@ -57,5 +58,41 @@ some_added old (claim ∷ sent) assumed lt = refl
 pub none_added : (old sent assumed : List Claim) → length (old ++ sent) ≤ length old → (old ++ sent) ++ assumed ≡ old ++ or_assumed sent assumed
 none_added old [] assumed le = rw (append-nil old) refl
 none_added old (claim ∷ sent) assumed le =
+    let count = length-append old (claim ∷ sent) in
+    absurd (omega (arith, le, count))
+
+-- ---- a sender of which nothing is known
+
+sender_before : (unseen received : List Claim) → 0 < length received → with_sender unseen [] received ≡ unseen ++ received
+sender_before unseen [] lt = absurd (omega (arith, lt))
+sender_before unseen (claim ∷ received) lt = refl
+
+no_sender : (unseen received : List Claim) → length received ≤ 0 → with_sender unseen [] received ≡ []
+no_sender unseen [] le = refl
+no_sender unseen (claim ∷ received) le = absurd (omega (arith, le))
+
+pub sender_kept : (old unseen received : List Claim) → length (old ++ unseen) < length ((old ++ unseen) ++ received)
+    → (old ++ unseen) ++ received ≡ old ++ with_sender unseen [] received
+sender_kept old unseen received lt =
+    let count = length-append (old ++ unseen) received in
+    rw (sender_before unseen received (omega (arith, lt, count))) (append_assoc old unseen received)
+
+pub none_received : (old unseen received : List Claim) → length ((old ++ unseen) ++ received) ≤ length (old ++ unseen)
+    → take (length old) ((old ++ unseen) ++ received) ≡ old ++ with_sender unseen [] received
+none_received old unseen received le =
+    let count = length-append (old ++ unseen) received in
+    rw (no_sender unseen received (omega (arith, le, count)), append_assoc old unseen received, append-nil old) (take-append_seam old (unseen ++ received))
+
+pub some_sent : (old unseen sent received : List Claim) → length old < length (old ++ sent)
+    → (old ++ sent) ++ received ≡ old ++ with_sender unseen sent received
+some_sent old unseen [] received lt =
+    let count = length-append old [] in
+    absurd (omega (arith, lt, count))
+some_sent old unseen (claim ∷ sent) received lt = append_assoc old (claim ∷ sent) received
+
+pub none_sent : (old unseen sent received : List Claim) → length (old ++ sent) ≤ length old
+    → (old ++ sent) ++ with_sender unseen [] received ≡ old ++ with_sender unseen sent received
+none_sent old unseen [] received le = rw (append-nil old) refl
+none_sent old unseen (claim ∷ sent) received le =
     let count = length-append old (claim ∷ sent) in
     absurd (omega (arith, le, count))

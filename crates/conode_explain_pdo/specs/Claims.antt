@@ -120,8 +120,23 @@ sent_claims bus id = or_assumed (kind_claims bus tpdo_communication id) (assumed
 abbrev pub received_claims : Bus → ℕ → List Claim
 received_claims bus id = kind_claims bus rpdo_communication id ++ assumed_claims bus rpdo_communication id
 
+-- a sender of which nothing is known: its node has no sheet, and the recording shows no entry of the PDO
+abbrev pub is_unseen : Bus → Claim → Bool
+is_unseen bus claim =
+    not (claim.node == 0) && (is_none (sheet_for bus.sheets bus.interface claim.node) && is_none (state_at bus claim.node claim.index))
+
+abbrev pub unseen_claim : Bus → Option Claim → List Claim
+unseen_claim bus None = []
+unseen_claim bus (Some claim) = if is_within tpdo_communication claim.index && is_unseen bus claim then claim ∷ [] else []
+
+-- it is assumed where nodes receive an identifier, and none is known to send it
+abbrev pub with_sender : List Claim → List Claim → List Claim → List Claim
+with_sender unseen [] [] = []
+with_sender unseen [] (claim ∷ claims) = unseen ++ claim ∷ claims
+with_sender unseen (claim ∷ sent) received = (claim ∷ sent) ++ received
+
 abbrev pub both_claims : Bus → ℕ → List Claim
-both_claims bus id = sent_claims bus id ++ received_claims bus id
+both_claims bus id = with_sender (unseen_claim bus (default_claim id)) (sent_claims bus id) (received_claims bus id)
 
 -- ---- a look before: most identifiers are no PDO's
 

@@ -21,6 +21,7 @@ ghost use Rattle.conode_explain_pdo.specs.Claims.{
   may_be_shown,
   is_said,
   is_shown,
+  is_unseen,
   kind_claims,
   may_be_claimed,
   names_node,
@@ -31,6 +32,8 @@ ghost use Rattle.conode_explain_pdo.specs.Claims.{
   sheets_claims,
   shown_claim,
   shows,
+  unseen_claim,
+  with_sender,
 };
 
 use crate::bus::Bus;
@@ -338,6 +341,51 @@ fn add_received(
     add_assumed(claims, bus, IndexRange::RPDO_COMMUNICATION, id)
 }
 
+// whether nothing is known of a sender: its node has no sheet, and the recording shows no entry of
+// its PDO
+fn is_unseen(bus: Bus<'_, '_, '_, '_, '_>, claim: Claim) -> bool
+    ensures { result ≡ is_unseen (bus_view bus.entry) claim }
+{
+    claim.node != 0
+        && (is_none_for(bus.sheets, bus.interface, claim.node)
+            && bus.state(claim.node, claim.index).is_none())
+}
+
+// the sender that the pre-defined connection set has an identifier for, if nothing is known of it
+fn unseen_sender(bus: Bus<'_, '_, '_, '_, '_>, id: u16) -> Option<Claim>
+    ensures { option_to_list result ≡ unseen_claim (bus_view bus.entry) (default_claim id) }
+{
+    match default_claim(id) {
+        Some(claim)
+            if IndexRange::TPDO_COMMUNICATION.contains(claim.index) && is_unseen(bus, claim) => {
+            Some(claim)
+        }
+        _ => None,
+    }
+}
+
+// adds the PDOs with an identifier that none is known to send: those that nodes receive, and if there
+// are any, before them the one of which nothing is known
+#[tactic(auto, using(crate::proofs::Claims::sender_kept, crate::proofs::Claims::none_received))]
+fn add_unsent(
+    claims: &mut Vec<Claim>,
+    bus: Bus<'_, '_, '_, '_, '_>,
+    id: u16,
+) -> Result<(), AllocError>
+    ensures { OnOk result (claims.new.items ≡ claims.old.items
+        ++ with_sender (unseen_claim (bus_view bus.entry) (default_claim id)) []
+        (received_claims (bus_view bus.entry) id)) }
+{
+    let before = claims.len();
+    attempt!(add_claim(claims, unseen_sender(bus, id)));
+    let sent = claims.len();
+    attempt!(add_received(claims, bus, id));
+    if claims.len() <= sent {
+        claims.truncate(before);
+    }
+    Ok(())
+}
+
 // whether one may have a PDO with an identifier, or names it otherwise
 fn sheets_may_have(sheets: &[KnownSheet<'_, '_>], id: u16) -> bool
     ensures { result ≡ false → list_any (sheet_may_have id) (map known_view sheets.now) ≡ false }
@@ -377,6 +425,7 @@ fn may_be_claimed(bus: Bus<'_, '_, '_, '_, '_>, id: u16) -> bool
     sheets_may_have(bus.sheets, id) || any_may_be_shown(bus.entries.shown(), id)
 }
 
+#[tactic(auto, using(crate::proofs::Claims::some_sent, crate::proofs::Claims::none_sent))]
 fn add_both(
     claims: &mut Vec<Claim>,
     bus: Bus<'_, '_, '_, '_, '_>,
@@ -389,13 +438,18 @@ fn add_both(
     if !may_be_claimed(bus, id) {
         return Ok(());
     }
+    let before = claims.len();
     attempt!(add_sent(claims, bus, id));
-    add_received(claims, bus, id)
+    if before < claims.len() {
+        return add_received(claims, bus, id);
+    }
+    add_unsent(claims, bus, id)
 }
 
 /// Adds the PDOs that have an identifier, by the data sheets and by the COB-IDs that the recording
-/// shows, and by the pre-defined connection set one of which the recording shows the mapping alone:
-/// first those that nodes send, and then those that they receive. On an `Err` memory ran out.
+/// shows, and by the pre-defined connection set one of which the recording shows the mapping alone,
+/// and where only nodes that receive it are known its sender: first those that nodes send, and then
+/// those that they receive. On an `Err` memory ran out.
 #[tactic(auto, unfolding(crate::specs::Claims::claims_with))]
 pub fn add_claims(
     claims: &mut Vec<Claim>,
