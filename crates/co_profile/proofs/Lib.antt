@@ -1,3 +1,4 @@
 mod FixedTypeExamples
 mod FixedTypeLemmas
 mod TransmissionTypeExamples
+mod PdoNumberExamples

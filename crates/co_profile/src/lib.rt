@@ -1,11 +1,12 @@
-//! The communication profile of CANopen: access of entries, the objects from 1000h to 1FFFh, and
-//! transmission types.
+//! The communication profile of CANopen: access of entries, the objects from 1000h to 1FFFh, the
+//! numbers of PDOs, and transmission types.
 #![tactic(auto)]
 
 mod access;
 mod fixed_types;
 mod indices;
 pub mod keys;
+mod pdo_number;
 mod transmission_type;
 
 pub use access::Access;
@@ -16,4 +17,5 @@ pub use indices::{
     PRODUCER_HEARTBEAT, RESTORE_PARAMETERS, STORE_PARAMETERS, SYNC_COB_ID, SYNC_COUNTER_OVERFLOW,
     SYNC_START_VALUE, TRANSMISSION_TYPE, index_numbers,
 };
+pub use pdo_number::PdoNumber;
 pub use transmission_type::TransmissionType;

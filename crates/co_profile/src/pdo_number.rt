@@ -1,6 +1,7 @@
 //! The number of a PDO.
 
 ghost use Rattle.std.specs.Prelude.{◌≡◌, ◌<◌, ◌≤◌, MatchOption};
+ghost use Rattle.co_profile.specs.PdoNumbers.{count_to};
 
 use std::marker::Model;
 
@@ -25,6 +26,7 @@ impl Model for PdoNumber {
 
 impl PdoNumber {
     /// Makes a PDO number of a number below 512; `None` from 512 on.
+    #[inline(always)]
     pub fn new(number: u16) -> Option<PdoNumber>
         ensures { MatchOption result (512 ≤ number) (λ k. (k ≡ number) × (number < 512)) }
     {
@@ -36,6 +38,7 @@ impl PdoNumber {
     }
 
     /// Makes a PDO number of a number below 512.
+    #[inline(always)]
     pub fn of(number: u16) -> PdoNumber
         requires { number < 512 }
         ensures { result ≡ number }
@@ -44,11 +47,23 @@ impl PdoNumber {
     }
 
     /// The number.
+    #[inline(always)]
     pub fn get(self) -> u16
         ensures value { result ≡ self }
         ensures small { self < 512 }
     {
         self.number
+    }
+
+    /// How many numbers there are up to that of the last PDO; 0 if there is no PDO.
+    pub fn count_to(last: Option<PdoNumber>) -> u16
+        ensures value { result ≡ count_to last }
+        ensures few { result ≤ 512 }
+    {
+        match last {
+            Some(last) => last.get() + 1,
+            None => 0,
+        }
     }
 }
 
