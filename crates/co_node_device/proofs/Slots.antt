@@ -33,39 +33,37 @@ use Rattle.co_node_device.specs.SlotTables.{AreSlotsOf}
 
 -- ---- the build
 
-slots_begin : (d : Description) (count : ℕ) (content : SlotContent) → Covers Rpdo d count → count ≤ 512 → SlotsStand count content []
-    → AreSlotsOf d content []
+slots_begin : (d : Description) (count : ℕ) (content : SlotContent) → Covers Rpdo d count → length content.slots ≤ 512
+    → SlotsStand count content [] → AreSlotsOf d content []
 slots_begin d count content covers few stand = record {
   covers = subst (λ (n : ℕ). Covers Rpdo d n) (sym stand.size) covers;
-  few = subst (λ (n : ℕ). n ≤ 512) (sym stand.size) few;
+  few = few;
   stand = subst (λ (n : ℕ). SlotsStand n content []) (sym stand.size) stand;
-  others = λ k past. refl;
+  others = λ k past small. refl;
 }
 
-if_ok : {T E : Type 0} (r : Result T E) (P Q : T → Type 0) → ((x : T) → P x → Q x) → IfOk r P → IfOk r Q
-if_ok (Ok x) P Q f p = f x p
-if_ok (Err e) P Q f p = p
-
 -- they may be out of memory
-pub slots_begun : {E : Type 0} (d : Description) (count : ℕ) (made : Result SlotContent E) → Covers Rpdo d count → count ≤ 512
-    → IfOk made (λ content. SlotsStand count content []) → IfOk made (λ content. AreSlotsOf d content [])
-slots_begun d count made covers few =
-    if_ok made (λ content. SlotsStand count content []) (λ content. AreSlotsOf d content []) (λ content. slots_begin d count content covers few)
+pub slots_begun : {E : Type 0} (d : Description) (count : ℕ) (made : Result SlotContent E) → Covers Rpdo d count
+    → IfOk made (λ content. SlotsStand count content []) → IfOk made (λ content. length content.slots ≤ 512)
+    → IfOk made (λ content. AreSlotsOf d content [])
+slots_begun d count (Ok content) covers stand few = slots_begin d count content covers few stand
+slots_begun d count (Err e) covers stand few = tt
 
 -- ---- what an event takes
 
-none_past : (h : ℕ → Option KeptFrame) (a n : ℕ) → ((k : ℕ) → a ≤ k → h k ≡ None) → filter_map h (range_with_len a n) ≡ []
+none_past : (h : ℕ → Option KeptFrame) (a n : ℕ) → ((k : ℕ) → a ≤ k → k < a + n → h k ≡ None) → filter_map h (range_with_len a n) ≡ []
 none_past h a zero none = refl
 none_past h a (suc n) none =
-    ap (λ o. cons_option o (filter_map h (range_with_len (a + 1) n))) (none a (omega arith))
-    ∙ none_past h (a + 1) n (λ k past. none k (omega (arith, past)))
+    ap (λ o. cons_option o (filter_map h (range_with_len (a + 1) n))) (none a (omega arith) (omega arith))
+    ∙ none_past h (a + 1) n (λ k past small. none k (omega (arith, past)) (omega (arith, small)))
 
-all_before : (h : ℕ → Option KeptFrame) (a n total : ℕ) → n ≤ total → ((k : ℕ) → a + n ≤ k → h k ≡ None)
+all_before : (h : ℕ → Option KeptFrame) (a n total : ℕ) → n ≤ total → ((k : ℕ) → a + n ≤ k → k < a + total → h k ≡ None)
     → filter_map h (range_with_len a n) ≡ filter_map h (range_with_len a total)
-all_before h a zero total le none = sym (none_past h a total (λ k past. none k (omega (arith, past))))
+all_before h a zero total le none = sym (none_past h a total (λ k past small. none k (omega (arith, past)) small))
 all_before h a (suc n) zero le none = absurd (omega (arith, le))
 all_before h a (suc n) (suc total) le none =
-    ap (cons_option (h a)) (all_before h (a + 1) n total (omega (arith, le)) (λ k past. none k (omega (arith, past))))
+    ap (cons_option (h a))
+    (all_before h (a + 1) n total (omega (arith, le)) (λ k past small. none k (omega (arith, past)) (omega (arith, small))))
 
 -- the slots of the RPDOs are enough: all that wait are in them
 pub taken_of_all : (d : Description) (content : SlotContent) (log : SlotLog) (event : SlotEvent) → AreSlotsOf d content log
@@ -75,33 +73,37 @@ taken_of_all d content log (Empty k) s = refl
 taken_of_all d content log EmptyAll s = refl
 taken_of_all d content log Sync s =
     all_before (λ k. numbered k (kept_of k log)) 0 (length content.slots) 512 s.few
-    (λ k past. ap (numbered k) (s.others k (omega (arith, past))))
+    (λ k past small. ap (numbered k) (s.others k (omega (arith, past)) (omega (arith, small))))
 taken_of_all d content log Quiet s = refl
 
 -- ---- one more event
 
--- the frame of an event has a slot
+-- the frame of an event has a slot, if its number is that of an RPDO
 abbrev IsWithin : ℕ → SlotEvent → Type 0
-IsWithin n (Keep k frame) = k < n
+IsWithin n (Keep k frame) = k < 512 → k < n
 IsWithin n (Empty k) = Unit {0}
 IsWithin n EmptyAll = Unit {0}
 IsWithin n Sync = Unit {0}
 IsWithin n Quiet = Unit {0}
 
-others_after : (n : ℕ) (event : SlotEvent) (log : SlotLog) → IsWithin n event → ((k : ℕ) → n ≤ k → kept_of k log ≡ None)
-    → (k : ℕ) → n ≤ k → kept_of k (event ∷ log) ≡ None
-others_after n (Keep j frame) log within others k past =
-    let below : j < n = within in
-    let other : eqb k j ≡ false = grind (arith, nat_tests) in
-    ap (λ (b : Bool). cond b (Some frame) (kept_of k log)) other ∙ others k past
-others_after n (Empty j) log within others k past = by (eqb k j)
+others_after : (n : ℕ) (event : SlotEvent) (log : SlotLog) → IsWithin n event → ((k : ℕ) → n ≤ k → k < 512 → kept_of k log ≡ None)
+    → (k : ℕ) → n ≤ k → k < 512 → kept_of k (event ∷ log) ≡ None
+others_after n (Keep j frame) log within others k past small = by (eqb k j) refl
+  where
+    by : (b : Bool) → eqb k j ≡ b → cond b (Some frame) (kept_of k log) ≡ None
+    by true h =
+        let same : k ≡ j = grind (arith, nat_tests) in
+        let below : j < n = within (omega (arith, same, small)) in
+        absurd (omega (arith, same, below, past))
+    by false h = others k past small
+others_after n (Empty j) log within others k past small = by (eqb k j)
   where
     by : (b : Bool) → cond b None (kept_of k log) ≡ None
     by true = refl
-    by false = others k past
-others_after n EmptyAll log within others k past = refl
-others_after n Sync log within others k past = refl
-others_after n Quiet log within others k past = others k past
+    by false = others k past small
+others_after n EmptyAll log within others k past small = refl
+others_after n Sync log within others k past small = refl
+others_after n Quiet log within others k past small = others k past small
 
 either : (n : ℕ) (b : Bool) (e f : SlotEvent) → IsWithin n e → IsWithin n f → IsWithin n (cond b e f)
 either n true e f here there = here
@@ -111,37 +113,37 @@ emptied_within : (n : ℕ) (set : Option Key) → IsWithin n (emptied_by set)
 emptied_within n None = tt
 emptied_within n (Some key) = either n (empties_slot key) _ Quiet tt tt
 
-kept_within : (n : ℕ) (d : Description) (c : Contents) (rpdo : Option KeptFrame) → IfSome rpdo (λ r. r.number < n) → IsWithin n (kept_by d c rpdo)
+kept_within : (n : ℕ) (d : Description) (c : Contents) (rpdo : Option KeptFrame) → IfSome rpdo (λ r. r.number < 512 → r.number < n)
+    → IsWithin n (kept_by d c rpdo)
 kept_within n d c None within = tt
 kept_within n d c (Some r) within = either n _ (Keep r.number r.frame) Quiet within tt
 
-event_within : (n : ℕ) (d : Description) (c : Contents) (mark : Mark) (t : Transition) → IfSome (marked_rpdo mark) (λ r. r.number < n)
-    → IsWithin n (slot_event d c mark t)
+event_within : (n : ℕ) (d : Description) (c : Contents) (mark : Mark) (t : Transition)
+    → IfSome (marked_rpdo mark) (λ r. r.number < 512 → r.number < n) → IsWithin n (slot_event d c mark t)
 event_within n d c mark t within =
     either n (is_reset mark || leaves Operational t) EmptyAll _ tt
     (either n (is_some (marked_sync mark) && is_state Operational t.after) Sync _ tt
     (either n (is_some (marked_key mark)) (emptied_by (marked_key mark)) (kept_by d c (marked_rpdo mark))
     (emptied_within n (marked_key mark)) (kept_within n d c (marked_rpdo mark) within)))
 
-covered : (d : Description) (n : ℕ) (rpdo : Option KeptFrame) → Covers Rpdo d n → IfSome rpdo (λ r. r.number < 512)
-    → IfSome rpdo (λ r. has_pdo Rpdo d.rows r.number ≡ true) → IfSome rpdo (λ r. r.number < n)
-covered d n None covers small there = tt
-covered d n (Some r) covers small there = covers.all r.number small there
+covered : (d : Description) (n : ℕ) (rpdo : Option KeptFrame) → Covers Rpdo d n
+    → IfSome rpdo (λ r. has_pdo Rpdo d.rows r.number ≡ true) → IfSome rpdo (λ r. r.number < 512 → r.number < n)
+covered d n None covers there = tt
+covered d n (Some r) covers there = λ small. covers.all r.number small there
 
 -- the slots after one more event, whose frame, if it has one, is that of an RPDO of the dictionary
 pub slots_after : (d : Description) (c : Contents) (before after : SlotContent) (log : SlotLog) (mark : Mark) (t : Transition)
-    → AreSlotsOf d before log → IfSome (marked_rpdo mark) (λ r. r.number < 512)
-    → IfSome (marked_rpdo mark) (λ r. has_pdo Rpdo d.rows r.number ≡ true)
+    → AreSlotsOf d before log → IfSome (marked_rpdo mark) (λ r. has_pdo Rpdo d.rows r.number ≡ true)
     → SlotsStand (length before.slots) after (slot_event d c mark t ∷ log) → AreSlotsOf d after (slot_event d c mark t ∷ log)
-slots_after d c before after log mark t s small there stand =
+slots_after d c before after log mark t s there stand =
     let n = length before.slots in
     let others = others_after n (slot_event d c mark t) log
-    (event_within n d c mark t (covered d n (marked_rpdo mark) s.covers small there)) s.others in
+    (event_within n d c mark t (covered d n (marked_rpdo mark) s.covers there)) s.others in
     record {
       covers = subst (λ (m : ℕ). Covers Rpdo d m) (sym stand.size) s.covers;
       few = subst (λ (m : ℕ). m ≤ 512) (sym stand.size) s.few;
       stand = subst (λ (m : ℕ). SlotsStand m after (slot_event d c mark t ∷ log)) (sym stand.size) stand;
-      others = subst (λ (m : ℕ). (k : ℕ) → m ≤ k → kept_of k (slot_event d c mark t ∷ log) ≡ None) (sym stand.size) others;
+      others = subst (λ (m : ℕ). (k : ℕ) → m ≤ k → k < 512 → kept_of k (slot_event d c mark t ∷ log) ≡ None) (sym stand.size) others;
     }
 
 -- ---- the RPDO of a received frame is one of the dictionary

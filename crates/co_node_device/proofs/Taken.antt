@@ -1,19 +1,13 @@
 -- The data of frames that take effect one by one.
-use Rattle.std.proofs.Common.{◌≡◌, ℕ, ◌+◌, ◌<◌, ◌≤◌, zero, suc, List, [], ◌∷◌, ◌++◌, length, take, get_or, refl, sym, ap, ◌∙◌, subst, arith, append-nil}
-use Rattle.std.specs.Prelude.{Option, Some, None}
-use Rattle.std.specs.List.{All, AllByRecursion, filter_map, cons_option, range_with_len}
+use Rattle.std.proofs.Common.{◌≡◌, ℕ, ◌+◌, ◌<◌, List, [], ◌∷◌, ◌++◌, length, take, get_or, refl, sym, ap, ◌∙◌, subst, append-nil}
 use Rattle.std.proofs.lemmas.List.{take_more}
-use Rattle.std.proofs.lemmas.List.Elements.{All-from_recursion}
-use Rattle.co_frame.specs.FrameContent.{FrameContent}
 use Rattle.co_frame.specs.declared.emergency.Emergency.{Emergency}
 use Rattle.co_dict.specs.Rows.{Contents}
 use Rattle.co_dict.specs.Stores.{Description}
 use Rattle.co_node_parts.specs.declared.rpdo_slots.KeptFrame.{KeptFrame}
-use Rattle.co_node_parts.specs.declared.rpdo_slots.SlotEvent.{SlotEvent}
-use Rattle.co_node_parts.specs.declared.rpdo_slots.SlotEvent.TheVariants.{Keep, Empty, EmptyAll, Sync, Quiet}
 use Rattle.co_node_parts.specs.declared.nmt_state.Transition.{Transition}
 use Rattle.co_node_parts.specs.declared.emergencies.EmergencyEvent.TheVariants as emergencies
-use Rattle.co_node_parts.specs.RpdoSlots.{SlotLog, kept_of, numbered, taken_at}
+use Rattle.co_node_parts.specs.RpdoSlots.{SlotLog, taken_at}
 use Rattle.co_node_parts.specs.EmergencyQueues.{EmergencyLog, Noted, Pending, EmergenciesStand, with_queued}
 use Rattle.co_node_model.specs.declared.mark.Mark.{Mark}
 use Rattle.co_node_model.specs.Rpdos.{slot_event, immediate, after_data, data_emergencies, after_all_data, all_data_emergencies}
@@ -23,32 +17,6 @@ use Rattle.co_value.specs.declared.key.Key.{Key}
 use Rattle.co_dict_placed.specs.Changes.{with_key, with_keys}
 use Rattle.co_node_device.specs.SetEntries.{set_by_all_data, set_by_data, set_by_effects}
 use Rattle.co_node_device.specs.Effects.{length_errors_of, taken_now, after_lengths, after_effects, effect_emergencies}
-
--- ---- numbers of frames that are taken
-
--- an RPDO has a number below the count
-abbrev pub IsBelow : ℕ → KeptFrame → Type 0
-IsBelow count rpdo = rpdo.number < count
-
-below_cons : (count k : ℕ) (frame : Option FrameContent) (rest : List KeptFrame) → k < count → AllByRecursion (IsBelow count) rest → AllByRecursion (IsBelow count) (cons_option (numbered k frame) rest)
-below_cons count k None rest lt all = all
-below_cons count k (Some frame) rest lt all = (lt, all)
-
-below_all : (count : ℕ) (f : ℕ → Option FrameContent) (a n : ℕ) → a + n ≤ count → AllByRecursion (IsBelow count) (filter_map (λ k. numbered k (f k)) (range_with_len a n))
-below_all count f a zero le = tt
-below_all count f a (suc n) le = below_cons count a (f a) _ (omega arith) (below_all count f (a + 1) n (omega arith))
-
--- those that an event takes
-pub taken_below : (count : ℕ) (event : SlotEvent) (log : SlotLog) → All (IsBelow count) (taken_at count event log)
-taken_below count (Keep k frame) log = All-from_recursion (IsBelow count) [] tt
-taken_below count (Empty k) log = All-from_recursion (IsBelow count) [] tt
-taken_below count EmptyAll log = All-from_recursion (IsBelow count) [] tt
-taken_below count Sync log = All-from_recursion (IsBelow count) _ (below_all count (λ k. kept_of k log) 0 count (omega arith))
-taken_below count Quiet log = All-from_recursion (IsBelow count) [] tt
-
--- none has another number
-pub not_above : (count : ℕ) (xs : List KeptFrame) (i : ℕ) (x : KeptFrame) → i < length xs → x ≡ get_or xs i x → All (IsBelow count) xs → count ≤ x.number → ⊥
-not_above count xs i x lt at all le = let below : x.number < count = subst (IsBelow count) (sym at) (all i x lt) in omega arith
 
 -- ---- several after several
 

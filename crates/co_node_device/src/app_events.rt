@@ -1,6 +1,6 @@
 //! Application events, at reception.
 
-ghost use Rattle.std.specs.Prelude.{◌≡◌, None};
+ghost use Rattle.std.specs.Prelude.{◌≡◌, false, true, MatchOption};
 ghost use Rattle.co_frame.specs.declared.abort_code.AbortCode.{AbortCode};
 ghost use Rattle.co_node_parts.specs.EmergencyQueues.{EmergencyLog, EmergenciesStand, with_queued};
 ghost use Rattle.co_node_model.specs.AppEvents.{is_tpdo};
@@ -8,7 +8,6 @@ ghost use Rattle.co_node_model.specs.Inputs.{Written, EventOn, ChangedAt, Raised
 ghost use Rattle.co_node_model.specs.declared.mark.Mark.TheVariants as was;
 ghost use Rattle.co_node_device.specs.Given.{IsPlaceOf};
 ghost use Rattle.co_node_device.specs.Receiving.{app_moment};
-ghost use Rattle.co_node_model.specs.Marks.{marked_rpdo};
 
 use crate::emergencies::{clear, raise_and_queue};
 use crate::receiving::Received;
@@ -57,7 +56,6 @@ pub(crate) fn write<S: ObjectStore>(
     ensures contents { S.contents store.new ≡ (app_moment (S.description store.old)
         (S.contents store.old) (Written key bytes.now)).received }
     ensures description { S.description store.new ≡ S.description store.old }
-    ensures rpdo { marked_rpdo result.mark ≡ None }
 {
     match place {
         Some(place) => {
@@ -76,13 +74,14 @@ pub(crate) fn write<S: ObjectStore>(
     done(Mark::Written(key))
 }
 
-/// Whether the dictionary has the TPDO with a number; never from 512 on.
-fn is_tpdo<S: ObjectStore>(store: &S, number: u16) -> bool
-    ensures { result ≡ is_tpdo (S.description store.now).rows number }
+/// The TPDO with a number, if the dictionary has it; never from 512 on.
+fn tpdo_at<S: ObjectStore>(store: &S, number: u16) -> Option<PdoNumber>
+    ensures { MatchOption result (is_tpdo (S.description store.now).rows number ≡ false)
+        (λ k. (k ≡ number) × (is_tpdo (S.description store.now).rows number ≡ true)) }
 {
     match PdoNumber::new(number) {
-        Some(k) => has_pdo(store, Side::Tpdo, k),
-        None => false,
+        Some(k) if has_pdo(store, Side::Tpdo, k) => Some(k),
+        _ => None,
     }
 }
 
@@ -95,10 +94,10 @@ pub(crate) fn event<S: ObjectStore>(store: &S, number: u16) -> Received
     ensures contents { S.contents store.now ≡ (app_moment (S.description store.now)
         (S.contents store.now) (EventOn number)).received }
 {
-    if !is_tpdo(store, number) {
-        return refused(AbortCode::OBJECT_MISSING);
+    match tpdo_at(store, number) {
+        Some(k) => done(Mark::Asked(Asked::Event(k))),
+        None => refused(AbortCode::OBJECT_MISSING),
     }
-    done(Mark::Asked(Asked::Event(number)))
 }
 
 /// The application reports that the value of an entry changed.

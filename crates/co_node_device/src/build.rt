@@ -22,7 +22,7 @@ ghost use Rattle.co_node_device.specs.Lasts.{last_losses, last_seen};
 use crate::addresses::AddressTable;
 use crate::device::Device;
 use crate::heartbeats::{begun_consumers, begun_producer, send_life};
-use crate::mapping_table::count_of;
+use crate::mapping_table::last_of;
 use crate::mappings::CompiledMappings;
 use crate::parts::Parts;
 use crate::seen::Seen;
@@ -41,7 +41,7 @@ use std::alloc::{AllocError, Global};
 fn slots_of<S: ObjectStore>(alloc: Global, store: &S) -> Result<RpdoSlots, AllocError>
     ensures { IfOk result (λ slots. AreSlotsOf (S.description store.now) slots []) }
 {
-    RpdoSlots::new(alloc, count_of(store, Side::Rpdo))
+    RpdoSlots::new(alloc, last_of(store, Side::Rpdo))
 }
 
 // The parts of a device over a dictionary. It is borrowed, so that no exit drops a store as well as

@@ -1,6 +1,6 @@
 //! A device over a dictionary, and its inputs.
 
-ghost use Rattle.std.specs.Prelude.{◌≡◌, ◌<◌, ◌≤◌, ◌∷◌, length, true, IfSome, Some, if◌then◌else◌};
+ghost use Rattle.std.specs.Prelude.{◌≡◌, ◌≤◌, ◌∷◌, length, true, Some, if◌then◌else◌};
 ghost use Rattle.std.proofs.Props.{props};
 ghost use Rattle.co_pdo_compiled.proofs.Props.{part_prop};
 ghost use Rattle.co_sdo.specs.Banks.{all_settings};
@@ -14,7 +14,7 @@ ghost use Rattle.co_dict_placed.specs.Changes.{with_keys};
 ghost use Rattle.co_node_device.specs.Lasts.{last_seen};
 ghost use Rattle.co_node_device.specs.SetEntries.{last_set, set_by_rpdos};
 ghost use Rattle.co_node_device.specs.MappingTables.{HaveParts};
-ghost use Rattle.co_node_model.specs.Marks.{marked_rpdo, marked_time_out};
+ghost use Rattle.co_node_model.specs.Marks.{marked_time_out};
 
 use crate::addresses::find_address;
 use crate::emergencies::{send_emergency, take_emergency};
@@ -260,7 +260,6 @@ impl<S: ObjectStore> Device<S> {
     // and RPDOs.
     #[inline(always)]
     fn take_effect(&mut self, mark: &Mark, changes: &mut [u8]) -> Transition
-        requires { IfSome (marked_rpdo mark.now) (λ rpdo. rpdo.number < 512) }
         ensures effect { (k : Constants) (inputs : Inputs) (input : InputView) →
             HasReceived k self.old inputs input mark.now →
             HasTakenEffect k self.new inputs input mark.now result }

@@ -5,6 +5,7 @@ ghost use Rattle.co_dict.specs.declared.side.Side.{Side};
 ghost use Rattle.co_dict.specs.Rows.{Contents};
 ghost use Rattle.co_dict.specs.Stores.{Description};
 ghost use Rattle.co_pdo_compiled.specs.declared.part.Part.{Part};
+ghost use Rattle.co_profile.specs.PdoNumbers.{count_to};
 ghost use Rattle.co_node_model.specs.Mappings.{AgreeOnMappings, may_change_mappings};
 ghost use Rattle.co_node_device.specs.MappingTables.{IsMappingTable, AreForms, Covers, HaveParts};
 ghost use Rattle.std.specs.List.{slice_index_or};
@@ -32,19 +33,18 @@ pub(crate) fn mappings_stay()
     mapping_by_words();
 }
 
-/// The number of the last PDO of a side that the dictionary has, plus 1; 0 if it has none.
-pub(crate) fn count_of<S: ObjectStore>(store: &S, side: Side) -> u16
-    ensures covers { Covers side (S.description store.now) result }
-    ensures few { result ≤ 512 }
+/// The last PDO of a side that the dictionary has.
+pub(crate) fn last_of<S: ObjectStore>(store: &S, side: Side) -> Option<PdoNumber>
+    ensures { Covers side (S.description store.now) (count_to result) }
 {
-    let mut count = 0;
+    let mut last = None;
     for k in 0..512u16 {
         let number = PdoNumber::of(k);
         if has_pdo(store, side, number) {
-            count = k + 1;
+            last = Some(number);
         }
     }
-    count
+    last
 }
 
 /// Compiles the mapping of each PDO again.
@@ -91,7 +91,7 @@ impl MappingTable {
             IsMappingTable side (S.description store.now) (S.contents store.now) table) }
         ensures parts { IfOk result (HaveParts (S.description store.now)) }
     {
-        let count = count_of(store, side);
+        let count = PdoNumber::count_to(last_of(store, side));
         let mut pdos = Vec::with_capacity(alloc, usize::from(count))?;
         for k in 0..count {
             let number = PdoNumber::of(k);

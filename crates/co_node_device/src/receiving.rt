@@ -1,6 +1,6 @@
 //! Receiving an input, by its kind; a frame by its addressee.
 
-ghost use Rattle.std.specs.Prelude.{◌≡◌, ◌+◌, ◌<◌, ◌≤◌, ◌++◌, true, None, IfSome, if◌then◌else◌};
+ghost use Rattle.std.specs.Prelude.{◌≡◌, ◌+◌, ◌≤◌, ◌++◌, true, if◌then◌else◌};
 ghost use Rattle.arrayvec.specs.ArrayVec.{array_vec_len};
 ghost use Rattle.co_frame.specs.Outboxes.{HasRoomFor};
 ghost use Rattle.co_frame.specs.SegmentSizes.{segments_per_sub_block};
@@ -14,7 +14,7 @@ ghost use Rattle.co_node_device.specs.Receiving.{IsFrameReceived, frame_moment, 
 ghost use Rattle.co_node_parts.specs.EmergencyQueues.{EmergencyLog, EmergenciesStand, with_queued};
 ghost use Rattle.co_node_model.specs.Device.{received_at};
 ghost use Rattle.co_node_device.specs.Given.{IsPlaced, given_view};
-ghost use Rattle.co_node_model.specs.Marks.{marked_rpdo, marked_time_out};
+ghost use Rattle.co_node_model.specs.Marks.{marked_time_out};
 
 use crate::app_events::{change, clear_errors, event, raise, write};
 use crate::given::Given;
@@ -40,7 +40,6 @@ fn take_frame<S: ObjectStore>(
     requires room { HaveRoom (S.description store.old).rows (all_settings bank.old) }
     ensures few { array_vec_len outbox.new ≤ array_vec_len outbox.old + segments_per_sub_block }
     ensures alone { may_be_due result ≡ true → array_vec_len outbox.new ≡ array_vec_len outbox.old }
-    ensures number { IfSome (marked_rpdo result) (λ rpdo. rpdo.number < 512) }
     ensures settings { all_settings bank.new ≡ all_settings bank.old }
     ensures description { S.description store.new ≡ S.description store.old }
     ensures received { (k : Constants) (history : History) →
@@ -89,7 +88,6 @@ pub(crate) fn receive<S: ObjectStore>(
     ensures few { array_vec_len outbox.new ≤ array_vec_len outbox.old + segments_per_sub_block }
     ensures alone { may_be_due result.mark ≡ true → array_vec_len outbox.new ≤
         array_vec_len outbox.old + (if marked_time_out result.mark then 1 else 0) }
-    ensures number { IfSome (marked_rpdo result.mark) (λ rpdo. rpdo.number < 512) }
     ensures settings { all_settings bank.new ≡ all_settings bank.old }
     ensures description { S.description store.new ≡ S.description store.old }
     ensures mark { (k : Constants) (history : History) →

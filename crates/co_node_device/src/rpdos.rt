@@ -1,7 +1,7 @@
 //! RPDOs: their frames, those that wait for a SYNC, errors of length, and data that take effect
 //! (CiA 301, 7.2.2).
 
-ghost use Rattle.std.specs.Prelude.{◌≡◌, ◌<◌, None, IfSome, [], if◌then◌else◌, ◌∷◌, true};
+ghost use Rattle.std.specs.Prelude.{◌≡◌, None, IfSome, [], if◌then◌else◌, ◌∷◌, true};
 ghost use Rattle.co_dict.specs.Rows.{Contents};
 ghost use Rattle.co_dict.specs.Stores.{Description};
 ghost use Rattle.co_node_model.specs.Rpdos.{
@@ -19,7 +19,7 @@ ghost use Rattle.co_node_model.specs.Rpdos.{
   after_all_data,
   all_data_emergencies,
 };
-ghost use Rattle.std.specs.List.{cons_option, All};
+ghost use Rattle.std.specs.List.{cons_option};
 ghost use Rattle.co_dict.specs.declared.side.Side.TheVariants.{Rpdo};
 ghost use Rattle.co_node_device.specs.MappingTables.{HaveParts, IsMappingTable};
 ghost use Rattle.co_node_device.specs.SlotTables.{AreSlotsOf};
@@ -41,19 +41,18 @@ use co_frame::Frame;
 use co_node_laws::settings_kept;
 use co_node_model::{DeviceError, Mark, emptied_by};
 use co_node_parts::{Emergencies, KeptFrame, NodeState, RpdoSlots, SlotEvent, Transition};
-use co_pdo::{PdoFault, PdoNumber};
+use co_pdo::PdoFault;
 use co_profile::{IndexRange, TRANSMISSION_TYPE, TransmissionType};
 use co_value::Key;
 
 /// The transmission type of the RPDO of a received frame, 0 if the dictionary has none; 0 if there
 /// is no such frame (CiA 301, 7.5.2.35).
 fn type_of<S: ObjectStore>(store: &S, rpdo: &Option<KeptFrame>) -> u8
-    requires { IfSome rpdo.now (λ rpdo. rpdo.number < 512) }
     ensures { IsTypeOf (S.contents store.now) rpdo.now result }
 {
     match rpdo {
         Some(rpdo) => {
-            let index = IndexRange::RPDO_COMMUNICATION.nth(rpdo.number);
+            let index = IndexRange::RPDO_COMMUNICATION.nth(rpdo.number.get());
             number_u8(
                 store,
                 Key {
@@ -177,8 +176,7 @@ fn take_data<S: ObjectStore>(
     changes: &mut [u8],
     rpdo: &KeptFrame,
 )
-    requires number { rpdo.now.number < 512 }
-    requires parts { HaveParts (S.description store.old) mappings.now }
+    requires { HaveParts (S.description store.old) mappings.now }
     ensures description { S.description store.new ≡ S.description store.old }
     ensures contents { IsMappingTable Rpdo (S.description store.old) (S.contents store.old)
         mappings.now →
@@ -197,8 +195,7 @@ fn take_data<S: ObjectStore>(
         changes.new ≡ with_keys (S.description store.old)
         (set_by_data (S.description store.old) (S.contents store.old) rpdo.now) changes.old }
 {
-    let number = PdoNumber::of(rpdo.number);
-    let outcome = mappings.apply(store, number, rpdo.frame.bytes(), changes);
+    let outcome = mappings.apply(store, rpdo.number, rpdo.frame.bytes(), changes);
     raise_outcome(store, emergencies, outcome);
     // laws: calls of them change nothing
     settings_kept();
@@ -232,7 +229,7 @@ fn raise_lengths<S: ObjectStore>(
     raise_some(store, emergencies, of_rpdo);
 }
 
-/// The data of frames take effect, in order. There is no RPDO with a number from 512 on.
+/// The data of frames take effect, in order.
 #[inline(always)]
 fn take_all_data<S: ObjectStore>(
     store: &mut S,
@@ -244,27 +241,21 @@ fn take_all_data<S: ObjectStore>(
     requires { HaveParts (S.description store.old) mappings.now }
     ensures description { S.description store.new ≡ S.description store.old }
     ensures contents { IsMappingTable Rpdo (S.description store.old) (S.contents store.old)
-        mappings.now →
-        All (λ rpdo. rpdo.number < 512) rpdos.now → S.contents store.new ≡
+        mappings.now → S.contents store.new ≡
         after_all_data (S.description store.old) (S.contents store.old) rpdos.now }
     ensures table { IsMappingTable Rpdo (S.description store.old) (S.contents store.old)
         mappings.now →
         IsMappingTable Rpdo (S.description store.old) (S.contents store.new) mappings.now }
     ensures emergencies { (queued : EmergencyLog) →
         IsMappingTable Rpdo (S.description store.old) (S.contents store.old) mappings.now →
-        All (λ rpdo. rpdo.number < 512) rpdos.now →
         EmergenciesStand emergencies.old queued → EmergenciesStand emergencies.new (with_queued
         (all_data_emergencies (S.description store.old) (S.contents store.old) rpdos.now) queued) }
     ensures changes { IsMappingTable Rpdo (S.description store.old) (S.contents store.old)
-        mappings.now →
-        All (λ rpdo. rpdo.number < 512) rpdos.now → changes.new ≡
-        with_keys (S.description store.old)
+        mappings.now → changes.new ≡ with_keys (S.description store.old)
         (set_by_all_data (S.description store.old) (S.contents store.old) rpdos.now) changes.old }
 {
     for rpdo in rpdos {
-        if rpdo.number < 512 {
-            take_data(store, mappings, emergencies, changes, rpdo);
-        }
+        take_data(store, mappings, emergencies, changes, rpdo);
     }
 }
 
@@ -278,8 +269,7 @@ fn take_at_once<S: ObjectStore>(
     rpdo: &Option<KeptFrame>,
     is_immediate: bool,
 )
-    requires number { IfSome rpdo.now (λ rpdo. rpdo.number < 512) }
-    requires parts { HaveParts (S.description store.old) mappings.now }
+    requires { HaveParts (S.description store.old) mappings.now }
     ensures description { S.description store.new ≡ S.description store.old }
     ensures contents { IsMappingTable Rpdo (S.description store.old) (S.contents store.old)
         mappings.now →
@@ -307,15 +297,11 @@ fn take_at_once<S: ObjectStore>(
 /// How many bytes the RPDO of a received frame maps; 0 if there is no such frame.
 #[inline(always)]
 fn mapped_length(mappings: &MappingTable, rpdo: &Option<KeptFrame>) -> usize
-    requires { IfSome rpdo.now (λ rpdo. rpdo.number < 512) }
     ensures { (d : Description) (contents : Contents) →
         IsMappingTable Rpdo d contents mappings.now → IsMappedLength d contents rpdo.now result }
 {
     match rpdo {
-        Some(rpdo) => {
-            let number = PdoNumber::of(rpdo.number);
-            mappings.width(number)
-        }
+        Some(rpdo) => mappings.width(rpdo.number),
         None => 0,
     }
 }
@@ -335,8 +321,7 @@ pub(crate) fn take_pdos<S: ObjectStore>(
     mark: &Mark,
     transition: Transition,
 )
-    requires number { IfSome (marked_rpdo mark.now) (λ rpdo. rpdo.number < 512) }
-    requires parts { HaveParts (S.description store.old) mappings.now }
+    requires { HaveParts (S.description store.old) mappings.now }
     ensures description { S.description store.new ≡ S.description store.old }
     ensures slots { (log : SlotLog) →
         IsMappingTable Rpdo (S.description store.old) (S.contents store.old) mappings.now →

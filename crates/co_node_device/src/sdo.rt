@@ -1,7 +1,7 @@
 //! The SDO server: frames to the channels of a device, their ticks, and drops of their transfers
 //! (CiA 301, 7.2.4).
 
-ghost use Rattle.std.specs.Prelude.{◌≡◌, ◌+◌, ◌≤◌, ◌++◌, ℕ, List, None, false, ◌||◌, if◌then◌else◌};
+ghost use Rattle.std.specs.Prelude.{◌≡◌, ◌+◌, ◌≤◌, ◌++◌, ℕ, List, false, ◌||◌, if◌then◌else◌};
 ghost use Rattle.arrayvec.specs.ArrayVec.{array_vec_len};
 ghost use Rattle.co_frame.specs.Outboxes.{HasRoomFor};
 ghost use Rattle.co_frame.specs.SegmentSizes.{segments_per_sub_block};
@@ -19,7 +19,7 @@ ghost use Rattle.co_node_parts.specs.declared.nmt_state.NodeState.TheVariants.{S
 ghost use Rattle.co_node_model.specs.Nmt.{is_reset};
 ghost use Rattle.co_node_model.specs.Sdo.{with_drop};
 ghost use Rattle.co_node_model.specs.Inputs.{Ticked};
-ghost use Rattle.co_node_model.specs.Marks.{marked_rpdo, marked_time_out};
+ghost use Rattle.co_node_model.specs.Marks.{marked_time_out};
 ghost use Rattle.co_frame.specs.FrameContent.{FrameContent};
 ghost use Rattle.co_dict_placed.specs.Changes.{with_keys};
 ghost use Rattle.co_node_device.specs.Given.{given_view};
@@ -47,7 +47,6 @@ pub(crate) fn take_request<S: ObjectStore>(
     ensures few { array_vec_len outbox.new ≤ array_vec_len outbox.old + segments_per_sub_block }
     ensures settings { all_settings bank.new ≡ all_settings bank.old }
     ensures description { S.description store.new ≡ S.description store.old }
-    ensures rpdo { marked_rpdo result ≡ None }
     ensures alone { may_be_due result ≡ false }
     ensures received { (k : Constants) (history : History) (number : ℕ) →
         IsBefore k history (S.description store.old) (S.contents store.old) bank.old state →
@@ -94,7 +93,6 @@ pub(crate) fn take_tick(bank: &mut Bank, outbox: &mut Outbox) -> Mark
     requires { HasRoomFor 1 outbox.old }
     ensures few { array_vec_len outbox.new ≤
         array_vec_len outbox.old + (if marked_time_out result then 1 else 0) }
-    ensures rpdo { marked_rpdo result ≡ None }
     ensures settings { all_settings bank.new ≡ all_settings bank.old }
     ensures mark { (d : Description) (channels : List ChannelSettings) (logs : ℕ → Log) →
         BankStands d channels bank.old logs →

@@ -57,14 +57,14 @@ fn is_mapped_into<S: ObjectStore>(store: &S, key: Key, number: PdoNumber) -> boo
 }
 
 /// The numbers of the active TPDOs that map an entry, increasing.
-fn numbers_with<S: ObjectStore>(store: &S, key: Key) -> ArrayVec<u16, 512>
+fn numbers_with<S: ObjectStore>(store: &S, key: Key) -> ArrayVec<PdoNumber, 512>
     ensures { result.items ≡ numbers_asked (S.description store.now) (S.contents store.now)
         (Asked.Changed key) }
 {
     let mut numbers = ArrayVec::new();
-    for number in 0..512u16 {
-        let k = PdoNumber::of(number);
-        if is_mapped_into(store, key, k) {
+    for k in 0..512u16 {
+        let number = PdoNumber::of(k);
+        if is_mapped_into(store, key, number) {
             numbers.push(number);
         }
     }
@@ -72,7 +72,7 @@ fn numbers_with<S: ObjectStore>(store: &S, key: Key) -> ArrayVec<u16, 512>
 }
 
 /// The numbers of the TPDOs of an application event, increasing.
-fn numbers_asked<S: ObjectStore>(store: &S, asked: Asked) -> ArrayVec<u16, 512>
+fn numbers_asked<S: ObjectStore>(store: &S, asked: Asked) -> ArrayVec<PdoNumber, 512>
     ensures { result.items ≡ numbers_asked (S.description store.now) (S.contents store.now) asked }
 {
     match asked {

@@ -13,7 +13,7 @@ ghost use Rattle.co_node_model.specs.Rpdos.{emptied_by};
 use crate::mark::Mark;
 use co_frame::Heartbeat;
 use co_node_parts::{EmergencyEvent, NodeState, SlotEvent, StateEvent};
-use co_profile::{IndexRange, PDO_COB_ID, TRANSMISSION_TYPE, keys};
+use co_profile::{IndexRange, PDO_COB_ID, PdoNumber, TRANSMISSION_TYPE, keys};
 use co_value::Key;
 
 /// The event of the NMT state at an input, besides heartbeats that are lost at it.
@@ -123,7 +123,8 @@ pub fn emptied_by(set: Option<Key>) -> SlotEvent
     };
     let is_named = key.sub == PDO_COB_ID || key.sub == TRANSMISSION_TYPE;
     if IndexRange::RPDO_COMMUNICATION.contains(key.index) && is_named {
-        SlotEvent::Empty(key.index - IndexRange::RPDO_COMMUNICATION.0)
+        let number = PdoNumber::of(key.index - IndexRange::RPDO_COMMUNICATION.0);
+        SlotEvent::Empty(number)
     } else {
         SlotEvent::Quiet
     }

@@ -17,13 +17,14 @@ ghost use Rattle.co_node_model.specs.Nmt.{is_reset};
 
 use co_frame::{Frame, NmtService};
 use co_node_parts::KeptFrame;
+use co_pdo::PdoNumber;
 use co_value::Key;
 
 /// An application event of TPDOs.
 #[derive(Clone, Copy)]
 pub enum Asked {
     /// Of the TPDO with this number.
-    Event(u16),
+    Event(PdoNumber),
     /// Of each active TPDO that maps this entry.
     Changed(Key),
 }

@@ -1,6 +1,6 @@
 //! The mark of a received frame, by its addressee.
 
-ghost use Rattle.std.specs.Prelude.{◌≡◌, ◌<◌, None, IfSome};
+ghost use Rattle.std.specs.Prelude.{◌≡◌, None};
 ghost use Rattle.co_dict.specs.Rows.{Contents};
 ghost use Rattle.co_node_model.specs.Heartbeats.{with_error_control};
 ghost use Rattle.co_node_model.specs.Inputs.{InputView};
@@ -41,15 +41,14 @@ pub fn counter_in(frame: &Frame) -> Option<u8>
 /// The mark of a frame of an RPDO: it is ignored unless the device is operational (CiA 301, 7.2.2).
 #[inline(always)]
 pub fn rpdo_mark(state: NodeState, number: PdoNumber, frame: &Frame) -> Mark
-    ensures mark { (input : InputView) (contents : Contents) → result
+    ensures { (input : InputView) (contents : Contents) → result
         ≡ (with_rpdo number state frame.now (nothing_of input contents)).mark }
-    ensures number { IfSome (marked_rpdo result) (λ rpdo. rpdo.number < 512) }
 {
     if state != NodeState::Operational {
         return Mark::Quiet;
     }
     Mark::Rpdo(KeptFrame {
-        number: number.get(),
+        number,
         frame: *frame,
     })
 }

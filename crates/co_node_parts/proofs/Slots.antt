@@ -31,14 +31,14 @@ collected_all count v log h =
     ap (λ (n : ℕ). filter_map (λ k. numbered k (get_or v.slots k None)) (range_with_len 0 n)) h.size
     ∙ same_collected (λ k. numbered k (get_or v.slots k None)) (λ k. numbered k (kept_of k log)) 0 count (λ k le lt. ap (numbered k) (h.all k None (omega arith)))
 
--- a frame is taken
-pub taken_more : (slots : List (Option FrameContent)) (k : ℕ) (d : Option FrameContent) (frame : FrameContent) (before after : List KeptFrame) → k < length slots → get_or slots k d ≡ Some frame
-    → before ≡ filter_map (λ j. numbered j (get_or slots j None)) (range_with_len 0 k) → after ≡ before ++ record { number = k; frame = frame } ∷ []
+-- a frame is taken, with the number of its slot
+pub taken_more : (slots : List (Option FrameContent)) (k n : ℕ) (d : Option FrameContent) (frame : FrameContent) (before after : List KeptFrame) → k < length slots → get_or slots k d ≡ Some frame → n ≡ k
+    → before ≡ filter_map (λ j. numbered j (get_or slots j None)) (range_with_len 0 k) → after ≡ before ++ record { number = n; frame = frame } ∷ []
     → after ≡ filter_map (λ j. numbered j (get_or slots j None)) (range_with_len 0 (k + 1))
-taken_more slots k d frame before after lt e b a =
+taken_more slots k n d frame before after lt e same b a =
     let h : ℕ → Option KeptFrame = λ j. numbered j (get_or slots j None) in
     let here : h k ≡ Some (record { number = k; frame = frame }) = ap (numbered k) (get_or_default slots k None d lt ∙ e) in
-    a ∙ ap (λ xs. xs ++ record { number = k; frame = frame } ∷ []) b ∙ ap (λ o. filter_map h (range_with_len 0 k) ++ cons_option o []) (sym here) ∙ sym (collected_more h k)
+    a ∙ ap (λ (m : ℕ). before ++ record { number = m; frame = frame } ∷ []) same ∙ ap (λ xs. xs ++ record { number = k; frame = frame } ∷ []) b ∙ ap (λ o. filter_map h (range_with_len 0 k) ++ cons_option o []) (sym here) ∙ sym (collected_more h k)
 
 -- there is no frame to take
 pub taken_same : (slots : List (Option FrameContent)) (k : ℕ) (d : Option FrameContent) (before after : List KeptFrame) → k < length slots → get_or slots k d ≡ None

@@ -3,9 +3,11 @@
 ghost use Rattle.std.specs.Prelude.{◌≡◌, ℕ, ◌<◌, ◌≤◌, [], ◌∷◌, length, slice_set, take, Option, None, IfOk};
 ghost use Rattle.std.specs.List.{filter_map, range_with_len, slice_index_or};
 ghost use Rattle.co_frame.specs.FrameContent.{FrameContent};
+ghost use Rattle.co_profile.specs.PdoNumbers.{count_to};
 ghost use Rattle.co_node_parts.specs.RpdoSlots.{AreEmptyFrom, SlotLog, SlotsStand, taken_at, numbered};
 
 use co_frame::Frame;
+use co_profile::PdoNumber;
 use std::alloc::{AllocError, Global};
 use std::boxed::BoxedSlice;
 use std::marker::Model;
@@ -14,7 +16,7 @@ use std::marker::Model;
 #[derive(Clone, Copy)]
 pub struct KeptFrame {
     /// k of 1400h + k.
-    pub number: u16,
+    pub number: PdoNumber,
     /// The frame, whose data the RPDO maps.
     pub frame: Frame,
 }
@@ -24,10 +26,10 @@ pub struct KeptFrame {
 pub enum SlotEvent {
     /// A frame of the RPDO with this number was received, which takes effect at the next SYNC. It
     /// replaces the one that waits.
-    Keep(u16, Frame),
+    Keep(PdoNumber, Frame),
     /// The COB-ID or the transmission type of the RPDO with this number was written: its waiting
     /// frame is dropped.
-    Empty(u16),
+    Empty(PdoNumber),
     /// The NMT state operational was left, or there was a reset: all frames are dropped.
     EmptyAll,
     /// A SYNC was received: all frames are taken.
@@ -37,11 +39,11 @@ pub enum SlotEvent {
 }
 
 #[tactic(auto, using(std::proofs::lemmas::List::set_past))]
-/// Puts a frame or `None` into a slot; nothing happens if there is no such slot.
-fn put(slots: &mut [Option<Frame>], k: u16, kept: Option<Frame>)
+/// Puts a frame or `None` into the slot of an RPDO; nothing happens if it has none.
+fn put(slots: &mut [Option<Frame>], k: PdoNumber, kept: Option<Frame>)
     ensures { slots.new ≡ slice_set slots.old k kept }
 {
-    let k = k as usize;
+    let k = usize::from(k.get());
     if k < slots.len() {
         slots[k] = kept;
     }
@@ -62,7 +64,7 @@ fn empty_all(slots: &mut [Option<Frame>], used: usize)
 /// Copies all frames to the front of `taken`, in increasing number, and returns their count. No
 /// slot from `used` on has a frame.
 fn collect(slots: &[Option<Frame>], used: usize, taken: &mut [KeptFrame]) -> usize
-    requires numbers { length slots.now < 65536 }
+    requires numbers { length slots.now ≤ 512 }
     requires used { AreEmptyFrom used slots.now }
     requires within { used ≤ length slots.now }
     requires room { length slots.now ≤ length taken.old }
@@ -75,10 +77,8 @@ fn collect(slots: &[Option<Frame>], used: usize, taken: &mut [KeptFrame]) -> usi
     for k in 0..used {
         match slots[k] {
             Some(frame) => {
-                taken[count] = KeptFrame {
-                    number: k as u16,
-                    frame,
-                };
+                let number = PdoNumber::of(k as u16);
+                taken[count] = KeptFrame { number, frame };
                 count += 1;
             }
             None => {}
@@ -101,7 +101,7 @@ pub struct RpdoSlots {
 }
 
 impl Model for RpdoSlots {
-    ghost use Rattle.std.specs.Prelude.{◌≡◌, ◌<◌, ◌≤◌, length, take};
+    ghost use Rattle.std.specs.Prelude.{◌≡◌, ◌≤◌, length, take};
     ghost use Rattle.std.specs.Box.{boxed_slice_items};
     ghost use Rattle.co_node_parts.specs.RpdoSlots.{AreEmptyFrom, SlotContent};
 
@@ -113,7 +113,7 @@ impl Model for RpdoSlots {
       room = length (boxed_slice_items s.taken);
     } };
 
-    ghost invariant = { λ s. (length (boxed_slice_items s.slots) < 65536)
+    ghost invariant = { λ s. (length (boxed_slice_items s.slots) ≤ 512)
         × (length (boxed_slice_items s.taken) ≡ length (boxed_slice_items s.slots))
         × (s.count ≤ length (boxed_slice_items s.taken))
         × (s.used ≤ length (boxed_slice_items s.slots))
@@ -121,17 +121,19 @@ impl Model for RpdoSlots {
 }
 
 impl RpdoSlots {
-    /// Empty slots for the RPDOs with numbers below `count`. `AllocError` if they can't be
-    /// allocated.
-    pub fn new(alloc: Global, count: u16) -> Result<RpdoSlots, AllocError>
-        ensures { IfOk result (λ slots. SlotsStand count slots []) }
+    /// Empty slots for the RPDOs up to the last, none if there is no RPDO. `AllocError` if they
+    /// can't be allocated.
+    pub fn new(alloc: Global, last: Option<PdoNumber>) -> Result<RpdoSlots, AllocError>
+        ensures stands { IfOk result (λ slots. SlotsStand (count_to last) slots []) }
+        ensures few { IfOk result (λ slots. length slots.slots ≤ 512) }
     {
-        let slots = vec![in alloc; None; usize::from(count)]?;
+        let count = usize::from(PdoNumber::count_to(last));
+        let slots = vec![in alloc; None; count]?;
         let nothing = KeptFrame {
-            number: 0,
+            number: PdoNumber::default(),
             frame: Frame::default(),
         };
-        let taken = vec![in alloc; nothing; usize::from(count)]?;
+        let taken = vec![in alloc; nothing; count]?;
         Ok(RpdoSlots {
             slots: slots.into_boxed_slice(),
             taken: taken.into_boxed_slice(),
@@ -161,7 +163,7 @@ impl RpdoSlots {
         match event {
             SlotEvent::Keep(k, frame) => {
                 put(&mut self.slots, k, Some(frame));
-                let next = usize::from(k) + 1;
+                let next = usize::from(k.get()) + 1;
                 self.used = self.used.max(next).min(self.slots.len());
             }
             SlotEvent::Empty(k) => put(&mut self.slots, k, None),

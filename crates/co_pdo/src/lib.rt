@@ -5,7 +5,6 @@
 mod data;
 mod laws;
 mod mapping;
-mod pdo_number;
 mod pdos;
 mod places;
 mod schedule;
@@ -14,10 +13,10 @@ mod tpdo;
 mod tpdos;
 
 pub use co_dict::{CobId, Side};
+pub use co_profile::PdoNumber;
 pub use data::{PdoFault, apply, image, parts_joined};
 pub use laws::{active_is_there, settings_by_numbers, written_from_2000};
 pub use mapping::{Mapped, Mapping};
-pub use pdo_number::PdoNumber;
 pub use pdos::{cob_id, has_pdo, is_active};
 pub use schedule::Schedule;
 pub use tpdo::Part;

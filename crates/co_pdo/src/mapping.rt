@@ -4,12 +4,12 @@ ghost use Rattle.std.specs.Prelude.{◌≡◌, ◌≤◌, true, None, IfSome};
 ghost use Rattle.co_dict.specs.MappingCounts.{is_mapping_index, count_refusal};
 ghost use Rattle.co_pdo.specs.Mappings.{mapped_by, mapped_words, mapping_of, width_in, total_of, all_there};
 
-use crate::pdo_number::PdoNumber;
 use crate::pdos::{has_pdo, mapping_index};
 use arrayvec::ArrayVec;
 use co_dict::{
     MappingWord, ObjectStore, Side, check_count, mapping_word, number_u8, usable_dummy, word_width,
 };
+use co_profile::PdoNumber;
 use co_value::Key;
 use std::marker::Model;
 

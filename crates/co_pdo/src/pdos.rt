@@ -7,9 +7,8 @@ ghost use Rattle.co_dict.specs.MappingCounts.{is_mapping_index};
 ghost use Rattle.co_pdo.specs.Mappings.{communication_of, mapping_index, has_pdo};
 ghost use Rattle.co_pdo.specs.Pdos.{cob_id_of, is_pdo_active};
 
-use crate::pdo_number::PdoNumber;
 use co_dict::{CobId, ObjectStore, Side, number_u8, number_u32};
-use co_profile::{IndexRange, TransmissionType};
+use co_profile::{IndexRange, PdoNumber, TransmissionType};
 use co_value::Key;
 
 /// The index of the communication parameter of PDO k.

@@ -14,10 +14,9 @@ ghost use Rattle.co_pdo.specs.Pdos.{cob_id_of};
 ghost use Rattle.co_profile.specs.Keys.{counter_overflow_key};
 ghost use Rattle.co_pdo.specs.Tpdos.{tpdo_key, is_active, places_of, settings_of};
 
-use crate::pdo_number::PdoNumber;
 use crate::settings::Settings;
 use co_dict::{CobId, ObjectStore, place_laws, store_laws};
-use co_profile::{IndexRange, TransmissionType, keys};
+use co_profile::{IndexRange, PdoNumber, TransmissionType, keys};
 use co_value::{Key, read_u8, read_u16, read_u32};
 
 /// The places of the entries that decide when a TPDO is due; `None` for a missing entry. No call of

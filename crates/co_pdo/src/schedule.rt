@@ -25,7 +25,6 @@ ghost use Rattle.co_pdo.specs.Schedules.{
   AllCurrent,
 };
 
-use crate::pdo_number::PdoNumber;
 use crate::pdos::cob_id;
 use crate::places::Places;
 use crate::tpdo::{Occasion, Part, Tpdo};
@@ -34,6 +33,7 @@ use crate::tpdos::{
     places_in, tpdos_in,
 };
 use co_dict::{CobId, ObjectStore, Side};
+use co_profile::PdoNumber;
 use std::alloc::{AllocError, Global};
 use std::boxed::BoxedSlice;
 use std::marker::Model;
@@ -197,7 +197,7 @@ impl Schedule {
 
     /// An event of each TPDO among `numbers`. Leaves the numbers of those that are due in `sent`,
     /// in increasing order; these count as sent.
-    pub fn on_events<S: ObjectStore>(&mut self, store: &S, numbers: &[u16], sent: &mut Due)
+    pub fn on_events<S: ObjectStore>(&mut self, store: &S, numbers: &[PdoNumber], sent: &mut Due)
         ensures due { (history : History) →
             IsScheduleAfter (S.description store.now) self.old history →
             AllCurrent (S.contents store.now) history →

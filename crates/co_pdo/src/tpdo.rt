@@ -9,11 +9,10 @@ ghost use Rattle.co_pdo.specs.Countdowns.{IsAfter, IsCurrent};
 ghost use Rattle.co_pdo.specs.Schedules.{is_among, with_event_if};
 ghost use Rattle.co_pdo.specs.Steps.{counts, counted, passes_over, wants, marked};
 
-use crate::pdo_number::PdoNumber;
 use crate::places::Places;
 use crate::settings::{Settings, begins_count};
 use co_dict::ObjectStore;
-use co_profile::TransmissionType;
+use co_profile::{PdoNumber, TransmissionType};
 
 /// An occasion at which a TPDO may be due.
 #[derive(Clone, Copy)]
@@ -64,10 +63,11 @@ pub struct Tpdo {
 }
 
 /// Whether a number is one of those.
-fn is_among(number: PdoNumber, numbers: &[u16]) -> bool
+fn is_among(number: PdoNumber, numbers: &[PdoNumber]) -> bool
     ensures { result ≡ is_among number numbers.now }
 {
-    numbers.contains(&number.get())
+    let number = number.get();
+    numbers.iter().any(|other| other.get() == number)
 }
 
 impl Tpdo {
@@ -266,7 +266,7 @@ impl Tpdo {
     /// An event, if the TPDO's number is among these. Returns whether the TPDO is sent.
     pub(crate) fn happens_among<S: ObjectStore>(
         &mut self,
-        numbers: &[u16],
+        numbers: &[PdoNumber],
         store: &S,
         places: &Places,
     ) -> bool

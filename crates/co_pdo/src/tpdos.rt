@@ -19,12 +19,12 @@ ghost use Rattle.co_pdo.specs.Schedules.{
   with_events_among,
 };
 
-use crate::pdo_number::PdoNumber;
 use crate::pdos::has_pdo;
 use crate::places::Places;
 use crate::tpdo::{Occasion, Part, Tpdo};
 use arrayvec::ArrayVec;
 use co_dict::{ObjectStore, Side};
+use co_profile::PdoNumber;
 use std::alloc::{AllocError, Global};
 
 /// The numbers of TPDOs that are due, increasing.
@@ -117,7 +117,7 @@ pub(crate) fn all_happen<S: ObjectStore>(
 pub(crate) fn all_happen_among<S: ObjectStore>(
     tpdos: &mut [Tpdo],
     places: &[Places],
-    numbers: &[u16],
+    numbers: &[PdoNumber],
     store: &S,
     sent: &mut Due,
 )

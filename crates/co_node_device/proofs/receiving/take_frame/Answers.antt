@@ -17,4 +17,4 @@ pub returns-in-Rpdo-clause-received : goal.returns-in-Rpdo-clause-received
 returns-in-Rpdo-clause-received g c = λ k history before.
     at_address c.args.frame.now _ c.args.address (sym c.in-Rpdo.is)
     (rpdo_received k history _ _ c.args.bank.now c.args.state before c.args.frame.now c.in-Rpdo.number
-    c.args.outbox.now.items c.rpdo_mark.result (c.rpdo_mark.ensures.mark _ _))
+    c.args.outbox.now.items c.rpdo_mark.result (c.rpdo_mark.ensures _ _))

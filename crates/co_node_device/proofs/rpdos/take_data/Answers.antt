@@ -2,7 +2,6 @@ use Rattle.std.proofs.Common.{◌≡◌, ap, ◌∙◌, subst, sym, List, ℕ}
 use Rattle.co_dict.specs.Rows.{Contents}
 use Rattle.co_dict.specs.declared.side.Side.TheVariants.{Rpdo}
 use Rattle.co_frame.specs.declared.emergency.Emergency.{Emergency}
-use Rattle.co_pdo.specs.Mappings.{mapping_of}
 use Rattle.co_pdo.specs.Images.{answered, contents_after, fault_of}
 use Rattle.co_node_parts.specs.EmergencyQueues.{EmergenciesStand, with_queued}
 use Rattle.co_node_device.specs.MappingTables.{IsMappingTable}
@@ -19,11 +18,11 @@ module _ (g : given.Over) (c : goal.After-mappings_stay g)
     (table : IsMappingTable Rpdo (g.S.ObjectStore.description c.args.store.now) (g.S.ObjectStore.contents c.args.store.now) c.args.mappings.now) where
   fault : answered c.apply-outcome.result ≡ fault_of (g.S.ObjectStore.description c.args.store.now).rows
       (mapping_for (g.S.ObjectStore.description c.args.store.now) (g.S.ObjectStore.contents c.args.store.now) c.args.rpdo.now) c.args.rpdo.now.frame.bytes
-  fault = c.apply-outcome.ensures.fault Rpdo table ∙ ap (λ (k : ℕ). fault_of (g.S.ObjectStore.description c.args.store.now).rows (mapping_of Rpdo (g.S.ObjectStore.description c.args.store.now) (g.S.ObjectStore.contents c.args.store.now) k) c.bytes.result.now) c.of-number.ensures ∙ ap (fault_of (g.S.ObjectStore.description c.args.store.now).rows (mapping_for (g.S.ObjectStore.description c.args.store.now) (g.S.ObjectStore.contents c.args.store.now) c.args.rpdo.now)) c.bytes.ensures.bytes
+  fault = c.apply-outcome.ensures.fault Rpdo table ∙ ap (fault_of (g.S.ObjectStore.description c.args.store.now).rows (mapping_for (g.S.ObjectStore.description c.args.store.now) (g.S.ObjectStore.contents c.args.store.now) c.args.rpdo.now)) c.bytes.ensures.bytes
 
   written : g.S.ObjectStore.contents c.apply-outcome.new.store
       ≡ with_data (g.S.ObjectStore.description c.args.store.now) (g.S.ObjectStore.contents c.args.store.now) c.args.rpdo.now
-  written = c.apply-outcome.ensures.contents Rpdo table ∙ ap (λ (k : ℕ). contents_after (g.S.ObjectStore.description c.args.store.now).rows (mapping_of Rpdo (g.S.ObjectStore.description c.args.store.now) (g.S.ObjectStore.contents c.args.store.now) k) c.bytes.result.now (g.S.ObjectStore.contents c.args.store.now)) c.of-number.ensures ∙ ap (λ (b : List ℕ). contents_after (g.S.ObjectStore.description c.args.store.now).rows (mapping_for (g.S.ObjectStore.description c.args.store.now) (g.S.ObjectStore.contents c.args.store.now) c.args.rpdo.now) b (g.S.ObjectStore.contents c.args.store.now)) c.bytes.ensures.bytes
+  written = c.apply-outcome.ensures.contents Rpdo table ∙ ap (λ (b : List ℕ). contents_after (g.S.ObjectStore.description c.args.store.now).rows (mapping_for (g.S.ObjectStore.description c.args.store.now) (g.S.ObjectStore.contents c.args.store.now) c.args.rpdo.now) b (g.S.ObjectStore.contents c.args.store.now)) c.bytes.ensures.bytes
 
 pub returns-clause-contents : goal.returns-clause-contents
 returns-clause-contents g c = λ table.
@@ -41,7 +40,6 @@ returns-clause-changes g c = λ table.
     let d = g.S.ObjectStore.description c.args.store.now in
     let contents = g.S.ObjectStore.contents c.args.store.now in
     c.apply-outcome.ensures.changes Rpdo table
-    ∙ ap (λ (k : ℕ). with_keys d (keys_set d.rows (mapping_of Rpdo d contents k) c.bytes.result.now) c.args.changes.now) c.of-number.ensures
     ∙ ap (λ (b : List ℕ). with_keys d (keys_set d.rows (mapping_for d contents c.args.rpdo.now) b) c.args.changes.now) c.bytes.ensures.bytes
 
 pub returns-clause-table : goal.returns-clause-table

@@ -1,6 +1,6 @@
-use Rattle.std.proofs.Common.{◌≡◌, ◌<◌, ◌∷◌, ◌∙◌, [], length, sym, ap, subst}
+use Rattle.std.proofs.Common.{◌≡◌, ◌∷◌, ◌∙◌, [], length, sym, ap, subst}
 use Rattle.std.specs.Prelude.{if◌then◌else◌, Option}
-use Rattle.std.specs.List.{All, cons_option}
+use Rattle.std.specs.List.{cons_option}
 use Rattle.co_dict.specs.declared.side.Side.TheVariants.{Rpdo}
 use Rattle.co_dict.specs.Rows.{Contents}
 use Rattle.co_dict.specs.Stores.{Description}
@@ -14,7 +14,7 @@ use Rattle.co_node_model.specs.Rpdos.{IsMappedLength, IsTypeOf, immediate, slot_
 use Rattle.co_node_device.specs.MappingTables.{IsMappingTable}
 use Rattle.co_node_device.specs.Effects.{after_lengths, length_errors_of}
 use Rattle.co_node_device.proofs.Slots.{slots_after, taken_of_all}
-use Rattle.co_node_device.proofs.Taken.{AreEffects, taken_below, effects_are, effects_noted, effects_queued}
+use Rattle.co_node_device.proofs.Taken.{AreEffects, effects_are, effects_noted, effects_queued}
 use Rattle.co_node_device.proofs.rpdos.take_pdos.Given as given
 use Rattle.co_node_device.proofs.rpdos.take_pdos.Goals as goal
 
@@ -60,9 +60,6 @@ module _ (g : given.Over) (c : goal.After-mappings_stay g)
   from_slots : c.taken.result.now ≡ taken_at 512 c.slot_event.result log
   from_slots = c.taken.ensures ∙ c.note.ensures.taken (length c.args.slots.now.slots) log h.stand ∙ taken_of_all _ c.args.slots.now log c.slot_event.result h
 
-  numbers : All (λ rpdo. rpdo.number < 512) c.taken.result.now
-  numbers = subst (All (λ rpdo. rpdo.number < 512)) (sym from_slots) (taken_below 512 _ log)
-
   gave : AreEffects (g.S.ObjectStore.description c.args.store.now) (g.S.ObjectStore.description c.raise_lengths.new.store) (g.S.ObjectStore.description c.take_all_data.new.store)
       (g.S.ObjectStore.contents c.args.store.now) (g.S.ObjectStore.contents c.raise_lengths.new.store) (g.S.ObjectStore.contents c.take_all_data.new.store) (g.S.ObjectStore.contents c.take_at_once.new.store)
       c.args.mark.now c.args.transition log c.taken.result.now (if c.is_immediate-at_once.result then cons_option c.rpdo-rpdo.result [] else [])
@@ -70,7 +67,7 @@ module _ (g : given.Over) (c : goal.After-mappings_stay g)
     lengths = lengths g c table;
     same = c.raise_lengths.ensures.description;
     taken = from_slots ∙ ap (λ (e : SlotEvent). taken_at 512 e log) (event g c table);
-    data_taken = c.take_all_data.ensures.contents (waiting g c table) numbers;
+    data_taken = c.take_all_data.ensures.contents (waiting g c table);
     same_then = c.take_all_data.ensures.description ∙ c.raise_lengths.ensures.description;
     at_once = c.is_immediate-at_once.ensures (g.S.ObjectStore.description c.args.store.now) (g.S.ObjectStore.contents c.args.store.now) c.type_of-kind.ensures (mapped_came g c table)
         ∙ ap (immediate (g.S.ObjectStore.description c.args.store.now) (g.S.ObjectStore.contents c.args.store.now)) (came g c table);
@@ -79,7 +76,7 @@ module _ (g : given.Over) (c : goal.After-mappings_stay g)
 
 pub returns-clause-slots : goal.returns-clause-slots
 returns-clause-slots g c = λ log table h there.
-    slots_after (g.S.ObjectStore.description c.args.store.now) (g.S.ObjectStore.contents c.args.store.now) c.args.slots.now c.note.new.self log c.args.mark.now c.args.transition h c.requires.number there
+    slots_after (g.S.ObjectStore.description c.args.store.now) (g.S.ObjectStore.contents c.args.store.now) c.args.slots.now c.note.new.self log c.args.mark.now c.args.transition h there
     (subst (λ (e : SlotEvent). SlotsStand (length c.args.slots.now.slots) c.note.new.self (e ∷ log)) (event g c table) (c.note.ensures.stands (length c.args.slots.now.slots) log h.stand))
 
 pub returns-clause-contents : goal.returns-clause-contents
@@ -88,9 +85,9 @@ returns-clause-contents g c = λ log table h. effects_are _ _ _ _ _ _ _ _ _ _ _ 
 pub returns-clause-changes : goal.returns-clause-changes
 returns-clause-changes g c = λ log table h.
     effects_noted _ _ _ _ _ _ _ _ _ _ _ _ (gave g c table log h) c.args.changes.now _ _
-    (c.take_all_data.ensures.changes (waiting g c table) (numbers g c table log h)) (c.take_at_once.ensures.changes (at_once g c table))
+    (c.take_all_data.ensures.changes (waiting g c table)) (c.take_at_once.ensures.changes (at_once g c table))
 
 pub returns-clause-emergencies : goal.returns-clause-emergencies
 returns-clause-emergencies g c = λ log queued table h q.
     subst (EmergenciesStand c.take_at_once.new.emergencies) (effects_queued _ _ _ _ _ _ _ _ _ _ _ _ (gave g c table log h) queued)
-    (c.take_at_once.ensures.emergencies _ (at_once g c table) (c.take_all_data.ensures.emergencies _ (waiting g c table) (numbers g c table log h) (c.raise_lengths.ensures.emergencies queued (mapped g c table) q)))
+    (c.take_at_once.ensures.emergencies _ (at_once g c table) (c.take_all_data.ensures.emergencies _ (waiting g c table) (c.raise_lengths.ensures.emergencies queued (mapped g c table) q)))

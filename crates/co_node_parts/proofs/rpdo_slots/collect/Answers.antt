@@ -8,7 +8,7 @@ pub loop-k-preserved : goal.loop-k-preserved
 loop-k-preserved c = let before = c.loop-k.invariant in elim c.match-slots-k.branch [
   | in-Some w ↦ rw (w.taken-is, w.count-is) (record {
     few = omega arith;
-    taken = taken_more c.args.slots.now c.loop-k.k _ w.in-Some.frame _ _ (omega arith) w.in-Some.is before.taken (take_more_set c.loop-k.taken c.loop-k.count _ (omega arith));
+    taken = taken_more c.args.slots.now c.loop-k.k _ _ w.in-Some.frame _ _ (omega arith) w.in-Some.is w.of-number.ensures before.taken (take_more_set c.loop-k.taken c.loop-k.count _ (omega arith));
   })
   | in-None w ↦ rw (w.taken-is, w.count-is) (record {
     few = omega arith;
