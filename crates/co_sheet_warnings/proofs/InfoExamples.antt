@@ -57,13 +57,29 @@ abbrev pdo_numbers : List ℕ → List (List ℕ) → List (List ℕ)
 pdo_numbers compact objects =
     codes "[DeviceInfo]" ∷ codes "NrOfRXPDO=1" ∷ codes "NrOfTXPDO=2" ∷ compact ∷ objects
 
-counted_pdos : places PdoCount (pdo_numbers [] (codes "[13FF]" ∷ codes "[1400]" ∷ codes "[1400sub1]" ∷ codes "[1600]" ∷ codes "[17FF]" ∷ codes "[1800]" ∷ codes "[19FF]" ∷ codes "[1A00]" ∷ [])) ≡ []
+-- a list of four objects
+abbrev four_listed : List ℕ → List ℕ → List ℕ → List ℕ → List (List ℕ)
+four_listed one two three four =
+    codes "[OptionalObjects]" ∷ codes "SupportedObjects=4" ∷ (codes "1=0x" ++ one) ∷ (codes "2=0x" ++ two) ∷ (codes "3=0x" ++ three) ∷ (codes "4=0x" ++ four) ∷ []
+
+abbrev all_listed : List (List ℕ)
+all_listed = four_listed (codes "1400") (codes "15FF") (codes "1800") (codes "1801")
+
+counted_pdos : places PdoCount (pdo_numbers [] (codes "[13FF]" ∷ codes "[1400]" ∷ codes "[1400sub1]" ∷ codes "[1600]" ∷ codes "[17FF]" ∷ codes "[1800]" ∷ codes "[19FF]" ∷ codes "[1A00]" ∷ four_listed (codes "13FF") (codes "1400") (codes "1800") (codes "19FF"))) ≡ []
 unfolding places_of few_places place_in_text places_in
 counted_pdos = refl
 
-other_counts : places PdoCount (pdo_numbers [] (codes "[1400]" ∷ codes "[15FF]" ∷ codes "[1800]" ∷ [])) ≡ 2 ∷ 3 ∷ []
+-- above the number of all, and below that of those that the lists name
+other_counts : places PdoCount (pdo_numbers [] (codes "[1400]" ∷ codes "[15FF]" ∷ codes "[1800]" ∷ all_listed)) ≡ 2 ∷ 3 ∷ []
 unfolding places_of few_places place_in_text places_in
 other_counts = refl
+
+-- of two RPDOs one is listed, and of three TPDOs two are: either may be counted, and anything between
+listed_or_all : map (λ lines. places PdoCount (lines ++ codes "[1400]" ∷ codes "[1401]" ∷ codes "[1800]" ∷ codes "[1801]" ∷ codes "[1802]" ∷ all_listed))
+    ((codes "[DeviceInfo]" ∷ codes "NrOfRXPDO=0" ∷ codes "NrOfTXPDO=1" ∷ []) ∷ (codes "[DeviceInfo]" ∷ codes "NrOfRXPDO=1" ∷ codes "NrOfTXPDO=2" ∷ []) ∷ (codes "[DeviceInfo]" ∷ codes "NrOfRXPDO=2" ∷ codes "NrOfTXPDO=3" ∷ []) ∷ (codes "[DeviceInfo]" ∷ codes "NrOfRXPDO=3" ∷ codes "NrOfTXPDO=4" ∷ []) ∷ [])
+    ≡ (2 ∷ 3 ∷ []) ∷ [] ∷ [] ∷ (2 ∷ 3 ∷ []) ∷ []
+unfolding places_of few_places place_in_text places_in
+listed_or_all = refl
 
 no_pdos : places PdoCount (pdo_numbers (codes "CompactPDO=0") (codes "[1800]" ∷ codes "[1801]" ∷ [])) ≡ 2 ∷ []
 unfolding places_of few_places place_in_text places_in
@@ -101,13 +117,17 @@ unfolding places_of few_places place_in_text places_in
 no_numbers = refl
 
 -- of the vendor-ID 0xF1A2: a leading zero is octal or decimal, by the tool that wrote it
-read_as : map (λ text. is_read_as 61858 text (unsigned_number text)) (codes "0170642" ∷ codes "0000061858" ∷ codes "00170642" ∷ codes "61858" ∷ codes "0xF1A2" ∷ codes "0170643" ∷ codes "0061857" ∷ codes "170642" ∷ codes "0F1A2" ∷ codes "-061858" ∷ codes "" ∷ [])
+read_as : map (λ text. is_read_as (61858, 61858) text (unsigned_number text)) (codes "0170642" ∷ codes "0000061858" ∷ codes "00170642" ∷ codes "61858" ∷ codes "0xF1A2" ∷ codes "0170643" ∷ codes "0061857" ∷ codes "170642" ∷ codes "0F1A2" ∷ codes "-061858" ∷ codes "" ∷ [])
     ≡ true ∷ true ∷ true ∷ true ∷ true ∷ false ∷ false ∷ false ∷ false ∷ false ∷ false ∷ []
 read_as = refl
 
 -- no octal digits
-only_decimal : map (λ n. is_read_as n (codes "0190") (unsigned_number (codes "0190"))) (190 ∷ 136 ∷ 0x190 ∷ []) ≡ true ∷ false ∷ false ∷ []
+only_decimal : map (λ n. is_read_as (n, n) (codes "0190") (unsigned_number (codes "0190"))) (190 ∷ 136 ∷ 0x190 ∷ []) ≡ true ∷ false ∷ false ∷ []
 only_decimal = refl
+
+-- both ends are included, of either reading
+between : map (λ text. is_read_as (8, 10) text (unsigned_number text)) (codes "7" ∷ codes "8" ∷ codes "10" ∷ codes "11" ∷ codes "010" ∷ codes "012" ∷ codes "013" ∷ codes "07" ∷ []) ≡ false ∷ true ∷ true ∷ false ∷ true ∷ true ∷ false ∷ false ∷ []
+between = refl
 
 abbrev vendor_of : List ℕ → List (List ℕ)
 vendor_of number = codes "[DeviceInfo]" ∷ codes "VendorNumber=010" ∷ codes "[1018sub1]" ∷ (codes "DefaultValue=" ++ number) ∷ []

@@ -19,6 +19,7 @@ use Rattle.std.specs.Prelude.{
   count_by,
   codes,
   find,
+  nat_le,
   is_none,
   is_some,
   Option,
@@ -40,6 +41,7 @@ use Rattle.co_sheet_text.specs.Numerals.{is_number_in, unsigned_number}
 use Rattle.co_sheet_text.specs.Sections.{TextSection}
 use Rattle.co_sheet_text.specs.Text.{same_name}
 use Rattle.co_sheet.specs.Entries.{Entry, is_other_than_zero}
+use Rattle.co_sheet.specs.ObjectLists.{is_listed}
 use Rattle.co_sheet_warnings.specs.declared.keys.Topic.{Topic}
 use Rattle.co_sheet_warnings.specs.declared.keys.Topic.TheVariants.{FileInfo, DeviceInfo}
 use Rattle.co_sheet_warnings.specs.declared.known_key.KnownKey.{KnownKey}
@@ -104,23 +106,29 @@ missing_keys info keys sections required =
 abbrev pub key_number : WrittenKey → Option ℕ
 key_number k = result_ok (unsigned_number k.value)
 
--- digits of a base that write this number
-abbrev pub writes : ℕ → ℕ → List ℕ → Bool
-writes base n text = is_number_in base text && (number_in base text == n)
+-- a number from a least to a most, both included
+abbrev pub is_from_to : ℕ × ℕ → ℕ → Bool
+is_from_to range n = nat_le range.0 n && nat_le n range.1
 
--- A text that reads so is this number. A leading zero may mean octal to the tool that wrote it: either
--- reading may be it. Another text that can't be read isn't.
-abbrev pub is_read_as : ℕ → List ℕ → Result ℕ NumeralFault → Bool
-is_read_as n text (Ok m) = m == n
-is_read_as n text (Err Ambiguous) = writes 10 n text || writes 8 n text
-is_read_as n text (Err Malformed) = false
+-- digits of a base that write such a number
+abbrev pub writes : ℕ → ℕ × ℕ → List ℕ → Bool
+writes base range text = is_number_in base text && is_from_to range (number_in base text)
 
--- a key that isn't this number
-abbrev pub other_than : ℕ → WrittenKey → List ℕ
-other_than n k = if is_read_as n k.value (unsigned_number k.value) then [] else k.line ∷ []
+-- A text that reads so is such a number. A leading zero may mean octal to the tool that wrote it:
+-- either reading may be it. Another text that can't be read isn't.
+abbrev pub is_read_as : ℕ × ℕ → List ℕ → Result ℕ NumeralFault → Bool
+is_read_as range text (Ok n) = is_from_to range n
+is_read_as range text (Err Ambiguous) = writes 10 range text || writes 8 range text
+is_read_as range text (Err Malformed) = false
 
-abbrev pub other_number_at : List WrittenKey → KnownKey → ℕ → List ℕ
-other_number_at keys known n = option_map_or (other_than n) (key_at DeviceInfo keys known) []
+-- a key that isn't such a number
+abbrev pub other_than : ℕ × ℕ → WrittenKey → List ℕ
+other_than range k =
+    if is_read_as range k.value (unsigned_number k.value) then [] else k.line ∷ []
+
+abbrev pub other_number_at : List WrittenKey → KnownKey → ℕ × ℕ → List ℕ
+other_number_at keys known range =
+    option_map_or (other_than range) (key_at DeviceInfo keys known) []
 
 -- the number of objects in a range of indices
 abbrev pub is_object_within : ℕ → ℕ → SectionKind → Bool
@@ -130,16 +138,36 @@ is_object_within low high kind = false
 abbrev pub object_count : ℕ → ℕ → List TextSection → ℕ
 object_count low high sections = count_by (λ s. is_object_within low high s.kind) sections
 
+-- the same, of those that the lists name
+abbrev pub is_listed_within : List TextSection → ℕ → ℕ → SectionKind → Bool
+is_listed_within all low high (Object index) = is_within low high index && is_listed all index
+is_listed_within all low high kind = false
+
+abbrev pub listed_count : List TextSection → ℕ → ℕ → List TextSection → ℕ
+listed_count all low high sections =
+    count_by (λ s. is_listed_within all low high s.kind) sections
+
+-- from the number of those that the lists name to that of all: whether one that no list names is the
+-- device's isn't known, and Unlisted is about it
+abbrev pub counts_between : ℕ → ℕ → List TextSection → ℕ × ℕ
+counts_between low high sections =
+    (listed_count sections low high sections, object_count low high sections)
+
 -- PDOs in compact form have no sections
 abbrev pub has_compact_pdos : List WrittenKey → Bool
 has_compact_pdos keys =
     is_other_than_zero (option_and_then key_number (key_at DeviceInfo keys key.CompactPdo))
 
+abbrev pub other_counts : List WrittenKey → ℕ × ℕ → ℕ × ℕ → List ℕ
+other_counts keys receive transmit =
+    if has_compact_pdos keys then []
+    else other_number_at keys key.NrOfRxPdo receive
+    ++ other_number_at keys key.NrOfTxPdo transmit
+
 abbrev pub pdo_counts : List WrittenKey → List TextSection → List ℕ
 pdo_counts keys sections =
-    if has_compact_pdos keys then []
-    else other_number_at keys key.NrOfRxPdo (object_count 0x1400 0x15FF sections)
-    ++ other_number_at keys key.NrOfTxPdo (object_count 0x1800 0x19FF sections)
+    other_counts keys (counts_between 0x1400 0x15FF sections)
+    (counts_between 0x1800 0x19FF sections)
 
 -- the key with the number of a sub-index of the identity object, 1 to 3 (CiA 301, identity object)
 abbrev pub identity_key : ℕ → KnownKey
@@ -151,7 +179,8 @@ identity_key sub =
 -- where it isn't the initial number of that sub-index, by the entries of the object
 abbrev pub identity_number : List WrittenKey → List Entry → ℕ → List ℕ
 identity_number keys entries sub =
-    option_map_or (other_number_at keys (identity_key sub)) (number_at_sub sub entries) []
+    option_map_or (λ n. other_number_at keys (identity_key sub) (n, n)) (number_at_sub sub entries)
+    []
 
 -- ---- dates and times of FileInfo
 

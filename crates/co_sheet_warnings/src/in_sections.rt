@@ -27,7 +27,7 @@ pub(crate) fn place_in(text: &ReadText, kind: WarningKind, section: &TextSection
         WarningKind::FixedCobId => fixed_cob_id(section),
         WarningKind::NodeIdPlace => node_id_place(section),
         WarningKind::NegativeLimit => negative_limit(section),
-        WarningKind::MisspeltSection => misspelt_section(section),
+        WarningKind::MisspeltSection => misspelt_section(text, section),
         WarningKind::InhibitTime => inhibit_time(text, section),
         WarningKind::OwnHeartbeat => own_heartbeat(text.node, section),
         WarningKind::HeartbeatTwice(_) => heartbeat_twice(text, text.node, section),

@@ -9,11 +9,14 @@ ghost use Rattle.co_sheet_warnings.specs.Infos.{
   date_formats,
   device_keys,
   file_keys,
+  counts_between,
   has_compact_pdos,
   identity_key,
   identity_number,
   is_day_and_year,
+  is_from_to,
   is_info,
+  is_listed_within,
   is_missing,
   is_number_of,
   is_object_within,
@@ -21,13 +24,14 @@ ghost use Rattle.co_sheet_warnings.specs.Infos.{
   is_time,
   key_at,
   lacks_any,
+  listed_count,
   missing_each,
   missing_keys,
   object_count,
+  other_counts,
   other_format,
   other_number_at,
   other_than,
-  pdo_counts,
   writes,
 };
 ghost use Rattle.co_sheet_warnings.specs.private.Views.{is_written, key_view};
@@ -35,6 +39,7 @@ ghost use Rattle.co_sheet_warnings.specs.private.Views.{is_written, key_view};
 use crate::communication::number_at_sub;
 use crate::keys::{Topic, WrittenKey, topic_of};
 use crate::known_key::KnownKey;
+use crate::read_text::ReadText;
 use crate::sub_indices::is_within;
 use co_sheet::EntrySection;
 use co_sheet_text::{
@@ -176,47 +181,54 @@ pub(crate) fn missing_keys(
     Some(0)
 }
 
-// whether digits of a base write this number
-fn writes(base: u32, number: u64, text: &[u8]) -> bool
+// whether a number is one from a least to a most, both included
+fn is_from_to(range: (u64, u64), number: u64) -> bool
+    ensures { result ≡ is_from_to range number }
+{
+    range.0 <= number && number <= range.1
+}
+
+// whether digits of a base write such a number
+fn writes(base: u32, range: (u64, u64), text: &[u8]) -> bool
     requires low { 2 ≤ base }
     requires high { base ≤ 36 }
-    ensures { result ≡ writes base number text.now }
+    ensures { result ≡ writes base range text.now }
 {
     match number_in(base, text) {
-        Some(given) => given == number,
+        Some(given) => is_from_to(range, given),
         None => false,
     }
 }
 
-// Whether a text is this number. With a leading zero either reading may be it, as octal and as
+// Whether a text is such a number. With a leading zero either reading may be it, as octal and as
 // decimal.
-fn is_read_as(number: u64, text: &[u8]) -> bool
-    ensures { result ≡ is_read_as number text.now (unsigned_number text.now) }
+fn is_read_as(range: (u64, u64), text: &[u8]) -> bool
+    ensures { result ≡ is_read_as range text.now (unsigned_number text.now) }
 {
     match unsigned_number(text) {
-        Ok(given) => given == number,
-        Err(NumeralFault::Ambiguous) => writes(10, number, text) || writes(8, number, text),
+        Ok(given) => is_from_to(range, given),
+        Err(NumeralFault::Ambiguous) => writes(10, range, text) || writes(8, range, text),
         Err(NumeralFault::Malformed) => false,
     }
 }
 
-// the line of a key that isn't this number
-fn other_than(key: &WrittenKey, number: u64) -> Option<usize>
-    ensures { option_to_list result ≡ other_than number (key_view key.now) }
+// the line of a key that isn't such a number
+fn other_than(key: &WrittenKey, range: (u64, u64)) -> Option<usize>
+    ensures { option_to_list result ≡ other_than range (key_view key.now) }
 {
-    if is_read_as(number, key.value) {
+    if is_read_as(range, key.value) {
         None
     } else {
         Some(key.line)
     }
 }
 
-// the line of a key of DeviceInfo that isn't this number
-fn other_number_at(keys: &[WrittenKey], known: KnownKey, number: u64) -> Option<usize>
-    ensures { option_to_list result ≡ other_number_at (map key_view keys.now) known number }
+// the line of a key of DeviceInfo that isn't such a number
+fn other_number_at(keys: &[WrittenKey], known: KnownKey, range: (u64, u64)) -> Option<usize>
+    ensures { option_to_list result ≡ other_number_at (map key_view keys.now) known range }
 {
     match key_at(Topic::DeviceInfo, keys, known) {
-        Some(key) => other_than(key, number),
+        Some(key) => other_than(key, range),
         None => None,
     }
 }
@@ -243,6 +255,39 @@ pub fn object_count(low: u16, high: u16, sections: &[TextSection]) -> usize
     count
 }
 
+fn is_listed_within(text: &ReadText, low: u16, high: u16, kind: SectionKind) -> bool
+    ensures { result ≡ is_listed_within text.now.sections low high kind }
+{
+    match kind {
+        SectionKind::Object(index) => is_within(low, high, index) && text.is_listed(index),
+        _ => false,
+    }
+}
+
+// the number of objects among these sections, in a range of indices, that the lists of a text name
+fn listed_count(text: &ReadText, low: u16, high: u16, sections: &[TextSection]) -> usize
+    ensures { result
+        ≡ listed_count text.now.sections low high (map section_view sections.now) }
+{
+    let mut count = 0;
+    for section in sections {
+        if is_listed_within(text, low, high, section.kind) {
+            count += 1;
+        }
+    }
+    count
+}
+
+/// How many objects in a range of indices the lists name, and how many sections of objects there
+/// are.
+pub(crate) fn counts_between(text: &ReadText, low: u16, high: u16) -> (u64, u64)
+    ensures { result ≡ counts_between low high text.now.sections }
+{
+    let sections = text.sections();
+    let listed = listed_count(text, low, high, sections);
+    (listed as u64, object_count(low, high, sections) as u64)
+}
+
 // PDOs in compact form have no sections
 fn has_compact_pdos(keys: &[WrittenKey]) -> bool
     ensures { result ≡ has_compact_pdos (map key_view keys.now) }
@@ -253,19 +298,21 @@ fn has_compact_pdos(keys: &[WrittenKey]) -> bool
     }
 }
 
-/// The lines of NrOfRXPDO and NrOfTXPDO, where they aren't the numbers of PDOs.
-pub(crate) fn pdo_counts(keys: &[WrittenKey], sections: &[TextSection]) -> [Option<usize>; 2]
+/// The lines of NrOfRXPDO and NrOfTXPDO, where they aren't numbers of PDOs from a least to a most.
+pub(crate) fn other_counts(
+    keys: &[WrittenKey],
+    receive: (u64, u64),
+    transmit: (u64, u64),
+) -> [Option<usize>; 2]
     ensures { flat_map option_to_list result
-        ≡ pdo_counts (map key_view keys.now) (map section_view sections.now) }
+        ≡ other_counts (map key_view keys.now) receive transmit }
 {
     if has_compact_pdos(keys) {
         return [None, None];
     }
-    let receive = object_count(0x1400, 0x15FF, sections);
-    let transmit = object_count(0x1800, 0x19FF, sections);
     [
-        other_number_at(keys, KnownKey::NrOfRxPdo, receive as u64),
-        other_number_at(keys, KnownKey::NrOfTxPdo, transmit as u64),
+        other_number_at(keys, KnownKey::NrOfRxPdo, receive),
+        other_number_at(keys, KnownKey::NrOfTxPdo, transmit),
     ]
 }
 
@@ -287,7 +334,7 @@ pub(crate) fn identity_number(keys: &[WrittenKey], parts: &[EntrySection], sub: 
         ≡ identity_number (map key_view keys.now) (map entry_view parts.now) sub }
 {
     match number_at_sub(parts, sub) {
-        Some(number) => other_number_at(keys, identity_key(sub), number),
+        Some(number) => other_number_at(keys, identity_key(sub), (number, number)),
         None => None,
     }
 }

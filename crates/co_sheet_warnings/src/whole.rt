@@ -1,7 +1,7 @@
 //! The warnings of each kind in a text.
 
-ghost use Rattle.std.specs.Prelude.{◌≡◌, ◌++◌, option_to_list, OnOk};
-ghost use Rattle.co_sheet_warnings.specs.Infos.{device_keys, file_keys, missing_each};
+ghost use Rattle.std.specs.Prelude.{◌≡◌, ◌++◌, flat_map, option_to_list, OnOk};
+ghost use Rattle.co_sheet_warnings.specs.Infos.{device_keys, file_keys, missing_each, pdo_counts};
 ghost use Rattle.co_sheet_warnings.specs.Lists.{no_error_control};
 ghost use Rattle.co_sheet_warnings.specs.declared.keys.Topic.TheVariants.{FileInfo, DeviceInfo};
 ghost use Rattle.co_sheet_warnings.specs.Warnings.{
@@ -15,7 +15,8 @@ ghost use Rattle.co_sheet_warnings.specs.Warnings.{
 
 use crate::in_sections::place_in;
 use crate::infos::{
-    date_formats, device_keys, file_keys, identity_number, missing_keys, note_missing, pdo_counts,
+    counts_between, date_formats, device_keys, file_keys, identity_number, missing_keys,
+    note_missing, other_counts,
 };
 use crate::keys::Topic;
 use crate::known_key::unknown_key;
@@ -82,6 +83,15 @@ fn device_keys_missing(text: &ReadText) -> [bool; 22]
     missing
 }
 
+// the lines of NrOfRXPDO and NrOfTXPDO, where they aren't the numbers of PDOs
+fn pdo_counts(text: &ReadText) -> [Option<usize>; 2]
+    ensures { flat_map option_to_list result ≡ pdo_counts text.now.keys text.now.sections }
+{
+    let receive = counts_between(text, 0x1400, 0x15FF);
+    let transmit = counts_between(text, 0x1800, 0x19FF);
+    other_counts(text.keys, receive, transmit)
+}
+
 /// A kind with what it says of a text.
 #[tactic(auto, unfolding(crate::specs::Warnings::kind_in))]
 pub(crate) fn kind_in(text: &ReadText, kind: WarningKind) -> WarningKind
@@ -123,7 +133,7 @@ fn add_few(
         ≡ warnings.old.items ++ warnings_at kind (few_places text.now kind)) }
 {
     match kind {
-        WarningKind::PdoCount => add_each(warnings, kind, &pdo_counts(text.keys, text.sections())),
+        WarningKind::PdoCount => add_each(warnings, kind, &pdo_counts(text)),
         WarningKind::IdentityNumber(sub) => add_one(
             warnings,
             kind,
