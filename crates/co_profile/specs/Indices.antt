@@ -44,6 +44,10 @@ consumer_heartbeat = 0x1016
 abbrev pub producer_heartbeat : ℕ
 producer_heartbeat = 0x1017
 
+-- 1018h, the identity object
+abbrev pub identity : ℕ
+identity = 0x1018
+
 -- 1019h, the synchronous counter overflow value
 abbrev pub sync_counter_overflow : ℕ
 sync_counter_overflow = 0x1019

@@ -25,6 +25,8 @@ pub const EMERGENCY_INHIBIT_TIME: u16 = 0x1015;
 pub const CONSUMER_HEARTBEAT: u16 = 0x1016;
 /// The producer heartbeat time, in ms (CiA 301, 7.5.2.20).
 pub const PRODUCER_HEARTBEAT: u16 = 0x1017;
+/// The identity object (CiA 301, 7.5.2.21).
+pub const IDENTITY: u16 = 0x1018;
 /// The synchronous counter overflow value (CiA 301, 7.5.2.22).
 pub const SYNC_COUNTER_OVERFLOW: u16 = 0x1019;
 /// The error behaviour (CiA 301, 7.5.2.32).
@@ -103,6 +105,7 @@ pub fn index_numbers()
     ensures emergency_inhibit_time { EMERGENCY_INHIBIT_TIME ≡ indices.emergency_inhibit_time }
     ensures consumer_heartbeat { CONSUMER_HEARTBEAT ≡ indices.consumer_heartbeat }
     ensures producer_heartbeat { PRODUCER_HEARTBEAT ≡ indices.producer_heartbeat }
+    ensures identity { IDENTITY ≡ indices.identity }
     ensures sync_counter_overflow { SYNC_COUNTER_OVERFLOW ≡ indices.sync_counter_overflow }
     ensures error_behaviour { ERROR_BEHAVIOUR ≡ indices.error_behaviour }
     ensures pdo_cob_id { PDO_COB_ID ≡ indices.pdo_cob_id }

@@ -11,6 +11,7 @@ ghost use Rattle.conode_compare.specs.Views.{comparison_view};
 
 use crate::comparing::Comparing;
 use crate::writes::Settings;
+use co_profile::IDENTITY;
 use co_value::Key;
 use conode_compare_documents::{json_document, junit_document, page};
 use conode_compare_pdos::preset_at;
@@ -41,9 +42,6 @@ pub(crate) struct Wanted<'s> {
     /// The path of the data sheet.
     pub(crate) sheet: &'s str,
 }
-
-/// The index of the identity object (CiA 301, 7.5.2.21).
-const IDENTITY: u16 = 0x1018;
 
 /// What is kept for a document, if one is wanted. `Err`: out of memory.
 pub(crate) fn new_report(

@@ -8,6 +8,7 @@ ghost use Rattle.conode_compare_report.specs.Identities.{
 };
 
 use crate::occasions::is_done;
+use co_profile::IDENTITY;
 use conode_compare_values::shown_number;
 use conode_explain_transfers::{Direction, Ended};
 
@@ -20,9 +21,6 @@ pub struct Identity {
     /// The serial number, 1018:04.
     pub serial: Option<u64>,
 }
-
-/// The index of the identity object.
-const IDENTITY: u16 = 0x1018;
 
 // whether a transfer is an upload of the identity object, that was confirmed, of four bytes
 fn is_read(ended: &Ended) -> bool

@@ -51,7 +51,7 @@ ghost use Rattle.conode_compare_values.specs.SheetValues.{
 use crate::mismatch::Mismatch;
 use crate::rooms::Rooms;
 use co_frame::AbortCode;
-use co_profile::{Access, DEVICE_TYPE, ERROR_FIELD, ERROR_REGISTER};
+use co_profile::{Access, DEVICE_TYPE, ERROR_FIELD, ERROR_REGISTER, IDENTITY};
 use co_sheet::EntryRow;
 use co_sheet_changes::row_at;
 use co_sheet_rows::Preset;
@@ -61,9 +61,6 @@ use conode_explain_transfers::{Direction, Ended, Ending, Protocol, Side};
 
 // of a transfer's bytes so many are kept
 const KEPT: usize = 64;
-
-// the identity object (CiA 301, 7.5.2.21)
-const IDENTITY: u16 = 0x1018;
 
 // the SDO server parameter of the default channel (CiA 301, 7.5.2.33)
 const FIRST_CHANNEL: u16 = 0x1200;
