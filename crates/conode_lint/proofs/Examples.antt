@@ -2,7 +2,7 @@
 use Rattle.std.proofs.Common.{◌≡◌, true, false, [], ◌∷◌, ◌++◌, codes, Some, None, refl}
 use Rattle.co_sheet.specs.Content.{SheetContent}
 use Rattle.conode_lint_marks.specs.declared.mark.OtherFormat.TheVariants.{Xml, EtherNetIp, Utf16}
-use Rattle.conode_lint.specs.Allowed.{names_allowed, names_in, names_on, passes_by}
+use Rattle.conode_lint.specs.Allowed.{names_after, names_allowed, names_in, names_on, passes_by}
 use Rattle.conode_lint.specs.Formats.{begins_with, has_line, other_format}
 use Rattle.conode_lint.specs.Marks.{format_of, node_for}
 
@@ -56,18 +56,19 @@ sheet = record { objects = []; rows = []; sections = []; notes = []; dummies = [
 nodes : node_for (Some 5) (Some sheet) ∷ node_for None (Some sheet) ∷ node_for (Some 5) None ∷ node_for None None ∷ [] ≡ Some 5 ∷ Some 7 ∷ Some 5 ∷ None ∷ []
 nodes = refl
 
--- ---- names that a sheet allows: with blanks around `;`, or without; no name, no comment, other words; several
+-- ---- names that a sheet allows: with blanks around `;` and after `:`, or without; no name, no comment, other words; several
 
-allowed : names_in (codes "; lint: allow Unlisted" ∷ codes ";lint: allow BadList" ∷ codes " ;  lint: allow  SubNumber " ∷ codes ";lint: allow " ∷ codes "lint: allow LongLine" ∷ codes ";lint:allow LongLine"
+allowed : names_in (codes "; lint: allow Unlisted" ∷ codes ";lint: allow BadList" ∷ codes " ;  lint: allow  SubNumber " ∷ codes ";lint: allow " ∷ codes "lint: allow LongLine" ∷ codes ";lint:allow Utf8"
+    ∷ codes "; lint:allow NodeId" ∷ codes ";lint:   allow DateFormat" ∷ codes ";lint:allow" ∷ codes ";lint:allowLongLine" ∷ codes ";lint :allow LongLine" ∷ codes ";lintallow LongLine" ∷ codes ";lint:allows LongLine" ∷ codes ";lint:"
     ∷ codes ";; lint: allow LongLine" ∷ codes "; Lint: allow LongLine" ∷ codes "" ∷ codes ";" ∷ codes "DefaultValue=1 ; lint: allow LongLine" ∷ [])
-    ≡ codes "Unlisted" ∷ codes "BadList" ∷ codes "SubNumber" ∷ []
-unfolding names_on names_allowed
+    ≡ codes "Unlisted" ∷ codes "BadList" ∷ codes "SubNumber" ∷ codes "Utf8" ∷ codes "NodeId" ∷ codes "DateFormat" ∷ []
+unfolding names_on names_allowed names_after
 allowed = refl
 
 -- commas are between names, and what follows a name after a blank is a remark
 several : names_in (codes ";lint: allow Unlisted,BadList" ∷ codes "; lint: allow A, B ,, C" ∷ (codes "; lint: allow D" ++ 9 ∷ codes "E") ∷ codes "; lint: allow Unlisted but not BadList" ∷ codes "; lint: allow A; B" ∷ [])
     ≡ codes "Unlisted" ∷ codes "BadList" ∷ codes "A" ∷ codes "B" ∷ [] ∷ codes "C" ∷ codes "D" ∷ codes "Unlisted" ∷ codes "A;" ∷ []
-unfolding names_on names_allowed
+unfolding names_on names_allowed names_after
 several = refl
 
 -- ---- names that pass: by the words, by the sheet; in this case of letters alone

@@ -6,3 +6,4 @@ mod BuildLaws
 mod FoundLaws
 mod SheetLemmas
 mod Examples
+mod ReasonExamples

@@ -109,20 +109,20 @@ marked_large text checks faults sheet marks is_sheet small large is =
 
 -- what is left of what is found, made into findings
 pub made_from : (lines : List (List ℕ)) (sections : List TextSection) (checks : Checks) (found marks marks_made : List Mark) (made : Linted)
-    → marks ≡ left lines checks found → marks_made ≡ marks → IsMadeOf lines sections marks_made made → IsMadeOf lines sections (left lines checks found) made
+    → marks ≡ left lines checks found → marks_made ≡ marks → IsMadeOf lines sections checks.node marks_made made → IsMadeOf lines sections checks.node (left lines checks found) made
 made_from lines sections checks found marks marks_made made is_marks is_marks_made is_made =
-    subst (λ (l : List Mark). IsMadeOf lines sections l made) (is_marks_made ∙ is_marks) is_made
+    subst (λ (l : List Mark). IsMadeOf lines sections checks.node l made) (is_marks_made ∙ is_marks) is_made
 
 -- a text linted
 pub linted_from : (text : List ℕ) (checks : Checks) (lines : List (List ℕ)) (sections : List TextSection) (found found_left : List Mark) (made : Linted) → IsFound text checks found
-    → lines ≡ text_lines text → sections ≡ text_sections text → found_left ≡ found → IsMadeOf lines sections (left lines checks found_left) made → IsLinted text checks made
+    → lines ≡ text_lines text → sections ≡ text_sections text → found_left ≡ found → IsMadeOf lines sections checks.node (left lines checks found_left) made → IsLinted text checks made
 linted_from text checks lines sections found found_left made is_found is_lines is_sections is_found_left is_made =
-    let of_found = subst (λ (l : List Mark). IsMadeOf lines sections (left lines checks l) made) is_found_left is_made in
-    let of_sections = subst (λ (l : List TextSection). IsMadeOf lines l (left lines checks found) made) is_sections of_found in
+    let of_found = subst (λ (l : List Mark). IsMadeOf lines sections checks.node (left lines checks l) made) is_found_left is_made in
+    let of_sections = subst (λ (l : List TextSection). IsMadeOf lines l checks.node (left lines checks found) made) is_sections of_found in
     record {
       found = found;
       is_found = is_found;
-      made = subst (λ (l : List (List ℕ)). IsMadeOf l (text_sections text) (left l checks found) made) is_lines of_sections;
+      made = subst (λ (l : List (List ℕ)). IsMadeOf l (text_sections text) checks.node (left l checks found) made) is_lines of_sections;
     }
 
 -- the sections of a text that is too large, and of any other

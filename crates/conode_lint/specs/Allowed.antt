@@ -8,9 +8,12 @@ use Rattle.conode_lint_text.specs.declared.finding.Severity.TheVariants.{Error, 
 use Rattle.conode_lint_marks.specs.declared.mark.Mark.{Mark}
 use Rattle.conode_lint.specs.Words as words
 
--- the beginning of a comment that allows findings of names
+-- the beginning of a comment for lint, and what allows findings of names
+abbrev pub lint_words : List ℕ
+lint_words = codes "lint:"
+
 abbrev pub allow_words : List ℕ
-allow_words = codes "lint: allow "
+allow_words = codes "allow "
 
 -- a text up to the first of a byte, and its first word between blanks
 abbrev pub until : ℕ → List ℕ → List ℕ
@@ -27,11 +30,16 @@ is_comma byte = byte == 44
 abbrev pub words_between : List ℕ → List (List ℕ)
 words_between text = map first_word (slice_split is_comma text)
 
--- the names that a comment allows
+-- the names after `allow`, and those that a comment allows, with blanks after `lint:` or without
+unfoldable pub names_after : List ℕ → List (List ℕ)
+names_after text =
+    if nat_lt (length text) 6 then []
+    else (if bytes_eq (take 6 text) allow_words then words_between (drop 6 text) else [])
+
 unfoldable pub names_allowed : List ℕ → List (List ℕ)
 names_allowed comment =
-    if nat_lt (length comment) 12 then []
-    else (if bytes_eq (take 12 comment) allow_words then words_between (drop 12 comment) else [])
+    if nat_lt (length comment) 5 then []
+    else (if bytes_eq (take 5 comment) lint_words then names_after (trim (drop 5 comment)) else [])
 
 -- the names that a line without blanks at its ends allows: `;` begins a comment
 abbrev pub names_at : List ℕ → List (List ℕ)

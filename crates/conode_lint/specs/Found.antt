@@ -1,5 +1,5 @@
 -- What is found at the lines of a text.
-use Rattle.std.specs.Prelude.{ℕ, List}
+use Rattle.std.specs.Prelude.{ℕ, List, Option}
 use Rattle.co_sheet_text.specs.Sections.{TextSection}
 use Rattle.conode_lint_text.specs.declared.finding.About.{About}
 use Rattle.conode_lint_text.specs.declared.finding.Finding.{Finding}
@@ -34,15 +34,16 @@ seen finding = record {
   text = finding.text.now;
 }
 
--- the finding of a mark, among these lines and sections
-unfoldable pub finding_of : List (List ℕ) → List TextSection → Mark → Seen
-finding_of lines sections mark = record {
+-- the finding of a mark, among these lines and sections, by the node-ID that is given
+unfoldable pub finding_of : List (List ℕ) → List TextSection → Option ℕ → Mark → Seen
+finding_of lines sections node mark = record {
   line = mark.line;
   place = words.place_of mark.subject;
   about = words.about_of sections mark.line (line_at lines mark.line) mark.subject;
   severity = words.severity_of mark.subject;
   name = words.name_of mark.subject;
-  meaning = words.meaning_of mark;
+  meaning =
+      words.meaning_with node sections (line_at lines mark.line) mark.line mark.subject;
   fix = words.fix_of mark.subject;
   subject = words.subject_of mark.subject;
   text = line_at lines mark.line;

@@ -1,4 +1,5 @@
 pub mod BuildWords
+pub mod BuildReasons
 pub mod MappingWords
 pub mod FormatWords
 pub mod Formats

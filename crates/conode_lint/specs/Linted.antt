@@ -31,12 +31,13 @@ warning_of mark = if not (is_error (severity_of mark.subject)) then mark ∷ [] 
 abbrev pub most_severe : ℕ → List Mark → List Mark
 most_severe most marks = take most (flat_map error_of marks ++ flat_map warning_of marks)
 
--- the findings of the 1,000 most severe marks by line, and the counts of all of them
-pub record IsMadeOf (lines : List (List ℕ)) (sections : List TextSection) (marks : List Mark)
-    (linted : Linted) : Type 0 where
+-- the findings of the 1,000 most severe marks by line, by the node-ID that is given, and the counts of
+-- all of them
+pub record IsMadeOf (lines : List (List ℕ)) (sections : List TextSection) (node : Option ℕ)
+    (marks : List Mark) (linted : Linted) : Type 0 where
   pub printed : List Mark
   pub by_line : IsByLine (most_severe 1000 marks) printed
-  pub findings : map seen linted.findings.items ≡ map (finding_of lines sections) printed
+  pub findings : map seen linted.findings.items ≡ map (finding_of lines sections node) printed
   pub errors : linted.errors ≡ error_count marks
   pub warnings : linted.warnings ≡ length marks - linted.errors
   pub more : linted.more ≡ length marks - 1000
@@ -46,7 +47,8 @@ pub record IsLinted (text : List ℕ) (checks : Checks) (linted : Linted) : Type
   pub found : List Mark
   pub is_found : IsFound text checks found
   pub made :
-      IsMadeOf (text_lines text) (text_sections text) (left (text_lines text) checks found) linted
+      IsMadeOf (text_lines text) (text_sections text) checks.node
+      (left (text_lines text) checks found) linted
 
 -- ---- what they say about a text
 

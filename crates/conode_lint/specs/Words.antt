@@ -1,5 +1,5 @@
 -- The words about what is found.
-use Rattle.std.specs.Prelude.{ℕ, List, codes}
+use Rattle.std.specs.Prelude.{ℕ, List, Option, codes}
 use Rattle.co_dict_build.specs.BuildFaultTexts.{fault_name as build_fault_name}
 use Rattle.co_sheet_rows.specs.FaultTexts.{fault_name}
 use Rattle.co_sheet_rows.specs.declared.fault.FaultKind.{FaultKind}
@@ -21,6 +21,7 @@ use Rattle.conode_lint_text.specs.declared.finding.Severity.TheVariants as sever
 use Rattle.conode_lint_marks.specs.declared.mark.Mark.{Mark}
 use Rattle.conode_lint_marks.specs.declared.mark.Subject.{Subject}
 use Rattle.conode_lint_marks.specs.declared.mark.Subject.TheVariants.{Format, Fault, Build, Mapping, Warning}
+use Rattle.conode_lint.specs.BuildReasons.{meaning_in}
 use Rattle.conode_lint.specs.BuildWords.{build_about, build_place, build_fix, build_meaning, build_subject}
 use Rattle.conode_lint.specs.MappingWords.{mapping_about, mapping_meaning, mapping_fix, mapping_subject}
 use Rattle.conode_lint.specs.FormatWords.{format_fix, format_meaning, format_subject}
@@ -135,3 +136,9 @@ meaning_at line (Warning kind) = warnings.meaning_of kind
 
 abbrev pub meaning_of : Mark → List ℕ
 meaning_of mark = meaning_at mark.line mark.subject
+
+-- of a build fault which of several it is, at a line with this text among these sections, by the
+-- node-ID that is given, or else the sheet's own
+abbrev pub meaning_with : Option ℕ → List TextSection → List ℕ → ℕ → Subject → List ℕ
+meaning_with given sections text line (Build fault) = meaning_in given sections text fault
+meaning_with given sections text line subject = meaning_at line subject

@@ -8,6 +8,7 @@ ghost use Rattle.conode_lint.specs.Allowed.{
   is_comma,
   kept,
   kept_of,
+  names_after,
   names_allowed,
   names_in,
   names_on,
@@ -22,8 +23,11 @@ use co_text::split_at_first;
 use conode_lint_marks::Mark;
 use std::alloc::AllocError;
 
-/// The beginning of a comment that allows findings of names.
-const ALLOW: &[u8] = b"lint: allow ";
+/// The beginning of a comment for `lint`.
+const LINT: &[u8] = b"lint:";
+
+/// What allows findings of the names after it.
+const ALLOW: &[u8] = b"allow ";
 
 // what is before the first of a byte, or all
 fn until(byte: u8, text: &[u8]) -> &[u8]
@@ -76,16 +80,16 @@ fn add_words<'a>(names: &mut Vec<&'a [u8]>, text: &'a [u8]) -> Result<(), AllocE
     Ok(())
 }
 
-// adds the names that a comment allows
-#[tactic(auto, unfolding(crate::specs::Allowed::names_allowed))]
-fn add_allowed<'a>(names: &mut Vec<&'a [u8]>, comment: &'a [u8]) -> Result<(), AllocError>
+// adds the names after `allow`
+#[tactic(auto, unfolding(crate::specs::Allowed::names_after))]
+fn add_names_after<'a>(names: &mut Vec<&'a [u8]>, text: &'a [u8]) -> Result<(), AllocError>
     ensures { OnOk result (map (λ name. name.now) names.new.items
-        ≡ map (λ name. name.now) names.old.items ++ names_allowed comment.now) }
+        ≡ map (λ name. name.now) names.old.items ++ names_after text.now) }
 {
-    if comment.len() < 12 {
+    if text.len() < 6 {
         return Ok(());
     }
-    let (words, list) = comment.split_at(12);
+    let (words, list) = text.split_at(6);
     if words == ALLOW {
         add_words(names, list)
     } else {
@@ -93,8 +97,25 @@ fn add_allowed<'a>(names: &mut Vec<&'a [u8]>, comment: &'a [u8]) -> Result<(), A
     }
 }
 
-// adds the names that a line allows, as `; lint: allow Unlisted, BadList`; blanks after `;` may be
-// left out
+// adds the names that a comment allows
+#[tactic(auto, unfolding(crate::specs::Allowed::names_allowed))]
+fn add_allowed<'a>(names: &mut Vec<&'a [u8]>, comment: &'a [u8]) -> Result<(), AllocError>
+    ensures { OnOk result (map (λ name. name.now) names.new.items
+        ≡ map (λ name. name.now) names.old.items ++ names_allowed comment.now) }
+{
+    if comment.len() < 5 {
+        return Ok(());
+    }
+    let (words, rest) = comment.split_at(5);
+    if words == LINT {
+        add_names_after(names, trim(rest))
+    } else {
+        Ok(())
+    }
+}
+
+// adds the names that a line allows, as `; lint: allow Unlisted, BadList`; blanks after `;` and `:`
+// may be left out
 #[tactic(auto, unfolding(crate::specs::Allowed::names_on))]
 fn add_names_on<'a>(names: &mut Vec<&'a [u8]>, line: &'a [u8]) -> Result<(), AllocError>
     ensures { OnOk result (map (λ name. name.now) names.new.items

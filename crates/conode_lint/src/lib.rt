@@ -23,6 +23,7 @@ macro_rules! attempt_in_memory {
 }
 
 mod allowed;
+mod build_reasons;
 mod build_words;
 mod files;
 mod folder;

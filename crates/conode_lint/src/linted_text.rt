@@ -15,7 +15,7 @@ use crate::allowed::{add_kept, add_names};
 use crate::marks::{Checks, add_marks_of};
 use crate::printed::{MOST, add_printed, error_count};
 use crate::sheet::sheet_with;
-use crate::words::{about_of, fix_of, meaning_of, name_of, place_of, severity_of, subject_of};
+use crate::words::{about_of, fix_of, meaning_with, name_of, place_of, severity_of, subject_of};
 use co_sheet::{GREATEST_SIZE, Sheet};
 use co_sheet_text::{ParsedText, TextFault, TextSection, all_sections_in};
 use co_sheet_warnings::text_lines;
@@ -38,9 +38,14 @@ pub struct Linted<'a> {
 
 // the finding of a mark
 #[tactic(auto, unfolding(crate::specs::Found::finding_of))]
-fn finding_of<'a>(lines: &[&'a [u8]], sections: &[TextSection<'_, '_>], mark: Mark) -> Finding<'a>
+fn finding_of<'a>(
+    lines: &[&'a [u8]],
+    sections: &[TextSection<'_, '_>],
+    node: Option<u8>,
+    mark: Mark,
+) -> Finding<'a>
     ensures { seen result ≡ finding_of (map (λ line. line.now) lines.now)
-        (map section_view sections.now) mark }
+        (map section_view sections.now) node mark }
 {
     let text = line_at(lines, mark.line);
     Finding {
@@ -49,7 +54,7 @@ fn finding_of<'a>(lines: &[&'a [u8]], sections: &[TextSection<'_, '_>], mark: Ma
         about: about_of(sections, mark, text),
         severity: severity_of(mark.subject),
         name: name_of(mark.subject),
-        meaning: meaning_of(mark),
+        meaning: meaning_with(node, sections, text, mark),
         fix: fix_of(mark.subject),
         subject: subject_of(mark.subject),
         text,
@@ -61,14 +66,15 @@ fn add_findings<'a>(
     findings: &mut Vec<Finding<'a>>,
     lines: &[&'a [u8]],
     sections: &[TextSection<'_, '_>],
+    node: Option<u8>,
     marks: &[Mark],
 ) -> Result<(), AllocError>
     requires { findings.old.items ≡ [] }
     ensures { OnOk result (map seen findings.new.items ≡ map (finding_of
-        (map (λ line. line.now) lines.now) (map section_view sections.now)) marks.now) }
+        (map (λ line. line.now) lines.now) (map section_view sections.now) node) marks.now) }
 {
     for mark in marks {
-        attempt_in_memory!(findings.push(finding_of(lines, sections, *mark)));
+        attempt_in_memory!(findings.push(finding_of(lines, sections, node, *mark)));
     }
     Ok(())
 }
@@ -98,16 +104,17 @@ fn made_with<'a>(
     alloc: Global,
     lines: &[&'a [u8]],
     sections: &[TextSection<'_, '_>],
+    node: Option<u8>,
     marks: &[Mark],
     printed: &[Mark],
 ) -> Result<Linted<'a>, AllocError>
     requires { IsByLine (most_severe 1000 marks.now) printed.now }
     ensures { IfOk result (IsMadeOf (map (λ line. line.now) lines.now)
-        (map section_view sections.now) marks.now) }
+        (map section_view sections.now) node marks.now) }
 {
     let errors = error_count(marks);
     let mut findings = Vec::new(alloc);
-    match add_findings(&mut findings, lines, sections, printed) {
+    match add_findings(&mut findings, lines, sections, node, printed) {
         Ok(()) => Ok(Linted {
             findings,
             errors,
@@ -123,14 +130,15 @@ fn made_of<'a>(
     alloc: Global,
     lines: &[&'a [u8]],
     sections: &[TextSection<'_, '_>],
+    node: Option<u8>,
     marks: &[Mark],
 ) -> Result<Linted<'a>, AllocError>
     ensures { IfOk result (IsMadeOf (map (λ line. line.now) lines.now)
-        (map section_view sections.now) marks.now) }
+        (map section_view sections.now) node marks.now) }
 {
     let mut printed = Vec::new(alloc);
     match add_printed(&mut printed, marks) {
-        Ok(()) => made_with(alloc, lines, sections, marks, printed.as_slice()),
+        Ok(()) => made_with(alloc, lines, sections, node, marks, printed.as_slice()),
         Err(fault) => Err(fault),
     }
 }
@@ -144,12 +152,12 @@ fn linted_of<'a>(
     found: &[Mark],
 ) -> Result<Linted<'a>, AllocError>
     ensures { IfOk result (IsMadeOf (map (λ line. line.now) lines.now)
-        (map section_view sections.now)
+        (map section_view sections.now) checks.now.node
         (left (map (λ line. line.now) lines.now) checks.now found.now)) }
 {
     let mut marks = Vec::new(alloc);
     match add_left(alloc, &mut marks, lines, checks, found) {
-        Ok(()) => made_of(alloc, lines, sections, marks.as_slice()),
+        Ok(()) => made_of(alloc, lines, sections, checks.node, marks.as_slice()),
         Err(fault) => Err(fault),
     }
 }

@@ -9,6 +9,7 @@ ghost use Rattle.conode_lint.specs.Words.{
   fault_place,
   fix_of,
   meaning_of,
+  meaning_with,
   name_of,
   place_of,
   severity_of,
@@ -16,6 +17,7 @@ ghost use Rattle.conode_lint.specs.Words.{
   warning_about,
 };
 
+use crate::build_reasons::meaning_in;
 use crate::build_words::{build_about, build_fix, build_meaning, build_place, build_subject};
 use crate::format_words::{format_fix, format_meaning};
 use crate::mapping_words::{mapping_about, mapping_fix, mapping_meaning};
@@ -161,6 +163,23 @@ pub(crate) fn meaning_of(mark: Mark) -> &'static str
         Subject::Build(fault) => build_meaning(fault),
         Subject::Mapping(fault) => mapping_meaning(fault.reason),
         Subject::Warning(kind) => co_sheet_warnings::meaning_of(kind),
+    }
+}
+
+/// The same, of a build fault which of several it is, at a line with this text, by the given
+/// node-ID, or else the sheet's own.
+pub(crate) fn meaning_with(
+    node: Option<u8>,
+    sections: &[TextSection<'_, '_>],
+    text: &[u8],
+    mark: Mark,
+) -> &'static str
+    ensures { result.now ≡ meaning_with node (map section_view sections.now) text.now
+        mark.line mark.subject }
+{
+    match mark.subject {
+        Subject::Build(fault) => meaning_in(node, sections, text, fault),
+        _ => meaning_of(mark),
     }
 }
 

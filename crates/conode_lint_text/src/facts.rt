@@ -122,7 +122,7 @@ pub(crate) fn key_number(text: &[u8]) -> Option<u64>
 }
 
 /// The value of the key on a line.
-pub(crate) fn key_value(text: &[u8]) -> &[u8]
+pub fn key_value(text: &[u8]) -> &[u8]
     ensures { result.now ≡ key_value text.now }
 {
     match split_at_first(text, b'=') {

@@ -227,7 +227,8 @@ pub fn listed_twice(sections: &[TextSection<'_, '_>], text: &[u8]) -> About
     }
 }
 
-fn is_listed_nowhere(sections: &[TextSection<'_, '_>], index: u64) -> bool
+/// Whether no object list names an index.
+pub fn is_listed_nowhere(sections: &[TextSection<'_, '_>], index: u64) -> bool
     ensures { result ≡ is_listed_nowhere (map section_view sections.now) index }
 {
     listed_line(index, sections).is_none()
