@@ -27,6 +27,8 @@ use Rattle.conode_explain_pdo.specs.InForce.{data_in_force, mapping_in_force, ra
 use Rattle.conode_explain_pdo.specs.Claims.{claims_with, default_index, sheet_claim, sheets_claims, shown_claim}
 use Rattle.conode_explain_pdo.specs.Known.{KnownSheet, known_sheet, names_for}
 use Rattle.conode_explain_pdo.specs.Pdos.{more_pdos, pdo_by, pdo_front, pdo_text, pdos_text}
+use Rattle.conode_explain_pdo.specs.ServiceIds.{service_by_sheet, service_by_shown, service_with}
+use Rattle.conode_explain_pdo.specs.SheetServices.{service_in_row, sheet_services}
 use Rattle.conode_explain_pdo.specs.Sheets.{mapping_at, number_at, pdo_of, pdos_in, sheet_pdos, words_at}
 
 -- ---- the PDOs of the pre-defined connection set, by function code
@@ -81,54 +83,54 @@ mapped = Seen 1 ∷ Seen 0x20010110 ∷ []
 -- ---- the recording alone
 
 sent : said [] (shown 0x1800 Assumed mapped false ∷ []) 0x185 ≡ codes "~TPDO1 node 5 (mapping seen): 2001:01 = E803"
-unfolding claims_with sheets_claims sheet_claim shown_claim names_for pdos_text more_pdos pdo_text pdo_by pdo_front data_in_force shown_text mapping_in_force words_in_force data_text mapped_text parts_text more_parts part_text missing_text with_bits part_bytes short_text more_text filled entry_of digits digits_text
+unfolding claims_with sheets_claims sheet_claim shown_claim names_for pdos_text more_pdos pdo_text pdo_by pdo_front data_in_force shown_text mapping_in_force words_in_force data_text mapped_text parts_text more_parts part_text missing_text with_bits part_bytes short_text more_text filled entry_of digits digits_text service_with service_by_sheet service_by_shown sheet_services service_in_row
 sent = refl
 
 received : said [] (shown 0x1403 Assumed (Saved 1 ∷ Saved 0x20010110 ∷ []) false ∷ []) 0x505 ≡ codes "~RPDO4 node 5 (mapping saved): 2001:01 = E803"
-unfolding claims_with sheets_claims sheet_claim shown_claim names_for pdos_text more_pdos pdo_text pdo_by pdo_front data_in_force shown_text mapping_in_force words_in_force data_text mapped_text parts_text more_parts part_text missing_text with_bits part_bytes short_text more_text filled entry_of digits digits_text
+unfolding claims_with sheets_claims sheet_claim shown_claim names_for pdos_text more_pdos pdo_text pdo_by pdo_front data_in_force shown_text mapping_in_force words_in_force data_text mapped_text parts_text more_parts part_text missing_text with_bits part_bytes short_text more_text filled entry_of digits digits_text service_with service_by_sheet service_by_shown sheet_services service_in_row
 received = refl
 
 being_changed : said [] (shown 0x1800 Assumed (Seen 0 ∷ []) true ∷ []) 0x185 ≡ codes "~TPDO1 node 5: E803 (mapping is being changed)"
-unfolding claims_with sheets_claims sheet_claim shown_claim names_for pdos_text more_pdos pdo_text pdo_by pdo_front data_in_force shown_text raw_text filled digits digits_text
+unfolding claims_with sheets_claims sheet_claim shown_claim names_for pdos_text more_pdos pdo_text pdo_by pdo_front data_in_force shown_text raw_text filled digits digits_text service_with service_by_sheet service_by_shown sheet_services service_in_row
 being_changed = refl
 
 -- of a mapping that isn't known nothing is said: after a boot-up, and of a word that is missing
 booted_up : said [] (shown 0x1800 Assumed [] false ∷ []) 0x185 ≡ codes "~TPDO1 node 5"
-unfolding claims_with sheets_claims sheet_claim shown_claim names_for pdos_text more_pdos pdo_text pdo_by pdo_front data_in_force shown_text mapping_in_force digits
+unfolding claims_with sheets_claims sheet_claim shown_claim names_for pdos_text more_pdos pdo_text pdo_by pdo_front data_in_force shown_text mapping_in_force digits service_with service_by_sheet service_by_shown sheet_services service_in_row
 booted_up = refl
 
 word_missing : said [] (shown 0x1800 Assumed (Seen 1 ∷ []) false ∷ []) 0x185 ≡ codes "~TPDO1 node 5"
-unfolding claims_with sheets_claims sheet_claim shown_claim names_for pdos_text more_pdos pdo_text pdo_by pdo_front data_in_force shown_text mapping_in_force words_in_force digits
+unfolding claims_with sheets_claims sheet_claim shown_claim names_for pdos_text more_pdos pdo_text pdo_by pdo_front data_in_force shown_text mapping_in_force words_in_force digits service_with service_by_sheet service_by_shown sheet_services service_in_row
 word_missing = refl
 
 -- another node, another PDO, another bus; no identifier of a PDO in that set
 of_another : map (said [] (shown 0x1800 Assumed mapped false ∷ [])) (0x186 ∷ 0x285 ∷ 0x205 ∷ 0x105 ∷ 0x685 ∷ []) ≡ [] ∷ [] ∷ [] ∷ [] ∷ [] ∷ []
-unfolding claims_with sheets_claims shown_claim pdos_text
+unfolding claims_with sheets_claims shown_claim pdos_text service_with service_by_sheet service_by_shown sheet_services service_in_row
 of_another = refl
 
 on_another_bus : said [] (record (shown 0x1800 Assumed mapped false) { interface = record { items = codes "can1" } } ∷ []) 0x185 ≡ []
-unfolding claims_with sheets_claims shown_claim pdos_text
+unfolding claims_with sheets_claims shown_claim pdos_text service_with service_by_sheet service_by_shown sheet_services service_in_row
 on_another_bus = refl
 
 -- a COB-ID that is shown, also one that isn't known
 moved : said [] (shown 0x1800 (Seen 0x190) mapped false ∷ []) 0x185 ≡ []
-unfolding claims_with sheets_claims shown_claim pdos_text
+unfolding claims_with sheets_claims shown_claim pdos_text service_with service_by_sheet service_by_shown sheet_services service_in_row
 moved = refl
 
 unknown : said [] (shown 0x1800 Unknown mapped false ∷ []) 0x185 ≡ []
-unfolding claims_with sheets_claims shown_claim pdos_text
+unfolding claims_with sheets_claims shown_claim pdos_text service_with service_by_sheet service_by_shown sheet_services service_in_row
 unknown = refl
 
 -- ---- and data sheets
 
 -- the node's own, which has another COB-ID for the PDO; or hasn't the PDO, but names the entry
 own_cob_id : said (sheet_for 5 (row 0x1800 1 Unsigned32 (number (pos 0x190)) [] ∷ []) ∷ []) (shown 0x1800 Assumed mapped false ∷ []) 0x185 ≡ []
-unfolding claims_with sheets_claims sheet_claim shown_claim pdos_text node_with is_of sheet_pdos pdos_in pdo_of mapping_at words_at number_at
+unfolding claims_with sheets_claims sheet_claim shown_claim pdos_text node_with is_of sheet_pdos pdos_in pdo_of mapping_at words_at number_at service_with service_by_sheet service_by_shown sheet_services service_in_row
 own_cob_id = refl
 
 own_entry : said (sheet_for 5 (row 0x2001 1 Integer16 absent (codes "T") ∷ []) ∷ []) (shown 0x1800 Assumed mapped false ∷ []) 0x185
     ≡ codes "~TPDO1 node 5 (mapping seen): T 2001:01 = 1000"
-unfolding claims_with sheets_claims sheet_claim shown_claim names_for pdos_text more_pdos pdo_text pdo_by pdo_front data_in_force shown_text mapping_in_force words_in_force node_with is_of sheet_pdos pdos_in pdo_of mapping_at words_at number_at data_text mapped_text parts_text more_parts part_text part_bytes short_text more_text filled entry_of known_text meaning_at entry_text value_text number_text digits digits_text is_utf8 chars encode
+unfolding claims_with sheets_claims sheet_claim shown_claim names_for pdos_text more_pdos pdo_text pdo_by pdo_front data_in_force shown_text mapping_in_force words_in_force node_with is_of sheet_pdos pdos_in pdo_of mapping_at words_at number_at data_text mapped_text parts_text more_parts part_text part_bytes short_text more_text filled entry_of known_text meaning_at entry_text value_text number_text digits digits_text is_utf8 chars encode service_with service_by_sheet service_by_shown sheet_services service_in_row
 own_entry = refl
 
 -- that of another node, which receives it; or sends it, and then it is of no other
@@ -137,17 +139,22 @@ rows_with index id = row index 1 Unsigned32 (number (pos id)) [] ∷ row (index 
 
 its_receiver : said (sheet_for 6 (rows_with 0x1400 0x185) ∷ []) (shown 0x1800 Assumed mapped false ∷ []) 0x185
     ≡ codes "~TPDO1 node 5 (mapping seen): 2001:01 = E803 | RPDO1 node 6"
-unfolding claims_with sheets_claims sheet_claim shown_claim names_for pdos_text more_pdos pdo_text pdo_by pdo_front data_in_force shown_text mapping_in_force words_in_force node_with is_of sheet_pdos pdos_in pdo_of mapping_at words_at number_at data_text mapped_text parts_text more_parts part_text missing_text with_bits part_bytes short_text more_text filled entry_of digits digits_text
+unfolding claims_with sheets_claims sheet_claim shown_claim names_for pdos_text more_pdos pdo_text pdo_by pdo_front data_in_force shown_text mapping_in_force words_in_force node_with is_of sheet_pdos pdos_in pdo_of mapping_at words_at number_at data_text mapped_text parts_text more_parts part_text missing_text with_bits part_bytes short_text more_text filled entry_of digits digits_text service_with service_by_sheet service_by_shown sheet_services service_in_row
 its_receiver = refl
 
 other_sender : said (sheet_for 6 (rows_with 0x1800 0x185) ∷ []) (shown 0x1800 Assumed mapped false ∷ []) 0x185 ≡ codes "TPDO1 node 6"
-unfolding claims_with sheets_claims sheet_claim shown_claim names_for pdos_text more_pdos pdo_text pdo_by pdo_front data_in_force shown_text mapping_in_force words_in_force node_with is_of sheet_pdos pdos_in pdo_of mapping_at words_at number_at data_text digits
+unfolding claims_with sheets_claims sheet_claim shown_claim names_for pdos_text more_pdos pdo_text pdo_by pdo_front data_in_force shown_text mapping_in_force words_in_force node_with is_of sheet_pdos pdos_in pdo_of mapping_at words_at number_at data_text digits service_with service_by_sheet service_by_shown sheet_services service_in_row
 other_sender = refl
 
 its_sender : said (sheet_for 6 (rows_with 0x1800 0x205) ∷ []) (shown 0x1400 Assumed mapped false ∷ []) 0x205
     ≡ codes "TPDO1 node 6 | ~RPDO1 node 5 (mapping seen): 2001:01 = E803"
-unfolding claims_with sheets_claims sheet_claim shown_claim names_for pdos_text more_pdos pdo_text pdo_by pdo_front data_in_force shown_text mapping_in_force words_in_force node_with is_of sheet_pdos pdos_in pdo_of mapping_at words_at number_at data_text mapped_text parts_text more_parts part_text missing_text with_bits part_bytes short_text more_text filled entry_of digits digits_text
+unfolding claims_with sheets_claims sheet_claim shown_claim names_for pdos_text more_pdos pdo_text pdo_by pdo_front data_in_force shown_text mapping_in_force words_in_force node_with is_of sheet_pdos pdos_in pdo_of mapping_at words_at number_at data_text mapped_text parts_text more_parts part_text missing_text with_bits part_bytes short_text more_text filled entry_of digits digits_text service_with service_by_sheet service_by_shown sheet_services service_in_row
 its_sender = refl
+
+-- a service that a COB-ID names: emergencies of node 6
+its_service : said [] (shown 0x1800 Assumed mapped false ∷ record (shown 0x1014 Assumed (Seen 0x185 ∷ []) false) { node = 6 } ∷ []) 0x185 ≡ []
+unfolding claims_with sheets_claims shown_claim pdos_text service_with service_by_sheet service_by_shown
+its_service = refl
 
 -- ---- receivers alone: the sender of that set, of which nothing is known
 
@@ -155,19 +162,19 @@ abbrev heard : ℕ → List ℕ
 heard id = said (sheet_for 6 (rows_with 0x1400 id) ∷ []) [] id
 
 its_receiver_alone : heard 0x185 ≡ codes "~TPDO1 node 5 | RPDO1 node 6"
-unfolding claims_with sheets_claims sheet_claim shown_claim names_for pdos_text more_pdos pdo_text pdo_by pdo_front data_in_force mapping_in_force node_with is_of sheet_pdos pdos_in pdo_of mapping_at words_at number_at data_text digits words_in_force
+unfolding claims_with sheets_claims sheet_claim shown_claim names_for pdos_text more_pdos pdo_text pdo_by pdo_front data_in_force mapping_in_force node_with is_of sheet_pdos pdos_in pdo_of mapping_at words_at number_at data_text digits words_in_force service_with service_by_sheet service_by_shown sheet_services service_in_row
 its_receiver_alone = refl
 
 last_sender : heard 0x4FF ≡ codes "~TPDO4 node 127 | RPDO1 node 6"
-unfolding claims_with sheets_claims sheet_claim shown_claim names_for pdos_text more_pdos pdo_text pdo_by pdo_front data_in_force mapping_in_force node_with is_of sheet_pdos pdos_in pdo_of mapping_at words_at number_at data_text digits words_in_force
+unfolding claims_with sheets_claims sheet_claim shown_claim names_for pdos_text more_pdos pdo_text pdo_by pdo_front data_in_force mapping_in_force node_with is_of sheet_pdos pdos_in pdo_of mapping_at words_at number_at data_text digits words_in_force service_with service_by_sheet service_by_shown sheet_services service_in_row
 last_sender = refl
 
 -- an identifier of another node's RPDO, of no PDO, of no node; of a node with a sheet
 no_sender : map heard (0x205 ∷ 0x685 ∷ 0x280 ∷ 0x186 ∷ []) ≡ codes "RPDO1 node 6" ∷ codes "RPDO1 node 6" ∷ codes "RPDO1 node 6" ∷ codes "RPDO1 node 6" ∷ []
-unfolding claims_with sheets_claims sheet_claim shown_claim names_for pdos_text more_pdos pdo_text pdo_by pdo_front data_in_force mapping_in_force node_with is_of sheet_pdos pdos_in pdo_of mapping_at words_at number_at data_text digits words_in_force
+unfolding claims_with sheets_claims sheet_claim shown_claim names_for pdos_text more_pdos pdo_text pdo_by pdo_front data_in_force mapping_in_force node_with is_of sheet_pdos pdos_in pdo_of mapping_at words_at number_at data_text digits words_in_force service_with service_by_sheet service_by_shown sheet_services service_in_row
 no_sender = refl
 
 -- one that has another COB-ID by the recording
 moved_sender : said (sheet_for 6 (rows_with 0x1400 0x185) ∷ []) (shown 0x1800 (Seen 0x190) [] false ∷ []) 0x185 ≡ codes "RPDO1 node 6"
-unfolding claims_with sheets_claims sheet_claim shown_claim names_for pdos_text more_pdos pdo_text pdo_by pdo_front data_in_force shown_text mapping_in_force node_with is_of sheet_pdos pdos_in pdo_of mapping_at words_at number_at data_text digits words_in_force
+unfolding claims_with sheets_claims sheet_claim shown_claim names_for pdos_text more_pdos pdo_text pdo_by pdo_front data_in_force shown_text mapping_in_force node_with is_of sheet_pdos pdos_in pdo_of mapping_at words_at number_at data_text digits words_in_force service_with service_by_sheet service_by_shown sheet_services service_in_row
 moved_sender = refl

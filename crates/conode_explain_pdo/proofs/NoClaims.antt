@@ -12,7 +12,7 @@ use Rattle.conode_explain_entries.specs.Tables.{state_in}
 use Rattle.conode_explain_pdo.specs.declared.claim.Claim.{Claim}
 use Rattle.conode_explain_pdo.specs.declared.sheet.SheetPdo.{SheetPdo}
 use Rattle.conode_explain_pdo.specs.Buses.{Bus}
-use Rattle.conode_explain_pdo.specs.Claims.{assumed_claims, both_claims, claim_of, default_claim, is_claim_of, sheet_may_have, may_be_shown, kind_claims, mapped_claim, may_be_claimed, names_node, sheet_claim, sheet_claims, sheets_claims, shown_claim, shows}
+use Rattle.conode_explain_pdo.specs.Claims.{assumed_claims, both_claims, claim_of, default_claim, free_claim, is_claim_of, sheet_may_have, may_be_shown, kind_claims, mapped_claim, may_be_claimed, names_node, sheet_claim, sheet_claims, sheets_claims, shown_claim, shows}
 use Rattle.conode_explain_pdo.specs.CobIds.{node_with}
 use Rattle.conode_explain_pdo.specs.InForce.{state_at}
 use Rattle.conode_explain_pdo.specs.Known.{KnownSheet, is_on}
@@ -90,15 +90,15 @@ not_found interface id claim (pdo ∷ pdos) at is =
     let hidden = other_order (pdo.node == claim.node) (pdo.index == claim.index) (bytes_eq pdo.interface.items interface) here in
     rw hidden (not_found interface id claim pdos at parts.1)
 
-if_unknown : {A B : Type 0} (within known : Bool) (state : Option A) (x : B) → state ≡ None → (if within && (is_some state && known) then x ∷ [] else []) ≡ []
-if_unknown true known state x is = rw is refl
-if_unknown false known state x is = refl
+if_unknown : {A B : Type 0} (within known : Bool) (state : Option A) (xs : List B) → state ≡ None → (if within && (is_some state && known) then xs else []) ≡ []
+if_unknown true known state xs is = rw is refl
+if_unknown false known state xs is = refl
 
 no_mapped : (bus : Bus) (range : IndexRange) (id : ℕ) (claim : Option Claim) → default_claim id ≡ claim
-    → list_any (may_be_shown id) bus.entries ≡ false → mapped_claim bus range claim ≡ []
+    → list_any (may_be_shown id) bus.entries ≡ false → mapped_claim bus range id claim ≡ []
 no_mapped bus range id None at is = refl
 no_mapped bus range id (Some claim) at is =
-    if_unknown (is_within range claim.index) _ (state_at bus claim.node claim.index) claim (not_found bus.interface id claim bus.entries at is)
+    if_unknown (is_within range claim.index) _ (state_at bus claim.node claim.index) (free_claim bus id claim) (not_found bus.interface id claim bus.entries at is)
 
 no_assumed : (bus : Bus) (range : IndexRange) (id : ℕ) → may_be_claimed bus id ≡ false → assumed_claims bus range id ≡ []
 no_assumed bus range id is =

@@ -16,6 +16,7 @@ use Rattle.conode_explain_pdo.specs.CobIds.{has_identifier, is_default_rpdo, may
 use Rattle.conode_explain_pdo.specs.InForce.{is_assumed, is_from, sheet_mapping, state_at}
 use Rattle.conode_explain_pdo.specs.Known.{KnownSheet, is_on, sheet_for}
 use Rattle.conode_explain_pdo.specs.Named.{may_have}
+use Rattle.conode_explain_pdo.specs.ServiceIds.{service_with}
 
 -- ---- by the data sheets
 
@@ -98,13 +99,17 @@ is_mapped bus claim =
     is_some (state_at bus claim.node claim.index)
     && (is_assumed (sheet_mapping bus claim.node claim.index) Assumed && not (is_cob_id_shown bus claim.node claim.index))
 
+-- a service that a COB-ID names has the identifier in its place
+abbrev pub free_claim : Bus → ℕ → Claim → List Claim
+free_claim bus id claim = if is_some (service_with bus id) then [] else claim ∷ []
+
 -- where it is of a kind
-abbrev pub mapped_claim : Bus → IndexRange → Option Claim → List Claim
-mapped_claim bus range None = []
-mapped_claim bus range (Some claim) = if is_within range claim.index && is_mapped bus claim then claim ∷ [] else []
+abbrev pub mapped_claim : Bus → IndexRange → ℕ → Option Claim → List Claim
+mapped_claim bus range id None = []
+mapped_claim bus range id (Some claim) = if is_within range claim.index && is_mapped bus claim then free_claim bus id claim else []
 
 abbrev pub assumed_claims : Bus → IndexRange → ℕ → List Claim
-assumed_claims bus range id = mapped_claim bus range (default_claim id)
+assumed_claims bus range id = mapped_claim bus range id (default_claim id)
 
 -- ---- all
 

@@ -14,6 +14,7 @@ ghost use Rattle.conode_explain_pdo.specs.Claims.{
   claims_with,
   default_claim,
   default_index,
+  free_claim,
   is_claim_of,
   is_cob_id_shown,
   is_mapped,
@@ -41,6 +42,7 @@ use crate::cob_id::{has_identifier, is_default_rpdo, may_be_pdo};
 use crate::in_force::{Origin, is_assumed, is_from, sheet_mapping};
 use crate::known::is_none_for;
 use crate::known_sheet::KnownSheet;
+use crate::service_ids::service_with;
 use crate::sheet::SheetPdo;
 use co_profile::IndexRange;
 use conode_explain_entries::{ShownPdo, Value};
@@ -292,6 +294,22 @@ fn is_mapped(bus: Bus<'_, '_, '_, '_, '_>, claim: Claim) -> bool
     is_assumed(sheet, Value::Assumed) && !is_cob_id_shown(bus, claim.node, claim.index)
 }
 
+// adds a PDO, unless a COB-ID names a service that has its identifier
+fn add_free(
+    claims: &mut Vec<Claim>,
+    bus: Bus<'_, '_, '_, '_, '_>,
+    id: u16,
+    claim: Claim,
+) -> Result<(), AllocError>
+    ensures { OnOk result (claims.new.items
+        ≡ claims.old.items ++ free_claim (bus_view bus.entry) id claim) }
+{
+    match service_with(bus, id) {
+        Some(_) => Ok(()),
+        None => add_claim(claims, Some(claim)),
+    }
+}
+
 // adds the PDO of a kind that the pre-defined connection set has an identifier for, if it is mapped
 fn add_assumed(
     claims: &mut Vec<Claim>,
@@ -304,7 +322,7 @@ fn add_assumed(
 {
     match default_claim(id) {
         Some(claim) if range.contains(claim.index) && is_mapped(bus, claim) => {
-            add_claim(claims, Some(claim))
+            add_free(claims, bus, id, claim)
         }
         _ => Ok(()),
     }
