@@ -1,5 +1,5 @@
--- What no frame changes of explain's open transfer: its entry, its request, and that it isn't in blocks; and where it is after a segment was asked
--- for or sent.
+-- What no frame changes of explain's open transfer: its entry, its request, and that it isn't in blocks; and where it is after a segment was
+-- asked for or sent.
 use Rattle.std.proofs.Common.{◌≡◌, ℕ, ◌+◌, Bool, true, false, not, List, Some, refl, ap, ◌∙◌}
 use Rattle.std.specs.Prelude.{◌&&◌, ◌==◌, nat_lt, if◌then◌else◌}
 use Rattle.std.proofs.lemmas.Bool.{false≢true}
