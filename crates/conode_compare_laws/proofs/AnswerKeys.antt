@@ -1,5 +1,5 @@
--- What no frame changes of explain's open transfer: its entry, and that it isn't in blocks; and where it is after a segment was asked
--- for or sent.
+-- What no frame changes of explain's open transfer: its entry, its request, and that it isn't in blocks; and where it is after a segment was
+-- asked for or sent.
 use Rattle.std.proofs.Common.{◌≡◌, ℕ, ◌+◌, Bool, true, false, not, List, Some, refl, ap, ◌∙◌}
 use Rattle.std.specs.Prelude.{◌&&◌, ◌==◌, nat_lt, if◌then◌else◌}
 use Rattle.std.proofs.lemmas.Bool.{false≢true}
@@ -28,9 +28,10 @@ use Rattle.conode_compare_transfers.specs.Dialogues.{continues, is_initiate}
 
 -- ---- what is kept
 
--- the entry, and that the protocol isn't in blocks
+-- the entry, the request, and that the protocol isn't in blocks
 pub record Kept (t u : Transfer) : Type 0 where
   pub key : u.key ≡ t.key
+  pub request : u.request ≡ t.request
   pub protocol : is_block t.protocol ≡ false → is_block u.protocol ≡ false
 
 -- by a frame that is no initiate request
@@ -38,64 +39,64 @@ record KeptIn (t : Transfer) (turn : Turn) : Type 0 where
   is : Kept t turn.transfer
   what : is_initiate turn.what ≡ false
 
-same : (t : Transfer) (turn : Turn) → turn.transfer.key ≡ t.key → turn.transfer.protocol ≡ t.protocol → is_initiate turn.what ≡ false → KeptIn t turn
-same t turn k p w = record { is = record { key = k; protocol = λ h. ap is_block p ∙ h }; what = w }
+same : (t : Transfer) (turn : Turn) → turn.transfer.key ≡ t.key → turn.transfer.request ≡ t.request → turn.transfer.protocol ≡ t.protocol → is_initiate turn.what ≡ false → KeptIn t turn
+same t turn k r p w = record { is = record { key = k; request = r; protocol = λ h. ap is_block p ∙ h }; what = w }
 
 either : (b : Bool) (t : Transfer) (x y : Turn) → KeptIn t x → KeptIn t y → KeptIn t (if b then x else y)
 either true t x y p q = p
 either false t x y p q = q
 
 spoiled : (t : Transfer) → KeptIn t (unexpected t)
-spoiled t = same t (unexpected t) refl refl refl
+spoiled t = same t (unexpected t) refl refl refl refl
 
 answers : (t : Transfer) (key : Key) (turn : Turn) → KeptIn t turn → KeptIn t (answering t key turn)
-answers t key turn k = either (is_initiated t.stage) t _ _ (either (same_key key t.key) t turn (overtaken t) k (same t (overtaken t) refl refl refl)) (spoiled t)
+answers t key turn k = either (is_initiated t.stage) t _ _ (either (same_key key t.key) t turn (overtaken t) k (same t (overtaken t) refl refl refl refl)) (spoiled t)
 
 download_kept : (t : Transfer) (protocol : Protocol) → KeptIn t (download_answered t protocol)
-download_kept t Expedited = same t _ refl refl refl
-download_kept t Segmented = same t _ refl refl refl
+download_kept t Expedited = same t _ refl refl refl refl
+download_kept t Segmented = same t _ refl refl refl refl
 download_kept t _ = spoiled t
 
 download_segment_kept : (stage : Stage) (t : Transfer) (toggle : Bool) (segment : ArrayVec ℕ) (last : Bool) → KeptIn t (download_segment_at stage t toggle segment last)
-download_segment_kept (DownloadConfirmed awaited) t toggle segment last = either (same_bool toggle awaited) t _ _ (same t _ refl refl refl) (same t _ refl refl refl)
-download_segment_kept (DownloadSent sent was_last) t toggle segment last = either (same_bool toggle sent) t _ _ (same t _ refl refl refl) (same t _ refl refl refl)
+download_segment_kept (DownloadConfirmed awaited) t toggle segment last = either (same_bool toggle awaited) t _ _ (same t _ refl refl refl refl) (same t _ refl refl refl refl)
+download_segment_kept (DownloadSent sent was_last) t toggle segment last = either (same_bool toggle sent) t _ _ (same t _ refl refl refl refl) (same t _ refl refl refl refl)
 download_segment_kept _ t toggle segment last = spoiled t
 
 segment_done_kept : (stage : Stage) (t : Transfer) (toggle : Bool) → KeptIn t (segment_done_at stage t toggle)
-segment_done_kept (DownloadSent sent last) t toggle = either (same_bool toggle sent) t _ _ (same t _ refl refl refl) (same t _ refl refl refl)
-segment_done_kept (DownloadConfirmed awaited) t toggle = either (same_bool toggle awaited) t _ _ (same t _ refl refl refl) (same t _ refl refl refl)
+segment_done_kept (DownloadSent sent last) t toggle = either (same_bool toggle sent) t _ _ (same t _ refl refl refl refl) (same t _ refl refl refl refl)
+segment_done_kept (DownloadConfirmed awaited) t toggle = either (same_bool toggle awaited) t _ _ (same t _ refl refl refl refl) (same t _ refl refl refl refl)
 segment_done_kept _ t toggle = spoiled t
 
 upload_request_kept : (stage : Stage) (t : Transfer) (toggle : Bool) → KeptIn t (upload_request_at stage t toggle)
-upload_request_kept (UploadTaken awaited) t toggle = either (same_bool toggle awaited) t _ _ (same t _ refl refl refl) (same t _ refl refl refl)
-upload_request_kept (UploadAsked asked) t toggle = either (same_bool toggle asked) t _ _ (same t _ refl refl refl) (same t _ refl refl refl)
+upload_request_kept (UploadTaken awaited) t toggle = either (same_bool toggle awaited) t _ _ (same t _ refl refl refl refl) (same t _ refl refl refl refl)
+upload_request_kept (UploadAsked asked) t toggle = either (same_bool toggle asked) t _ _ (same t _ refl refl refl refl) (same t _ refl refl refl refl)
 upload_request_kept _ t toggle = spoiled t
 
 upload_segment_kept : (stage : Stage) (t : Transfer) (toggle : Bool) (segment : ArrayVec ℕ) (last : Bool) → KeptIn t (upload_segment_at stage t toggle segment last)
-upload_segment_kept (UploadAsked asked) t toggle segment last = either (same_bool toggle asked) t _ _ (same t _ refl refl refl) (same t _ refl refl refl)
-upload_segment_kept (UploadTaken awaited) t toggle segment last = either (same_bool toggle awaited) t _ _ (same t _ refl refl refl) (same t _ refl refl refl)
+upload_segment_kept (UploadAsked asked) t toggle segment last = either (same_bool toggle asked) t _ _ (same t _ refl refl refl refl) (same t _ refl refl refl refl)
+upload_segment_kept (UploadTaken awaited) t toggle segment last = either (same_bool toggle awaited) t _ _ (same t _ refl refl refl refl) (same t _ refl refl refl refl)
 upload_segment_kept _ t toggle segment last = spoiled t
 
 started_kept : (stage : Stage) (t : Transfer) → KeptIn t (upload_started_at stage t)
-started_kept BlockInitiated t = same t _ refl refl refl
+started_kept BlockInitiated t = same t _ refl refl refl refl
 started_kept _ t = spoiled t
 
 block_segment_kept : (stage : Stage) (t : Transfer) (segment : BlockSegment) → KeptIn t (block_segment_at stage t segment)
 block_segment_kept (SubBlock false) t segment =
-    either (nat_lt segment.sequence t.next_number) t (segment_again t segment) _ (same t _ refl refl refl)
-    (either (segment.sequence == awaited_number t) t (segment_added t segment) (segment_ahead t segment) (same t _ refl refl refl) (same t _ refl refl (ahead (segment.sequence == t.next_number))))
+    either (nat_lt segment.sequence t.next_number) t (segment_again t segment) _ (same t _ refl refl refl refl)
+    (either (segment.sequence == awaited_number t) t (segment_added t segment) (segment_ahead t segment) (same t _ refl refl refl refl) (same t _ refl refl refl (ahead (segment.sequence == t.next_number))))
   where
     ahead : (b : Bool) → is_initiate (if b then what.Segment segment.sequence else what.OutOfSequence segment.sequence t.next_number) ≡ false
     ahead true = refl
     ahead false = refl
-block_segment_kept Initiated t segment = either (is_download t.direction && is_block t.protocol) t (segment_first t segment) (unexpected t) (same t _ refl refl refl) (spoiled t)
+block_segment_kept Initiated t segment = either (is_download t.direction && is_block t.protocol) t (segment_first t segment) (unexpected t) (same t _ refl refl refl refl) (spoiled t)
 block_segment_kept _ t segment = spoiled t
 
 acknowledged_kept : (stage : Stage) (t : Transfer) (sequence block_size : ℕ) → KeptIn t (acknowledged_at stage t sequence block_size)
 acknowledged_kept (SubBlock last) t sequence block_size =
     either (nat_lt sequence (awaited_number t)) t _ _
-    (either (last && (sequence + 1 == awaited_number t)) t _ _ (same t _ refl refl refl) (same t _ refl refl refl))
-    (same t _ refl refl refl)
+    (either (last && (sequence + 1 == awaited_number t)) t _ _ (same t _ refl refl refl refl) (same t _ refl refl refl refl))
+    (same t _ refl refl refl refl)
 acknowledged_kept _ t sequence block_size = spoiled t
 
 by_receiver_kept : (by_receiver : Bool) (t : Transfer) (sequence block_size : ℕ) → KeptIn t (acknowledged by_receiver t sequence block_size)
@@ -103,7 +104,7 @@ by_receiver_kept true t sequence block_size = acknowledged_kept t.stage t sequen
 by_receiver_kept false t sequence block_size = spoiled t
 
 ended_kept : (stage : Stage) (t : Transfer) (unused crc : ℕ) → KeptIn t (block_ended_at stage t unused crc)
-ended_kept AllAcknowledged t unused crc = same t _ refl refl refl
+ended_kept AllAcknowledged t unused crc = same t _ refl refl refl refl
 ended_kept _ t unused crc = spoiled t
 
 by_sender_kept : (by_sender : Bool) (t : Transfer) (unused crc : ℕ) → KeptIn t (block_ended by_sender t unused crc)
@@ -111,9 +112,9 @@ by_sender_kept true t unused crc = ended_kept t.stage t unused crc
 by_sender_kept false t unused crc = spoiled t
 
 end_at_kept : (stage : Stage) (t : Transfer) → KeptIn t (end_confirmed_at stage t)
-end_at_kept (BlockEnded crc) t = same t _ refl refl refl
+end_at_kept (BlockEnded crc) t = same t _ refl refl refl refl
 end_at_kept Initiated t = spoiled t
-end_at_kept _ t = same t _ refl refl refl
+end_at_kept _ t = same t _ refl refl refl refl
 
 end_kept : (by_receiver : Bool) (t : Transfer) → KeptIn t (end_confirmed by_receiver t)
 end_kept true t = either (is_block t.protocol) t (end_confirmed_at t.stage t) (unexpected t) (end_at_kept t.stage t) (spoiled t)
@@ -132,14 +133,14 @@ response_kept : (t : Transfer) (response : SdoResponse) (frame : List ℕ) → K
 response_kept t (DownloadDone key) frame =
     answers t key _ (either (is_download t.direction) t (download_answered t t.protocol) (unexpected t) (download_kept t t.protocol) (spoiled t))
 response_kept t (DownloadSegmentDone toggle) frame = segment_done_kept t.stage t toggle
-response_kept t (UploadExpedited key value) frame = answers t key _ (either (is_download t.direction) t _ _ (spoiled t) (record { is = record { key = refl; protocol = λ h. refl }; what = refl }))
-response_kept t (UploadInitiated key size) frame = answers t key _ (either (is_download t.direction) t _ _ (spoiled t) (record { is = record { key = refl; protocol = λ h. refl }; what = refl }))
+response_kept t (UploadExpedited key value) frame = answers t key _ (either (is_download t.direction) t _ _ (spoiled t) (record { is = record { key = refl; request = refl; protocol = λ h. refl }; what = refl }))
+response_kept t (UploadInitiated key size) frame = answers t key _ (either (is_download t.direction) t _ _ (spoiled t) (record { is = record { key = refl; request = refl; protocol = λ h. refl }; what = refl }))
 response_kept t (UploadSegment toggle segment last) frame = upload_segment_kept t.stage t toggle segment last
-response_kept t (BlockDownloadInitiated key block_size) frame = answers t key _ (either (is_download t.direction && is_block t.protocol) t _ _ (same t _ refl refl refl) (spoiled t))
+response_kept t (BlockDownloadInitiated key block_size) frame = answers t key _ (either (is_download t.direction && is_block t.protocol) t _ _ (same t _ refl refl refl refl) (spoiled t))
 response_kept t BlockDownloadDone frame = end_kept (is_download t.direction) t
 response_kept t (BlockDownloadAcknowledge sequence block_size) frame = by_receiver_kept (is_download t.direction) t sequence block_size
 response_kept t (BlockUploadInitiated key size) frame =
-    answers t key _ (either (is_download t.direction) t _ _ (spoiled t) (either (is_block t.protocol) t _ _ (same t _ refl refl refl) (spoiled t)))
+    answers t key _ (either (is_download t.direction) t _ _ (spoiled t) (either (is_block t.protocol) t _ _ (same t _ refl refl refl refl) (spoiled t)))
 response_kept t (BlockUploadEnd unused) frame = by_sender_kept (not (is_download t.direction)) t unused (crc_in frame)
 response_kept t _ frame = spoiled t
 

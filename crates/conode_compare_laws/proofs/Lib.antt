@@ -133,6 +133,7 @@ pub mod ValueOnly
 pub mod ValueFrames
 pub mod ValueInputs
 pub mod ValueShown
+pub mod DownloadProtocols
 pub mod ValueDownloads
 pub mod ValueMismatches
 pub mod ValueAllowed
@@ -142,6 +143,7 @@ pub mod ReadAnswers
 pub mod ReadFrames
 pub mod ReadInputs
 pub mod ValueWrites
+pub mod ValueRooms
 pub mod ValueExpedited
 pub mod ValueUploads
 pub mod ValueLengths

@@ -52,6 +52,7 @@ use Rattle.conode_compare_laws.proofs.AnswerFollowed.{reads}
 use Rattle.conode_compare_laws.proofs.AnswerOpened.{exchange_with}
 use Rattle.conode_compare_laws.proofs.AnswerOthers.{is_sdo}
 use Rattle.conode_compare_laws.proofs.AnswerWhole.{HasTaken, asked_worn, kept_hears}
+use Rattle.conode_compare_laws.proofs.DownloadProtocols.{Fits, FitsEnd, fits_after}
 use Rattle.conode_compare_laws.proofs.NamedKeys.{first_of, last_of}
 use Rattle.conode_compare_laws.proofs.Runs.{AllRun}
 use Rattle.conode_compare_laws.proofs.ValueFrames.{AllFine, IsFine, answer_frame, answers_run, following_on, sdo_run}
@@ -93,9 +94,10 @@ pub record Standing (d : Description) (log : Log) (o : Option Transfer) : Type 0
   pub got : List ℕ
   pub follows : IfSome o (λ t. Follows t got (opened_after log))
   pub taken : IfSome o (λ t. t.taken ≡ digest_of got)
+  pub fits : IfSome o Fits
 
 none_known : (d : Description) (log : Log) → is_under_way d.rows (open_transfer log) → Standing d log None
-none_known d log u = record { under_way = u; got = []; follows = tt; taken = tt }
+none_known d log u = record { under_way = u; got = []; follows = tt; taken = tt; fits = tt }
 
 standing_ticked : (d : Description) (log : Log) (o : Option Transfer) → Standing d log o → Standing d (Elapsed ∷ log) o
 standing_ticked d log o s = record {
@@ -103,6 +105,7 @@ standing_ticked d log o s = record {
   got = s.got;
   follows = subst (λ c. IfSome o (λ t. Follows t s.got c)) (sym (ap opened (tick_opens log))) s.follows;
   taken = s.taken;
+  fits = s.fits;
 }
 
 drops : (held : Option Transfer) (got : List ℕ) (current : Option OpenTransfer) → IfSome held (λ t. Follows t got current) → IfSome held (λ t. Follows t got None)
@@ -120,6 +123,7 @@ standing_dropped d log o none s = record {
   got = s.got;
   follows = subst (λ c. IfSome o (λ t. Follows t s.got c)) (sym (ap opened none)) (drops o s.got (opened_after log) s.follows);
   taken = s.taken;
+  fits = s.fits;
 }
 
 -- ---- a request that the device ignores
@@ -207,34 +211,43 @@ kept_all : (rows : Rows) (stamp : ℕ → ℕ) (answers : List Answer) (v : View
 kept_all rows stamp [] v h = h
 kept_all rows stamp (answer ∷ later) v h = kept_all rows stamp later (hears rows stamp Server (answer_bytes answer) v) (kept_hears stamp Server (answer_bytes answer) v h)
 
+-- and the protocol fits its request
+fits_hears : (rows : Rows) (stamp : ℕ → ℕ) (side : Side) (bytes : List ℕ) (v : View) → IfSome v.following.transfer Fits → IfSome (hears rows stamp side bytes v).following.transfer Fits
+fits_hears rows stamp side bytes v h = (fits_after v.following.heard v.following.transfer (reading_of v.following.transfer side (stamp v.count) bytes) (stamp v.count) side bytes refl h).next
+
+fits_answers : (rows : Rows) (stamp : ℕ → ℕ) (answers : List Answer) (v : View) → IfSome v.following.transfer Fits → IfSome (hears_answers rows stamp answers v).following.transfer Fits
+fits_answers rows stamp [] v h = h
+fits_answers rows stamp (answer ∷ later) v h = fits_answers rows stamp later (hears rows stamp Server (answer_bytes answer) v) (fits_hears rows stamp Server (answer_bytes answer) v h)
+
 -- no difference is picked of a download that is done with permitted bytes, and none of another end
 abbrev pub Picks : (Option Finding → List Finding) → Subject → List Row → Description → Type 0
 Picks only subject rows d =
     (frame : FrameContent) (e : Ended) (initiate : Option SdoRequest) (got : List ℕ) (n : ℕ)
-    → Shown (Some e) got → ArePermitted d (write_said d.rows initiate (Some e) got n) → only (known_finding subject rows frame e) ≡ []
+    → Shown (Some e) got → FitsEnd initiate (Some e) → ArePermitted d (write_said d.rows initiate (Some e) got n) → only (known_finding subject rows frame e) ≡ []
 
 module _ (only : Option Finding → List Finding) (nothing : only None ≡ []) (others : (finding : Finding) → is_value finding ≡ false → only (Some finding) ≡ []) (subject : Subject) (rows : List Row) (d : Description) (picks : Picks only subject rows d) where
-  fine_of : (micros : ℕ) (frame : FrameContent) (o : Option Ended) (initiate : Option SdoRequest) (got : List ℕ) (n : ℕ) → Shown o got → ArePermitted d (write_said d.rows initiate o got n)
+  fine_of : (micros : ℕ) (frame : FrameContent) (o : Option Ended) (initiate : Option SdoRequest) (got : List ℕ) (n : ℕ) → Shown o got → FitsEnd initiate o → ArePermitted d (write_said d.rows initiate o got n)
       → IfSome o (λ e. only (known_finding subject rows frame e) ≡ [])
-  fine_of micros frame None initiate got n s h = tt
-  fine_of micros frame (Some e) initiate got n s h = picks frame e initiate got n s h
+  fine_of micros frame None initiate got n s f h = tt
+  fine_of micros frame (Some e) initiate got n s f h = picks frame e initiate got n s f h
 
   -- a frame after which all that is done is permitted
-  frame_fine : (micros : ℕ) (side : Side) (frame : FrameContent) (v : View) → HasTaken v → ArePermitted d (hears d.rows (λ n. micros) side frame.bytes v).done
+  frame_fine : (micros : ℕ) (side : Side) (frame : FrameContent) (v : View) → HasTaken v → IfSome v.following.transfer Fits → ArePermitted d (hears d.rows (λ n. micros) side frame.bytes v).done
       → IsFine only nothing others subject rows micros frame (reads v.following micros side frame.bytes)
-  frame_fine micros side frame v taken h =
+  frame_fine micros side frame v taken fits h =
       let reading : Reading = reading_of v.following.transfer side micros frame.bytes in
       let got : List ℕ = bytes_by v.following.transfer reading frame.bytes v.got in
       fine_of micros frame (reads v.following micros side frame.bytes).says.ended (initiated_by v.following.transfer) got (suc v.count)
       (shown_by v.following.heard v.following.transfer reading micros side frame.bytes v.got taken)
+      (fits_after v.following.heard v.following.transfer reading micros side frame.bytes refl fits).ended
       (first_of (IsPermitted d) (write_said d.rows (initiated_by v.following.transfer) (reads v.following micros side frame.bytes).says.ended got (suc v.count)) v.done h)
 
-  all_fine : (micros : ℕ) (answers : List Answer) (v : View) → HasTaken v → ArePermitted d (hears_answers d.rows (λ n. micros) answers v).done → AllFine only nothing others subject rows micros v.following answers
-  all_fine micros [] v taken h = tt
-  all_fine micros (answer ∷ later) v taken h = (
-    frame_fine micros Server (answer_frame only nothing others subject rows micros (answer_bytes answer)) v taken
+  all_fine : (micros : ℕ) (answers : List Answer) (v : View) → HasTaken v → IfSome v.following.transfer Fits → ArePermitted d (hears_answers d.rows (λ n. micros) answers v).done → AllFine only nothing others subject rows micros v.following answers
+  all_fine micros [] v taken fits h = tt
+  all_fine micros (answer ∷ later) v taken fits h = (
+    frame_fine micros Server (answer_frame only nothing others subject rows micros (answer_bytes answer)) v taken fits
         (told_before d.rows (λ n. micros) d later (hears d.rows (λ n. micros) Server (answer_bytes answer) v) h),
-    all_fine micros later (hears d.rows (λ n. micros) Server (answer_bytes answer) v) (kept_hears (λ n. micros) Server (answer_bytes answer) v taken) h,
+    all_fine micros later (hears d.rows (λ n. micros) Server (answer_bytes answer) v) (kept_hears (λ n. micros) Server (answer_bytes answer) v taken) (fits_hears d.rows (λ n. micros) Server (answer_bytes answer) v fits) h,
   )
 
   on_is : (micros : ℕ) (answers : List Answer) (v : View) → following_on only nothing others subject rows micros v.following answers ≡ (hears_answers d.rows (λ n. micros) answers v).following
@@ -242,13 +255,13 @@ module _ (only : Option Finding → List Finding) (nothing : only None ≡ []) (
   on_is micros (answer ∷ later) v = on_is micros later (hears d.rows (λ n. micros) Server (answer_bytes answer) v)
 
   -- answers after which all that is done is permitted, and what both have then
-  told_run : (micros : ℕ) (answers : List Answer) (v : View) (q : Progress) (After : Option Transfer → Type 0) → q.newest ≡ Some micros → q.dialogue.channel ≡ v.following → HasTaken v
+  told_run : (micros : ℕ) (answers : List Answer) (v : View) (q : Progress) (After : Option Transfer → Type 0) → q.newest ≡ Some micros → q.dialogue.channel ≡ v.following → HasTaken v → IfSome v.following.transfer Fits
       → ArePermitted d (hears_answers d.rows (λ n. micros) answers v).done → After (hears_answers d.rows (λ n. micros) answers v).following.transfer
       → AllRun (on_channel only) subject rows micros q (frames_on (0x580 + subject.node) answers) (λ x. After x.dialogue.channel.transfer)
-  told_run micros answers v q After now is taken told after =
+  told_run micros answers v q After now is taken fits told after =
       mapped (on_channel only) subject rows micros (frames_on (0x580 + subject.node) answers) q (λ x. x.dialogue.channel ≡ following_on only nothing others subject rows micros v.following answers) (λ x. After x.dialogue.channel.transfer)
       (λ x on. subst (λ (f : Following). After f.transfer) (sym (on ∙ on_is micros answers v)) after)
-      (answers_run only nothing others subject rows micros answers v.following q now is (all_fine micros answers v taken told))
+      (answers_run only nothing others subject rows micros answers v.following q now is (all_fine micros answers v taken fits told))
 
   -- ---- a request with its answers
 
@@ -261,9 +274,9 @@ module _ (only : Option Finding → List Finding) (nothing : only None ≡ []) (
         (λ q. AllRun (on_channel only) subject rows micros q (frames_on (0x580 + subject.node) (reply_to d contents log frame.bytes)) (Stands (Exchanged (exchange_with d contents log frame.bytes) ∷ log)))
     request_runs id bytes eight lawful s =
         sdo_run only nothing others subject rows micros p frame [] Client _ (request_kind subject.node frame id)
-        (frame_fine micros Client frame v s.taken (told_before d.rows (λ n. micros) d answers heard told))
+        (frame_fine micros Client frame v s.taken s.fits (told_before d.rows (λ n. micros) d answers heard told))
         (λ q n next. subst (λ x. AllRun (on_channel only) subject rows micros q (frames_on (0x580 + subject.node) x) (Stands (Exchanged (exchange_with d contents log frame.bytes) ∷ log))) (sym one.replies)
-        (told_run micros answers heard q (Standing d (Exchanged (exchange_with d contents log frame.bytes) ∷ log)) n next (kept_hears (λ n. micros) Client frame.bytes v s.taken) told stands))
+        (told_run micros answers heard q (Standing d (Exchanged (exchange_with d contents log frame.bytes) ∷ log)) n next (kept_hears (λ n. micros) Client frame.bytes v s.taken) (fits_hears d.rows (λ n. micros) Client frame.bytes v s.fits) told stands))
       where
         v : View
         v = record { following = (begun subject p micros).dialogue.channel; got = s.got; done = []; count = 0 }
@@ -296,6 +309,7 @@ module _ (only : Option Finding → List Finding) (nothing : only None ≡ []) (
           got = last.got;
           follows = subst (λ c. IfSome last.following.transfer (λ t. Follows t last.got c)) (sym one.next.opens) step.follows;
           taken = kept_all d.rows (λ n. micros) answers heard (kept_hears (λ n. micros) Client frame.bytes v s.taken);
+          fits = fits_answers d.rows (λ n. micros) answers heard (fits_hears d.rows (λ n. micros) Client frame.bytes v s.fits);
         }
 
     -- one that the device ignores
@@ -303,9 +317,9 @@ module _ (only : Option Finding → List Finding) (nothing : only None ≡ []) (
         → AllRun (on_channel only) subject rows micros p (frame ∷ []) (Stands log)
     ignored_runs id by s =
         sdo_run only nothing others subject rows micros p frame [] Client _ (request_kind subject.node frame id)
-        (frame_fine micros Client frame v s.taken (subst (ArePermitted d) (sym after.0) tt))
+        (frame_fine micros Client frame v s.taken s.fits (subst (ArePermitted d) (sym after.0) tt))
         (λ q n next. subst (λ (f : Following). Standing d log f.transfer) (sym next)
-        (record { under_way = s.under_way; got = heard.got; follows = after.1; taken = kept_hears (λ n. micros) Client frame.bytes v s.taken }))
+        (record { under_way = s.under_way; got = heard.got; follows = after.1; taken = kept_hears (λ n. micros) Client frame.bytes v s.taken; fits = fits_hears d.rows (λ n. micros) Client frame.bytes v s.fits }))
       where
         v : View
         v = record { following = (begun subject p micros).dialogue.channel; got = s.got; done = []; count = 0 }
@@ -322,7 +336,7 @@ module _ (only : Option Finding → List Finding) (nothing : only None ≡ []) (
       → AllRun (on_channel only) subject rows micros q (frames_on (0x580 + subject.node) (time_out_reply log)) (λ x. Standing d (TimedOut (time_out_reply log) ∷ log) x.dialogue.channel.transfer)
   aborted_runs micros log q s =
       sdo_run only nothing others subject rows micros q frame [] Server _ (answer_kind subject.node frame.bytes)
-      (frame_fine micros Server frame v s.taken (subst (ArePermitted d) (sym closes.same) tt))
+      (frame_fine micros Server frame v s.taken s.fits (subst (ArePermitted d) (sym closes.same) tt))
       (λ x n next. subst (λ (f : Following). Standing d (TimedOut (time_out_reply log) ∷ log) f.transfer) (sym next)
       (subst (Standing d (TimedOut (time_out_reply log) ∷ log)) (sym closes.none) (none_known d (TimedOut (time_out_reply log) ∷ log) (subst (is_under_way d.rows) (sym (channel_ended log (time_out_reply log))) tt))))
     where

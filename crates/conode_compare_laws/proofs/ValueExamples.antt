@@ -15,7 +15,7 @@ use Rattle.co_value.specs.declared.key.Key.{Key}
 use Rattle.conode_compare_pdos.specs.Followed.{unknown_pdos}
 use Rattle.conode_compare_values.specs.HeldNumbers.{held_mismatch}
 use Rattle.conode_compare_values.specs.SheetValues.{mismatch_at, row_mismatch, value_mismatch}
-use Rattle.conode_compare_values.specs.declared.mismatch.Mismatch.TheVariants.{AboveLimit, BelowLimit, ConstText, ReadRefused, ValueConst, ValueLength, Written}
+use Rattle.conode_compare_values.specs.declared.mismatch.Mismatch.TheVariants.{AboveLimit, BelowLimit, BeyondRoom, ConstText, ReadRefused, ValueConst, ValueLength, Written}
 use Rattle.conode_compare_transfers.specs.Breaches.{breach_at}
 use Rattle.conode_compare_transfers.specs.Dialogues.{dialogue_heard, exchange_in, is_certain}
 use Rattle.conode_compare_transfers.specs.NewestFrames.{newest_after, newest_with}
@@ -30,7 +30,7 @@ use Rattle.conode_compare_rules.specs.States as states
 use Rattle.conode_compare_rules.specs.States.{after_boot_up, after_other, awaits_boot_up, is_settled}
 use Rattle.conode_compare_rules.specs.Verdicts.{found}
 use Rattle.conode_compare_rules.specs.OtherClients.{no_clients}
-use Rattle.conode_compare_laws.specs.ValueFindings.{constant_differences, length_differences, limit_differences, read_differences, write_differences}
+use Rattle.conode_compare_laws.specs.ValueFindings.{constant_differences, length_differences, limit_differences, read_differences, room_differences, write_differences}
 use Rattle.conode_compare_laws.specs.Differences.{differences_in}
 use Rattle.conode_compare_laws.specs.Recordings.{Recorded, with_stamp}
 
@@ -129,6 +129,37 @@ no_value : differences_in read_differences subject (rows Rw None None) (answered
 unfolding findings_at progress_with begun booted found states.after_control after_boot_up after_other awaits_boot_up is_settled progresses.after_control control_findings heartbeat_findings silence_finding channel_heard exchange_at exchange_noted late_noted
     request_findings confirmed_finding answer_findings answer_finding stopped_finding held_finding what_finding held_mismatch dialogue_heard exchange_in is_certain newest_with newest_after breach_at shown_period shown_inhibit asked_to_write mismatch_at row_mismatch value_mismatch request_row_in response_row_in
 no_value = refl
+
+-- ---- rooms
+
+-- strings with so many bytes
+abbrev of_room : ℕ → Subject
+of_room bytes = record subject { rooms = record { strings = Some bytes; domains = None } }
+
+abbrev string : List Row
+string = record { key = entry; data_type = VisibleString; access = Rw; low = None; high = None; default = absent; mappable = false; name = None; line = 1 } ∷ []
+
+-- two bytes, where there is room for one
+too_many : differences_in room_differences (of_room 1) string (answered 0x2B00_2000_4142_0000 0x6000_2000_0000_0000) ≡ Value (BeyondRoom entry 2 1) ∷ []
+unfolding findings_at progress_with begun booted found states.after_control after_boot_up after_other awaits_boot_up is_settled progresses.after_control control_findings heartbeat_findings silence_finding channel_heard exchange_at exchange_noted late_noted
+    request_findings confirmed_finding answer_findings answer_finding stopped_finding held_finding what_finding held_mismatch dialogue_heard exchange_in is_certain newest_with newest_after breach_at shown_period shown_inhibit asked_to_write mismatch_at row_mismatch value_mismatch request_row_in response_row_in
+too_many = refl
+
+enough : differences_in room_differences (of_room 2) string (answered 0x2B00_2000_4142_0000 0x6000_2000_0000_0000) ≡ []
+unfolding findings_at progress_with begun booted found states.after_control after_boot_up after_other awaits_boot_up is_settled progresses.after_control control_findings heartbeat_findings silence_finding channel_heard exchange_at exchange_noted late_noted
+    request_findings confirmed_finding answer_findings answer_finding stopped_finding held_finding what_finding held_mismatch dialogue_heard exchange_in is_certain newest_with newest_after breach_at shown_period shown_inhibit asked_to_write mismatch_at row_mismatch value_mismatch request_row_in response_row_in
+enough = refl
+
+-- of four without a size one counts at least, but where there is room for none
+one_counts : differences_in room_differences (of_room 1) string (answered 0x2200_2000_4142_4344 0x6000_2000_0000_0000) ≡ []
+unfolding findings_at progress_with begun booted found states.after_control after_boot_up after_other awaits_boot_up is_settled progresses.after_control control_findings heartbeat_findings silence_finding channel_heard exchange_at exchange_noted late_noted
+    request_findings confirmed_finding answer_findings answer_finding stopped_finding held_finding what_finding held_mismatch dialogue_heard exchange_in is_certain newest_with newest_after breach_at shown_period shown_inhibit asked_to_write mismatch_at row_mismatch value_mismatch request_row_in response_row_in
+one_counts = refl
+
+none_counts : differences_in room_differences (of_room 0) string (answered 0x2200_2000_4142_4344 0x6000_2000_0000_0000) ≡ Value (BeyondRoom entry 4 0) ∷ []
+unfolding findings_at progress_with begun booted found states.after_control after_boot_up after_other awaits_boot_up is_settled progresses.after_control control_findings heartbeat_findings silence_finding channel_heard exchange_at exchange_noted late_noted
+    request_findings confirmed_finding answer_findings answer_finding stopped_finding held_finding what_finding held_mismatch dialogue_heard exchange_in is_certain newest_with newest_after breach_at shown_period shown_inhibit asked_to_write mismatch_at row_mismatch value_mismatch request_row_in response_row_in
+none_counts = refl
 
 -- ---- a value that is compared
 

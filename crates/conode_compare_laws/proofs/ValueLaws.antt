@@ -16,10 +16,11 @@ use Rattle.conode_compare_rules.specs.declared.limits.Subject.{Subject}
 use Rattle.conode_compare_laws.specs.AnswerEntries.{AllAreHeld}
 use Rattle.conode_compare_laws.specs.AnswerSenders.{AllSendOther, HaveBytes, HaveOtherChannels}
 use Rattle.conode_compare_laws.specs.Differences.{differences_in}
+use Rattle.conode_compare_laws.specs.GivenRooms.{AreAmple, AreRoomsOf}
 use Rattle.conode_compare_laws.specs.Identifiers.{AreElsewhere, IsAside}
 use Rattle.conode_compare_laws.specs.IdentityEntries.{AllHaveIdentity, HasIdentity}
 use Rattle.conode_compare_laws.specs.Recordings.{Stamped, recording}
-use Rattle.conode_compare_laws.specs.ValueFindings.{constant_differences, length_differences, limit_differences, read_differences, of_constants, of_lengths, of_limits, of_writes, on_channel, write_differences}
+use Rattle.conode_compare_laws.specs.ValueFindings.{constant_differences, length_differences, limit_differences, read_differences, of_constants, of_lengths, of_limits, of_writes, on_channel, write_differences, of_rooms, room_differences}
 use Rattle.conode_compare_laws.proofs.Begins.{node_ok, to_127}
 use Rattle.conode_compare_laws.proofs.BuiltBytes.{always_fixed, identity_same, is_fixed}
 use Rattle.conode_compare_laws.proofs.Heard.{of_device}
@@ -32,6 +33,7 @@ use Rattle.conode_compare_laws.proofs.ValueInputs.{AllHold, none_in}
 use Rattle.conode_compare_laws.proofs.ValueLengths.{length_picks, no_length}
 use Rattle.conode_compare_laws.proofs.ValueOnly.{is_value}
 use Rattle.conode_compare_laws.proofs.ValueRefused.{Milds, built_milds}
+use Rattle.conode_compare_laws.proofs.ValueRooms.{no_room, room_picks}
 use Rattle.conode_compare_laws.proofs.ValueUploads as uploaded
 use Rattle.conode_compare_laws.proofs.ValueWrites.{limit_picks, no_limit, no_write, write_picks}
 
@@ -67,6 +69,9 @@ module _ (plan : Plan) (k : Constants) (is : IsBuilt plan k) (subject : Subject)
 
   pub no_limits : differences_in limit_differences subject plan.rows (recording k inputs) ≡ []
   no_limits = downloads of_limits refl no_limit (subst (Picks of_limits (of_device k subject) plan.rows) (sym is.description) (limit_picks plan (of_device k subject)))
+
+  pub no_rooms : AreRoomsOf plan.limits subject.rooms → AreAmple subject.rooms → differences_in room_differences subject plan.rows (recording k inputs) ≡ []
+  no_rooms are ample = downloads of_rooms refl no_room (subst (Picks of_rooms (of_device k subject) plan.rows) (sym is.description) (room_picks plan (of_device k subject) are ample))
 
   -- of uploads that are done
   uploads : (only : Option Finding → List Finding) (nothing : only None ≡ []) → ((finding : Finding) → is_value finding ≡ false → only (Some finding) ≡ []) → (P : Contents → Type 0) → ((c : Contents) → P c → IsDictionary k.description c)

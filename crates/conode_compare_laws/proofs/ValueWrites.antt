@@ -96,7 +96,7 @@ said_done : (rows : Rows) (initiate : Option SdoRequest) (e : Ended) (got : List
     → write_said rows initiate (Some e) got n ≡ record { frame = n; key = e.key; bytes = entry_bytes rows e.key initiate got } ∷ []
 said_done rows initiate e got n crc d s = rw (d, s) refl
 
-permitted_of : (d : Description) (initiate : Option SdoRequest) (e : Ended) (got : List ℕ) (n : ℕ) (crc : Bool) → e.direction ≡ Download → e.ending ≡ Done crc → ArePermitted d (write_said d.rows initiate (Some e) got n)
+pub permitted_of : (d : Description) (initiate : Option SdoRequest) (e : Ended) (got : List ℕ) (n : ℕ) (crc : Bool) → e.direction ≡ Download → e.ending ≡ Done crc → ArePermitted d (write_said d.rows initiate (Some e) got n)
     → Permitted d e.key (entry_bytes d.rows e.key initiate got)
 permitted_of d initiate e got n crc down done h = (subst (ArePermitted d) (said_done d.rows initiate e got n crc down done) h).0
 
@@ -107,7 +107,7 @@ shown_of e got crc s h = by e.ending s h
     by (Done other) s h = record { bytes = h.bytes; first = h.first }
     by _ s h = absurd (cc)
 
-accepted_of : (plan : Plan) (row : Row) (key : Key) (bytes : List ℕ) → row_at plan.rows key ≡ Some row → Permitted (built_description plan) key bytes → Accepted (row_in plan.limits row) bytes
+pub accepted_of : (plan : Plan) (row : Row) (key : Key) (bytes : List ℕ) → row_at plan.rows key ≡ Some row → Permitted (built_description plan) key bytes → Accepted (row_in plan.limits row) bytes
 accepted_of plan row key bytes is p = accepted (built_description plan) p.contents key p.indicated bytes (row_in plan.limits row) p.allowed (row_built plan.node plan.limits plan.rows key row is)
 
 -- ---- the bytes that count
@@ -217,7 +217,7 @@ module _ (plan : Plan) (subject : Subject) where
 
   -- `access-write`
   pub write_picks : Picks of_writes subject plan.rows (built_description plan)
-  write_picks frame e initiate got n shown permitted =
+  write_picks frame e initiate got n shown fits permitted =
       known_none of_writes refl subject plan.rows frame e
       (λ row is. downloads_none of_writes refl subject.node subject.facts.modular subject.rooms row _ e writes_data writes_refusals
       (λ crc down done. write_row subject.rooms row e
@@ -239,7 +239,7 @@ module _ (plan : Plan) (subject : Subject) where
 
   -- `access-limits` of numbers
   pub limit_picks : Picks of_limits subject plan.rows (built_description plan)
-  limit_picks frame e initiate got n shown permitted =
+  limit_picks frame e initiate got n shown fits permitted =
       known_none of_limits refl subject plan.rows frame e
       (λ row is. downloads_none of_limits refl subject.node subject.facts.modular subject.rooms row _ e limits_data limits_refusals
       (λ crc down done. limit_row subject.rooms row e

@@ -1,6 +1,6 @@
 -- What `compare` finds of the values and the access of entries, by the end of a transfer on a device's default SDO channel.
 use Rattle.std.specs.Prelude.{List, [], ◌∷◌, Option, Some}
-use Rattle.conode_compare_values.specs.declared.mismatch.Mismatch.TheVariants.{Written, AboveLimit, BelowLimit, ConstText, ReadRefused, ValueConst, ValueLength}
+use Rattle.conode_compare_values.specs.declared.mismatch.Mismatch.TheVariants.{Written, AboveLimit, BelowLimit, BeyondRoom, ConstText, ReadRefused, ValueConst, ValueLength}
 use Rattle.conode_compare_rules.specs.declared.finding.Finding.{Finding}
 use Rattle.conode_compare_rules.specs.declared.finding.Finding.TheVariants.{Value}
 use Rattle.conode_compare_rules.specs.declared.kind.FrameKind.{FrameKind}
@@ -30,6 +30,14 @@ of_limits finding = []
 
 abbrev pub limit_differences : FrameKind → Findings → List Finding
 limit_differences = on_channel of_limits
+
+-- `access-limits` of strings and DOMAINs
+abbrev pub of_rooms : Option Finding → List Finding
+of_rooms (Some (Value (BeyondRoom key came room))) = Value (BeyondRoom key came room) ∷ []
+of_rooms finding = []
+
+abbrev pub room_differences : FrameKind → Findings → List Finding
+room_differences = on_channel of_rooms
 
 -- ---- uploads
 

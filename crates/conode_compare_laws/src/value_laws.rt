@@ -12,6 +12,7 @@ ghost use Rattle.conode_compare_rules.specs.declared.limits.Subject.{Subject};
 ghost use Rattle.conode_compare_laws.specs.AnswerEntries.{AllAreHeld};
 ghost use Rattle.conode_compare_laws.specs.AnswerSenders.{HaveBytes};
 ghost use Rattle.conode_compare_laws.specs.Differences.{differences_in};
+ghost use Rattle.conode_compare_laws.specs.GivenRooms.{AreAmple, AreRoomsOf};
 ghost use Rattle.conode_compare_laws.specs.Identifiers.{AreElsewhere};
 ghost use Rattle.conode_compare_laws.specs.IdentityEntries.{AllHaveIdentity, AreNeverWritten};
 ghost use Rattle.conode_compare_laws.specs.Recordings.{Stamped, recording};
@@ -20,6 +21,7 @@ ghost use Rattle.conode_compare_laws.specs.ValueFindings.{
   length_differences,
   limit_differences,
   read_differences,
+  room_differences,
   write_differences,
 };
 ghost use Rattle.conode_compare_laws.specs.WrittenEntries.{WriteBytes};
@@ -70,6 +72,25 @@ pub fn built_no_limit_differences()
     stays_apart();
 }
 
+/// Nor has it `access-limits` of strings and DOMAINs: no download of more bytes than there is room
+/// for is acknowledged, expedited, in segments and in blocks. Conditions: the rooms that `compare`
+/// is given are those with which the device was built (`AreRoomsOf`), each of four bytes at least
+/// (`AreAmple`); and those of `built_no_write_differences`. This is a law: a call of it changes
+/// nothing.
+pub fn built_no_room_differences()
+    ensures { (plan : Plan) (k : Constants) (subject : Subject) (inputs : List Stamped) →
+        IsBuilt plan k → AreRoomsOf plan.limits subject.rooms → AreAmple subject.rooms →
+        subject.node ≡ k.description.node → HaveBytes inputs → AllAreHeld k [] inputs →
+        AreElsewhere (0x580 + k.description.node) inputs →
+        differences_in room_differences subject plan.rows (recording k inputs) ≡ [] }
+{
+    begins_apart();
+    begins_aside();
+    begins_other();
+    sends_other();
+    stays_apart();
+}
+
 /// So the recording of each device that `Node::build` of `co_node` makes has no `access-write` by
 /// its data sheet, without a condition on its entries: they are those of a dictionary
 /// (`stays_dictionary`). Conditions: `compare` has the device's node-ID and the rows of its sheet;
@@ -100,6 +121,21 @@ pub fn node_no_limit_differences()
     stands_on_dictionary();
     stays_dictionary();
     built_no_limit_differences();
+}
+
+/// Nor has it `access-limits` of strings and DOMAINs: `built_no_room_differences` of it, under the
+/// conditions of `node_no_write_differences`, `AreRoomsOf` and `AreAmple`. This is a law: a call of
+/// it changes nothing.
+pub fn node_no_room_differences()
+    ensures { (plan : Plan) (k : Constants) (node : Node) (subject : Subject)
+        (inputs : List Stamped) → IsBuilt plan k → AreRoomsOf plan.limits subject.rooms →
+        AreAmple subject.rooms → Stands k node [] → subject.node ≡ k.description.node →
+        HaveBytes inputs → WriteBytes inputs → AreElsewhere (0x580 + k.description.node) inputs →
+        differences_in room_differences subject plan.rows (recording k inputs) ≡ [] }
+{
+    stands_on_dictionary();
+    stays_dictionary();
+    built_no_room_differences();
 }
 
 /// The recording of a device that is built from a data sheet, over whatever inputs with whatever
