@@ -132,8 +132,8 @@ fn boot_further(further: &mut FurtherChannels, interface: &[u8], told: &Option<T
     }
 }
 
-// What is said about a boot-up of a node on whose default channel nothing was heard. Apart from most
-// frames, since what is said is large.
+// What is said about a boot-up of a node on whose default channel nothing was heard. Apart from
+// most frames, since what is said is large.
 #[inline(never)]
 fn booted(node: u8) -> Option<Told>
     ensures { result

@@ -1,13 +1,11 @@
 -- The parts of a line of a transfer.
 use Rattle.std.specs.Prelude.{ℕ, List}
 use Rattle.conode_explain_entries.specs.declared.part.Part.{Part}
-use Rattle.conode_explain_entries.specs.declared.part.Part.TheVariants.{Way, Entry, Sender, InBrackets, Grouped, Plural, Seconds, Crc, Code}
-use Rattle.conode_explain_entries.specs.Ends.{direction_text, entry_text, in_brackets, side_text}
+use Rattle.conode_explain_entries.specs.declared.part.Part.TheVariants.{Sender, InBrackets, Grouped, Plural, Seconds, Crc, Code}
+use Rattle.conode_explain_entries.specs.Ends.{in_brackets, side_text}
 use Rattle.conode_explain_entries.specs.Numbers.{grouped, hexadecimal, plural, seconds_text}
 
 abbrev pub part_text : Part → List ℕ
-part_text (Way direction) = direction_text direction
-part_text (Entry key name) = entry_text key name.now
 part_text (Sender side) = side_text side
 part_text (InBrackets words) = in_brackets words.now
 part_text (Grouped number) = grouped number

@@ -13,7 +13,7 @@ ghost use Rattle.conode_explain_entries.specs.Ends.{
   transfer_text,
 };
 
-use crate::part::Part;
+use crate::part::{Part, direction_text, push_entry};
 use conode_explain_transfers::{Ended, Ending, Side};
 use conode_text::push_filled;
 use std::alloc::AllocError;
@@ -108,16 +108,15 @@ fn push_ending(
 
 /// Appends the beginning of the line of a transfer that ended: `SDO download 2100:00 "Firmware"`.
 /// `name` is the name of its entry, and may be empty.
-#[tactic(auto, unfolding(crate::specs::Ends::transfer_text))]
+#[tactic(auto, unfolding(crate::specs::Ends::transfer_text, conode_text::specs::Filled::filled))]
 pub fn push_transfer(text: &mut String, ended: &Ended, name: &str) -> Result<(), AllocError>
     ensures { OnOk result
         (string_bytes text.new ≡ string_bytes text.old ++ transfer_text ended.now name.now) }
 {
-    push_filled(
-        text,
-        "SDO % %",
-        &[Part::Way(ended.direction), Part::Entry(ended.key, name)],
-    )
+    attempt!(text.push_str("SDO "));
+    attempt!(text.push_str(direction_text(ended.direction)));
+    attempt!(text.push_str(" "));
+    push_entry(text, ended.key, name)
 }
 
 // how much was transferred

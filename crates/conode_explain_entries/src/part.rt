@@ -20,10 +20,6 @@ use std::alloc::AllocError;
 /// A part of a line of a transfer.
 #[derive(Clone, Copy)]
 pub(crate) enum Part<'a> {
-    /// Download or upload.
-    Way(Direction),
-    /// The key of an entry, and its name in double quotes, if it has one.
-    Entry(Key, &'a str),
     /// Client or server.
     Sender(Side),
     /// Words in brackets after a blank, where there are some.
@@ -40,7 +36,8 @@ pub(crate) enum Part<'a> {
     Code(u32),
 }
 
-fn direction_text(direction: Direction) -> &'static str
+/// Which way the data went.
+pub(crate) fn direction_text(direction: Direction) -> &'static str
     ensures { result.now ≡ direction_text direction }
 {
     match direction {
@@ -94,8 +91,6 @@ impl HasText for Part<'_> {
 
     fn push(&self, text: &mut String) -> Result<(), AllocError> {
         match *self {
-            Part::Way(direction) => text.push_str(direction_text(direction)),
-            Part::Entry(key, name) => push_entry(text, key, name),
             Part::Sender(side) => text.push_str(side_text(side)),
             Part::InBrackets(words) => push_in_brackets(text, words),
             Part::Grouped(number) => push_grouped(text, number),

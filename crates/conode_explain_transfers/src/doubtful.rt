@@ -152,8 +152,8 @@ impl Transfer {
 }
 
 impl Channel {
-    /// Whether a frame of an end may answer a request that was taken for a segment: the newest frame
-    /// of the client may be one. `false` for nearly all, and nothing else is asked of those.
+    /// Whether a frame of an end may answer a request that was taken for a segment: the newest
+    /// frame of the client may be one. `false` for nearly all, and nothing else is asked of those.
     #[tactic(auto, using(crate::proofs::DoubtfulLemmas::shown_none))]
     pub(crate) fn may_show(&self, side: Side) -> bool
         ensures { result ≡ false →

@@ -283,8 +283,8 @@ pub(crate) fn is_other(text: &[u8]) -> bool
     !text.is_empty() && (text[0] == b'#' || text[0] == b'R')
 }
 
-/// What follows the number sign where that isn't data, and the direction, if there is one. Apart from
-/// data, which most frames have.
+/// What follows the number sign where that isn't data, and the direction, if there is one. Apart
+/// from data, which most frames have.
 #[inline(never)]
 #[tactic(auto, unfolding(crate::specs::Contents::content_in))]
 pub(crate) fn other_in(text: &[u8]) -> Result<(Content<'_>, Option<Direction>), BadLine>
