@@ -5,6 +5,7 @@ mod RefusalExamples
 mod StoreExamples
 pub mod CountLemmas
 pub mod ExampleDevice
+pub mod GreatestCapacity
 pub mod ObjectLemmas
 pub mod PlaceLemmas
 pub mod StoreLemmas

@@ -7,7 +7,7 @@ use Rattle.co_value.specs.Keys.{same_key}
 use Rattle.co_profile.specs.declared.access.Access.TheVariants.{Rw}
 use Rattle.co_dict.specs.declared.row.Row.{Row}
 use Rattle.co_dict.specs.declared.area.Area.TheVariants.{Communication, All}
-use Rattle.co_dict.specs.Stores.{Description}
+use Rattle.co_dict.specs.Stores.{Description, greatest_capacity}
 use Rattle.co_dict.specs.Places.{place_of, key_at, row_at, bytes_at, takes_at, written_at}
 use Rattle.co_dict.specs.Rows.{Rows, Contents, fits, takes, written, is_in_area, restored}
 
@@ -106,6 +106,19 @@ restores_all = refl
 
 abbrev device : Description
 device = record { node = 5; rows = rows; initial = initial; dummies = λ index. false; keys = at 0x1017 0 ∷ at 0x2000 1 ∷ at 0x2000 2 ∷ [] }
+
+-- the greatest capacity, wherever its entry is
+greatest_last : greatest_capacity device ≡ 3
+greatest_last = refl
+
+greatest_first : greatest_capacity (record device { keys = at 0x2000 1 ∷ at 0x1017 0 ∷ [] }) ≡ 3
+greatest_first = refl
+
+greatest_of_one : greatest_capacity (record device { keys = at 0x1017 0 ∷ [] }) ≡ 2
+greatest_of_one = refl
+
+greatest_of_none : greatest_capacity (record device { keys = [] }) ≡ 0
+greatest_of_none = refl
 
 place_of_last : place_of device (at 0x2000 2) ≡ Some 2
 place_of_last = refl

@@ -1,5 +1,5 @@
 -- What a store of entries is, and what holds of each (CiA 301, 7.4).
-use Rattle.std.specs.Prelude.{◌≡◌, ◌≤◌, ◌<◌, ◌≤ℤ◌, ◌⊎◌, ℕ, Bool, true, List, length, Some, is_some, IsSomeAnd}
+use Rattle.std.specs.Prelude.{◌≡◌, ◌≤◌, ◌<◌, ◌≤ℤ◌, ◌⊎◌, ℕ, Bool, true, List, fold, length, max, Some, is_some, IsSomeAnd}
 use Rattle.std.specs.List.{list_any}
 use Rattle.co_value.specs.declared.key.Key.{Key}
 use Rattle.co_value.specs.Keys.{same_key}
@@ -8,7 +8,7 @@ use Rattle.co_value.specs.Numbers.{AreBytes}
 use Rattle.co_value.specs.declared.data_type.DataType.{DataType}
 use Rattle.co_profile.specs.FixedTypes.{fixed_type_of}
 use Rattle.co_dict.specs.declared.row.Row.{Row}
-use Rattle.co_dict.specs.Rows.{Rows, Contents, fits}
+use Rattle.co_dict.specs.Rows.{Rows, Contents, capacity_at, fits}
 
 -- what never changes of a dictionary: the node-ID, the rows, the bytes that a reset restores, the
 -- dummy entries that may be mapped, and the keys that have an entry
@@ -55,6 +55,10 @@ pub record IsDescription (d : Description) : Type 0 where
 pub record IsGreatestCapacity (rows : Rows) (size : ℕ) : Type 0 where
   pub bound : (key : Key) (row : Row) → rows key ≡ Some row → row.capacity ≤ size
   pub reached : (size ≡ 0) ⊎ ((key : Key) × IsSomeAnd (rows key) (λ row. row.capacity ≡ size))
+
+-- the greatest capacity of the entries of a dictionary, in bytes; 0 if it has none
+abbrev pub greatest_capacity : Description → ℕ
+greatest_capacity d = fold (λ most key. max most (capacity_at d.rows key)) 0 d.keys
 
 -- a dictionary with its contents
 pub record IsDictionary (d : Description) (contents : Contents) : Type 0 where

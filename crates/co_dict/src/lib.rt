@@ -36,6 +36,6 @@ pub use reading::{may_read, readable};
 pub use row::Row;
 pub use sdo_channels::{SdoChannel, is_sdo_id, sdo_channel};
 pub use side::Side;
-pub use store::{ObjectStore, capacity_law, place_laws, store_laws};
+pub use store::{ObjectStore, capacity_law, greatest_capacity_law, place_laws, store_laws};
 pub use write_laws::{invalid_pdo_law, own_rule_law};
 pub use writing::{app_store, may_begin, may_complete, may_store};

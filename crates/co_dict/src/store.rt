@@ -3,7 +3,12 @@
 ghost use Rattle.std.specs.Prelude.{◌≡◌, ◌≤◌, ℕ, true, length, List, Some, is_some};
 ghost use Rattle.std.specs.Option.{option_map};
 ghost use Rattle.co_dict.specs.Rows.{Contents, takes, capacity_at, written, restored};
-ghost use Rattle.co_dict.specs.Stores.{Description, IsDictionary};
+ghost use Rattle.co_dict.specs.Stores.{
+  Description,
+  IsDictionary,
+  IsGreatestCapacity,
+  greatest_capacity,
+};
 ghost use Rattle.co_dict.specs.Places.{place_of, key_at, row_at, bytes_at, takes_at, written_at};
 ghost use Rattle.co_value.specs.declared.key.Key.{Key};
 
@@ -73,6 +78,10 @@ pub trait ObjectStore {
             ≡ restored area (description self.old).initial (contents self.old) }
         ensures description { description self.new ≡ description self.old };
 
+    /// The greatest capacity of all entries, in bytes; 0 where there is no entry.
+    fn greatest_capacity(&self) -> u16
+        ensures { result ≡ greatest_capacity (description self.now) };
+
     /// Each store is a dictionary.
     ghost lawful: { (store : Self) → IsDictionary (description store) (contents store) };
 }
@@ -89,6 +98,19 @@ pub fn store_laws<S: ObjectStore>(store: &S)
 #[tactic(auto, using(crate::proofs::StoreLemmas::room_at))]
 pub fn capacity_law<S: ObjectStore>(store: &S)
     ensures { (key : Key) → capacity_at (S.description store.now).rows key ≤ 65535 }
+{
+    store_laws(store);
+}
+
+/// The greatest capacity of a store is the largest of all its entries: none has more, one has as
+/// much, if there is any, and no other number is so. A law: a call of it changes nothing.
+pub fn greatest_capacity_law<S: ObjectStore>(store: &S)
+    ensures greatest { IsGreatestCapacity (S.description store.now).rows
+        (greatest_capacity (S.description store.now)) }
+    ensures enough { (key : Key) → capacity_at (S.description store.now).rows key
+        ≤ greatest_capacity (S.description store.now) }
+    ensures only { (size : ℕ) → IsGreatestCapacity (S.description store.now).rows size
+        → size ≡ greatest_capacity (S.description store.now) }
 {
     store_laws(store);
 }

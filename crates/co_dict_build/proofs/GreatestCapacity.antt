@@ -10,11 +10,10 @@ use Rattle.std.proofs.lemmas.Option.{none-some, same_Some}
 use Rattle.co_value.specs.declared.key.Key.{Key}
 use Rattle.co_value.specs.Keys.{same_key, is_key_before}
 use Rattle.co_dict.specs.declared.row.Row.{Row}
-use Rattle.co_dict.specs.Rows.{Rows, capacity_at}
-use Rattle.co_dict.specs.Stores.{IsGreatestCapacity}
-use Rattle.co_dict_build.specs.ListedEntries.{ListedEntry, entry_at, rows_in, keys_in, are_increasing}
-use Rattle.co_dict_build.specs.LawfulLists.{equal_keys}
-use Rattle.co_dict.proofs.StoreLemmas.{room_of}
+use Rattle.co_dict.specs.Stores.{IsGreatestCapacity, greatest_capacity}
+use Rattle.co_dict_build.specs.ListedEntries.{ListedEntry, entry_at, rows_in, keys_in, description_in, are_increasing}
+use Rattle.co_dict_build.specs.LawfulLists.{equal_keys, list_has}
+use Rattle.co_dict.proofs.GreatestCapacity.{greatest_at, one_greatest}
 use Rattle.co_dict_build.proofs.Search.{after_compares, other_compares, same_itself}
 
 -- the greatest capacity of entries and of those before them
@@ -78,10 +77,10 @@ reached most (e ∷ entries) increasing =
     (and_parts (list_all (is_key_before e.key) (keys_in entries)) (are_increasing (keys_in entries)) increasing).0
     (reached (max most e.row.capacity) entries (and_parts (list_all (is_key_before e.key) (keys_in entries)) (are_increasing (keys_in entries)) increasing).1)
 
-pub most_is_greatest : (entries : List ListedEntry) → are_increasing (keys_in entries) ≡ true → IsGreatestCapacity (rows_in entries) (most_of 0 entries)
+most_is_greatest : (entries : List ListedEntry) → are_increasing (keys_in entries) ≡ true → IsGreatestCapacity (rows_in entries) (most_of 0 entries)
 most_is_greatest entries increasing = record { bound = bounded 0 entries; reached = reached 0 entries increasing }
 
--- ---- the room of a key, where it has an entry or not
-
-pub room_within : (rows : Rows) (size : ℕ) → IsGreatestCapacity rows size → (key : Key) → capacity_at rows key ≤ size
-room_within rows size h key = room_of (rows key) size (h.bound key)
+-- it is the greatest capacity of the dictionary that the entries are
+pub most_is : (node : ℕ) (dummies : List Bool) (entries : List ListedEntry) → are_increasing (keys_in entries) ≡ true → most_of 0 entries ≡ greatest_capacity (description_in node dummies entries)
+most_is node dummies entries increasing =
+    one_greatest (rows_in entries) _ _ (most_is_greatest entries increasing) (greatest_at (rows_in entries) (keys_in entries) (list_has entries))

@@ -58,8 +58,6 @@ fn greatest_capacity(slots: &[Slot]) -> u16
 
 impl ImageStore {
     ghost use Rattle.co_dict.specs.Places.{key_at};
-    ghost use Rattle.co_dict.specs.Rows.{capacity_at};
-    ghost use Rattle.co_dict.specs.Stores.{IsGreatestCapacity};
 
     /// The key of the entry at a place; `None` where there is no entry.
     #[inline(always)]
@@ -68,16 +66,6 @@ impl ImageStore {
     {
         let slot = self.slots.get(place as usize)?;
         Some(slot.key)
-    }
-
-    /// The greatest capacity of all entries, in bytes; 0 where there is no entry.
-    pub fn greatest_capacity(&self) -> u16
-        ensures greatest { IsGreatestCapacity
-            (⟦<ImageStore as ObjectStore>⟧.description self.now).rows result }
-        ensures enough { (key : Key) →
-            capacity_at (⟦<ImageStore as ObjectStore>⟧.description self.now).rows key ≤ result }
-    {
-        greatest_capacity(&self.slots)
     }
 }
 
@@ -193,6 +181,10 @@ impl ObjectStore for ImageStore {
                 self.restore(at);
             }
         }
+    }
+
+    fn greatest_capacity(&self) -> u16 {
+        greatest_capacity(&self.slots)
     }
 
     ghost use Rattle.co_dict_build.specs.LawfulLists.{lawful_list};

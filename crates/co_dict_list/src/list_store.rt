@@ -3,7 +3,6 @@
 ghost use Rattle.std.specs.Prelude.{◌≡◌, ◌≤◌, true, length, position, fold, max, IfOk, IfErr, None};
 ghost use Rattle.co_value.specs.Keys.{same_key};
 ghost use Rattle.co_value.specs.declared.key.Key.{Key};
-ghost use Rattle.co_dict.specs.Rows.{capacity_at};
 ghost use Rattle.co_dict_build.specs.ListedEntries.{keys_in, are_increasing};
 ghost use Rattle.co_dict_build.specs.StoredEntries.{entry_views};
 ghost use Rattle.co_dict_build.specs.Capacities.{limits_view};
@@ -40,18 +39,6 @@ fn greatest_capacity(entries: &[StoredEntry]) -> u16
 }
 
 impl ListStore {
-    ghost use Rattle.co_dict.specs.Stores.{IsGreatestCapacity};
-
-    /// The greatest capacity of all entries, in bytes; 0 where there is no entry.
-    pub fn greatest_capacity(&self) -> u16
-        ensures greatest { IsGreatestCapacity
-            (⟦<ListStore as ObjectStore>⟧.description self.now).rows result }
-        ensures enough { (key : Key) →
-            capacity_at (⟦<ListStore as ObjectStore>⟧.description self.now).rows key ≤ result }
-    {
-        greatest_capacity(&self.entries)
-    }
-
     // Where the entry of a key is in the list.
     fn position(&self, key: Key) -> Option<usize>
         ensures { result
@@ -125,6 +112,10 @@ impl ObjectStore for ListStore {
         for entry in self.entries.iter_mut() {
             entry.reset(area);
         }
+    }
+
+    fn greatest_capacity(&self) -> u16 {
+        greatest_capacity(&self.entries)
     }
 
     ghost use Rattle.co_dict_build.specs.LawfulLists.{lawful_list};

@@ -65,5 +65,9 @@ impl<'a, S: ObjectStore> ObjectStore for Placed<'a, S> {
         self.store.reset(area);
     }
 
+    fn greatest_capacity(&self) -> u16 {
+        self.store.greatest_capacity()
+    }
+
     ghost lawful = { λ placed. S.lawful placed.store.now };
 }

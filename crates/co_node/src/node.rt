@@ -25,7 +25,7 @@ ghost use Rattle.std.specs.Prelude.{
 };
 ghost use Rattle.co_value.specs.declared.key.Key.{Key};
 ghost use Rattle.co_dict.specs.Places.{key_at};
-ghost use Rattle.co_dict.specs.Stores.{IsGreatestCapacity};
+ghost use Rattle.co_dict.specs.Stores.{IsGreatestCapacity, greatest_capacity};
 ghost use Rattle.co_dict_build.specs.Built.{built_contents, built_description};
 ghost use Rattle.co_dict_build.specs.BuildFaults.{IsBuildFault, build_fault};
 ghost use Rattle.co_pdo.specs.Mappings.{has_pdo, mapping_of};
@@ -56,7 +56,6 @@ ghost use Rattle.co_node.specs.Nodes.{
   Stands,
   built_constants,
   description_of,
-  greatest_capacity,
   node_constants,
   planned,
 };
@@ -121,8 +120,7 @@ impl Node {
         ensures err { IfErr result (IsBuildFault (planned sheet.now node_id config.now)) }
     {
         let store = ImageStore::build(alloc, sheet, node_id, &config.limits)?;
-        let greatest = u32::from(store.greatest_capacity());
-        match Device::new(alloc, store, greatest, config.time) {
+        match Device::new(alloc, store, config.time) {
             Ok(device) => Ok(Node { device }),
             Err(_) => Err(BuildFault::Memory),
         }
