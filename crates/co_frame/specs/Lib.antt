@@ -1,4 +1,5 @@
 pub mod AbortCodes
+pub mod AppEvents
 pub mod BlockSegments
 pub mod Ccs
 pub mod Emergencies

@@ -3,6 +3,7 @@
 
 mod abort_code;
 mod aborts;
+mod app_event;
 mod block_segment;
 mod ccs;
 mod emergency;
@@ -22,6 +23,7 @@ mod sync;
 
 pub use abort_code::AbortCode;
 pub use aborts::abort_byte;
+pub use app_event::AppEvent;
 pub use block_segment::BlockSegment;
 pub use emergency::Emergency;
 pub use frame::{Frame, FrameFault};

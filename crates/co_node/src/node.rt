@@ -68,9 +68,9 @@ use crate::record::Record;
 use co_dict::ObjectStore;
 use co_dict_build::BuildFault;
 use co_dict_image::ImageStore;
-use co_frame::{Frame, Outbox};
+use co_frame::{AppEvent, Frame, Outbox};
 use co_node_device::{Device, Seen};
-use co_node_model::{AppAnswer, AppEvent, Input};
+use co_node_model::{AppAnswer, Input};
 use co_node_parts::NodeState;
 use co_pdo::Side;
 use co_pdo_compiled::Compiled;
@@ -207,7 +207,7 @@ impl Node {
     /// Takes an application event. The outbox then holds the frames that the definitions prescribe
     /// at it, and nothing else. A refused event changes nothing but the answer.
     #[inline(always)]
-    pub fn take_event(&mut self, event: AppEvent<'_>, outbox: &mut Outbox)
+    pub fn take_event(&mut self, event: AppEvent<&[u8]>, outbox: &mut Outbox)
         ensures frames { (k : Constants) (before : Inputs) → Stands k self.old before →
             outbox.new.items ≡ prescribed k before (Applied (app_view event.entry)) }
         ensures stands { (k : Constants) (before : Inputs) → Stands k self.old before →

@@ -4,7 +4,7 @@ use Rattle.std.specs.Prelude.{codes, map, replicate}
 use Rattle.conode_trace.specs.declared.trace_line.TraceLine.TheVariants.{Event}
 use Rattle.conode_trace.specs.declared.event_line.EventLine.{EventLine}
 use Rattle.conode_trace.specs.declared.event_line.EventLine.TheVariants.{Ticks, App}
-use Rattle.conode_trace.specs.declared.event_line.AppLine.TheVariants as app
+use Rattle.co_frame.specs.declared.app_event.AppEvent.TheVariants as app
 use Rattle.co_text.specs.HexPairs.{pairs_in, hex_in}
 use Rattle.co_value.specs.KeyTexts.{key_in}
 use Rattle.conode_trace.specs.Events.{words, event_of_one, event_of_two, event_of_three, event_in}

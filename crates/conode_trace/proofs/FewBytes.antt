@@ -13,7 +13,7 @@ use Rattle.conode_trace.specs.declared.frame_fields.Body.{Body}
 use Rattle.conode_trace.specs.declared.frame_fields.Body.TheVariants.{Bytes, Other}
 use Rattle.conode_trace.specs.declared.event_line.EventLine.{EventLine}
 use Rattle.conode_trace.specs.declared.event_line.EventLine.TheVariants.{Ticks, App}
-use Rattle.conode_trace.specs.declared.event_line.AppLine.TheVariants as app
+use Rattle.co_frame.specs.declared.app_event.AppEvent.TheVariants as app
 use Rattle.co_text.specs.Texts.{◌>>=◌, is_blank, decimal_in}
 use Rattle.co_text.specs.HexPairs.{pairs_at, pairs_in, hex_in, byte_in, word_in, bytes_in}
 use Rattle.co_value.specs.KeyTexts.{key_in}

@@ -15,7 +15,7 @@ use Rattle.co_text.specs.Texts.{◌>>=◌, decimal_in, decimal_value, hex_pair, 
 use Rattle.co_text.proofs.Tests.{by_test, guarded}
 use Rattle.conode_trace.specs.declared.event_line.EventLine.{EventLine}
 use Rattle.conode_trace.specs.declared.event_line.EventLine.TheVariants.{Ticks, App}
-use Rattle.conode_trace.specs.declared.event_line.AppLine.TheVariants as app
+use Rattle.co_frame.specs.declared.app_event.AppEvent.TheVariants as app
 use Rattle.conode_trace.specs.Events.{words, event_of_one, event_of_two, event_of_three, event_in}
 use Rattle.conode_trace.specs.Grammar.{SpellsEvent, SpellsHex, SpellsKey, SpellsNumber, SpellsPairs, SpellsWord}
 use Rattle.conode_trace.proofs.GrammarBodies.{pairs_are, pairs_spelled}

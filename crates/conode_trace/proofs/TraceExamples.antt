@@ -1,7 +1,7 @@
 -- Traces, evaluated: their inputs, the clock at each, and their first bad line.
 use Rattle.std.proofs.Common.{◌≡◌, ℕ, [], ◌∷◌, ◌++◌, Some, None, refl, true, false}
 use Rattle.std.specs.Prelude.{codes}
-use Rattle.conode_trace.specs.declared.event_line.AppLine.TheVariants as app
+use Rattle.co_frame.specs.declared.app_event.AppEvent.TheVariants as app
 use Rattle.conode_trace.specs.Clocks.{clock_at_start, move_to, move_by}
 use Rattle.conode_trace.specs.Events.{event_of_one}
 use Rattle.conode_trace.specs.FrameLines.{line_in, stamp_at, identifier_at, body_in, frame_at, frame_line_in}

@@ -4,7 +4,8 @@ use Rattle.std.specs.List.{slice_split}
 use Rattle.std.specs.Option.{option_map}
 use Rattle.conode_trace.specs.declared.event_line.EventLine.{EventLine}
 use Rattle.conode_trace.specs.declared.event_line.EventLine.TheVariants.{Ticks, App}
-use Rattle.conode_trace.specs.declared.event_line.AppLine.TheVariants as app
+use Rattle.co_frame.specs.declared.app_event.AppEvent.{AppEvent}
+use Rattle.co_frame.specs.declared.app_event.AppEvent.TheVariants as app
 use Rattle.co_text.specs.Texts.{◌>>=◌, decimal_in}
 use Rattle.co_text.specs.HexPairs.{hex_in, byte_in, word_in, bytes_in}
 use Rattle.co_value.specs.KeyTexts.{key_in}
@@ -44,6 +45,11 @@ event_in (name ∷ word ∷ []) = event_of_one name word
 event_in (name ∷ first ∷ second ∷ []) = event_of_two name first second
 event_in (name ∷ first ∷ second ∷ third ∷ []) = event_of_three name first second third
 event_in other = None
+
+-- the bytes that an event of the application writes; none where it writes none
+abbrev pub written_bytes : AppEvent (List ℕ) → List ℕ
+written_bytes (app.Write key bytes) = bytes
+written_bytes other = []
 
 -- an event whose bytes, if it writes some, are at most 256: half of the longest line
 abbrev pub HasFewBytes : EventLine → Type 0

@@ -6,7 +6,7 @@ use Rattle.conode_trace.specs.declared.trace_line.TraceLine.{TraceLine}
 use Rattle.conode_trace.specs.declared.trace_line.TraceLine.TheVariants.{Skipped, Event}
 use Rattle.conode_trace.specs.declared.event_line.EventLine.{EventLine}
 use Rattle.conode_trace.specs.declared.event_line.EventLine.TheVariants.{Ticks, App}
-use Rattle.conode_trace.specs.declared.event_line.AppLine.TheVariants as app
+use Rattle.co_frame.specs.declared.app_event.AppEvent.TheVariants as app
 use Rattle.co_value.specs.declared.key.Key.{Key}
 use Rattle.conode_trace.specs.declared.frame_fields.Identifier.{Identifier}
 use Rattle.conode_trace.specs.declared.frame_fields.Identifier.TheVariants.{Base, Extended}

@@ -5,7 +5,7 @@ use Rattle.co_frame.specs.FrameContent.{FrameContent}
 use Rattle.conode_trace.specs.declared.trace_line.TraceLine.{TraceLine}
 use Rattle.conode_trace.specs.declared.trace_line.TraceLine.TheVariants.{Skipped, PassedOver, Data, Event}
 use Rattle.conode_trace.specs.declared.event_line.EventLine.TheVariants.{Ticks, App}
-use Rattle.conode_trace.specs.declared.event_line.AppLine.{AppLine}
+use Rattle.co_frame.specs.declared.app_event.AppEvent.{AppEvent}
 use Rattle.conode_trace.specs.declared.timed_line.TimedLine.{TimedLine}
 use Rattle.co_text.specs.Texts.{◌>>=◌}
 use Rattle.conode_trace.specs.FrameLines.{line_in}
@@ -15,7 +15,7 @@ use Rattle.conode_trace.specs.Clocks.{ClockState, clock_at_start, move_to, move_
 pub data Input : Type 0 where
   frame : FrameContent → Input
   tick : Input
-  app : AppLine → Input
+  app : AppEvent (List ℕ) → Input
 
 -- an input, the number of the line that gives it, and the clock at it in ms
 pub record TimedInput : Type 0 where

@@ -2,34 +2,30 @@
 
 ghost use Rattle.std.specs.Prelude.{◌≡◌, ◌∷◌, [], bytes_eq};
 ghost use Rattle.std.specs.Option.{option_map_or, option_copied};
-ghost use Rattle.conode_trace.specs.Events.{words, event_of_one, event_of_two, event_of_three, event_in};
+ghost use Rattle.conode_trace.specs.declared.event_line.EventLine.TheVariants.{App};
+ghost use Rattle.conode_trace.specs.Events.{
+  HasFewBytes,
+  event_in,
+  event_of_one,
+  event_of_three,
+  event_of_two,
+  words,
+  written_bytes,
+};
 
+use arrayvec::ArrayVec;
+use co_frame::AppEvent;
 use co_text::{HexPairs, byte_in, decimal_in, five_bytes_in, split_at_first, word_in};
 use co_value::Key;
-
-/// What an application does to a device.
-#[derive(Drop)]
-pub enum AppLine<'a> {
-    /// `!write KEY HEX`: these bytes, 256 at most, are written to the entry.
-    Write(Key, HexPairs<'a>),
-    /// `!event K`: an event of TPDO K.
-    Event(u16),
-    /// `!changed KEY`: the entry has changed.
-    Changed(Key),
-    /// `!raise CODE BITS EXTRA`: an emergency error code, the bits of the error register that it
-    /// sets, and the manufacturer's five bytes (CiA 301, 7.2.7).
-    Raise(u16, u8, [u8; 5]),
-    /// `!clear BITS`: the bits of the error register that are cleared.
-    Clear(u8),
-}
 
 /// An event line.
 #[derive(Drop)]
 pub enum EventLine<'a> {
     /// `!tick N`: 1 to 86,400,000 ticks of 1 ms.
     Ticks(u32),
-    /// An event of the application.
-    App(AppLine<'a>),
+    /// An event of the application: `!write KEY HEX`, with at most 256 bytes, `!event K`,
+    /// `!changed KEY`, `!raise CODE BITS EXTRA`, `!clear BITS`.
+    App(AppEvent<HexPairs<'a>>),
 }
 
 // the bytes before the first space, and those after it, if there is one
@@ -57,13 +53,13 @@ fn event_of_one<'a>(name: &[u8], word: &'a [u8]) -> Option<EventLine<'a>>
     }
     if is_word(name, b"!event") {
         let number = given!(decimal_in(word, 0, 65_535));
-        return Some(EventLine::App(AppLine::Event(number as u16)));
+        return Some(EventLine::App(AppEvent::Event(number as u16)));
     }
     if is_word(name, b"!changed") {
-        return Some(EventLine::App(AppLine::Changed(given!(Key::parse(word)))));
+        return Some(EventLine::App(AppEvent::Changed(given!(Key::parse(word)))));
     }
     if is_word(name, b"!clear") {
-        return Some(EventLine::App(AppLine::Clear(given!(byte_in(word)))));
+        return Some(EventLine::App(AppEvent::Clear(given!(byte_in(word)))));
     }
     None
 }
@@ -77,7 +73,7 @@ fn event_of_two<'a>(name: &[u8], first: &[u8], second: &'a [u8]) -> Option<Event
     }
     let key = given!(Key::parse(first));
     let bytes = given!(HexPairs::read(second));
-    Some(EventLine::App(AppLine::Write(key, bytes)))
+    Some(EventLine::App(AppEvent::Write(key, bytes)))
 }
 
 #[tactic(auto, unfolding(crate::specs::Events::event_of_three))]
@@ -95,7 +91,7 @@ fn event_of_three<'a>(
     let code = given!(word_in(first));
     let bits = given!(byte_in(second));
     let extra = given!(five_bytes_in(third));
-    Some(EventLine::App(AppLine::Raise(code, bits, extra)))
+    Some(EventLine::App(AppEvent::Raise(code, bits, extra)))
 }
 
 /// Reads an event line from its words; `None` if it isn't one.
@@ -117,4 +113,15 @@ pub(crate) fn event_line(line: &[u8]) -> Option<EventLine<'_>>
         return None;
     }
     event_of_three(name, first, second, third)
+}
+
+/// The bytes that an event of the application writes, at most 256; none where it writes none.
+pub fn written_bytes(event: &AppEvent<HexPairs<'_>>) -> ArrayVec<u8, 256>
+    requires { HasFewBytes (App event.now) }
+    ensures { result.items ≡ written_bytes event.now }
+{
+    match event {
+        AppEvent::Write(_, pairs) => pairs.bytes(),
+        _ => ArrayVec::new(),
+    }
 }

@@ -20,7 +20,7 @@ mod timed_line;
 mod trace_line;
 mod trace_progress;
 
-pub use event_line::{AppLine, EventLine};
+pub use event_line::{EventLine, written_bytes};
 pub use frame_text::{FrameLine, frame_line, push_frame};
 pub use timed_line::TimedLine;
 pub use trace_line::TraceLine;
