@@ -38,23 +38,23 @@ returns-in-WriteAt-clause-emergencies g c = λ k history log before addressed st
 
 pub returns-in-App-Write-clause-frames : goal.returns-in-App-Write-clause-frames
 returns-in-App-Write-clause-frames g c = λ k history before addressed.
-    rw c.in-App-Write.is (event_frames k history (Written c.in-App-Write.key c.in-App-Write.bytes.now) c.args.outbox.now.items)
+    rw (c.in-App-Write.is, c.in-App-Write.field-0-is) (event_frames k history (Written c.in-App-Write.key c.in-App-Write.bytes.now) c.args.outbox.now.items)
 
 pub returns-in-App-Write-clause-channels : goal.returns-in-App-Write-clause-channels
 returns-in-App-Write-clause-channels g c = λ k history before addressed.
-    rw c.in-App-Write.is (event_channels k history _ c.args.bank.now (Written c.in-App-Write.key c.in-App-Write.bytes.now) before.channels)
+    rw (c.in-App-Write.is, c.in-App-Write.field-0-is) (event_channels k history _ c.args.bank.now (Written c.in-App-Write.key c.in-App-Write.bytes.now) before.channels)
 
 pub returns-in-App-Write-clause-emergencies : goal.returns-in-App-Write-clause-emergencies
 returns-in-App-Write-clause-emergencies g c = λ k history log before addressed stands.
-    rw c.in-App-Write.is (write_queues k history c.args.emergencies.now log c.in-App-Write.key c.in-App-Write.bytes.now stands)
+    rw (c.in-App-Write.is, c.in-App-Write.field-0-is) (write_queues k history c.args.emergencies.now log c.in-App-Write.key c.in-App-Write.bytes.now stands)
 
 pub returns-in-App-Event-clause-channels : goal.returns-in-App-Event-clause-channels
 returns-in-App-Event-clause-channels g c = λ k history before addressed.
-    rw c.in-App-Event.is (event_channels k history _ c.args.bank.now (EventOn c.in-App-Event.number) before.channels)
+    rw (c.in-App-Event.is, c.in-App-Event.field-0-is) (event_channels k history _ c.args.bank.now (EventOn c.in-App-Event.number) before.channels)
 
 pub returns-in-App-Changed-clause-channels : goal.returns-in-App-Changed-clause-channels
 returns-in-App-Changed-clause-channels g c = λ k history before addressed.
-    rw c.in-App-Changed.is (event_channels k history _ c.args.bank.now (ChangedAt c.in-App-Changed.key) before.channels)
+    rw (c.in-App-Changed.is, c.in-App-Changed.field-0-is) (event_channels k history _ c.args.bank.now (ChangedAt c.in-App-Changed.key) before.channels)
 
 pub returns-in-Frame-clause-mark : goal.returns-in-Frame-clause-mark
 returns-in-Frame-clause-mark g c = rw c.in-Frame.is (λ k history before addressed.
