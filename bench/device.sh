@@ -33,7 +33,7 @@ pub(crate) fn built(alloc: Global, text: &str, time: u16) -> Result<Node> {
 /// Takes a frame, else an event of the application, else a tick. It is compiled into its callers, so that what is timed is the
 /// device's own step.
 #[inline(always)]
-pub(crate) fn step(node: &mut Node, frame: Option<Frame>, event: Option<AppEvent<'_>>, sent: &mut Outbox) {
+pub(crate) fn step(node: &mut Node, frame: Option<Frame>, event: Option<AppEvent<&[u8]>>, sent: &mut Outbox) {
     match (frame, event) {
         (Some(frame), _) => node.step(Input::Frame(frame), sent),
         (None, Some(event)) => node.step(Input::App(event), sent),

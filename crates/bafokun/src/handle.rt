@@ -144,7 +144,7 @@ impl Handle {
     pub(crate) fn take_event(
         &mut self,
         alloc: Global,
-        event: AppEvent<'_>,
+        event: AppEvent<&[u8]>,
         frames: &mut [CanFrame],
     ) -> usize
         ensures gives { (k : Constants) (before : Inputs) → IsDevice k self.old before →

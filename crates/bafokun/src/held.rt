@@ -173,7 +173,7 @@ impl Held {
     }
 
     /// Takes an application event.
-    pub(crate) fn take_event(&mut self, event: AppEvent<'_>)
+    pub(crate) fn take_event(&mut self, event: AppEvent<&[u8]>)
         ensures gave { (k : Constants) (before : Inputs) → Stands k self.old.node before →
             Gave k before (Applied (app_view event.entry)) self.new }
         ensures entries { self.new.entries ≡ self.old.entries }

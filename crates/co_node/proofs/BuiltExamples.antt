@@ -8,6 +8,7 @@ use Rattle.co_sheet.specs.Content.{Row as SheetRow}
 use Rattle.co_sheet.specs.Limits.{number}
 use Rattle.co_dict.specs.SdoChannels.{is_sdo_id}
 use Rattle.co_dict.specs.Objects.{has_object, subs_present}
+use Rattle.co_dict.specs.Stores.{greatest_capacity}
 use Rattle.co_dict.proofs.ExampleDevice.{at}
 use Rattle.co_dict_build.specs.declared.build_fault.BuildFault.TheVariants.{BadCobId}
 use Rattle.co_dict_build.specs.Built.{Plan, built_contents, built_description}
@@ -16,7 +17,7 @@ use Rattle.co_sdo.specs.Refused.{completion_refusal, initiate_refusal}
 use Rattle.co_sdo_client.specs.declared.mode.Mode.TheVariants.{Segmented}
 use Rattle.co_node_model.specs.Moments.{Constants}
 use Rattle.co_node.specs.Built.{IsBuilt}
-use Rattle.co_node.specs.Nodes.{built_constants, greatest_capacity}
+use Rattle.co_node.specs.Nodes.{built_constants}
 use Rattle.co_node.specs.Served.{IsPermitted}
 
 abbrev row : ℕ → ℕ → SheetRow

@@ -6,3 +6,35 @@ pub mod Served
 pub mod Held
 pub mod Refused
 pub mod Memory
+pub use Rattle.co_value.specs.declared.key.Key
+pub use Rattle.co_frame.specs.FrameContent
+pub use Rattle.co_dict.specs.Rows
+pub use Rattle.co_dict.specs.Stores
+pub use Rattle.co_dict_build.specs.Built as BuiltDictionaries
+pub use Rattle.co_dict_build.specs.BuildFaults
+pub use Rattle.co_dict_placed.specs.Changes
+pub use Rattle.co_sdo.specs.Completed
+pub use Rattle.co_sdo.specs.Events
+pub use Rattle.co_sdo_client.specs.Calls
+pub use Rattle.co_sdo_client.specs.Segments
+pub use Rattle.co_sdo_client.specs.declared.mode.Mode
+pub use Rattle.co_sdo_client.specs.declared.state.ClientState
+pub use Rattle.co_sdo_laws.specs.Undisturbed
+pub use Rattle.co_pdo.specs.Mappings
+pub use Rattle.co_pdo_compiled.specs.CompiledMappings
+pub use Rattle.co_node_parts.specs.NmtStates
+pub use Rattle.co_node_parts.specs.declared.nmt_state.NodeState
+pub use Rattle.co_node_model.specs.declared.address.Address
+pub use Rattle.co_node_model.specs.Addresses
+pub use Rattle.co_node_model.specs.AppEvents
+pub use Rattle.co_node_model.specs.Device
+pub use Rattle.co_node_model.specs.Heartbeats
+pub use Rattle.co_node_model.specs.Inputs
+pub use Rattle.co_node_model.specs.Loop
+pub use Rattle.co_node_model.specs.Moments
+pub use Rattle.co_node_model.specs.Sdo
+pub use Rattle.co_node_model.specs.Ticks
+pub use Rattle.co_node_laws.specs.Apart
+pub use Rattle.co_node_laws.specs.Served as ServedDownloads
+pub use Rattle.co_node_device.specs.Lasts
+pub use Rattle.co_node_device.specs.SetEntries

@@ -1,8 +1,8 @@
 -- A device made from a data sheet.
-use Rattle.std.specs.Prelude.{ℕ, fold, max}
+use Rattle.std.specs.Prelude.{ℕ}
 use Rattle.std.specs.Box.{boxed_slice_items}
-use Rattle.co_dict.specs.Rows.{Contents, capacity_at}
-use Rattle.co_dict.specs.Stores.{Description}
+use Rattle.co_dict.specs.Rows.{Contents}
+use Rattle.co_dict.specs.Stores.{Description, greatest_capacity}
 use Rattle.co_sheet.specs.Content.{SheetContent}
 use Rattle.co_dict_image.specs.declared.image_store.ImageStore.{ImageStore}
 use Rattle.co_dict_image.specs.Slots.{entries_in}
@@ -24,10 +24,6 @@ planned sheet node config = plan_of node (limits_view config.limits) sheet
 -- and the SDO timeout in ms
 abbrev pub node_constants : Plan → ℕ → ℕ → Constants
 node_constants plan greatest time = constants_of (built_description plan) (built_contents plan) greatest time
-
--- the greatest capacity of the entries of a dictionary, in bytes; 0 if it has none
-abbrev pub greatest_capacity : Description → ℕ
-greatest_capacity d = fold (λ most key. max most (capacity_at d.rows key)) 0 d.keys
 
 -- what never changes of the device of a plan, with this SDO timeout in ms
 abbrev pub built_constants : Plan → ℕ → Constants

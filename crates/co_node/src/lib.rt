@@ -11,9 +11,10 @@ mod set_laws;
 pub use built_laws::{
     begins_apart, built_download_ends, permitted_download_completes, stands_on_dictionary,
 };
+pub use co_frame::AppEvent;
 pub use co_node_device::Seen;
 pub use co_node_laws::{device_by_kind, state_by_kind};
-pub use co_node_model::{AppAnswer, AppEvent, Input, most_rounds};
+pub use co_node_model::{AppAnswer, Input, most_rounds};
 pub use co_node_parts::{LossReaction, NodeState};
 pub use config::Config;
 pub use node::Node;

@@ -25,7 +25,7 @@ ghost use Rattle.std.specs.Prelude.{
 };
 ghost use Rattle.co_value.specs.declared.key.Key.{Key};
 ghost use Rattle.co_dict.specs.Places.{key_at};
-ghost use Rattle.co_dict.specs.Stores.{IsGreatestCapacity};
+ghost use Rattle.co_dict.specs.Stores.{IsGreatestCapacity, greatest_capacity};
 ghost use Rattle.co_dict_build.specs.Built.{built_contents, built_description};
 ghost use Rattle.co_dict_build.specs.BuildFaults.{IsBuildFault, build_fault};
 ghost use Rattle.co_pdo.specs.Mappings.{has_pdo, mapping_of};
@@ -56,7 +56,6 @@ ghost use Rattle.co_node.specs.Nodes.{
   Stands,
   built_constants,
   description_of,
-  greatest_capacity,
   node_constants,
   planned,
 };
@@ -69,9 +68,9 @@ use crate::record::Record;
 use co_dict::ObjectStore;
 use co_dict_build::BuildFault;
 use co_dict_image::ImageStore;
-use co_frame::{Frame, Outbox};
+use co_frame::{AppEvent, Frame, Outbox};
 use co_node_device::{Device, Seen};
-use co_node_model::{AppAnswer, AppEvent, Input};
+use co_node_model::{AppAnswer, Input};
 use co_node_parts::NodeState;
 use co_pdo::Side;
 use co_pdo_compiled::Compiled;
@@ -121,8 +120,7 @@ impl Node {
         ensures err { IfErr result (IsBuildFault (planned sheet.now node_id config.now)) }
     {
         let store = ImageStore::build(alloc, sheet, node_id, &config.limits)?;
-        let greatest = u32::from(store.greatest_capacity());
-        match Device::new(alloc, store, greatest, config.time) {
+        match Device::new(alloc, store, config.time) {
             Ok(device) => Ok(Node { device }),
             Err(_) => Err(BuildFault::Memory),
         }
@@ -209,7 +207,7 @@ impl Node {
     /// Takes an application event. The outbox then holds the frames that the definitions prescribe
     /// at it, and nothing else. A refused event changes nothing but the answer.
     #[inline(always)]
-    pub fn take_event(&mut self, event: AppEvent<'_>, outbox: &mut Outbox)
+    pub fn take_event(&mut self, event: AppEvent<&[u8]>, outbox: &mut Outbox)
         ensures frames { (k : Constants) (before : Inputs) → Stands k self.old before →
             outbox.new.items ≡ prescribed k before (Applied (app_view event.entry)) }
         ensures stands { (k : Constants) (before : Inputs) → Stands k self.old before →

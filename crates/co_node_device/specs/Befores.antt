@@ -15,7 +15,7 @@ use Rattle.co_node_model.specs.declared.address.Address.{Address}
 use Rattle.co_node_model.specs.Addresses.{address_at}
 use Rattle.co_node_model.specs.Marks.{marked_tick}
 use Rattle.co_node_device.specs.declared.given.Given.{Given}
-use Rattle.co_node_device.specs.declared.given.Given.TheVariants.{Frame, Tick, Write, Event, Changed, Raise, Clear}
+use Rattle.co_node_device.specs.declared.given.Given.TheVariants.{Frame, Tick, App, WriteAt}
 
 -- its description, entries, SDO channels and NMT state are those after a history
 pub record IsBefore (k : Constants) (history : History) (d : Description) (entries : Contents)
@@ -29,11 +29,8 @@ pub record IsBefore (k : Constants) (history : History) (d : Description) (entri
 abbrev pub IsAddressed : Constants → History → Given → Address → FrameContent → Type 0
 IsAddressed k history Frame address frame = address ≡ address_at k history frame.id
 IsAddressed k history Tick address frame = Unit {0}
-IsAddressed k history (Write place key bytes) address frame = Unit {0}
-IsAddressed k history (Event n) address frame = Unit {0}
-IsAddressed k history (Changed key) address frame = Unit {0}
-IsAddressed k history (Raise code bits manufacturer) address frame = Unit {0}
-IsAddressed k history (Clear bits) address frame = Unit {0}
+IsAddressed k history (App event) address frame = Unit {0}
+IsAddressed k history (WriteAt place key bytes) address frame = Unit {0}
 
 -- the log of each SDO channel after an input was received, before transfers are dropped
 abbrev pub logs_received : Moment → History → ℕ → Log

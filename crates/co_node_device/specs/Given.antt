@@ -4,30 +4,24 @@ use Rattle.co_frame.specs.FrameContent.{FrameContent}
 use Rattle.co_value.specs.declared.key.Key.{Key}
 use Rattle.co_dict.specs.Stores.{Description}
 use Rattle.co_dict.specs.Places.{key_at}
-use Rattle.co_node_model.specs.Inputs.{InputView, Framed, Ticked, Applied, Written, EventOn, ChangedAt, Raised, Cleared}
+use Rattle.co_node_model.specs.Inputs.{InputView, Framed, Ticked, Applied, Written, app_view}
 use Rattle.co_node_device.specs.declared.given.Given.{Given}
-use Rattle.co_node_device.specs.declared.given.Given.TheVariants.{Frame, Tick, Write, Event, Changed, Raise, Clear}
+use Rattle.co_node_device.specs.declared.given.Given.TheVariants.{Frame, Tick, App, WriteAt}
 
 -- the input with this frame
 abbrev pub given_view : Given → FrameContent → InputView
 given_view Frame frame = Framed frame
 given_view Tick frame = Ticked
-given_view (Write place key bytes) frame = Applied (Written key bytes.now)
-given_view (Event k) frame = Applied (EventOn k)
-given_view (Changed key) frame = Applied (ChangedAt key)
-given_view (Raise code bits manufacturer) frame = Applied (Raised code bits manufacturer)
-given_view (Clear bits) frame = Applied (Cleared bits)
+given_view (App event) frame = Applied (app_view event)
+given_view (WriteAt place key bytes) frame = Applied (Written key bytes.now)
 
 -- a place, where it is known, is that of the key
 abbrev pub IsPlaceOf : Description → Key → Option ℕ → Type 0
 IsPlaceOf d key place = IfSome place (λ place. key_at d place ≡ Some key)
 
--- the same of the entry that an input names
+-- the same of the entry that an input names by its place
 abbrev pub IsPlaced : Description → Given → Type 0
 IsPlaced d Frame = Unit {0}
 IsPlaced d Tick = Unit {0}
-IsPlaced d (Write place key bytes) = IsPlaceOf d key place
-IsPlaced d (Event k) = Unit {0}
-IsPlaced d (Changed key) = Unit {0}
-IsPlaced d (Raise code bits manufacturer) = Unit {0}
-IsPlaced d (Clear bits) = Unit {0}
+IsPlaced d (App event) = Unit {0}
+IsPlaced d (WriteAt place key bytes) = key_at d place ≡ Some key

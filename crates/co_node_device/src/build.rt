@@ -3,6 +3,7 @@
 ghost use Rattle.std.specs.Prelude.{◌≡◌, ◌≤◌, ◌+◌, ◌&&◌, [], ◌∷◌, IfOk, IfSome, is_some, max, nat_lt, option_map};
 ghost use Rattle.co_value.specs.declared.key.Key.{Key};
 ghost use Rattle.co_dict.specs.Rows.{capacity_at};
+ghost use Rattle.co_dict.specs.Stores.{greatest_capacity};
 ghost use Rattle.co_pdo.specs.Mappings.{has_pdo, mapping_of};
 ghost use Rattle.co_pdo_compiled.specs.CompiledMappings.{IsCompiledForm};
 ghost use Rattle.co_node_model.specs.Inputs.{Inputs, InputView};
@@ -26,7 +27,7 @@ use crate::mapping_table::last_of;
 use crate::mappings::CompiledMappings;
 use crate::parts::Parts;
 use crate::seen::Seen;
-use co_dict::{ObjectStore, Side};
+use co_dict::{ObjectStore, Side, greatest_capacity_law};
 use co_frame::{Heartbeat, Outbox};
 use co_node_laws::greatest_bound;
 use co_node_model::AppAnswer;
@@ -44,8 +45,8 @@ fn slots_of<S: ObjectStore>(alloc: Global, store: &S) -> Result<RpdoSlots, Alloc
     RpdoSlots::new(alloc, last_of(store, Side::Rpdo))
 }
 
-// The parts of a device over a dictionary. It is borrowed, so that no exit drops a store as well as
-// parts.
+// The parts of a device over a dictionary, none of whose entries has more than `greatest` bytes. It
+// is borrowed, so that no exit drops a store as well as parts.
 fn parts_of<S: ObjectStore>(
     alloc: Global,
     store: &S,
@@ -88,17 +89,19 @@ fn parts_of<S: ObjectStore>(
 
 impl<S: ObjectStore + Drop> Device<S> {
     /// A device over a dictionary, in NMT state pre-operational, that has received nothing.
-    /// `greatest` is at least the capacity of each entry, in bytes; `time` is the SDO timeout
-    /// between two requests, in ms, 0 disables it. `AllocError` if memory can't be allocated; the
-    /// device allocates none after that.
-    pub fn new(alloc: Global, store: S, greatest: u32, time: u16) -> Result<Device<S>, AllocError>
-        requires greatest { (key : Key) → capacity_at (S.description store).rows key ≤ greatest }
+    /// `time` is the SDO timeout between two requests, in ms, 0 disables it. `AllocError` if memory
+    /// can't be allocated; the device allocates none after that.
+    pub fn new(alloc: Global, store: S, time: u16) -> Result<Device<S>, AllocError>
         ensures stands { IfOk result (λ device. Stands
-            (constants_of (S.description store) (S.contents store) greatest time) device []) }
+            (constants_of (S.description store) (S.contents store)
+            (greatest_capacity (S.description store)) time) device []) }
         ensures description { IfOk result (λ device.
             S.description device.store ≡ S.description store) }
         ensures contents { IfOk result (λ device. S.contents device.store ≡ S.contents store) }
     {
+        // a law: the call changes nothing
+        greatest_capacity_law(&store);
+        let greatest = u32::from(store.greatest_capacity());
         let parts = parts_of(alloc, &store, greatest, time)?;
         Ok(Device { store, parts })
     }

@@ -28,9 +28,9 @@ use crate::sdo::{drop_if, drops, note_download};
 use crate::seen::Seen;
 use crate::tpdos::{send_tpdos, take_turn, turn_of};
 use co_dict::{ObjectStore, store_laws};
-use co_frame::{Frame, Outbox};
+use co_frame::{AppEvent, Frame, Outbox};
 use co_node_laws::{addresses_kept, few, mappings_kept, schedule_ready};
-use co_node_model::{Address, AppEvent, Mark, emergency_event, life_of, state_event};
+use co_node_model::{Address, Mark, emergency_event, life_of, state_event};
 use co_node_parts::Transition;
 use co_pdo::active_is_there;
 use co_value::Key;
@@ -169,7 +169,7 @@ impl<S: ObjectStore> Device<S> {
     /// Takes an application event. The outbox then holds the frames that the definitions prescribe
     /// at it, and nothing else.
     #[inline(never)]
-    pub fn take_event(&mut self, event: AppEvent<'_>, outbox: &mut Outbox)
+    pub fn take_event(&mut self, event: AppEvent<&[u8]>, outbox: &mut Outbox)
         ensures frames { (k : Constants) (inputs : Inputs) → Stands k self.old inputs →
             outbox.new.items ≡ prescribed k inputs (Applied (app_view event.entry)) }
         ensures few { (k : Constants) (inputs : Inputs) → Stands k self.old inputs →
@@ -177,14 +177,13 @@ impl<S: ObjectStore> Device<S> {
         ensures stands { (k : Constants) (inputs : Inputs) → Stands k self.old inputs →
             Stands k self.new (Applied (app_view event.entry) ∷ inputs) }
     {
-        let given = match event {
-            AppEvent::Write(key, bytes) => Given::Write(None, key, bytes),
-            AppEvent::Event(number) => Given::Event(number),
-            AppEvent::Changed(key) => Given::Changed(key),
-            AppEvent::Raise(code, bits, manufacturer) => Given::Raise(code, bits, manufacturer),
-            AppEvent::Clear(bits) => Given::Clear(bits),
-        };
-        self.take(given, Address::Nobody, &Frame::default(), outbox, &mut []);
+        self.take(
+            Given::App(event),
+            Address::Nobody,
+            &Frame::default(),
+            outbox,
+            &mut [],
+        );
     }
 
     /// The application writes bytes into the entry at a place, which has this key: as `take_event`
@@ -199,7 +198,7 @@ impl<S: ObjectStore> Device<S> {
         ensures stands { (k : Constants) (inputs : Inputs) → Stands k self.old inputs →
             Stands k self.new (Applied (Written key bytes.now) ∷ inputs) }
     {
-        let given = Given::Write(Some(place), key, bytes);
+        let given = Given::WriteAt(place, key, bytes);
         self.take(given, Address::Nobody, &Frame::default(), outbox, &mut []);
     }
 

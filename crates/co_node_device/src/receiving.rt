@@ -21,7 +21,7 @@ use crate::given::Given;
 use crate::nmt::take_command;
 use crate::sdo::{take_request, take_tick};
 use co_dict::ObjectStore;
-use co_frame::{Frame, Outbox};
+use co_frame::{AppEvent, Frame, Outbox};
 use co_node_model::{Address, AppAnswer, Mark, error_control_mark, rpdo_mark, sync_mark};
 use co_node_parts::{Emergencies, NodeState};
 use co_sdo::Bank;
@@ -128,12 +128,13 @@ pub(crate) fn receive<S: ObjectStore>(
             mark: take_tick(bank, outbox),
             app: AppAnswer::None,
         },
-        Given::Write(place, key, bytes) => write(store, place, key, bytes),
-        Given::Event(number) => event(store, number),
-        Given::Changed(key) => change(store, key),
-        Given::Raise(code, bits, manufacturer) => {
+        Given::WriteAt(place, key, bytes) => write(store, Some(place), key, bytes),
+        Given::App(AppEvent::Write(key, bytes)) => write(store, None, key, bytes),
+        Given::App(AppEvent::Event(number)) => event(store, number),
+        Given::App(AppEvent::Changed(key)) => change(store, key),
+        Given::App(AppEvent::Raise(code, bits, manufacturer)) => {
             raise(store, emergencies, code, bits, manufacturer)
         }
-        Given::Clear(bits) => clear_errors(store, emergencies, bits),
+        Given::App(AppEvent::Clear(bits)) => clear_errors(store, emergencies, bits),
     }
 }

@@ -78,12 +78,7 @@ pub(crate) fn note_download<S: ObjectStore>(
                 note_key(store, key, changes);
             }
         }
-        Given::Tick
-        | Given::Write(..)
-        | Given::Event(_)
-        | Given::Changed(_)
-        | Given::Raise(..)
-        | Given::Clear(_) => {}
+        Given::Tick | Given::App(_) | Given::WriteAt(..) => {}
     }
 }
 

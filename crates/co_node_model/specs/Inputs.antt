@@ -1,9 +1,11 @@
 -- The inputs of a device: frames, ticks of 1 ms, and application events.
+use denote.Ref.{Bor}
 use Rattle.std.specs.Prelude.{ℕ, List}
 use Rattle.co_value.specs.declared.key.Key.{Key}
 use Rattle.co_frame.specs.FrameContent.{FrameContent}
-use Rattle.co_node_model.specs.declared.input.AppEvent.{AppEvent}
-use Rattle.co_node_model.specs.declared.input.AppEvent.TheVariants.{Write, Event, Changed, Raise, Clear}
+use Rattle.co_frame.specs.declared.app_event.AppEvent.{AppEvent}
+use Rattle.co_frame.specs.declared.app_event.AppEvent.TheVariants.{Write, Event, Changed, Raise, Clear}
+use Rattle.co_frame.specs.AppEvents.{map_bytes}
 use Rattle.co_node_model.specs.declared.input.Input.{Input}
 use Rattle.co_node_model.specs.declared.input.Input.TheVariants.{Frame, Tick, App}
 
@@ -33,13 +35,17 @@ pub data InputView : Type 0 where
 abbrev pub Inputs : Type 0
 Inputs = List InputView
 
--- what contracts see of an application event
-abbrev pub app_view : AppEvent → AppView
-app_view (Write key bytes) = Written key bytes.now
-app_view (Event k) = EventOn k
-app_view (Changed key) = ChangedAt key
-app_view (Raise code bits manufacturer) = Raised code bits manufacturer
-app_view (Clear bits) = Cleared bits
+-- an application event with its bytes
+abbrev pub event_view : AppEvent (List ℕ) → AppView
+event_view (Write key bytes) = Written key bytes
+event_view (Event k) = EventOn k
+event_view (Changed key) = ChangedAt key
+event_view (Raise code bits manufacturer) = Raised code bits manufacturer
+event_view (Clear bits) = Cleared bits
+
+-- what contracts see of an application event of a device
+abbrev pub app_view : AppEvent (Bor (List ℕ)) → AppView
+app_view event = event_view (map_bytes (λ bytes. bytes.now) event)
 
 -- what contracts see of an input
 abbrev pub input_view : Input → InputView

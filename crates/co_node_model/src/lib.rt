@@ -19,7 +19,7 @@ pub use events::{
     emergency_event, emptied_by, is_set, life_of, may_change_addresses, may_change_mappings,
     state_event,
 };
-pub use input::{AppEvent, Input};
+pub use input::Input;
 pub use limit::most_rounds;
 pub use mark::{Asked, Mark};
 pub use received::{counter_in, error_control_mark, rpdo_mark, sync_mark};

@@ -2,14 +2,14 @@
 use Rattle.std.proofs.Common.{◌≡◌, ◌≤◌, ◌<◌, ◌+◌, ◌*◌, ℕ, zero, suc, List, [], ◌∷◌, ◌++◌, length, take, codes}
 use Rattle.std.proofs.Common.{refl, ap, ◌∙◌, subst, arith}
 use Rattle.std.specs.Prelude.{flat_map}
-use Rattle.co_frame.specs.FrameContent.{FrameContent}
+use Rattle.co_node.specs.FrameContent.{FrameContent}
 use Rattle.co_sheet.specs.Content.{IsSheet, SheetContent, content_of}
 use Rattle.co_sheet.specs.Accepted.{sections_in}
-use Rattle.co_dict_build.specs.Built.{Plan, plan_of}
+use Rattle.co_node.specs.BuiltDictionaries.{Plan, plan_of}
 use Rattle.co_dict_build.specs.Capacities.{Limits}
-use Rattle.co_node_model.specs.Inputs.{Framed, Inputs, InputView, Ticked}
-use Rattle.co_node_model.specs.Moments.{Constants}
-use Rattle.co_node_model.specs.Device.{all_frames, prescribed}
+use Rattle.co_node.specs.Inputs.{Framed, Inputs, InputView, Ticked}
+use Rattle.co_node.specs.Moments.{Constants}
+use Rattle.co_node.specs.Device.{all_frames, prescribed}
 use Rattle.co_node_model.proofs.ExampleNode.{searches}
 use Rattle.co_node.specs.declared.node.Node.{Node}
 use Rattle.co_node.specs.Nodes.{Stands, built_constants}

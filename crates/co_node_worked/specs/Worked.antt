@@ -2,14 +2,14 @@
 use Rattle.std.specs.Prelude.{ℕ, List, [], ◌∷◌, None, false, pos}
 use Rattle.co_value.specs.declared.data_type.DataType.{DataType}
 use Rattle.co_value.specs.declared.data_type.DataType.TheVariants.{Unsigned8, Unsigned16, Unsigned32}
-use Rattle.co_frame.specs.FrameContent.{FrameContent}
+use Rattle.co_node.specs.FrameContent.{FrameContent}
 use Rattle.co_profile.specs.declared.access.Access.{Access}
 use Rattle.co_profile.specs.declared.access.Access.TheVariants.{Ro, Rw}
 use Rattle.co_sheet.specs.Content.{Row}
 use Rattle.co_sheet.specs.Limits.{Default, absent, number}
-use Rattle.co_dict_build.specs.Built.{Plan}
-use Rattle.co_node_model.specs.Inputs.{Framed, Inputs}
-use Rattle.co_node_model.specs.Moments.{Constants}
+use Rattle.co_node.specs.BuiltDictionaries.{Plan}
+use Rattle.co_node.specs.Inputs.{Framed, Inputs}
+use Rattle.co_node.specs.Moments.{Constants}
 use Rattle.co_node.specs.Nodes.{built_constants}
 
 -- an entry, with the line of the sheet at which its section begins

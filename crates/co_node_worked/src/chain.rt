@@ -78,7 +78,7 @@ fn respond(node: &mut Node) -> Option<Outbox>
         return None;
     };
     // this name gives the checker the type of an input's events
-    let _event: Option<AppEvent<'_>> = None;
+    let _event: Option<AppEvent<&[u8]>> = None;
     let mut sent = Outbox::new();
     node.step(Input::Frame(start), &mut sent);
     node.step(Input::Frame(request), &mut sent);

@@ -43,7 +43,7 @@ pub(crate) fn node_by(alloc: Global, words: &str) -> Result<Node, BadScript> {
 }
 
 // Replaces `sent` by the frames of an input: a frame, else an application event, else a tick.
-fn step(node: &mut Node, frame: Option<Frame>, event: Option<AppEvent<'_>>, sent: &mut Outbox) {
+fn step(node: &mut Node, frame: Option<Frame>, event: Option<AppEvent<&[u8]>>, sent: &mut Outbox) {
     match (frame, event) {
         (Some(frame), _) => node.step(Input::Frame(frame), sent),
         (None, Some(event)) => node.step(Input::App(event), sent),
@@ -62,7 +62,7 @@ pub(crate) fn elapse(node: &mut Node, sent: &mut Outbox) {
 }
 
 /// The same for an application event.
-pub(crate) fn apply(node: &mut Node, event: AppEvent<'_>, sent: &mut Outbox) {
+pub(crate) fn apply(node: &mut Node, event: AppEvent<&[u8]>, sent: &mut Outbox) {
     step(node, None, Some(event), sent);
 }
 

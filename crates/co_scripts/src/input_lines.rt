@@ -1,29 +1,22 @@
 //! The inputs of a line of a script.
 
+ghost use Rattle.conode_trace.specs.declared.event_line.EventLine.TheVariants.{App};
+ghost use Rattle.conode_trace.specs.Events.{HasFewBytes};
+
 use crate::bad_script::BadScript;
-use crate::device::{apply, elapse, take, write};
+use crate::device::{apply, elapse, take};
 use crate::frames::frame_of;
 use co_frame::{Frame, Outbox};
 use co_node::{AppEvent, Node};
-use conode_trace::{AppLine, EventLine, TraceLine};
+use co_text::HexPairs;
+use conode_trace::{EventLine, TraceLine, written_bytes};
 
-// An event line.
-fn apply_line(node: &mut Node, event: &AppLine<'_>, sent: &mut Outbox) -> bool {
-    let event = match event {
-        AppLine::Write(key, bytes) => {
-            if bytes.len() > 256 {
-                return false;
-            }
-            write(node, *key, bytes.bytes().as_slice(), sent);
-            return true;
-        }
-        AppLine::Event(number) => AppEvent::Event(*number),
-        AppLine::Changed(key) => AppEvent::Changed(*key),
-        AppLine::Raise(code, bits, extra) => AppEvent::Raise(*code, *bits, *extra),
-        AppLine::Clear(bits) => AppEvent::Clear(*bits),
-    };
-    apply(node, event, sent);
-    true
+// An event of the application.
+fn apply_line(node: &mut Node, event: &AppEvent<HexPairs<'_>>, sent: &mut Outbox)
+    requires { HasFewBytes (App event.now) }
+{
+    let bytes = written_bytes(event);
+    apply(node, event.with_bytes(bytes.as_slice()), sent);
 }
 
 // `count` ticks; false if one before the last sends frames.
@@ -59,7 +52,10 @@ pub(crate) fn give(node: &mut Node, line: &str, sent: &mut Outbox) -> Result<boo
     if line.starts_with('!') {
         return match &TraceLine::read(line.as_bytes()) {
             Some(TraceLine::Event(EventLine::Ticks(count))) => Ok(tick(node, *count, sent)),
-            Some(TraceLine::Event(EventLine::App(event))) => Ok(apply_line(node, event, sent)),
+            Some(TraceLine::Event(EventLine::App(event))) => {
+                apply_line(node, event, sent);
+                Ok(true)
+            }
             _ => Err(BadScript),
         };
     }

@@ -3,7 +3,7 @@ use Rattle.std.proofs.Common.{◌≡◌, ℕ, List, [], ◌∷◌, ◌++◌, ref
 use Rattle.std.specs.Prelude.{codes}
 use Rattle.std.specs.Fmt.{digits}
 use Rattle.co_text.specs.Printed.{digits_text}
-use Rattle.conode_trace.specs.declared.event_line.AppLine.TheVariants as line
+use Rattle.co_frame.specs.declared.app_event.AppEvent.TheVariants as line
 use Rattle.conode_trace.specs.FrameLines.{line_in, stamp_at, identifier_at, body_in, frame_at, frame_line_in}
 use Rattle.conode_trace.specs.Printed.{frame_line, frame_text, seconds_text, stamp_text}
 use Rattle.conode_trace.specs.Traces.{Input, frame as came, tick, app, TimedInput, timed, ticks_after, trace_from, trace_of}

@@ -3,24 +3,10 @@
 use Rattle.std.specs.Prelude.{ℕ, ◌+◌, List, [], ◌∷◌, ◌++◌, length, map, sum_by, codes, decimal}
 use Rattle.std.specs.Option.{option_map_or}
 use Rattle.co_text.specs.Printed.{digits_text}
-use Rattle.conode_trace.specs.declared.event_line.AppLine.{AppLine}
-use Rattle.conode_trace.specs.declared.event_line.AppLine.TheVariants as line
 use Rattle.conode_trace.specs.Printed.{frame_line}
 use Rattle.conode_trace.specs.declared.timed_line.TimedLine.{TimedLine}
 use Rattle.conode_trace.specs.Traces.{Input, frame, tick, app, TimedInput, own_input}
-use Rattle.co_node_model.specs.Inputs.{
-  AppView,
-  InputView,
-  Inputs,
-  Framed,
-  Ticked,
-  Applied,
-  Written,
-  EventOn,
-  ChangedAt,
-  Raised,
-  Cleared,
-}
+use Rattle.co_node_model.specs.Inputs.{Applied, Framed, InputView, Inputs, Ticked, event_view}
 use Rattle.co_node_model.specs.declared.app_answer.AppAnswer.{AppAnswer}
 use Rattle.co_node_model.specs.declared.app_answer.AppAnswer.TheVariants as answer
 use Rattle.co_node_model.specs.Moments.{Constants}
@@ -30,19 +16,11 @@ use Rattle.conode_device.specs.declared.totals.Totals.{Totals}
 
 -- ---- inputs of a trace, as a device takes them
 
--- an event line as an event of the device
-abbrev pub app_of : AppLine → AppView
-app_of (line.Write key bytes) = Written key bytes
-app_of (line.Event number) = EventOn number
-app_of (line.Changed key) = ChangedAt key
-app_of (line.Raise code bits manufacturer) = Raised code bits manufacturer
-app_of (line.Clear bits) = Cleared bits
-
 -- an input of a trace as one of the device
 abbrev pub view_of : Input → InputView
 view_of (frame content) = Framed content
 view_of tick = Ticked
-view_of (app event) = Applied (app_of event)
+view_of (app event) = Applied (event_view event)
 
 -- the own input of a line, if it has one
 abbrev pub own_inputs : TimedLine → List TimedInput

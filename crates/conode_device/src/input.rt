@@ -1,21 +1,22 @@
 //! One input of a trace: the device takes it, and the result is printed.
 
 ghost use Rattle.std.specs.Prelude.{◌≡◌, ◌∷◌};
-ghost use Rattle.co_node_model.specs.Inputs.{Inputs, Framed, Ticked, Applied};
+ghost use Rattle.co_node_model.specs.Inputs.{Inputs, Framed, Ticked, Applied, event_view};
 ghost use Rattle.co_node_model.specs.Moments.{Constants};
 ghost use Rattle.co_node_model.specs.Device.{prescribed};
 ghost use Rattle.co_node.specs.Nodes.{Stands};
 ghost use Rattle.conode_trace.specs.declared.event_line.EventLine.TheVariants.{App};
 ghost use Rattle.conode_trace.specs.Events.{HasFewBytes};
 ghost use Rattle.conode_trace.specs.Traces.{tick};
-ghost use Rattle.conode_device.specs.Lines.{app_of, input_lines};
+ghost use Rattle.conode_device.specs.Lines.{input_lines};
 ghost use Rattle.conode_device.specs.Runs.{WrittenAfter};
 
 use crate::lines::print_input;
 use co_frame::{Frame, Outbox};
 use co_node::{AppEvent, Node};
+use co_text::HexPairs;
 use conode_io::CmdFault;
-use conode_trace::AppLine;
+use conode_trace::written_bytes;
 use std::io::Write;
 
 /// The device takes a frame. The outbox then holds the frames that it sends, and no others.
@@ -31,25 +32,15 @@ pub(crate) fn take(node: &mut Node, frame: Frame, sent: &mut Outbox)
 
 /// The device takes an event of the application. The outbox then holds the frames that it sends,
 /// and no others.
-pub(crate) fn apply(node: &mut Node, event: &AppLine<'_>, sent: &mut Outbox)
+pub(crate) fn apply(node: &mut Node, event: &AppEvent<HexPairs<'_>>, sent: &mut Outbox)
     requires { HasFewBytes (App event.now) }
     ensures frames { (k : Constants) (before : Inputs) → Stands k node.old before →
-        sent.new.items ≡ prescribed k before (Applied (app_of event.now)) }
+        sent.new.items ≡ prescribed k before (Applied (event_view event.now)) }
     ensures stands { (k : Constants) (before : Inputs) → Stands k node.old before →
-        Stands k node.new (Applied (app_of event.now) ∷ before) }
+        Stands k node.new (Applied (event_view event.now) ∷ before) }
 {
-    match event {
-        AppLine::Write(key, bytes) => {
-            let bytes = bytes.bytes();
-            node.take_event(AppEvent::Write(*key, bytes.as_slice()), sent);
-        }
-        AppLine::Event(number) => node.take_event(AppEvent::Event(*number), sent),
-        AppLine::Changed(key) => node.take_event(AppEvent::Changed(*key), sent),
-        AppLine::Raise(code, bits, extra) => {
-            node.take_event(AppEvent::Raise(*code, *bits, *extra), sent);
-        }
-        AppLine::Clear(bits) => node.take_event(AppEvent::Clear(*bits), sent),
-    }
+    let bytes = written_bytes(event);
+    node.take_event(event.with_bytes(bytes.as_slice()), sent);
 }
 
 /// The device takes a tick of a line, at a time in ms, and what it sends is printed.

@@ -22,27 +22,39 @@ returns-in-Tick-clause-channels g c = λ k history before addressed.
 
 pub write-requires : goal.write-requires
 write-requires g c =
-    subst (λ (given : Given). IsPlaced (g.S.ObjectStore.description c.args.store.now) given) c.in-Write.is c.requires.placed
+    subst (λ (given : Given). IsPlaced (g.S.ObjectStore.description c.args.store.now) given) c.in-WriteAt.is c.requires.placed
 
-pub returns-in-Write-clause-frames : goal.returns-in-Write-clause-frames
-returns-in-Write-clause-frames g c = λ k history before addressed.
-    rw c.in-Write.is (event_frames k history (Written c.in-Write.key c.in-Write.bytes.now) c.args.outbox.now.items)
+pub returns-in-WriteAt-clause-frames : goal.returns-in-WriteAt-clause-frames
+returns-in-WriteAt-clause-frames g c = λ k history before addressed.
+    rw c.in-WriteAt.is (event_frames k history (Written c.in-WriteAt.key c.in-WriteAt.bytes.now) c.args.outbox.now.items)
 
-pub returns-in-Write-clause-channels : goal.returns-in-Write-clause-channels
-returns-in-Write-clause-channels g c = λ k history before addressed.
-    rw c.in-Write.is (event_channels k history _ c.args.bank.now (Written c.in-Write.key c.in-Write.bytes.now) before.channels)
+pub returns-in-WriteAt-clause-channels : goal.returns-in-WriteAt-clause-channels
+returns-in-WriteAt-clause-channels g c = λ k history before addressed.
+    rw c.in-WriteAt.is (event_channels k history _ c.args.bank.now (Written c.in-WriteAt.key c.in-WriteAt.bytes.now) before.channels)
 
-pub returns-in-Write-clause-emergencies : goal.returns-in-Write-clause-emergencies
-returns-in-Write-clause-emergencies g c = λ k history log before addressed stands.
-    rw c.in-Write.is (write_queues k history c.args.emergencies.now log c.in-Write.key c.in-Write.bytes.now stands)
+pub returns-in-WriteAt-clause-emergencies : goal.returns-in-WriteAt-clause-emergencies
+returns-in-WriteAt-clause-emergencies g c = λ k history log before addressed stands.
+    rw c.in-WriteAt.is (write_queues k history c.args.emergencies.now log c.in-WriteAt.key c.in-WriteAt.bytes.now stands)
 
-pub returns-in-Event-clause-channels : goal.returns-in-Event-clause-channels
-returns-in-Event-clause-channels g c = λ k history before addressed.
-    rw c.in-Event.is (event_channels k history _ c.args.bank.now (EventOn c.in-Event.number) before.channels)
+pub returns-in-App-Write-clause-frames : goal.returns-in-App-Write-clause-frames
+returns-in-App-Write-clause-frames g c = λ k history before addressed.
+    rw (c.in-App-Write.is, c.in-App-Write.field-0-is) (event_frames k history (Written c.in-App-Write.key c.in-App-Write.bytes.now) c.args.outbox.now.items)
 
-pub returns-in-Changed-clause-channels : goal.returns-in-Changed-clause-channels
-returns-in-Changed-clause-channels g c = λ k history before addressed.
-    rw c.in-Changed.is (event_channels k history _ c.args.bank.now (ChangedAt c.in-Changed.key) before.channels)
+pub returns-in-App-Write-clause-channels : goal.returns-in-App-Write-clause-channels
+returns-in-App-Write-clause-channels g c = λ k history before addressed.
+    rw (c.in-App-Write.is, c.in-App-Write.field-0-is) (event_channels k history _ c.args.bank.now (Written c.in-App-Write.key c.in-App-Write.bytes.now) before.channels)
+
+pub returns-in-App-Write-clause-emergencies : goal.returns-in-App-Write-clause-emergencies
+returns-in-App-Write-clause-emergencies g c = λ k history log before addressed stands.
+    rw (c.in-App-Write.is, c.in-App-Write.field-0-is) (write_queues k history c.args.emergencies.now log c.in-App-Write.key c.in-App-Write.bytes.now stands)
+
+pub returns-in-App-Event-clause-channels : goal.returns-in-App-Event-clause-channels
+returns-in-App-Event-clause-channels g c = λ k history before addressed.
+    rw (c.in-App-Event.is, c.in-App-Event.field-0-is) (event_channels k history _ c.args.bank.now (EventOn c.in-App-Event.number) before.channels)
+
+pub returns-in-App-Changed-clause-channels : goal.returns-in-App-Changed-clause-channels
+returns-in-App-Changed-clause-channels g c = λ k history before addressed.
+    rw (c.in-App-Changed.is, c.in-App-Changed.field-0-is) (event_channels k history _ c.args.bank.now (ChangedAt c.in-App-Changed.key) before.channels)
 
 pub returns-in-Frame-clause-mark : goal.returns-in-Frame-clause-mark
 returns-in-Frame-clause-mark g c = rw c.in-Frame.is (λ k history before addressed.

@@ -1,5 +1,5 @@
 use Rattle.std.proofs.Common.{[], ◌∷◌}
-use Rattle.co_node_model.specs.Inputs.{Framed}
+use Rattle.co_node.specs.Inputs.{Framed}
 use Rattle.co_node_worked.specs.Worked.{constants}
 use Rattle.co_node_worked.proofs.ChainExamples.{response_by, stands_by}
 use Rattle.co_node_worked.proofs.chain.respond.Goals as goal

@@ -1,58 +1,34 @@
-use Rattle.std.proofs.Common.{◌≡◌, ◌∷◌, sym, ap, subst, ◌∙◌, rules}
-use Rattle.co_node_model.specs.Inputs.{AppView, Applied, Written, EventOn, ChangedAt, Raised, Cleared}
+use denote.Ref.{Bor}
+use Rattle.std.proofs.Common.{◌≡◌, ◌∷◌, ℕ, List, refl, ap, subst, ◌∙◌, rules}
+use Rattle.co_frame.specs.declared.app_event.AppEvent.{AppEvent}
+use Rattle.co_frame.specs.declared.app_event.AppEvent.TheVariants.{Write, Event, Changed, Raise, Clear}
+use Rattle.co_frame.specs.AppEvents.{map_bytes}
+use Rattle.conode_trace.specs.Events.{written_bytes}
+use Rattle.co_node_model.specs.Inputs.{AppView, Applied, app_view, event_view}
 use Rattle.co_node_model.specs.Device.{prescribed}
 use Rattle.co_node.specs.Nodes.{Stands}
-use Rattle.conode_device.specs.Lines.{app_of}
 use Rattle.conode_device.proofs.input.apply.Goals as goal
 
-pub returns-in-Write-clause-frames : goal.returns-in-Write-clause-frames
-returns-in-Write-clause-frames c k before stands =
-    let bytes : c.as_slice.result.now ≡ c.in-Write.bytes = search rules in
-    let same : Written c.in-Write.key c.as_slice.result.now ≡ app_of c.args.event.now = ap (Written c.in-Write.key) bytes ∙ sym (ap app_of c.in-Write.is) in
-    c.take_event.ensures.frames k before stands ∙ ap (λ (event : AppView). prescribed k before (Applied event)) same
+-- with the bytes that it has an event is the same
+own_bytes : (event : AppEvent (List ℕ)) → map_bytes (λ (old : List ℕ). written_bytes event) event ≡ event
+own_bytes (Write key bytes) = refl
+own_bytes (Event number) = refl
+own_bytes (Changed key) = refl
+own_bytes (Raise code bits extra) = refl
+own_bytes (Clear bits) = refl
 
-pub returns-in-Write-clause-stands : goal.returns-in-Write-clause-stands
-returns-in-Write-clause-stands c k before stands =
-    let bytes : c.as_slice.result.now ≡ c.in-Write.bytes = search rules in
-    let same : Written c.in-Write.key c.as_slice.result.now ≡ app_of c.args.event.now = ap (Written c.in-Write.key) bytes ∙ sym (ap app_of c.in-Write.is) in
-    subst (λ (event : AppView). Stands k c.take_event.new.self (Applied event ∷ before)) same (c.take_event.ensures.stands k before stands)
+same_event : (event : AppEvent (List ℕ)) (taken : AppEvent (Bor (List ℕ))) (bytes : List ℕ) → map_bytes (λ (slice : Bor (List ℕ)). slice.now) taken ≡ map_bytes (λ (old : List ℕ). bytes) event
+    → bytes ≡ written_bytes event → app_view taken ≡ event_view event
+same_event event taken bytes with_these are = ap event_view (with_these ∙ ap (λ (b : List ℕ). map_bytes (λ (old : List ℕ). b) event) are ∙ own_bytes event)
 
-pub returns-in-Event-clause-frames : goal.returns-in-Event-clause-frames
-returns-in-Event-clause-frames c k before stands =
-    let same : EventOn c.in-Event.number ≡ app_of c.args.event.now = sym (ap app_of c.in-Event.is) in
-    c.take_event-in-Event.ensures.frames k before stands ∙ ap (λ (event : AppView). prescribed k before (Applied event)) same
+pub returns-clause-frames : goal.returns-clause-frames
+returns-clause-frames c k before stands =
+    let bytes : c.as_slice.result.now ≡ written_bytes c.args.event.now = search rules in
+    c.take_event.ensures.frames k before stands
+    ∙ ap (λ (event : AppView). prescribed k before (Applied event)) (same_event c.args.event.now c.with_bytes.result c.as_slice.result.now c.with_bytes.ensures bytes)
 
-pub returns-in-Event-clause-stands : goal.returns-in-Event-clause-stands
-returns-in-Event-clause-stands c k before stands =
-    let same : EventOn c.in-Event.number ≡ app_of c.args.event.now = sym (ap app_of c.in-Event.is) in
-    subst (λ (event : AppView). Stands k c.take_event-in-Event.new.self (Applied event ∷ before)) same (c.take_event-in-Event.ensures.stands k before stands)
-
-pub returns-in-Changed-clause-frames : goal.returns-in-Changed-clause-frames
-returns-in-Changed-clause-frames c k before stands =
-    let same : ChangedAt c.in-Changed.key ≡ app_of c.args.event.now = sym (ap app_of c.in-Changed.is) in
-    c.take_event-in-Changed.ensures.frames k before stands ∙ ap (λ (event : AppView). prescribed k before (Applied event)) same
-
-pub returns-in-Changed-clause-stands : goal.returns-in-Changed-clause-stands
-returns-in-Changed-clause-stands c k before stands =
-    let same : ChangedAt c.in-Changed.key ≡ app_of c.args.event.now = sym (ap app_of c.in-Changed.is) in
-    subst (λ (event : AppView). Stands k c.take_event-in-Changed.new.self (Applied event ∷ before)) same (c.take_event-in-Changed.ensures.stands k before stands)
-
-pub returns-in-Raise-clause-frames : goal.returns-in-Raise-clause-frames
-returns-in-Raise-clause-frames c k before stands =
-    let same : Raised c.in-Raise.code c.in-Raise.bits c.in-Raise.extra ≡ app_of c.args.event.now = sym (ap app_of c.in-Raise.is) in
-    c.take_event-in-Raise.ensures.frames k before stands ∙ ap (λ (event : AppView). prescribed k before (Applied event)) same
-
-pub returns-in-Raise-clause-stands : goal.returns-in-Raise-clause-stands
-returns-in-Raise-clause-stands c k before stands =
-    let same : Raised c.in-Raise.code c.in-Raise.bits c.in-Raise.extra ≡ app_of c.args.event.now = sym (ap app_of c.in-Raise.is) in
-    subst (λ (event : AppView). Stands k c.take_event-in-Raise.new.self (Applied event ∷ before)) same (c.take_event-in-Raise.ensures.stands k before stands)
-
-pub returns-in-Clear-clause-frames : goal.returns-in-Clear-clause-frames
-returns-in-Clear-clause-frames c k before stands =
-    let same : Cleared c.in-Clear.bits ≡ app_of c.args.event.now = sym (ap app_of c.in-Clear.is) in
-    c.take_event-in-Clear.ensures.frames k before stands ∙ ap (λ (event : AppView). prescribed k before (Applied event)) same
-
-pub returns-in-Clear-clause-stands : goal.returns-in-Clear-clause-stands
-returns-in-Clear-clause-stands c k before stands =
-    let same : Cleared c.in-Clear.bits ≡ app_of c.args.event.now = sym (ap app_of c.in-Clear.is) in
-    subst (λ (event : AppView). Stands k c.take_event-in-Clear.new.self (Applied event ∷ before)) same (c.take_event-in-Clear.ensures.stands k before stands)
+pub returns-clause-stands : goal.returns-clause-stands
+returns-clause-stands c k before stands =
+    let bytes : c.as_slice.result.now ≡ written_bytes c.args.event.now = search rules in
+    subst (λ (event : AppView). Stands k c.take_event.new.self (Applied event ∷ before))
+    (same_event c.args.event.now c.with_bytes.result c.as_slice.result.now c.with_bytes.ensures bytes) (c.take_event.ensures.stands k before stands)
