@@ -4,7 +4,7 @@ ghost use Rattle.std.specs.Prelude.{◌≡◌, false, true, MatchOption};
 ghost use Rattle.co_frame.specs.declared.abort_code.AbortCode.{AbortCode};
 ghost use Rattle.co_node_parts.specs.EmergencyQueues.{EmergencyLog, EmergenciesStand, with_queued};
 ghost use Rattle.co_node_model.specs.AppEvents.{is_tpdo};
-ghost use Rattle.co_node_model.specs.Inputs.{Written, EventOn, ChangedAt, Raised, Cleared};
+ghost use Rattle.co_node_model.specs.Inputs.{Written, EventOn, ChangedAt, Raised, Cleared, app_view};
 ghost use Rattle.co_node_model.specs.declared.mark.Mark.TheVariants as was;
 ghost use Rattle.co_node_device.specs.Given.{IsPlaceOf};
 ghost use Rattle.co_node_device.specs.Receiving.{app_moment};
@@ -13,7 +13,7 @@ use crate::emergencies::{clear, raise_and_queue};
 use crate::receiving::Received;
 use co_dict::{ObjectStore, Side, app_store, entry_row};
 use co_dict_placed::app_store_at;
-use co_frame::AbortCode;
+use co_frame::{AbortCode, AppEvent};
 use co_node_model::{AppAnswer, Asked, DeviceError, Mark};
 use co_node_parts::{Emergencies, EmergencyEvent};
 use co_pdo::{PdoNumber, has_pdo};
@@ -86,7 +86,7 @@ fn tpdo_at<S: ObjectStore>(store: &S, number: u16) -> Option<PdoNumber>
 }
 
 /// An application event of a TPDO.
-pub(crate) fn event<S: ObjectStore>(store: &S, number: u16) -> Received
+fn event<S: ObjectStore>(store: &S, number: u16) -> Received
     ensures mark { result.mark ≡ (app_moment (S.description store.now) (S.contents store.now)
         (EventOn number)).mark }
     ensures app { result.app ≡ (app_moment (S.description store.now) (S.contents store.now)
@@ -101,7 +101,7 @@ pub(crate) fn event<S: ObjectStore>(store: &S, number: u16) -> Received
 }
 
 /// The application reports that the value of an entry changed.
-pub(crate) fn change<S: ObjectStore>(store: &S, key: Key) -> Received
+fn change<S: ObjectStore>(store: &S, key: Key) -> Received
     ensures mark { result.mark ≡ (app_moment (S.description store.now) (S.contents store.now)
         (ChangedAt key)).mark }
     ensures app { result.app ≡ (app_moment (S.description store.now) (S.contents store.now)
@@ -116,7 +116,7 @@ pub(crate) fn change<S: ObjectStore>(store: &S, key: Key) -> Received
 }
 
 /// The application raises an error; bit 0, generic error, is set as well.
-pub(crate) fn raise<S: ObjectStore>(
+fn raise<S: ObjectStore>(
     store: &mut S,
     emergencies: &mut Emergencies,
     code: u16,
@@ -147,11 +147,7 @@ pub(crate) fn raise<S: ObjectStore>(
 }
 
 /// The application clears bits of the error register.
-pub(crate) fn clear_errors<S: ObjectStore>(
-    store: &mut S,
-    emergencies: &mut Emergencies,
-    bits: u8,
-) -> Received
+fn clear_errors<S: ObjectStore>(store: &mut S, emergencies: &mut Emergencies, bits: u8) -> Received
     ensures mark { result.mark ≡ (app_moment (S.description store.old) (S.contents store.old)
         (Cleared bits)).mark }
     ensures app { result.app ≡ (app_moment (S.description store.old) (S.contents store.old)
@@ -166,4 +162,34 @@ pub(crate) fn clear_errors<S: ObjectStore>(
     let emergency = clear(store, bits);
     emergencies.note(EmergencyEvent::Queue(emergency));
     done(Mark::Quiet)
+}
+
+/// Receives an event of the application: it changes an entry or the error register, or is for TPDOs.
+/// The emergency of an error is queued.
+#[inline(always)]
+pub(crate) fn take_event<S: ObjectStore>(
+    store: &mut S,
+    emergencies: &mut Emergencies,
+    given: AppEvent<&[u8]>,
+) -> Received
+    ensures mark { result.mark ≡ (app_moment (S.description store.old) (S.contents store.old)
+        (app_view given.entry)).mark }
+    ensures app { result.app ≡ (app_moment (S.description store.old) (S.contents store.old)
+        (app_view given.entry)).app }
+    ensures contents { S.contents store.new ≡ (app_moment (S.description store.old)
+        (S.contents store.old) (app_view given.entry)).received }
+    ensures description { S.description store.new ≡ S.description store.old }
+    ensures emergencies { (log : EmergencyLog) → EmergenciesStand emergencies.old log →
+        EmergenciesStand emergencies.new (with_queued (app_moment (S.description store.old)
+        (S.contents store.old) (app_view given.entry)).raised_by_app log) }
+{
+    match given {
+        AppEvent::Write(key, bytes) => write(store, None, key, bytes),
+        AppEvent::Event(number) => event(store, number),
+        AppEvent::Changed(key) => change(store, key),
+        AppEvent::Raise(code, bits, manufacturer) => {
+            raise(store, emergencies, code, bits, manufacturer)
+        }
+        AppEvent::Clear(bits) => clear_errors(store, emergencies, bits),
+    }
 }

@@ -16,12 +16,12 @@ ghost use Rattle.co_node_model.specs.Device.{received_at};
 ghost use Rattle.co_node_device.specs.Given.{IsPlaced, given_view};
 ghost use Rattle.co_node_model.specs.Marks.{marked_time_out};
 
-use crate::app_events::{change, clear_errors, event, raise, write};
+use crate::app_events::{take_event, write};
 use crate::given::Given;
 use crate::nmt::take_command;
 use crate::sdo::{take_request, take_tick};
 use co_dict::ObjectStore;
-use co_frame::{AppEvent, Frame, Outbox};
+use co_frame::{Frame, Outbox};
 use co_node_model::{Address, AppAnswer, Mark, error_control_mark, rpdo_mark, sync_mark};
 use co_node_parts::{Emergencies, NodeState};
 use co_sdo::Bank;
@@ -129,12 +129,6 @@ pub(crate) fn receive<S: ObjectStore>(
             app: AppAnswer::None,
         },
         Given::WriteAt(place, key, bytes) => write(store, Some(place), key, bytes),
-        Given::App(AppEvent::Write(key, bytes)) => write(store, None, key, bytes),
-        Given::App(AppEvent::Event(number)) => event(store, number),
-        Given::App(AppEvent::Changed(key)) => change(store, key),
-        Given::App(AppEvent::Raise(code, bits, manufacturer)) => {
-            raise(store, emergencies, code, bits, manufacturer)
-        }
-        Given::App(AppEvent::Clear(bits)) => clear_errors(store, emergencies, bits),
+        Given::App(event) => take_event(store, emergencies, event),
     }
 }

@@ -2,7 +2,7 @@ use Rattle.std.proofs.Common.{subst}
 use Rattle.co_node_model.specs.Moments.{channels}
 use Rattle.co_node_model.specs.Addresses.{address_at}
 use Rattle.co_node_model.specs.Sdo.{channel_logs}
-use Rattle.co_node_model.specs.Inputs.{Written, EventOn, ChangedAt}
+use Rattle.co_node_model.specs.Inputs.{Written, app_view}
 use Rattle.co_node_device.specs.declared.given.Given.{Given}
 use Rattle.co_node_device.specs.Given.{IsPlaced}
 use Rattle.co_node_device.proofs.Receptions.{at_address, event_frames, event_channels, write_queues}
@@ -36,25 +36,13 @@ pub returns-in-WriteAt-clause-emergencies : goal.returns-in-WriteAt-clause-emerg
 returns-in-WriteAt-clause-emergencies g c = λ k history log before addressed stands.
     rw c.in-WriteAt.is (write_queues k history c.args.emergencies.now log c.in-WriteAt.key c.in-WriteAt.bytes.now stands)
 
-pub returns-in-App-Write-clause-frames : goal.returns-in-App-Write-clause-frames
-returns-in-App-Write-clause-frames g c = λ k history before addressed.
-    rw (c.in-App-Write.is, c.in-App-Write.field-0-is) (event_frames k history (Written c.in-App-Write.key c.in-App-Write.bytes.now) c.args.outbox.now.items)
+pub returns-in-App-clause-frames : goal.returns-in-App-clause-frames
+returns-in-App-clause-frames g c = λ k history before addressed.
+    rw c.in-App.is (event_frames k history (app_view c.in-App.event) c.args.outbox.now.items)
 
-pub returns-in-App-Write-clause-channels : goal.returns-in-App-Write-clause-channels
-returns-in-App-Write-clause-channels g c = λ k history before addressed.
-    rw (c.in-App-Write.is, c.in-App-Write.field-0-is) (event_channels k history _ c.args.bank.now (Written c.in-App-Write.key c.in-App-Write.bytes.now) before.channels)
-
-pub returns-in-App-Write-clause-emergencies : goal.returns-in-App-Write-clause-emergencies
-returns-in-App-Write-clause-emergencies g c = λ k history log before addressed stands.
-    rw (c.in-App-Write.is, c.in-App-Write.field-0-is) (write_queues k history c.args.emergencies.now log c.in-App-Write.key c.in-App-Write.bytes.now stands)
-
-pub returns-in-App-Event-clause-channels : goal.returns-in-App-Event-clause-channels
-returns-in-App-Event-clause-channels g c = λ k history before addressed.
-    rw (c.in-App-Event.is, c.in-App-Event.field-0-is) (event_channels k history _ c.args.bank.now (EventOn c.in-App-Event.number) before.channels)
-
-pub returns-in-App-Changed-clause-channels : goal.returns-in-App-Changed-clause-channels
-returns-in-App-Changed-clause-channels g c = λ k history before addressed.
-    rw (c.in-App-Changed.is, c.in-App-Changed.field-0-is) (event_channels k history _ c.args.bank.now (ChangedAt c.in-App-Changed.key) before.channels)
+pub returns-in-App-clause-channels : goal.returns-in-App-clause-channels
+returns-in-App-clause-channels g c = λ k history before addressed.
+    rw c.in-App.is (event_channels k history _ c.args.bank.now (app_view c.in-App.event) before.channels)
 
 pub returns-in-Frame-clause-mark : goal.returns-in-Frame-clause-mark
 returns-in-Frame-clause-mark g c = rw c.in-Frame.is (λ k history before addressed.
