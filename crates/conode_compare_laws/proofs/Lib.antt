@@ -136,6 +136,11 @@ pub mod ValueShown
 pub mod ValueDownloads
 pub mod ValueMismatches
 pub mod ValueAllowed
+pub mod ValueAborts
+pub mod ValueRefused
+pub mod ReadAnswers
+pub mod ReadFrames
+pub mod ReadInputs
 pub mod ValueWrites
 pub mod ValueExpedited
 pub mod ValueUploads

@@ -153,14 +153,14 @@ module _ (id micros : ℕ) (heard : Bool) (bytes : List ℕ) (position : ℕ) wh
       (frame_read bytes position (sent + 1) (position + (sent + 1) == segment_count bytes) some few) (grind (arith, nat_tests))
 
   -- what is said of one, and what explain has then
-  abbrev one_heard : Transfer → BlockSegment → Followed
+  abbrev pub one_heard : Transfer → BlockSegment → Followed
   one_heard t segment = record { says = record { what = SegmentHeard segment.sequence; of = None; ended = None }; next = has heard (Some (with_it t segment micros)) }
 
   is_added : (t : Transfer) (frame : List ℕ) (segment : BlockSegment) → t.stage ≡ SubBlock false → nat_lt segment.sequence t.next_number ≡ false → (segment.sequence == awaited_number t) ≡ true
       → follows_by heard (Some t) (Segment segment) micros Server frame ≡ one_heard t segment
   is_added t frame segment e b1 b2 = rw (e, b1, b2) refl
 
-  is_heard : (t : Transfer) (sent : ℕ) → InSubBlock t bytes position sent → position + sent < segment_count bytes → sent + 1 ≤ t.block_size → sent + 1 < 128
+  pub is_heard : (t : Transfer) (sent : ℕ) → InSubBlock t bytes position sent → position + sent < segment_count bytes → sent + 1 ≤ t.block_size → sent + 1 < 128
       → reads (has heard (Some t)) micros Server (answer_bytes (Sent (block_segment bytes position (sent + 1)))) ≡ one_heard t (block_segment bytes position (sent + 1))
   is_heard t sent h under within few =
       let number = h.number in
@@ -173,7 +173,7 @@ module _ (id micros : ℕ) (heard : Bool) (bytes : List ℕ) (position : ℕ) wh
       ∙ is_added t (segment_at bytes position (sent + 1)) (block_segment bytes position (sent + 1)) (h.stage ∙ ap (λ b. SubBlock b) more) below next
 
   -- one more is pending
-  one_pending : (t : Transfer) (sent : ℕ) → InSubBlock t bytes position sent → position + sent < segment_count bytes
+  pub one_pending : (t : Transfer) (sent : ℕ) → InSubBlock t bytes position sent → position + sent < segment_count bytes
       → InSubBlock (with_it t (block_segment bytes position (sent + 1)) micros) bytes position (sent + 1)
   one_pending t sent h under =
       let p = h.pending in

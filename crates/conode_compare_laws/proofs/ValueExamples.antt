@@ -4,7 +4,7 @@ use Rattle.std.specs.Prelude.{ℤ, pos}
 use Rattle.co_frame.specs.SdoRequests.{request_row_in}
 use Rattle.co_frame.specs.SdoResponses.{response_row_in}
 use Rattle.co_profile.specs.declared.access.Access.{Access}
-use Rattle.co_profile.specs.declared.access.Access.TheVariants.{Constant, Ro, Rw}
+use Rattle.co_profile.specs.declared.access.Access.TheVariants.{Constant, Ro, Rw, Wo}
 use Rattle.co_node_model.proofs.ExampleNode.{frame}
 use Rattle.co_sheet.specs.Content.{Row}
 use Rattle.co_dict_build.specs.InitialBytes.{initial_of}
@@ -15,7 +15,7 @@ use Rattle.co_value.specs.declared.key.Key.{Key}
 use Rattle.conode_compare_pdos.specs.Followed.{unknown_pdos}
 use Rattle.conode_compare_values.specs.HeldNumbers.{held_mismatch}
 use Rattle.conode_compare_values.specs.SheetValues.{mismatch_at, row_mismatch, value_mismatch}
-use Rattle.conode_compare_values.specs.declared.mismatch.Mismatch.TheVariants.{AboveLimit, BelowLimit, ConstText, ValueConst, ValueLength, Written}
+use Rattle.conode_compare_values.specs.declared.mismatch.Mismatch.TheVariants.{AboveLimit, BelowLimit, ConstText, ReadRefused, ValueConst, ValueLength, Written}
 use Rattle.conode_compare_transfers.specs.Breaches.{breach_at}
 use Rattle.conode_compare_transfers.specs.Dialogues.{dialogue_heard, exchange_in, is_certain}
 use Rattle.conode_compare_transfers.specs.NewestFrames.{newest_after, newest_with}
@@ -30,7 +30,7 @@ use Rattle.conode_compare_rules.specs.States as states
 use Rattle.conode_compare_rules.specs.States.{after_boot_up, after_other, awaits_boot_up, is_settled}
 use Rattle.conode_compare_rules.specs.Verdicts.{found}
 use Rattle.conode_compare_rules.specs.OtherClients.{no_clients}
-use Rattle.conode_compare_laws.specs.ValueFindings.{constant_differences, length_differences, limit_differences, write_differences}
+use Rattle.conode_compare_laws.specs.ValueFindings.{constant_differences, length_differences, limit_differences, read_differences, write_differences}
 use Rattle.conode_compare_laws.specs.Differences.{differences_in}
 use Rattle.conode_compare_laws.specs.Recordings.{Recorded, with_stamp}
 
@@ -97,6 +97,38 @@ one_byte : differences_in length_differences subject (rows Rw None None) (answer
 unfolding findings_at progress_with begun booted found states.after_control after_boot_up after_other awaits_boot_up is_settled progresses.after_control control_findings heartbeat_findings silence_finding channel_heard exchange_at exchange_noted late_noted
     request_findings confirmed_finding answer_findings answer_finding stopped_finding held_finding what_finding held_mismatch dialogue_heard exchange_in is_certain newest_with newest_after breach_at shown_period shown_inhibit asked_to_write mismatch_at row_mismatch value_mismatch request_row_in response_row_in
 one_byte = refl
+
+-- ---- a refusal
+
+-- it refuses to read what the sheet has as readable
+unreadable : differences_in read_differences subject (rows Rw None None) (answered 0x4000_2000_0000_0000 0x8000_2000_0100_0106) ≡ Value (ReadRefused entry (record { 0 = 0x06010001 })) ∷ []
+unfolding findings_at progress_with begun booted found states.after_control after_boot_up after_other awaits_boot_up is_settled progresses.after_control control_findings heartbeat_findings silence_finding channel_heard exchange_at exchange_noted late_noted
+    request_findings confirmed_finding answer_findings answer_finding stopped_finding held_finding what_finding held_mismatch dialogue_heard exchange_in is_certain newest_with newest_after breach_at shown_period shown_inhibit asked_to_write mismatch_at row_mismatch value_mismatch request_row_in response_row_in
+unreadable = refl
+
+-- it hasn't sub-index 0
+no_first : differences_in read_differences subject (rows Ro None None) (answered 0x4000_2000_0000_0000 0x8000_2000_1100_0906) ≡ Value (ReadRefused entry (record { 0 = 0x06090011 })) ∷ []
+unfolding findings_at progress_with begun booted found states.after_control after_boot_up after_other awaits_boot_up is_settled progresses.after_control control_findings heartbeat_findings silence_finding channel_heard exchange_at exchange_noted late_noted
+    request_findings confirmed_finding answer_findings answer_finding stopped_finding held_finding what_finding held_mismatch dialogue_heard exchange_in is_certain newest_with newest_after breach_at shown_period shown_inhibit asked_to_write mismatch_at row_mismatch value_mismatch request_row_in response_row_in
+no_first = refl
+
+-- as this device does
+write_only : differences_in read_differences subject (rows Wo None None) (answered 0x4000_2000_0000_0000 0x8000_2000_0100_0106) ≡ []
+unfolding findings_at progress_with begun booted found states.after_control after_boot_up after_other awaits_boot_up is_settled progresses.after_control control_findings heartbeat_findings silence_finding channel_heard exchange_at exchange_noted late_noted
+    request_findings confirmed_finding answer_findings answer_finding stopped_finding held_finding what_finding held_mismatch dialogue_heard exchange_in is_certain newest_with newest_after breach_at shown_period shown_inhibit asked_to_write mismatch_at row_mismatch value_mismatch request_row_in response_row_in
+write_only = refl
+
+-- an abort of another entry
+of_another : differences_in read_differences subject (rows Rw None None) (answered 0x4000_2000_0000_0000 0x8001_2000_0100_0106) ≡ []
+unfolding findings_at progress_with begun booted found states.after_control after_boot_up after_other awaits_boot_up is_settled progresses.after_control control_findings heartbeat_findings silence_finding channel_heard exchange_at exchange_noted late_noted
+    request_findings confirmed_finding answer_findings answer_finding stopped_finding held_finding what_finding held_mismatch dialogue_heard exchange_in is_certain newest_with newest_after breach_at shown_period shown_inhibit asked_to_write mismatch_at row_mismatch value_mismatch request_row_in response_row_in
+of_another = refl
+
+-- there is no value now
+no_value : differences_in read_differences subject (rows Rw None None) (answered 0x4000_2000_0000_0000 0x8000_2000_2400_0008) ≡ []
+unfolding findings_at progress_with begun booted found states.after_control after_boot_up after_other awaits_boot_up is_settled progresses.after_control control_findings heartbeat_findings silence_finding channel_heard exchange_at exchange_noted late_noted
+    request_findings confirmed_finding answer_findings answer_finding stopped_finding held_finding what_finding held_mismatch dialogue_heard exchange_in is_certain newest_with newest_after breach_at shown_period shown_inhibit asked_to_write mismatch_at row_mismatch value_mismatch request_row_in response_row_in
+no_value = refl
 
 -- ---- a value that is compared
 

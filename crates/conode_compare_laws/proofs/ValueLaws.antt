@@ -3,7 +3,7 @@ use Rattle.std.proofs.Common.{◌≡◌, ◌+◌, ◌∙◌, true, false, ap, Li
 use Rattle.std.specs.List.{All, AllByRecursion}
 use Rattle.co_value.specs.declared.key.Key.{Key}
 use Rattle.co_dict.specs.Rows.{Contents}
-use Rattle.co_dict.specs.Stores.{Description, IsDictionary}
+use Rattle.co_dict.specs.Stores.{Description, IsDescription, IsDictionary}
 use Rattle.co_dict_build.specs.Built.{Plan, built_contents}
 use Rattle.co_node.specs.Built.{IsBuilt}
 use Rattle.co_node_model.specs.Device.{contents_of}
@@ -19,17 +19,19 @@ use Rattle.conode_compare_laws.specs.Differences.{differences_in}
 use Rattle.conode_compare_laws.specs.Identifiers.{AreElsewhere, IsAside}
 use Rattle.conode_compare_laws.specs.IdentityEntries.{AllHaveIdentity, HasIdentity}
 use Rattle.conode_compare_laws.specs.Recordings.{Stamped, recording}
-use Rattle.conode_compare_laws.specs.ValueFindings.{constant_differences, length_differences, limit_differences, of_constants, of_lengths, of_limits, of_writes, on_channel, write_differences}
+use Rattle.conode_compare_laws.specs.ValueFindings.{constant_differences, length_differences, limit_differences, read_differences, of_constants, of_lengths, of_limits, of_writes, on_channel, write_differences}
 use Rattle.conode_compare_laws.proofs.Begins.{node_ok, to_127}
 use Rattle.conode_compare_laws.proofs.BuiltBytes.{always_fixed, identity_same, is_fixed}
 use Rattle.conode_compare_laws.proofs.Heard.{of_device}
 use Rattle.conode_compare_laws.proofs.KeptEntries.{SetsPermitted}
+use Rattle.conode_compare_laws.proofs.ReadInputs as refused
 use Rattle.conode_compare_laws.proofs.TpdoMapped.{none_out}
 use Rattle.conode_compare_laws.proofs.ValueConstants.{HoldsSheet, constant_picks, no_constant}
 use Rattle.conode_compare_laws.proofs.ValueDownloads.{Picks, Standing, obeys}
 use Rattle.conode_compare_laws.proofs.ValueInputs.{AllHold, none_in}
 use Rattle.conode_compare_laws.proofs.ValueLengths.{length_picks, no_length}
 use Rattle.conode_compare_laws.proofs.ValueOnly.{is_value}
+use Rattle.conode_compare_laws.proofs.ValueRefused.{Milds, built_milds}
 use Rattle.conode_compare_laws.proofs.ValueUploads as uploaded
 use Rattle.conode_compare_laws.proofs.ValueWrites.{limit_picks, no_limit, no_write, write_picks}
 
@@ -82,3 +84,10 @@ module _ (plan : Plan) (k : Constants) (is : IsBuilt plan k) (subject : Subject)
       uploads of_constants refl no_constant (HoldsSheet plan) (λ c h. subst (λ (d : Description). IsDictionary d c) (sym is.description) h.lawful)
       (constant_picks plan (of_device k subject) (ap (λ (d : Description). d.node) is.description) (to_127 plan.node (node_ok plan is.faultless)) lawful (none_out plan is.faultless))
       (all_hold_sheet permitted plan k is inputs [] held identity)
+
+  -- of uploads that are refused
+  pub no_reads : differences_in read_differences subject plan.rows (recording k inputs) ≡ []
+  no_reads =
+      none_in k subject plan.rows read_differences (IsDictionary k.description) (refused.Stands k.description)
+      (refused.obeys (of_device k subject) plan.rows k.description (subst (λ (d : Description). IsDescription d → Milds plan.rows d) (sym is.description) (built_milds plan))) inputs same answers bytes
+      (all_held k inputs [] held) other sync others aside

@@ -197,6 +197,23 @@ module _ (only : Option Finding → List Finding) (nothing : only None ≡ []) w
       by true = nothing
       by false = at (row_at rows e.key) refl
 
+  -- of one whose entry a frame that is an abort names
+  pub named_none : (subject : Subject) (rows : List Row) (frame : FrameContent) (e : Ended)
+      → (refuses_other frame e ≡ false → (row : Row) → row_at rows e.key ≡ Some row → only (value_finding (row_mismatch subject.node subject.facts.modular subject.rooms row (is_exact e.protocol frame) e)) ≡ [])
+      → only (known_finding subject rows frame e) ≡ []
+  unfolding mismatch_at
+  named_none subject rows frame e h = by (refuses_other frame e) refl
+    where
+      at : (o : Option Row) → row_at rows e.key ≡ o → refuses_other frame e ≡ false
+          → only (value_finding (option_and_then (λ row. row_mismatch subject.node subject.facts.modular subject.rooms row (is_exact e.protocol frame) e) o)) ≡ []
+      at None is off = nothing
+      at (Some row) is off = h off row is
+
+      by : (b : Bool) → refuses_other frame e ≡ b
+          → only (if b then None else value_finding (option_and_then (λ row. row_mismatch subject.node subject.facts.modular subject.rooms row (is_exact e.protocol frame) e) (row_at rows e.key))) ≡ []
+      by true off = nothing
+      by false off = at (row_at rows e.key) refl off
+
   -- by how the transfer ends
   pub downloads_none : (node : ℕ) (modular : Bool) (rooms : Rooms) (row : Row) (exact : Bool) (e : Ended) → Passes is_data → Passes is_refusal
       → ((crc : Bool) → e.direction ≡ Download → e.ending ≡ Done crc → only (value_finding (download_mismatch rooms row e)) ≡ [])
@@ -222,6 +239,20 @@ module _ (only : Option Finding → List Finding) (nothing : only None ≡ []) w
       by Upload (Done crc) d s = h crc d s
       by Download (Done crc) d s = passed is_write writes (download_mismatch rooms row e) (writes_only rooms row e)
       by Upload (Aborted Server code) d s = passed is_refusal refusals (refused_mismatch modular row code) (refusals_only modular row code)
+      by Upload (Aborted Client code) d s = nothing
+      by Upload _ d s = nothing
+      by Download _ d s = nothing
+
+  pub refusals_none : (node : ℕ) (modular : Bool) (rooms : Rooms) (row : Row) (exact : Bool) (e : Ended) → Passes is_data → Passes is_write
+      → ((code : AbortCode) → e.direction ≡ Upload → e.ending ≡ Aborted Server code → only (value_finding (refused_mismatch modular row code)) ≡ [])
+      → only (value_finding (row_mismatch node modular rooms row exact e)) ≡ []
+  unfolding row_mismatch
+  refusals_none node modular rooms row exact e values writes h = by e.direction e.ending refl refl
+    where
+      by : (direction : Direction) (ending : Ending) → e.direction ≡ direction → e.ending ≡ ending → only (value_finding (mismatch_by node modular rooms row exact e direction ending)) ≡ []
+      by Upload (Done crc) d s = passed is_data values (value_mismatch node row exact e) (values_only node row exact e)
+      by Download (Done crc) d s = passed is_write writes (download_mismatch rooms row e) (writes_only rooms row e)
+      by Upload (Aborted Server code) d s = h code d s
       by Upload (Aborted Client code) d s = nothing
       by Upload _ d s = nothing
       by Download _ d s = nothing

@@ -1,6 +1,6 @@
 -- What `compare` finds of the values and the access of entries, by the end of a transfer on a device's default SDO channel.
 use Rattle.std.specs.Prelude.{List, [], ◌∷◌, Option, Some}
-use Rattle.conode_compare_values.specs.declared.mismatch.Mismatch.TheVariants.{Written, AboveLimit, BelowLimit, ConstText, ValueConst, ValueLength}
+use Rattle.conode_compare_values.specs.declared.mismatch.Mismatch.TheVariants.{Written, AboveLimit, BelowLimit, ConstText, ReadRefused, ValueConst, ValueLength}
 use Rattle.conode_compare_rules.specs.declared.finding.Finding.{Finding}
 use Rattle.conode_compare_rules.specs.declared.finding.Finding.TheVariants.{Value}
 use Rattle.conode_compare_rules.specs.declared.kind.FrameKind.{FrameKind}
@@ -49,3 +49,13 @@ of_constants finding = []
 
 abbrev pub constant_differences : FrameKind → Findings → List Finding
 constant_differences = on_channel of_constants
+
+-- ---- refusals
+
+-- `access-read`
+abbrev pub of_reads : Option Finding → List Finding
+of_reads (Some (Value (ReadRefused key code))) = Value (ReadRefused key code) ∷ []
+of_reads finding = []
+
+abbrev pub read_differences : FrameKind → Findings → List Finding
+read_differences = on_channel of_reads

@@ -48,6 +48,7 @@ pub use tpdo_built::{built_no_pdo_length, built_no_pdo_sync, keeps_tpdos, tpdos_
 pub use tpdo_laws::{no_pdo_inhibit, no_pdo_late, no_pdo_length, no_pdo_state, no_pdo_sync};
 pub use value_laws::{
     built_no_constant_differences, built_no_length_differences, built_no_limit_differences,
-    built_no_write_differences, keeps_identity, node_no_constant_differences,
-    node_no_length_differences, node_no_limit_differences, node_no_write_differences,
+    built_no_read_differences, built_no_write_differences, keeps_identity,
+    node_no_constant_differences, node_no_length_differences, node_no_limit_differences,
+    node_no_read_differences, node_no_write_differences,
 };

@@ -19,6 +19,7 @@ ghost use Rattle.conode_compare_laws.specs.ValueFindings.{
   constant_differences,
   length_differences,
   limit_differences,
+  read_differences,
   write_differences,
 };
 ghost use Rattle.conode_compare_laws.specs.WrittenEntries.{WriteBytes};
@@ -172,6 +173,40 @@ pub fn node_no_constant_differences()
     stands_on_dictionary();
     stays_dictionary();
     built_no_constant_differences();
+}
+
+/// The recording of a device that is built from a data sheet, over whatever inputs with whatever
+/// stamps, has no `access-read` by that sheet: no upload of an entry that it has as readable is
+/// refused with 06010001, nor at sub-index 0 with 06020000 or 06090011 (CiA 301, 7.2.4.3.17), in
+/// whatever state, expedited, in segments and in blocks; nor is the last segment of a block upload
+/// taken for such an abort, whatever data it has. Conditions: those of
+/// `built_no_write_differences`. This is a law: a call of it changes nothing.
+pub fn built_no_read_differences()
+    ensures { (plan : Plan) (k : Constants) (subject : Subject) (inputs : List Stamped) →
+        IsBuilt plan k → subject.node ≡ k.description.node → HaveBytes inputs →
+        AllAreHeld k [] inputs → AreElsewhere (0x580 + k.description.node) inputs →
+        differences_in read_differences subject plan.rows (recording k inputs) ≡ [] }
+{
+    begins_apart();
+    begins_aside();
+    begins_other();
+    sends_other();
+    stays_apart();
+}
+
+/// So has the recording of each device that `Node::build` of `co_node` makes:
+/// `built_no_read_differences` of it, under the conditions of `node_no_write_differences`. This is
+/// a law: a call of it changes nothing.
+pub fn node_no_read_differences()
+    ensures { (plan : Plan) (k : Constants) (node : Node) (subject : Subject)
+        (inputs : List Stamped) → IsBuilt plan k → Stands k node [] →
+        subject.node ≡ k.description.node → HaveBytes inputs → WriteBytes inputs →
+        AreElsewhere (0x580 + k.description.node) inputs →
+        differences_in read_differences subject plan.rows (recording k inputs) ≡ [] }
+{
+    stands_on_dictionary();
+    stays_dictionary();
+    built_no_read_differences();
 }
 
 /// The device type, the vendor-ID and the product code of a device that is built from a data sheet
