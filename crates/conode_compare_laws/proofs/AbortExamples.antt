@@ -20,6 +20,7 @@ use Rattle.conode_compare_rules.specs.declared.finding.Finding.TheVariants.{Tran
 use Rattle.conode_compare_rules.specs.declared.limits.Subject.{Subject}
 use Rattle.conode_compare_rules.specs.Answers.{answer_finding, confirmed_finding, held_finding, silence_finding, stopped_finding, what_finding}
 use Rattle.conode_compare_rules.specs.EntriesInForce.{asked_to_write, shown_inhibit, shown_period}
+use Rattle.conode_compare_rules.specs.Heartbeats.{is_missing, late_finding, overdue_by}
 use Rattle.conode_compare_rules.specs.Progresses as progresses
 use Rattle.conode_compare_rules.specs.Progresses.{answer_findings, begun, booted, channel_heard, control_findings, exchange_at, exchange_noted, findings_at, heartbeat_findings, late_noted, progress_with, request_findings}
 use Rattle.conode_compare_rules.specs.States as states
@@ -76,7 +77,7 @@ sooner_heard = refl
 
 before_timeout : timeouts_found sooner ≡ Transfer (Early (record { index = 0x2001; sub = 0 }) 1100 2) ∷ []
 unfolding findings_at progress_with begun booted found states.after_control after_boot_up after_other awaits_boot_up is_settled progresses.after_control control_findings heartbeat_findings silence_finding channel_heard exchange_at exchange_noted late_noted
-    request_findings confirmed_finding answer_findings answer_finding stopped_finding held_finding what_finding held_mismatch dialogue_heard exchange_in is_certain newest_with newest_after breach_at shown_period shown_inhibit asked_to_write mismatch_at request_row_in response_row_in
+    request_findings confirmed_finding answer_findings answer_finding stopped_finding held_finding what_finding held_mismatch dialogue_heard exchange_in is_certain newest_with newest_after breach_at shown_period shown_inhibit asked_to_write mismatch_at request_row_in response_row_in overdue_by late_finding is_missing
 before_timeout = refl
 
 -- ---- as before, but the request comes with a tick: the device aborts the transfer after its 2 ms
@@ -107,7 +108,7 @@ found_by time recorded = differences_in timeout_differences (record subject { li
 other_times : map (λ time. found_by time after_timeout) (2 ∷ 1 ∷ 0 ∷ 3 ∷ [])
     ≡ [] ∷ [] ∷ (Transfer (Early (record { index = 0x2001; sub = 0 }) 2000 0) ∷ []) ∷ (Transfer (Early (record { index = 0x2001; sub = 0 }) 2000 3) ∷ []) ∷ []
 unfolding findings_at progress_with begun booted found states.after_control after_boot_up after_other awaits_boot_up is_settled progresses.after_control control_findings heartbeat_findings silence_finding channel_heard exchange_at exchange_noted late_noted
-    request_findings confirmed_finding answer_findings answer_finding stopped_finding held_finding what_finding held_mismatch dialogue_heard exchange_in is_certain newest_with newest_after breach_at shown_period shown_inhibit asked_to_write mismatch_at request_row_in response_row_in
+    request_findings confirmed_finding answer_findings answer_finding stopped_finding held_finding what_finding held_mismatch dialogue_heard exchange_in is_certain newest_with newest_after breach_at shown_period shown_inhibit asked_to_write mismatch_at request_row_in response_row_in overdue_by late_finding is_missing
 other_times = refl
 
 -- ---- another device aborts it
@@ -122,7 +123,7 @@ foreign_abort = with_stamp 0 (frame 0x705 1 0)
 
 other_abort : timeouts_found foreign_abort ≡ Transfer (Early (record { index = 0x2001; sub = 0 }) 500 2) ∷ []
 unfolding findings_at progress_with begun booted found states.after_control after_boot_up after_other awaits_boot_up is_settled progresses.after_control control_findings heartbeat_findings silence_finding channel_heard exchange_at exchange_noted late_noted
-    request_findings confirmed_finding answer_findings answer_finding stopped_finding held_finding what_finding held_mismatch dialogue_heard exchange_in is_certain newest_with newest_after breach_at shown_period shown_inhibit asked_to_write mismatch_at request_row_in response_row_in
+    request_findings confirmed_finding answer_findings answer_finding stopped_finding held_finding what_finding held_mismatch dialogue_heard exchange_in is_certain newest_with newest_after breach_at shown_period shown_inhibit asked_to_write mismatch_at request_row_in response_row_in overdue_by late_finding is_missing
 other_abort = refl
 
 -- ---- the second segment of a block upload of 2100:00, which is the last: its bytes are those of such an abort, but for the number 2
@@ -139,5 +140,5 @@ uploaded = with_stamp 0 (frame 0x705 1 0)
 
 looks_like_abort : timeouts_found uploaded ≡ []
 unfolding findings_at progress_with begun booted found states.after_control after_boot_up after_other awaits_boot_up is_settled progresses.after_control control_findings heartbeat_findings silence_finding channel_heard exchange_at exchange_noted late_noted
-    request_findings confirmed_finding answer_findings answer_finding stopped_finding held_finding what_finding held_mismatch dialogue_heard exchange_in is_certain newest_with newest_after breach_at shown_period shown_inhibit asked_to_write mismatch_at request_row_in response_row_in
+    request_findings confirmed_finding answer_findings answer_finding stopped_finding held_finding what_finding held_mismatch dialogue_heard exchange_in is_certain newest_with newest_after breach_at shown_period shown_inhibit asked_to_write mismatch_at request_row_in response_row_in overdue_by late_finding is_missing
 looks_like_abort = refl

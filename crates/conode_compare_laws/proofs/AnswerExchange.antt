@@ -58,8 +58,9 @@ use Rattle.conode_compare_rules.specs.declared.progress.Progress.{Progress}
 use Rattle.conode_compare_rules.specs.EmergencyRules.{is_stopped}
 use Rattle.conode_compare_rules.specs.FrameKinds.{command_kind, control_kind, data_kind, emergency_kind, length_of}
 use Rattle.conode_compare_rules.specs.declared.kind.FrameKind.TheVariants.{Process}
-use Rattle.conode_compare_rules.specs.Progresses.{answer_noted, begun as begun_progress, late_noted, progress_with}
-use Rattle.conode_compare_rules.specs.States.{after_other, awaits_boot_up}
+use Rattle.conode_compare_rules.specs.Progresses.{answer_nmt, answer_noted, begun as begun_progress, is_overdue, late_noted, progress_with}
+use Rattle.conode_compare_rules.specs.declared.nmt.Nmt.{Nmt}
+use Rattle.conode_compare_rules.specs.States.{after_other, awaits_boot_up, nothing_commanded}
 use Rattle.conode_compare_laws.specs.AnswerFindings.{answer_differences}
 use Rattle.conode_compare_laws.proofs.AnswerTurns.{in_blocks}
 use Rattle.conode_compare_laws.proofs.AnswerFollowed.{aborted_part, asks_in, block_download, block_upload, expedited_download, expedited_upload, reads, says_of, segmented_download, segmented_upload}
@@ -165,8 +166,8 @@ pub record Sending (micros : ℕ) (newest : Option ℕ) (d : Dialogue) : Type 0 
 
 none_sent : (subject : Subject) (rows : List Row) (p : Progress) (micros : ℕ) (frame : FrameContent) → Sends micros p.dialogue → answer_found subject rows p micros frame ≡ []
 none_sent subject rows p micros frame s = elim s.lasts [
-  | inl doubt ↦ uncertain subject rows p.written p.started micros (answer_noted subject p micros).nmt _ frame (in_doubt subject.limits.answer p.started p.dialogue micros frame doubt)
-  | inr live ↦ unasked subject rows p.written p.started micros (answer_noted subject p micros).nmt _ frame (asked_before subject.limits.answer p.started p.dialogue micros frame ∙ s.asked)
+  | inl doubt ↦ uncertain subject rows p.written p.started micros (answer_nmt subject p micros) _ frame (in_doubt subject.limits.answer p.started p.dialogue micros frame doubt)
+  | inr live ↦ unasked subject rows p.written p.started micros (answer_nmt subject p micros) _ frame (asked_before subject.limits.answer p.started p.dialogue micros frame ∙ s.asked)
       (inr (server_turned subject.limits.answer p.started p.dialogue micros frame s.live live.0))
 ]
 
@@ -190,8 +191,8 @@ pub record Later (blocks : Bool) (micros : ℕ) (newest : Option ℕ) (d : Dialo
 
 none_later : (subject : Subject) (rows : List Row) (blocks : Bool) (p : Progress) (micros : ℕ) (frame : FrameContent) → LaterHeard blocks micros p.dialogue → answer_found subject rows p micros frame ≡ []
 none_later subject rows blocks p micros frame s = elim s.still_open [
-  | inl doubt ↦ uncertain subject rows p.written p.started micros (answer_noted subject p micros).nmt _ frame (in_doubt subject.limits.answer p.started p.dialogue micros frame doubt)
-  | inr live ↦ unasked subject rows p.written p.started micros (answer_noted subject p micros).nmt _ frame (asked_before subject.limits.answer p.started p.dialogue micros frame ∙ s.asked)
+  | inl doubt ↦ uncertain subject rows p.written p.started micros (answer_nmt subject p micros) _ frame (in_doubt subject.limits.answer p.started p.dialogue micros frame doubt)
+  | inr live ↦ unasked subject rows p.written p.started micros (answer_nmt subject p micros) _ frame (asked_before subject.limits.answer p.started p.dialogue micros frame ∙ s.asked)
       (inr (server_turned subject.limits.answer p.started p.dialogue micros frame s.live live))
 ]
 
@@ -225,7 +226,7 @@ doubted_runs Opening subject rows micros answer q now live doubt c =
     let frame : FrameContent = record { id = 0x580 + subject.node; bytes = answer_bytes answer } in
     frame_runs subject rows micros q frame (Sdo Server frame) (IsFinished Opening) (answer_kind subject.node (answer_bytes answer))
     (server_quiet subject rows p micros frame (λ newest d. Finished Opening d)
-    (uncertain subject rows p.written p.started micros (answer_noted subject p micros).nmt _ frame (in_doubt subject.limits.answer p.started p.dialogue micros frame (ap (λ d. d.doubted) same.dialogue ∙ doubt)))
+    (uncertain subject rows p.written p.started micros (answer_nmt subject p micros) _ frame (in_doubt subject.limits.answer p.started p.dialogue micros frame (ap (λ d. d.doubted) same.dialogue ∙ doubt)))
     (finished Opening _ (server_heard subject.limits.answer p.started p.dialogue micros frame heard)
     (λ o. covers_with subject.limits.answer p.started p.dialogue micros frame heard (subst (λ d. IfSome d.channel.transfer Apart) (sym same.dialogue) (c o).0) (c o).1)))
 
@@ -322,13 +323,17 @@ pub record Asks (t : Transfer) (micros : ℕ) (q : Progress) : Type 0 where
   pub heard : InitiateHeard t micros q.dialogue
   pub running : is_stopped q.nmt.state ≡ false
 
-pub still_running : (subject : Subject) (p : Progress) (micros : ℕ) → is_stopped p.nmt.state ≡ false → is_stopped (answer_noted subject p micros).nmt.state ≡ false
+pub still_running : (subject : Subject) (p : Progress) (micros : ℕ) → is_stopped p.nmt.state ≡ false → is_stopped (answer_nmt subject p micros).state ≡ false
 unfolding late_noted after_other
-still_running subject p micros h = by (is_some (awaits_boot_up subject.limits p.nmt micros))
+still_running subject p micros h = judged (is_overdue subject p) (answer_noted subject p micros).nmt (by (is_some (awaits_boot_up subject.limits p.nmt micros)))
   where
     by : (b : Bool) → is_stopped (if b then Unknown else p.nmt.state) ≡ false
     by true = refl
     by false = h
+
+    judged : (b : Bool) (nmt : Nmt) → is_stopped nmt.state ≡ false → is_stopped (if b then nothing_commanded else nmt).state ≡ false
+    judged true nmt g = refl
+    judged false nmt g = g
 
 says_by : (d : Dialogue) (t : Transfer) (micros : ℕ) (bytes : List ℕ) → d.channel.transfer ≡ Some t → says_of d.channel.heard t micros bytes ≡ what.Part → (reads d.channel micros Server bytes).says.what ≡ what.Part
 says_by d t micros bytes is part = ap (λ o. (reads (record { heard = d.channel.heard; transfer = o }) micros Server bytes).says.what) is ∙ part
@@ -348,7 +353,7 @@ initiated_runs Opening subject rows micros t answer q first a part opens =
     let frame : FrameContent = record { id = 0x580 + subject.node; bytes = answer_bytes answer } in
     frame_runs subject rows micros q frame (Sdo Server frame) (IsFinished Opening) (answer_kind subject.node (answer_bytes answer))
     (server_quiet subject rows p micros frame (λ newest d. Finished Opening d)
-    (answered subject rows p.written p.started micros (answer_noted subject p micros).nmt _ frame heard.request (asked_before subject.limits.answer p.started p.dialogue micros frame ∙ heard.asked) heard.at_once
+    (answered subject rows p.written p.started micros (answer_nmt subject p micros) _ frame heard.request (asked_before subject.limits.answer p.started p.dialogue micros frame ∙ heard.asked) heard.at_once
     (still_running subject p micros running)
     (what_heard subject.limits.answer p.started p.dialogue micros frame ∙ says_by p.dialogue t micros frame.bytes heard.transfer (part p.dialogue.channel.heard)))
     (finished Opening _ (server_heard subject.limits.answer p.started p.dialogue micros frame live)

@@ -39,6 +39,7 @@ use Rattle.conode_compare_rules.specs.Progresses.{
   after_frame,
   after_process,
   answer_findings,
+  answer_nmt,
   answer_noted,
   anew_after,
   begins_anew,
@@ -64,7 +65,6 @@ use Rattle.conode_compare_rules.specs.Progresses.{
   with_gap,
 }
 use Rattle.conode_compare_pdos.specs.declared.pdos.Sighting.{Sighting}
-use Rattle.conode_compare_pdos.specs.Followed as tpdos
 use Rattle.conode_compare_rules.specs.States as states
 use Rattle.conode_compare_rules.specs.States.{after_other, shows_state}
 use Rattle.conode_compare_rules.specs.Verdicts.{found}
@@ -291,7 +291,7 @@ sighted_none late id length (Some sighting) = refl
 
 process_quiet : (Idle Inside : Type 0) (subject : Subject) (rows : List Row) (p : Progress) (micros id length : ℕ) (stage : Stage) → Holds Idle Inside stage p → Quiet subject rows p micros (Process id length) (Holds Idle Inside stage)
 unfolding process_findings after_process
-process_quiet Idle Inside subject rows p micros id length stage h = record { none = sighted_none (late_by_tpdo subject p micros id length) id length (tpdos.sighting _ p.pdos id length); next = record { live = h.live; asked = h.asked; covers = h.covers } }
+process_quiet Idle Inside subject rows p micros id length stage h = record { none = sighted_none (late_by_tpdo subject p micros id length) id length (progresses.sighted subject p micros id length); next = record { live = h.live; asked = h.asked; covers = h.covers } }
 
 pub apart_quiet : (Idle Inside : Type 0) (subject : Subject) (rows : List Row) (p : Progress) (micros : ℕ) (kind : FrameKind) (stage : Stage) → is_apart kind ≡ true → Holds Idle Inside stage p → Quiet subject rows p micros kind (Holds Idle Inside stage)
 apart_quiet Idle Inside subject rows p micros (Emcy code register) stage is h = emergency_quiet Idle Inside subject rows p micros code register stage h
@@ -416,9 +416,8 @@ client_quiet subject rows p micros frame After h = record { none = client_none s
 -- the answer's own finding
 abbrev pub answer_found : Subject → List Row → Progress → ℕ → FrameContent → List Finding
 answer_found subject rows p micros frame =
-    let noted = answer_noted subject p micros in
     let x = exchange_in subject.limits.answer p.started p.dialogue micros Server frame in
-    of_answers (option_or (stopped_finding subject.limits p.started noted.nmt x)
+    of_answers (option_or (stopped_finding subject.limits p.started (answer_nmt subject p micros) x)
     (option_or (answer_finding subject rows micros x frame) (held_finding subject p.written x)))
 
 server_none : (subject : Subject) (rows : List Row) (p : Progress) (micros : ℕ) (frame : FrameContent) → answer_found subject rows p micros frame ≡ []

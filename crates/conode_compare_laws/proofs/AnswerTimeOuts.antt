@@ -25,7 +25,7 @@ use Rattle.conode_compare_rules.specs.declared.kind.FrameKind.TheVariants.{Sdo}
 use Rattle.conode_compare_rules.specs.declared.limits.Subject.{Subject}
 use Rattle.conode_compare_rules.specs.declared.progress.Progress.{Progress}
 use Rattle.conode_compare_rules.specs.EmergencyRules.{is_stopped}
-use Rattle.conode_compare_rules.specs.Progresses.{answer_noted, begun}
+use Rattle.conode_compare_rules.specs.Progresses.{answer_nmt, answer_noted, begun}
 use Rattle.conode_compare_laws.specs.AnswerFindings.{answer_differences}
 use Rattle.conode_compare_laws.proofs.Runs.{AllRun}
 use Rattle.conode_compare_laws.proofs.Shown.{Stage}
@@ -90,7 +90,7 @@ abort_runs Idle Inside subject rows micros stage q id log is never closed runnin
         → answer_found subject rows (begun subject q micros) micros (record { id = 0x580 + subject.node; bytes = answer_bytes (Replied (Refuse (open_key (opened_after log)) (record { 0 = timed_out_code }))) }) ≡ []
     none None is w =
         let p : Progress = begun subject q micros in
-        unasked subject rows p.written p.started micros (answer_noted subject p micros).nmt _ abort (asked_before subject.limits.answer p.started p.dialogue micros abort ∙ is) (inl refl)
+        unasked subject rows p.written p.started micros (answer_nmt subject p micros) _ abort (asked_before subject.limits.answer p.started p.dialogue micros abort ∙ is) (inl refl)
     none (Some a) is w = elim w.why [
       | inl e ↦ absurd (never e.1)
       | inr doubt ↦ in_doubt_none a is (uncertain_since subject.limits.answer (begun subject q micros).started (begun subject q micros).dialogue.slow (begun subject q micros).dialogue.doubted a.micros doubt)
@@ -101,6 +101,6 @@ abort_runs Idle Inside subject rows micros stage q id log is never closed runnin
             → answer_found subject rows (begun subject q micros) micros (record { id = 0x580 + subject.node; bytes = answer_bytes (Replied (Refuse (open_key (opened_after log)) (record { 0 = timed_out_code }))) }) ≡ []
         in_doubt_none a is off =
             let p : Progress = begun subject q micros in
-            doubted_abort subject rows p.written p.started micros (answer_noted subject p micros).nmt _ abort a (asked_before subject.limits.answer p.started p.dialogue micros abort ∙ is)
+            doubted_abort subject rows p.written p.started micros (answer_nmt subject p micros) _ abort a (asked_before subject.limits.answer p.started p.dialogue micros abort ∙ is)
             (owes_none subject.limits.answer p.started p.dialogue micros abort a is off) (still_running subject p micros running) refl
             (subst IsEnding (sym (what_heard subject.limits.answer p.started p.dialogue micros abort)) (abort_ending p.dialogue micros (open_key (opened_after log)) timed_out_code))

@@ -72,6 +72,7 @@ use Rattle.conode_compare_rules.specs.Progresses.{
   process_findings,
   progress_with,
   request_findings,
+  hides_end,
   shown_beside,
   sighted,
   sighting_findings,
@@ -323,11 +324,12 @@ right_shown period None h = tt
 right_shown period (Some e) h = shown_right period e h
 
 -- after a frame of the channel
-pub sdo_such : (P : ℕ → Type 0) (subject : Subject) (p : Progress) (micros : ℕ) (side : Side) (frame : FrameContent) → IfSome (shown_beside p.other_client (exchange_at subject p micros side frame).heard.ended) (λ e. IfSome (shown_period e) P)
+pub sdo_such : (P : ℕ → Type 0) (subject : Subject) (p : Progress) (micros : ℕ) (side : Side) (frame : FrameContent) → IfSome (shown_beside (hides_end subject p micros (exchange_at subject p micros side frame).heard.ended) (exchange_at subject p micros side frame).heard.ended) (λ e. IfSome (shown_period e) P)
     → IfSome p.entries.period P → IfSome (after_sdo subject p micros side frame).entries.period P
 unfolding channel_heard exchange_noted
 sdo_such P subject p micros side frame shows h =
-    let o : Option Ended = shown_beside p.other_client (exchange_at subject p micros side frame).heard.ended in
+    let e : Option Ended = (exchange_at subject p micros side frame).heard.ended in
+    let o : Option Ended = shown_beside (hides_end subject p micros e) e in
     let asked : Option Asked = (dialogue_heard subject.limits.answer p.started p.dialogue micros side frame).asked in
     by_such P (entries_heard p.entries o asked) side frame (asked_such P (entries_ended p.entries o) asked (ended_such P p.entries o shows h))
 
@@ -340,9 +342,9 @@ sdo_begun subject p micros side frame period ago shows h =
       free = h.free;
       newest = h.newest;
       known = sdo_such (λ n. n ≡ period) subject p micros side frame
-          (right_shown period (shown_beside p.other_client ended) (beside_such (Shown producer_key period) p.other_client ended shows)) h.known;
+          (right_shown period (shown_beside (hides_end subject p micros ended) ended) (beside_such (Shown producer_key period) (hides_end subject p micros ended) ended shows)) h.known;
       since = sdo_such (IsRecent micros ago (after_transfer p.heartbeats ended micros).since) subject p micros side frame
-          (shown_since p.other_client p.heartbeats ended micros ago)
+          (shown_since (hides_end subject p micros ended) p.heartbeats ended micros ago)
           (under p.entries.period (recent micros micros ago ago p.heartbeats.since (after_transfer p.heartbeats ended micros).since (ended_since p.heartbeats ended micros ago)) h.since);
     }
 
@@ -352,17 +354,25 @@ noted_shows subject p micros frame period h = h
 
 noted_begun : (subject : Subject) (p : Progress) (micros period ago : ℕ) → Begun period micros ago p → Begun period micros ago (answer_noted subject p micros)
 unfolding late_noted
-noted_begun subject p micros period ago h = record { free = h.free; newest = h.newest; known = h.known; since = under p.entries.period (recent micros micros ago ago p.heartbeats.since (if is_some (late_at subject p micros) then None else p.heartbeats.since) (by (is_some (late_at subject p micros)))) h.since }
+noted_begun subject p micros period ago h = record { free = h.free; newest = h.newest; known = h.known; since = under p.entries.period (recent micros micros ago ago p.heartbeats.since (if is_some (late_by subject p true micros) then None else p.heartbeats.since) (by (is_some (late_by subject p true micros)))) h.since }
   where
     by : (b : Bool) → IfSome p.heartbeats.since (λ last. micros ≤ last + ago) → IfSome (if b then None else p.heartbeats.since) (λ last. micros ≤ last + ago)
     by true g = tt
     by false g = g
 
+-- by an answer, an EMCY or a TPDO none is late either
+none_by : (subject : Subject) (p : Progress) (own : Bool) (micros period ago : ℕ) → (period ≡ 0) ⊎ (ago ≤ period * 1000) → Begun period micros ago p → late_by subject p own micros ≡ None
+none_by subject p own micros period ago few h = by (own && is_missing_at subject p)
+  where
+    by : (b : Bool) → (if b then late_at subject p micros else None) ≡ None
+    by true = none_late subject p micros period ago few h
+    by false = refl
+
 answer_passes : (subject : Subject) (rows : List Row) (p : Progress) (micros : ℕ) (frame : FrameContent) (period ago : ℕ) → (period ≡ 0) ⊎ (ago ≤ period * 1000) → ShowsAt producer_key period p micros (Sdo Server frame) → Begun period micros ago p
     → Passes subject rows p micros (Sdo Server frame) period ago
 unfolding answer_findings found
 answer_passes subject rows p micros frame period ago few shows h = record {
-  none = ap (λ o. option_to_list o) (none_late subject p micros period ago few h);
+  none = ap (λ o. option_to_list o) (none_by subject p true micros period ago few h);
   beats = ended period micros ago (after_sdo subject (answer_noted subject p micros) micros Server frame)
       (sdo_begun subject (answer_noted subject p micros) micros Server frame period ago (noted_shows subject p micros frame period shows) (noted_begun subject p micros period ago h));
 }
@@ -401,14 +411,7 @@ command_beats p micros period ago EnterPreOperational own h = (let e : Beats per
 command_beats p micros period ago ResetNode own h = (let e : Beats period micros ago p = ended period micros ago p h in record { fresh = e.fresh; known = e.known; since = always p.entries.period (λ n. inr tt) })
 command_beats p micros period ago ResetCommunication own h = (let e : Beats period micros ago p = ended period micros ago p h in record { fresh = e.fresh; known = e.known; since = always p.entries.period (λ n. inr tt) })
 
--- by an EMCY or a TPDO none is late either, and the last heartbeat is as before, or forgotten
-none_by : (subject : Subject) (p : Progress) (own : Bool) (micros period ago : ℕ) → (period ≡ 0) ⊎ (ago ≤ period * 1000) → Begun period micros ago p → late_by subject p own micros ≡ None
-none_by subject p own micros period ago few h = by (own && is_missing_at subject p)
-  where
-    by : (b : Bool) → (if b then late_at subject p micros else None) ≡ None
-    by true = none_late subject p micros period ago few h
-    by false = refl
-
+-- the last heartbeat is as before, or forgotten
 said_since : (since : Option ℕ) (late : Bool) (micros ago : ℕ) → IfSome since (λ last. micros ≤ last + ago) → IfSome (if late then None else since) (λ last. micros ≤ last + ago)
 said_since since true micros ago h = tt
 said_since since false micros ago h = h

@@ -25,7 +25,7 @@ use Rattle.conode_compare_rules.specs.declared.limits.Subject.{Subject}
 use Rattle.conode_compare_rules.specs.EmergencyRules.{emergency_finding, inhibit_finding}
 use Rattle.conode_compare_rules.specs.EntriesInForce.{asked_to_write, facts_of, initial_entries, sheet_entries, shown_inhibit, shown_period}
 use Rattle.conode_compare_rules.specs.FrameKinds.{data_kind, kind_of}
-use Rattle.conode_compare_rules.specs.Heartbeats.{late_finding, overdue_by}
+use Rattle.conode_compare_rules.specs.Heartbeats.{is_missing, late_finding, overdue_by}
 use Rattle.conode_compare_rules.specs.Progresses.{after_command, after_emergency, answer_findings, begun, booted, channel_heard, control_findings, emergency_findings, exchange_at, exchange_noted, findings_at, heartbeat_findings, late_noted, progress_with, request_findings}
 use Rattle.conode_compare_rules.specs.States as states
 use Rattle.conode_compare_rules.specs.States.{after_boot_up, after_other, awaits_boot_up, boot_finding, control_finding, is_settled, second_boot_up, state_finding}
@@ -144,7 +144,7 @@ abbrev pause_found : ℕ → List Finding
 pause_found micros = differences_in inhibit_differences pausing [] (with_stamp 0 (frame 0x705 1 0) ∷ with_stamp 5000 (frame 0x85 8 0x118130) ∷ with_stamp (5000 + micros) (frame 0x85 8 0x118130) ∷ [])
 
 pauses : map pause_found (88999 ∷ 89000 ∷ []) ≡ (EmergencyInhibit 88999 1000 ∷ []) ∷ [] ∷ []
-unfolding findings_at progress_with begun booted found states.after_control after_boot_up emergency_findings emergency_finding inhibit_finding after_emergency is_settled
+unfolding findings_at progress_with begun booted found states.after_control after_boot_up emergency_findings emergency_finding inhibit_finding after_emergency is_settled overdue_by late_finding is_missing
 pauses = refl
 
 -- ---- an entry that a client names
@@ -185,11 +185,11 @@ late_found request response = differences_in late_differences beating []
 
 shown_otherwise : late_found 0x4017_1000_0000_0000 0x4B17_1000_6400_0000 ≡ HeartbeatLate 300000 100 ∷ []
 unfolding findings_at progress_with begun booted found states.after_control after_boot_up after_other awaits_boot_up boot_finding is_settled control_findings heartbeat_findings late_finding overdue_by channel_heard exchange_at exchange_noted late_noted
-    request_findings confirmed_finding answer_findings dialogue_heard exchange_in is_certain shown_period shown_inhibit asked_to_write request_row_in response_row_in
+    request_findings confirmed_finding answer_findings dialogue_heard exchange_in is_certain shown_period shown_inhibit asked_to_write request_row_in response_row_in is_missing
 shown_otherwise = refl
 
 -- not by a transfer of 1016:01
 not_shown : late_found 0x4016_1001_0000_0000 0x4316_1001_6400_0000 ≡ []
 unfolding findings_at progress_with begun booted found states.after_control after_boot_up after_other awaits_boot_up boot_finding is_settled control_findings heartbeat_findings late_finding overdue_by channel_heard exchange_at exchange_noted late_noted
-    request_findings confirmed_finding answer_findings dialogue_heard exchange_in is_certain shown_period shown_inhibit asked_to_write request_row_in response_row_in
+    request_findings confirmed_finding answer_findings dialogue_heard exchange_in is_certain shown_period shown_inhibit asked_to_write request_row_in response_row_in is_missing
 not_shown = refl

@@ -155,7 +155,7 @@ request_passes subject rows p micros frame stage h = record {
 process_passes : (subject : Subject) (rows : List Row) (p : Progress) (micros id length : ℕ) (stage : Stage) → FitsAt micros stage p → Passes subject rows p micros (Process id length) stage
 unfolding process_findings after_process
 process_passes subject rows p micros id length stage h = record {
-  none = sighted_none (late_by_tpdo subject p micros id length) id length (tpdos.sighting (moment_at subject p micros) p.pdos id length);
+  none = sighted_none (late_by_tpdo subject p micros id length) id length (progresses.sighted subject p micros id length);
   fits = h;
 }
 

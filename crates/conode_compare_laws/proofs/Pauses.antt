@@ -33,6 +33,7 @@ use Rattle.conode_compare_rules.specs.EmergencyRules.{emergency_finding, gap_fin
 use Rattle.conode_compare_rules.specs.EntriesInForce.{asked_by, asked_to_write, done_word, overwritten, shown_inhibit, shown_period, with_inhibit, with_period}
 use Rattle.conode_compare_rules.specs.OtherClients.{is_channel}
 use Rattle.conode_compare_rules.specs.FrameKinds.{command_kind, command_to, control_kind, data_kind, emergency_kind, emergency_with, length_of, long_command_in}
+use Rattle.conode_compare_rules.specs.Heartbeats.{follows_closely}
 use Rattle.conode_compare_rules.specs.Progresses as progresses
 use Rattle.conode_compare_rules.specs.Progresses.{
   after_command,
@@ -49,6 +50,7 @@ use Rattle.conode_compare_rules.specs.Progresses.{
   entries_asked,
   entries_ended,
   entries_heard,
+  hides_end,
   shown_beside,
   exchange_at,
   exchange_noted,
@@ -59,6 +61,7 @@ use Rattle.conode_compare_rules.specs.Progresses.{
   progress_with,
   steady_when_free,
   with_gap,
+  free_at,
 }
 use Rattle.conode_compare_rules.specs.States.{is_initialising, judged_state}
 use Rattle.conode_compare_rules.specs.Times.{drift_of}
@@ -85,6 +88,7 @@ IsSince inhibit micros last (s ∷ before) = (last + s.age * 1000 ≤ micros) ×
 pub record Calm (inhibit micros : ℕ) (sent : List Sending) (p : Progress) : Type 0 where
   pub known : IfSome p.entries.inhibit (λ n. n ≡ inhibit)
   pub since : IfSome p.emergency (λ last. IsSince inhibit micros last sent)
+  pub fresh : p.free ≤ micros
 
 -- ---- time passes
 
@@ -100,14 +104,31 @@ older_since inhibit last now (Some e) (s ∷ sent) less h = (let first : e + s.a
 
 -- after an input, which may be a tick
 pub later : (inhibit last now : ℕ) (tick : Bool) (sent : List Sending) (p : Progress) → last + (if tick then 1000 else 0) ≤ now → Calm inhibit last sent p → Calm inhibit now (if tick then map older sent else sent) p
-later inhibit last now true sent p less h = record { known = h.known; since = older_since inhibit last now p.emergency sent less h.since }
-later inhibit last now false sent p less h = record { known = h.known; since = later_since inhibit last now p.emergency sent (omega arith) h.since }
+later inhibit last now true sent p less h = record { known = h.known; since = older_since inhibit last now p.emergency sent less h.since; fresh = (let f : p.free ≤ last = h.fresh in omega arith) }
+later inhibit last now false sent p less h = record { known = h.known; since = later_since inhibit last now p.emergency sent (omega arith) h.since; fresh = (let f : p.free ≤ last = h.fresh in omega arith) }
 
 -- ---- a recording that begins anew at a frame
 
+-- when the bus was free last isn't later
+free_fits : (newest : Option ℕ) (free micros : ℕ) → free ≤ micros → free_at newest free micros ≤ micros
+free_fits None free micros h = omega arith
+free_fits (Some newest) free micros h = by (follows_closely newest micros)
+  where
+    by : (b : Bool) → (if b then free else micros) ≤ micros
+    by true = h
+    by false = omega arith
+
+begun_fits : (subject : Subject) (p : Progress) (micros : ℕ) → p.free ≤ micros → (begun subject p micros).free ≤ micros
+unfolding begun
+begun_fits subject p micros h = by (begins_anew subject.limits p micros) _ _ (omega arith) (free_fits p.newest p.free micros h)
+  where
+    by : (b : Bool) (x y : Progress) → x.free ≤ micros → y.free ≤ micros → (if b then x else y).free ≤ micros
+    by true x y f g = f
+    by false x y f g = g
+
 pub begun_calm : (subject : Subject) (inhibit micros : ℕ) (sent : List Sending) (p : Progress) → KnowsInhibit inhibit subject → Calm inhibit micros sent p → Calm inhibit micros sent (begun subject p micros)
 unfolding begun
-begun_calm subject inhibit micros sent p knows h = by (begins_anew subject.limits p micros) _ _ (record { known = knows.before; since = tt }) (record { known = h.known; since = h.since })
+begun_calm subject inhibit micros sent p knows h = by (begins_anew subject.limits p micros) _ _ (record { known = knows.before; since = tt; fresh = omega arith }) (record { known = h.known; since = h.since; fresh = free_fits p.newest p.free micros h.fresh })
   where
     by : (b : Bool) (x y : Progress) → Calm inhibit micros sent x → Calm inhibit micros sent y → Calm inhibit micros sent (if b then x else y)
     by true x y f g = f
@@ -213,11 +234,12 @@ sdo_calm : (inhibit micros : ℕ) (sent : List Sending) (subject : Subject) (p :
 unfolding channel_heard exchange_at exchange_in exchange_noted
 sdo_calm inhibit micros sent subject p side frame shows h =
     let ended : Option Ended = (exchange_at subject p micros side frame).heard.ended in
-    let o : Option Ended = shown_beside p.other_client ended in
+    let o : Option Ended = shown_beside (hides_end subject p micros ended) ended in
     record {
       known = by_known inhibit (entries_heard p.entries o (dialogue_heard subject.limits.answer p.started p.dialogue micros side frame).asked) side frame
-          (asked_known inhibit (entries_ended p.entries o) (dialogue_heard subject.limits.answer p.started p.dialogue micros side frame).asked (ended_known inhibit p.entries o (beside_such (Shown emergency_inhibit_key inhibit) p.other_client ended shows) h.known));
+          (asked_known inhibit (entries_ended p.entries o) (dialogue_heard subject.limits.answer p.started p.dialogue micros side frame).asked (ended_known inhibit p.entries o (beside_such (Shown emergency_inhibit_key inhibit) (hides_end subject p micros ended) ended shows) h.known));
       since = h.since;
+      fresh = h.fresh;
     }
 
 noted_shows : (inhibit micros : ℕ) (subject : Subject) (p : Progress) (frame : FrameContent) → ShowsAt emergency_inhibit_key inhibit p micros (Sdo Server frame) → ShowsAt emergency_inhibit_key inhibit (answer_noted subject p micros) micros (Sdo Server frame)
@@ -226,15 +248,15 @@ noted_shows inhibit micros subject p frame h = h
 
 noted_calm : (inhibit micros : ℕ) (sent : List Sending) (subject : Subject) (p : Progress) → Calm inhibit micros sent p → Calm inhibit micros sent (answer_noted subject p micros)
 unfolding late_noted
-noted_calm inhibit micros sent subject p h = record { known = h.known; since = h.since }
+noted_calm inhibit micros sent subject p h = record { known = h.known; since = h.since; fresh = h.fresh }
 
 command_calm : (inhibit micros : ℕ) (sent : List Sending) (p : Progress) (service : NmtService) (own : Bool) → Calm inhibit micros sent p → Calm inhibit micros sent (after_command p service own micros)
 unfolding after_command with_gap
-command_calm inhibit micros sent p Start own h = record { known = h.known; since = h.since }
-command_calm inhibit micros sent p Stop own h = record { known = h.known; since = h.since }
-command_calm inhibit micros sent p EnterPreOperational own h = record { known = h.known; since = h.since }
-command_calm inhibit micros sent p ResetNode own h = record { known = tt; since = tt }
-command_calm inhibit micros sent p ResetCommunication own h = record { known = tt; since = tt }
+command_calm inhibit micros sent p Start own h = record { known = h.known; since = h.since; fresh = h.fresh }
+command_calm inhibit micros sent p Stop own h = record { known = h.known; since = h.since; fresh = h.fresh }
+command_calm inhibit micros sent p EnterPreOperational own h = record { known = h.known; since = h.since; fresh = h.fresh }
+command_calm inhibit micros sent p ResetNode own h = record { known = tt; since = tt; fresh = h.fresh }
+command_calm inhibit micros sent p ResetCommunication own h = record { known = tt; since = tt; fresh = h.fresh }
 
 -- after a frame of the client of another SDO channel nothing is known of it
 client_known : (inhibit : ℕ) (entries : Entries) (b : Bool) → IfSome entries.inhibit (λ n. n ≡ inhibit) → IfSome (if b then overwritten entries else entries).inhibit (λ n. n ≡ inhibit)
@@ -257,8 +279,8 @@ quiet_passes inhibit micros sent subject rows p (Sdo Server frame) is shows h = 
   calm = sdo_calm inhibit micros sent subject (answer_noted subject p micros) Server frame (noted_shows inhibit micros subject p frame shows) (noted_calm inhibit micros sent subject p h);
 }
 quiet_passes inhibit micros sent subject rows p (Sdo Client frame) is shows h = record { none = refl; calm = sdo_calm inhibit micros sent subject p Client frame shows h }
-quiet_passes inhibit micros sent subject rows p (Process id length) is shows h = record { none = refl; calm = record { known = client_known inhibit p.entries (is_of_client subject id) h.known; since = h.since } }
-quiet_passes inhibit micros sent subject rows p Other is shows h = record { none = refl; calm = record { known = h.known; since = h.since } }
+quiet_passes inhibit micros sent subject rows p (Process id length) is shows h = record { none = refl; calm = record { known = client_known inhibit p.entries (is_of_client subject id) h.known; since = h.since; fresh = h.fresh } }
+quiet_passes inhibit micros sent subject rows p Other is shows h = record { none = refl; calm = record { known = h.known; since = h.since; fresh = h.fresh } }
 quiet_passes inhibit micros sent subject rows p _ is shows h = absurd (cc)
 
 one : (inhibit micros : ℕ) (sent : List Sending) (subject : Subject) (rows : List Row) (p : Progress) (frame : FrameContent) (kind : FrameKind) → data_kind subject.node frame ≡ kind
@@ -283,20 +305,20 @@ quiets inhibit micros sent subject rows (frame ∷ frames) p after knows emergen
 
 -- ---- the boot-up, and heartbeats
 
-boot_passes : (inhibit micros : ℕ) (sent : List Sending) (subject : Subject) (rows : List Row) (p : Progress) → KnowsInhibit inhibit subject → Passes inhibit micros sent subject rows p (Control 0)
+boot_passes : (inhibit micros : ℕ) (sent : List Sending) (subject : Subject) (rows : List Row) (p : Progress) → KnowsInhibit inhibit subject → p.free ≤ micros → Passes inhibit micros sent subject rows p (Control 0)
 unfolding booted
-boot_passes inhibit micros sent subject rows p knows = record { none = refl; calm = record { known = booted_known inhibit subject p.other_client knows; since = tt } }
+boot_passes inhibit micros sent subject rows p knows free = record { none = refl; calm = record { known = booted_known inhibit subject p.other_client knows; since = tt; fresh = free } }
 
 -- whatever was sent before it
-pub boots : (inhibit micros : ℕ) (sent after : List Sending) (subject : Subject) (rows : List Row) (p : Progress) (life : Heartbeat) → state_byte life ≡ 0 → KnowsInhibit inhibit subject
+pub boots : (inhibit micros : ℕ) (sent after : List Sending) (subject : Subject) (rows : List Row) (p : Progress) (life : Heartbeat) → state_byte life ≡ 0 → KnowsInhibit inhibit subject → p.free ≤ micros
     → AllRun inhibit_differences subject rows micros p (record { id = 0x700 + subject.node; bytes = heartbeat_bytes life } ∷ []) (Calm inhibit micros after)
-boots inhibit micros sent after subject rows p life is knows =
+boots inhibit micros sent after subject rows p life is knows free =
     one inhibit micros after subject rows p (record { id = 0x700 + subject.node; bytes = heartbeat_bytes life }) (Control (state_byte life)) (life_kind subject.node life)
-    (subst (λ byte. Passes inhibit micros after subject rows (begun subject p micros) (Control byte)) (sym is) (boot_passes inhibit micros after subject rows (begun subject p micros) knows))
+    (subst (λ byte. Passes inhibit micros after subject rows (begun subject p micros) (Control byte)) (sym is) (boot_passes inhibit micros after subject rows (begun subject p micros) knows (begun_fits subject p micros free)))
 
 control_passes : (inhibit micros byte : ℕ) (sent : List Sending) (subject : Subject) (rows : List Row) (p : Progress) → KnowsInhibit inhibit subject → Calm inhibit micros sent p → Passes inhibit micros sent subject rows p (Control byte)
 unfolding booted progresses.after_control
-control_passes inhibit micros byte sent subject rows p knows h = record { none = refl; calm = by (byte == 0) _ _ (record { known = booted_known inhibit subject p.other_client knows; since = tt }) (record { known = h.known; since = h.since }) }
+control_passes inhibit micros byte sent subject rows p knows h = record { none = refl; calm = by (byte == 0) _ _ (record { known = booted_known inhibit subject p.other_client knows; since = tt; fresh = h.fresh }) (record { known = h.known; since = h.since; fresh = h.fresh }) }
   where
     by : (b : Bool) (x y : Progress) → Calm inhibit micros sent x → Calm inhibit micros sent y → Calm inhibit micros sent (if b then x else y)
     by true x y f g = f
@@ -374,18 +396,18 @@ unfolding emergency_findings found after_emergency
 emergency_passes inhibit micros code register sent subject rows p over h = record {
   none = finding_none subject.limits p.entries (judged_state p.nmt) (steady_when_free subject p) p.emergency micros code register
       (inhibit_none subject.limits p.entries p.emergency micros inhibit sent h.known h.since over);
-  calm = record { known = h.known; since = (omega arith, refl) };
+  calm = record { known = h.known; since = (let f : p.free ≤ micros = h.fresh in omega arith, refl); fresh = h.fresh };
 }
 
 odd_passes : (inhibit micros length : ℕ) (sent : List Sending) (subject : Subject) (rows : List Row) (p : Progress) → Calm inhibit micros sent p → Passes inhibit micros (just_now inhibit ∷ sent) subject rows p (OddEmergency length)
 unfolding after_emergency
-odd_passes inhibit micros length sent subject rows p h = record { none = refl; calm = record { known = h.known; since = (omega arith, refl) } }
+odd_passes inhibit micros length sent subject rows p h = record { none = refl; calm = record { known = h.known; since = (let f : p.free ≤ micros = h.fresh in omega arith, refl); fresh = h.fresh } }
 
 -- on another identifier than compare has for EMCY
 other_passes : (inhibit micros : ℕ) (sent : List Sending) (subject : Subject) (rows : List Row) (p : Progress) (kind : FrameKind) → is_quiet kind ≡ true → ShowsAt emergency_inhibit_key inhibit p micros kind
     → Calm inhibit micros sent p → Passes inhibit micros (just_now inhibit ∷ sent) subject rows p kind
 other_passes inhibit micros sent subject rows p kind is shows h =
-    let now : Calm inhibit micros (just_now inhibit ∷ sent) p = record { known = h.known; since = now_since inhibit micros sent p.emergency h.since } in
+    let now : Calm inhibit micros (just_now inhibit ∷ sent) p = record { known = h.known; since = now_since inhibit micros sent p.emergency h.since; fresh = h.fresh } in
     quiet_passes inhibit micros (just_now inhibit ∷ sent) subject rows p kind is shows now
 
 -- what a frame of EMCY may be

@@ -1,5 +1,5 @@
 -- The EMCY that a device sends, over all its inputs: none within the inhibit time by what compare knows of it.
-use Rattle.std.proofs.Common.{◌≡◌, ℕ, ◌+◌, ◌≤◌, Bool, true, false, List, [], ◌∷◌, ◌++◌, map, Option, Some, None, refl, sym, ap, ◌∙◌, subst}
+use Rattle.std.proofs.Common.{◌≡◌, ℕ, ◌+◌, ◌≤◌, Bool, true, false, List, [], ◌∷◌, ◌++◌, map, Option, Some, None, refl, sym, ap, ◌∙◌, subst, arith}
 use Rattle.std.specs.Prelude.{if◌then◌else◌, ◌&&◌, not, slice_get}
 use Rattle.std.specs.List.{list_all}
 use Rattle.co_value.specs.declared.key.Key.{Key}
@@ -157,7 +157,7 @@ life_part : (inhibit micros : ℕ) (subject : Subject) (rows : List Row) (p : Pr
     → AllRun inhibit_differences subject rows micros p (life_frames subject.node (if reset then Some BootUp else (if due then Some (heartbeat_of final) else None)))
     (Calm inhibit micros (sendings (with_sending (due_in may (event_log reset tick log)) (number_at c emergency_inhibit_key) (event_log reset tick log))))
 life_part inhibit micros subject rows p c may true tick due log final knows h =
-    boots inhibit micros (aged tick log) (sendings (with_sending (due_in may (event_log true tick log)) (number_at c emergency_inhibit_key) (event_log true tick log))) subject rows p BootUp refl knows
+    boots inhibit micros (aged tick log) (sendings (with_sending (due_in may (event_log true tick log)) (number_at c emergency_inhibit_key) (event_log true tick log))) subject rows p BootUp refl knows h.fresh
 life_part inhibit micros subject rows p c may false tick false log final knows h = h
 life_part inhibit micros subject rows p c may false tick true log final knows h =
     lives inhibit micros (sendings (with_sending (due_in may (event_log false tick log)) (number_at c emergency_inhibit_key) (event_log false tick log))) subject rows p (heartbeat_of final) knows h
@@ -262,7 +262,7 @@ of_recording k subject rows inhibit (s ∷ others) knows same time control emerg
     let shown : Progress → Type 0 = λ q. ShowsFrom emergency_inhibit_key inhibit subj q rest in
     then_none inhibit_differences subj rows s.micros (boot_up k ∷ []) rest (before_recording subj) (λ q. Calm inhibit s.micros [] q × shown q)
     (both emergency_inhibit_key inhibit subj s.micros inhibit_differences rows (boot_up k ∷ []) (before_recording subj) (Calm inhibit s.micros []) shown
-    (boots inhibit s.micros [] [] subj rows (before_recording subj) BootUp refl known) (at_once emergency_inhibit_key inhibit subj s.micros (boot_up k ∷ []) rest (before_recording subj) shows))
+    (boots inhibit s.micros [] [] subj rows (before_recording subj) BootUp refl known (omega arith)) (at_once emergency_inhibit_key inhibit subj s.micros (boot_up k ∷ []) rest (before_recording subj) shows))
     (λ q g. step k subject rows inhibit s others [] q knows same control emergency aside without g.1
     (none_aged inhibit s.micros (marked_tick (moment k [] s.input).mark) q g.0)
     (λ q2 g2 rest_shows. all_none k subject rows inhibit others (s.input ∷ []) s.micros q2 knows same.1 time control.1 emergency.1 aside.1 without.1 rest_shows g2))

@@ -31,6 +31,7 @@ use Rattle.conode_compare_rules.specs.Progresses.{
   after_odd_control,
   after_process,
   answer_findings,
+  answer_nmt,
   answer_noted,
   before_recording,
   begins_anew,
@@ -104,7 +105,7 @@ odd_control_same : (subject : Subject) (micros length : ℕ) (p : Progress) → 
 unfolding after_odd_control
 odd_control_same subject micros length p = refl
 
-emergency_same : (micros : ℕ) (p : Progress) → unwritten (after_emergency (unwritten p) micros) ≡ unwritten (after_emergency p micros)
+emergency_same : (micros : ℕ) (p : Progress) → unwritten (after_emergency (unwritten p)) ≡ unwritten (after_emergency p)
 unfolding after_emergency
 emergency_same micros p = refl
 
@@ -182,7 +183,7 @@ answer_same subject rows micros frame p =
     let noted : Progress = answer_noted subject p micros in
     let exchange : Exchange = exchange_at subject noted micros Server frame in
     ap (with_frame (findings_in subject rows p micros (Sdo Server frame)))
-    (held_last_of_three (stopped_finding subject.limits noted.started noted.nmt exchange) (answer_finding subject rows micros exchange frame)
+    (held_last_of_three (stopped_finding subject.limits noted.started (answer_nmt subject p micros) exchange) (answer_finding subject rows micros exchange frame)
     (held_mismatch subject.held.entries.items nothing_written exchange.certain exchange.heard.ended)
     (held_mismatch subject.held.entries.items p.written exchange.certain exchange.heard.ended))
 

@@ -26,7 +26,7 @@ use Rattle.conode_compare_rules.specs.declared.limits.Subject.{Subject}
 use Rattle.conode_compare_rules.specs.declared.verdict.Findings.{Findings}
 use Rattle.conode_compare_rules.specs.Answers.{answer_finding, confirmed_finding, held_finding, silence_finding, stopped_finding, what_finding}
 use Rattle.conode_compare_rules.specs.EntriesInForce.{asked_to_write, shown_inhibit, shown_period}
-use Rattle.conode_compare_rules.specs.Heartbeats.{late_finding, overdue_by}
+use Rattle.conode_compare_rules.specs.Heartbeats.{is_missing, late_finding, overdue_by}
 use Rattle.conode_compare_rules.specs.Progresses as progresses
 use Rattle.conode_compare_rules.specs.Progresses.{after_command, after_process, answer_findings, begun, booted, channel_heard, control_findings, exchange_at, exchange_noted, findings_at, heartbeat_findings, late_noted, moment_at, process_findings, progress_with, request_findings}
 use Rattle.conode_compare_rules.specs.States as states
@@ -90,7 +90,7 @@ with_rpdos : program_over of_frames subject rows (map as_read written) ≡ Held 
 unfolding findings_at progress_with begun booted found states.after_control after_boot_up after_other awaits_boot_up is_settled progresses.after_control control_findings heartbeat_findings silence_finding channel_heard exchange_at exchange_noted late_noted
     request_findings confirmed_finding answer_findings answer_finding stopped_finding held_finding what_finding held_mismatch dialogue_heard exchange_in is_certain newest_with newest_after breach_at shown_period shown_inhibit asked_to_write mismatch_at request_row_in response_row_in
     control_finding second_boot_up state_finding boot_finding row_mismatch value_mismatch late_finding overdue_by after_command states.after_command after_process moment_at process_findings sighting framed written_heard unmapped_from nothing_written
-    receptions_with with_receptions no_receptions booted_receptions other_ids_of has_few_rpdos rpdo_of mapped_from fits_from brought_from taken_from settled_from no_writes process_received is_sure exchanged_by
+    receptions_with with_receptions no_receptions booted_receptions other_ids_of has_few_rpdos rpdo_of mapped_from fits_from brought_from taken_from settled_from no_writes process_received is_sure exchanged_by is_missing
 with_rpdos = refl
 
 -- without them, and but for `value-held`
@@ -98,7 +98,7 @@ others : (differences_in of_frames subject rows written ≡ Unasked ∷ []) × (
 unfolding findings_at progress_with begun booted found states.after_control after_boot_up after_other awaits_boot_up is_settled progresses.after_control control_findings heartbeat_findings silence_finding channel_heard exchange_at exchange_noted late_noted
     request_findings confirmed_finding answer_findings answer_finding stopped_finding held_finding what_finding held_mismatch dialogue_heard exchange_in is_certain newest_with newest_after breach_at shown_period shown_inhibit asked_to_write mismatch_at request_row_in response_row_in
     control_finding second_boot_up state_finding boot_finding row_mismatch value_mismatch late_finding overdue_by after_command states.after_command after_process moment_at process_findings sighting framed written_heard unmapped_from nothing_written
-    receptions_with with_receptions no_receptions booted_receptions other_ids_of has_few_rpdos rpdo_of mapped_from fits_from brought_from taken_from settled_from no_writes process_received is_sure exchanged_by
+    receptions_with with_receptions no_receptions booted_receptions other_ids_of has_few_rpdos rpdo_of mapped_from fits_from brought_from taken_from settled_from no_writes process_received is_sure exchanged_by is_missing
 others = (refl, refl)
 
 kinds : map besides_held (None ∷ Some Unasked ∷ Some (Held (record { key = record { index = 0x2000; sub = 0 }; shown = 5; written = 0x102 })) ∷ []) ≡ None ∷ Some Unasked ∷ None ∷ []

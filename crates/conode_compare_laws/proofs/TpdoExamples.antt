@@ -21,7 +21,7 @@ use Rattle.conode_compare_rules.specs.declared.finding.Finding.TheVariants.{Pdo}
 use Rattle.conode_compare_rules.specs.declared.limits.Subject.{Subject}
 use Rattle.conode_compare_rules.specs.Answers.{confirmed_finding}
 use Rattle.conode_compare_rules.specs.EntriesInForce.{asked_to_write, shown_inhibit, shown_period}
-use Rattle.conode_compare_rules.specs.Heartbeats.{late_finding, overdue_by}
+use Rattle.conode_compare_rules.specs.Heartbeats.{is_missing, late_finding, overdue_by}
 use Rattle.conode_compare_rules.specs.Progresses.{
   after_command,
   after_emergency,
@@ -90,7 +90,7 @@ unfolding searches
 shared_heard = refl
 
 taken_for_tpdo : found_in is_pdo_state subject shared ≡ Pdo 1 NotOperational ∷ []
-unfolding findings_at progress_with begun booted found control_finding second_boot_up states.after_control after_boot_up process_findings moment_at sighting deviation_at time_deviation is_settled after_process framed
+unfolding findings_at progress_with begun booted found control_finding second_boot_up states.after_control after_boot_up process_findings moment_at sighting deviation_at time_deviation is_settled after_process framed overdue_by late_finding is_missing
 taken_for_tpdo = refl
 
 -- ---- two TPDOs on one identifier, of four bytes and of two
@@ -103,7 +103,7 @@ unfolding searches
 twice_heard = refl
 
 taken_for_first : found_in is_pdo_length subject twice ≡ Pdo 1 (Length 2 4) ∷ []
-unfolding findings_at progress_with begun booted found control_finding second_boot_up states.after_control after_boot_up after_command states.after_command process_findings moment_at sighting deviation_at time_deviation is_settled after_process framed
+unfolding findings_at progress_with begun booted found control_finding second_boot_up states.after_control after_boot_up after_command states.after_command process_findings moment_at sighting deviation_at time_deviation is_settled after_process framed overdue_by late_finding is_missing
 taken_for_first = refl
 
 -- ---- SYNC on the identifier of EMCY, and a TPDO of type 1
@@ -120,7 +120,7 @@ unfolding searches
 unsynced_heard = refl
 
 sync_taken_for_emergency : found_in is_pdo_sync (with_pdos (record unknown_pdos { sync = Some 0x85; first = booted_tpdo None (record first { kind = Some 1 }) })) unsynced ≡ Pdo 1 WithoutSync ∷ []
-unfolding findings_at progress_with begun booted found control_finding second_boot_up states.after_control after_boot_up after_command states.after_command after_emergency process_findings moment_at sighting deviation_at time_deviation is_settled after_process framed
+unfolding findings_at progress_with begun booted found control_finding second_boot_up states.after_control after_boot_up after_command states.after_command after_emergency process_findings moment_at sighting deviation_at time_deviation is_settled after_process framed overdue_by late_finding is_missing
 sync_taken_for_emergency = refl
 
 -- ---- a TPDO of type 2: the device sends it at each second SYNC
@@ -141,7 +141,7 @@ second_heard = refl
 -- one that sends it at each is found
 too_few : found_in is_pdo_sync (with_pdos (record unknown_pdos { sync = Some 0x80; first = booted_tpdo (Some new_cycle) (record first { kind = Some 2 }) }))
     (started ++ (sync_at 20000 ++ sent_at 20000) ++ (sync_at 40000 ++ sent_at 40000) ++ (sync_at 60000 ++ sent_at 60000) ++ sync_at 80000 ++ sent_at 80000) ≡ Pdo 1 (FewSyncs 1 2) ∷ []
-unfolding findings_at progress_with begun booted found control_finding second_boot_up states.after_control after_boot_up after_command states.after_command process_findings moment_at sighting deviation_at time_deviation is_settled after_process framed
+unfolding findings_at progress_with begun booted found control_finding second_boot_up states.after_control after_boot_up after_command states.after_command process_findings moment_at sighting deviation_at time_deviation is_settled after_process framed overdue_by late_finding is_missing
 too_few = refl
 
 -- ---- a device and a data sheet as the laws ask for: two TPDOs, each alone on its identifier
@@ -216,11 +216,11 @@ shown request response = found_in is_pdo_state subject
 
 shown_otherwise : shown 0x4000_1801_0000_0000 0x4300_1801_8503_0000 ≡ Pdo 1 NotOperational ∷ []
 unfolding findings_at progress_with begun booted found control_finding second_boot_up states.after_control after_boot_up states.after_other awaits_boot_up boot_finding process_findings moment_at sighting deviation_at time_deviation is_settled after_process framed
-    channel_heard exchange_at exchange_noted late_noted request_findings confirmed_finding answer_findings dialogue_heard exchange_in is_certain shown_period shown_inhibit asked_to_write request_row_in response_row_in transferred late_finding overdue_by
+    channel_heard exchange_at exchange_noted late_noted request_findings confirmed_finding answer_findings dialogue_heard exchange_in is_certain shown_period shown_inhibit asked_to_write request_row_in response_row_in transferred late_finding overdue_by is_missing
 shown_otherwise = refl
 
 -- not by an upload of 1A00:01
 not_shown : shown 0x4000_1A01_0000_0000 0x4300_1A01_0800_0020 ≡ []
 unfolding findings_at progress_with begun booted found control_finding second_boot_up states.after_control after_boot_up states.after_other awaits_boot_up boot_finding process_findings moment_at sighting deviation_at time_deviation is_settled after_process framed
-    channel_heard exchange_at exchange_noted late_noted request_findings confirmed_finding answer_findings dialogue_heard exchange_in is_certain shown_period shown_inhibit asked_to_write request_row_in response_row_in transferred late_finding overdue_by
+    channel_heard exchange_at exchange_noted late_noted request_findings confirmed_finding answer_findings dialogue_heard exchange_in is_certain shown_period shown_inhibit asked_to_write request_row_in response_row_in transferred late_finding overdue_by is_missing
 not_shown = refl

@@ -19,7 +19,7 @@ use Rattle.conode_compare_pdos.specs.Followed.{requested, transferred, unknown_p
 use Rattle.conode_compare_rules.specs.declared.limits.Subject.{Subject}
 use Rattle.conode_compare_rules.specs.declared.progress.Progress.{Progress}
 use Rattle.conode_compare_rules.specs.OtherClients.{is_channel}
-use Rattle.conode_compare_rules.specs.Progresses.{after_sdo, channel_heard, exchange_at, exchange_noted, pdos_asked, pdos_by, pdos_ended, pdos_heard, shown_beside}
+use Rattle.conode_compare_rules.specs.Progresses.{after_sdo, channel_heard, exchange_at, exchange_noted, hides_end, leaves_unknown_at, pdos_asked, pdos_beside, pdos_by, pdos_ended, pdos_heard, shown_beside}
 use Rattle.conode_compare_transfers.specs.declared.dialogue.Asked.{Asked}
 use Rattle.conode_compare_transfers.specs.Breaches as breaches
 use Rattle.conode_compare_transfers.specs.Dialogues.{asked_after, asks_to_write, dialogue_heard, is_initiate}
@@ -90,6 +90,12 @@ ended_same pdos (Some e) micros h =
       off is_communication e.key.index 0x1802 h refl,
       off is_communication e.key.index 0x1803 h refl,
     ) refl
+
+-- what a download leaves unknown is none of it either
+beside_same : (unknown : Bool) (o : Option Ended) (pdos : Pdos) → IfSome o (λ e. IsApart e.key) → pdos_beside unknown o pdos ≡ pdos
+beside_same false o pdos h = refl
+beside_same true None pdos h = refl
+beside_same true (Some e) pdos h = rw h refl
 
 requested_same : (pdos : Pdos) (key : Key) (micros : ℕ) → IsApart key → is_tpdo_mapping_or_sync key ≡ false → requested pdos key micros ≡ pdos
 unfolding requested
@@ -180,8 +186,11 @@ pub heard_kept : (I : Pdos → Type 0) (subject : Subject) (p : Progress) (micro
     → I (after_sdo subject p micros side frame).pdos
 unfolding channel_heard exchange_noted
 heard_kept I subject p micros side frame unknown n opened h =
-    let ended : Option Ended = shown_beside p.other_client (exchange_at subject p micros side frame).heard.ended in
+    let e : Option Ended = (exchange_at subject p micros side frame).heard.ended in
+    let ended : Option Ended = shown_beside (hides_end subject p micros e) e in
+    let beside : Pdos = pdos_beside (leaves_unknown_at subject p micros e) e p.pdos in
+    let apart : IfSome e (λ e. IsApart e.key) = ended_such IsApart subject p micros side frame (apart_by side frame n) opened in
     let asked : Option Asked = (dialogue_heard subject.limits.answer p.started p.dialogue micros side frame).asked in
-    by_kept I side frame (pdos_heard p.pdos ended asked micros) micros unknown n
-    (asked_kept I (pdos_ended p.pdos ended micros) asked micros unknown (asked_heard subject p micros side frame n)
-    (subst I (sym (ended_same p.pdos ended micros (beside_such (λ e. IsApart e.key) p.other_client (exchange_at subject p micros side frame).heard.ended (ended_such IsApart subject p micros side frame (apart_by side frame n) opened)))) h))
+    by_kept I side frame (pdos_heard beside ended asked micros) micros unknown n
+    (asked_kept I (pdos_ended beside ended micros) asked micros unknown (asked_heard subject p micros side frame n)
+    (subst I (sym (ended_same beside ended micros (beside_such (λ e. IsApart e.key) (hides_end subject p micros e) e apart) ∙ beside_same (leaves_unknown_at subject p micros e) e p.pdos apart)) h))

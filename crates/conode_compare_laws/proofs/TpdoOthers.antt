@@ -65,6 +65,9 @@ use Rattle.conode_compare_rules.specs.Progresses.{
   with_gap,
   booted_pdos,
   is_of_client,
+  is_overdue,
+  sighted,
+  unless_overdue,
 }
 use Rattle.conode_compare_rules.specs.Verdicts.{found}
 use Rattle.conode_compare_laws.specs.TpdoDifferences.{of_kind, tpdo_differences}
@@ -170,6 +173,12 @@ pub sighted_none : (is : Deviation → Bool) (late : Option Finding) (id length 
 unfolding found
 sighted_none is late id length None fine = refl
 sighted_none is late id length (Some sighting) fine = none_of is sighting.number sighting.deviation fine
+
+-- while a heartbeat is late it isn't judged
+pub overdue_fine : (is : Deviation → Bool) (overdue : Bool) (o : Option Sighting) → IsFine is o → IsFine is (unless_overdue overdue o)
+overdue_fine is true None h = h
+overdue_fine is true (Some seen) h = refl
+overdue_fine is false o h = h
 
 pub seen_fine : (is : Deviation → Bool) (moment : Moment) (has_sync : Bool) (number : ℕ) (pdo : Tpdo) (id length : ℕ) → (is_id pdo.parameters.id id ≡ true → is_of is (deviation_at moment has_sync pdo length) ≡ false)
     → IsFine is (seen moment has_sync number pdo id length)
@@ -352,8 +361,9 @@ other_passes is I subject rows p micros (LongCommand service) kept other opened 
 other_passes is I subject rows p micros (Emcy code register) kept other opened new h = record { none = refl; after = record { fresh = fresh micros p new; kept = h } }
 other_passes is I subject rows p micros (OddEmergency length) kept other opened new h = record { none = refl; after = record { fresh = fresh micros p new; kept = h } }
 other_passes is I subject rows p micros (Process id length) kept other opened new h = record {
-  none = sighted_none is (late_by_tpdo subject p micros id length) id length (sighting (moment_at subject p micros) p.pdos id length)
-      (all_fine is (moment_at subject p micros) p.pdos id length (unseen is (moment_at subject p micros) subject.facts.pdos p.pdos id length (kept.knows p.pdos h) other));
+  none = sighted_none is (late_by_tpdo subject p micros id length) id length (sighted subject p micros id length)
+      (overdue_fine is (is_overdue subject p) (sighting (moment_at subject p micros) p.pdos id length)
+      (all_fine is (moment_at subject p micros) p.pdos id length (unseen is (moment_at subject p micros) subject.facts.pdos p.pdos id length (kept.knows p.pdos h) other)));
   after = record { fresh = fresh micros p new; kept = either_kept I (is_of_client subject id) _ _ kept.unknown (kept.other p.pdos (moment_at subject p micros) id length other h) };
 }
 other_passes is I subject rows p micros (Sdo side frame) kept other opened new h = sdo_passes is I subject rows p micros side frame kept.unknown other opened new h

@@ -28,7 +28,7 @@ use Rattle.conode_compare_rules.specs.declared.limits.Subject.{Subject}
 use Rattle.conode_compare_rules.specs.declared.progress.Progress.{Progress}
 use Rattle.conode_compare_rules.specs.declared.verdict.Findings.{Findings}
 use Rattle.conode_compare_rules.specs.FrameKinds.{command_kind, control_kind, data_kind, emergency_kind, emergency_with, length_of}
-use Rattle.conode_compare_rules.specs.Progresses.{after_emergency, after_process, begun, is_of_client, late_by_tpdo, moment_at, process_findings, progress_with}
+use Rattle.conode_compare_rules.specs.Progresses.{after_emergency, after_process, begun, is_of_client, is_overdue, late_by_tpdo, moment_at, process_findings, progress_with, sighted}
 use Rattle.conode_compare_laws.specs.Identifiers.{AreAside, IsElsewhere, SendsAside}
 use Rattle.conode_compare_laws.specs.NamedTpdos.{NamesNoTpdo}
 use Rattle.conode_compare_laws.specs.Recordings.{frame_of}
@@ -39,7 +39,7 @@ use Rattle.conode_compare_laws.proofs.NamedKeys.{IsOpenOn, begun_open, first_of,
 use Rattle.conode_compare_laws.proofs.Runs.{AllRun, joined}
 use Rattle.conode_compare_laws.proofs.TpdoDue.{AreDistinct}
 use Rattle.conode_compare_laws.proofs.TpdoNames.{AllNameNone, IsApart, NamesNoneBy}
-use Rattle.conode_compare_laws.proofs.TpdoOthers.{AreFine, Holds, IsKept, IsNewest, IsOther, Passes, all_fine, begun_kept, begun_newest, either_kept, fresh, lives, one, others, sdo_passes, sighted_none}
+use Rattle.conode_compare_laws.proofs.TpdoOthers.{AreFine, Holds, IsKept, IsNewest, IsOther, Passes, all_fine, begun_kept, begun_newest, either_kept, fresh, lives, one, others, overdue_fine, sdo_passes, sighted_none}
 
 -- ---- which frames these are
 
@@ -110,7 +110,8 @@ process_passes : (is : Deviation → Bool) (J : Pdos → Type 0) (subject : Subj
     → Passes is J subject rows p micros (Process id length)
 unfolding process_findings after_process
 process_passes is J subject rows p micros id length unknown other new step = record {
-  none = sighted_none is (late_by_tpdo subject p micros id length) id length (sighting (moment_at subject p micros) p.pdos id length) (all_fine is (moment_at subject p micros) p.pdos id length step.fine);
+  none = sighted_none is (late_by_tpdo subject p micros id length) id length (sighted subject p micros id length)
+      (overdue_fine is (is_overdue subject p) (sighting (moment_at subject p micros) p.pdos id length) (all_fine is (moment_at subject p micros) p.pdos id length step.fine));
   after = record { fresh = fresh micros p new; kept = either_kept J (is_of_client subject id) _ _ unknown (step.kept other) };
 }
 

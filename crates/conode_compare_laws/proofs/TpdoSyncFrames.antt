@@ -21,7 +21,7 @@ use Rattle.conode_compare_rules.specs.declared.kind.FrameKind.TheVariants.{Proce
 use Rattle.conode_compare_rules.specs.declared.limits.Subject.{Subject}
 use Rattle.conode_compare_rules.specs.declared.progress.Progress.{Progress}
 use Rattle.conode_compare_rules.specs.FrameKinds.{data_kind, length_of}
-use Rattle.conode_compare_rules.specs.Progresses.{after_process, begun, is_of_client, late_by_tpdo, moment_at, process_findings}
+use Rattle.conode_compare_rules.specs.Progresses.{after_process, begun, is_of_client, is_overdue, late_by_tpdo, moment_at, process_findings, sighted}
 use Rattle.conode_compare_laws.specs.Identifiers.{AreElsewhere, IsElsewhere}
 use Rattle.conode_compare_laws.specs.NamedTpdos.{AreNoSdoSyncs, IsNoSdoSync, NamesNoTpdo}
 use Rattle.conode_compare_laws.specs.Recordings.{Recorded, Stamped, frame_of, heard_from, recording, stamped}
@@ -34,7 +34,7 @@ use Rattle.conode_compare_laws.proofs.Runs.{AllRun}
 use Rattle.conode_compare_laws.proofs.TpdoDue.{number_kept}
 use Rattle.conode_compare_laws.proofs.TpdoInputs.{AllInputs, AreClear}
 use Rattle.conode_compare_laws.proofs.TpdoNames.{AllNameNone}
-use Rattle.conode_compare_laws.proofs.TpdoOthers.{Holds, IsKept, IsNewest, Knows, Passes, all_fine, begun_kept, begun_newest, either_kept, fresh, one, others, sighted_none, unseen}
+use Rattle.conode_compare_laws.proofs.TpdoOthers.{Holds, IsKept, IsNewest, Knows, Passes, all_fine, begun_kept, begun_newest, either_kept, fresh, one, others, overdue_fine, sighted_none, unseen}
 use Rattle.conode_compare_laws.proofs.TpdoParts.{came_other, weaken}
 use Rattle.conode_compare_laws.proofs.TpdoTurns.{IsSync, is_sync_turn, no_sync_turn, sync_or}
 
@@ -75,8 +75,9 @@ module _ (is : Deviation → Bool) (I J : Pdos → Type 0) (subject : Subject) (
   sync_passes p micros id length new off same h =
       let knows : Knows facts p.pdos = kept.knows p.pdos h in
       record {
-        none = sighted_none is (late_by_tpdo subject p micros id length) id length (sighting (moment_at subject p micros) p.pdos id length)
-            (all_fine is (moment_at subject p micros) p.pdos id length (unseen is (moment_at subject p micros) facts p.pdos id length knows off));
+        none = sighted_none is (late_by_tpdo subject p micros id length) id length (sighted subject p micros id length)
+            (overdue_fine is (is_overdue subject p) (sighting (moment_at subject p micros) p.pdos id length)
+            (all_fine is (moment_at subject p micros) p.pdos id length (unseen is (moment_at subject p micros) facts p.pdos id length knows off)));
         after = record {
           fresh = fresh micros p new;
           kept = either_kept J (is_of_client subject id) _ _ syncs.after.unknown (synced_holds p.pdos (moment_at subject p micros) id length off (known_sync facts p.pdos id knows same) h);

@@ -141,7 +141,8 @@ server_off : (subject : Subject) (p : Progress) (micros : ℕ) (frame : FrameCon
 unfolding channel_heard exchange_noted late_noted
 server_off subject p micros frame off =
     let noted : Progress = progresses.answer_noted subject p micros in
-    heard_off p.entries (progresses.shown_beside p.other_client (progresses.exchange_at subject noted micros Server frame).heard.ended) (dialogue_heard subject.limits.answer noted.started noted.dialogue micros Server frame).asked (shares_id subject.node Server frame) Server frame off
+    let ended : Option Ended = (progresses.exchange_at subject noted micros Server frame).heard.ended in
+    heard_off p.entries (progresses.shown_beside (progresses.hides_end subject noted micros ended) ended) (dialogue_heard subject.limits.answer noted.started noted.dialogue micros Server frame).asked (shares_id subject.node Server frame) Server frame off
 
 client_off : (subject : Subject) (p : Progress) (micros : ℕ) (frame : FrameContent) → IsOff p → IsOff (after_frame subject p micros (Sdo Client frame))
 unfolding channel_heard exchange_noted

@@ -31,7 +31,7 @@ use Rattle.conode_compare_rules.specs.declared.progress.Progress.{Progress}
 use Rattle.conode_compare_rules.specs.EntriesInForce.{asked_to_write, overwritten, shown_period}
 use Rattle.conode_compare_rules.specs.FrameKinds.{command_kind, control_kind, data_kind, emergency_kind, length_of}
 use Rattle.conode_compare_rules.specs.Progresses as progresses
-use Rattle.conode_compare_rules.specs.Progresses.{after_command, after_emergency, after_frame, after_process, after_sdo, answer_noted, begins_anew, begun, channel_heard, exchange_at, exchange_noted, is_of_client, late_noted, progress_with, with_gap}
+use Rattle.conode_compare_rules.specs.Progresses.{after_command, after_emergency, after_frame, after_process, after_sdo, answer_noted, begins_anew, begun, channel_heard, exchange_at, exchange_noted, hides_end, is_of_client, late_noted, progress_with, with_gap}
 use Rattle.conode_compare_laws.specs.AnswerSenders.{IsOther}
 use Rattle.conode_compare_laws.specs.Identifiers.{AreWithout}
 use Rattle.conode_compare_laws.specs.OtherWriters.{IsTold}
@@ -169,7 +169,7 @@ module _ (w v : ℕ) (differ : w ≢ v) where
   unfolding exchange_at exchange_in
   sdo_unknown subject p micros side frame a b h =
       let ended : Option Ended = (exchange_at subject p micros side frame).heard.ended in
-      sdo_such (λ n. ⊥) subject p micros side frame (beside_such (λ e. IfSome (shown_period e) (λ n. ⊥)) p.other_client ended (none_shown ended a b)) h
+      sdo_such (λ n. ⊥) subject p micros side frame (beside_such (λ e. IfSome (shown_period e) (λ n. ⊥)) (hides_end subject p micros ended) ended (none_shown ended a b)) h
 
   command_unknown : (p : Progress) (micros : ℕ) (service : NmtService) (own : Bool) → IsUnknown p → IsUnknown (after_command p service own micros)
   unfolding after_command with_gap

@@ -232,9 +232,9 @@ module _ (P : Dialogue → Type 0) (none : (d : Dialogue) → d.channel.transfer
   unfolding after_odd_control
   odd_has subject p micros h = h
 
-  emergency_has : (p : Progress) (micros : ℕ) → Has p → Has (after_emergency p micros)
+  emergency_has : (p : Progress) → Has p → Has (after_emergency p)
   unfolding after_emergency
-  emergency_has p micros h = h
+  emergency_has p h = h
 
   noted_has : (subject : Subject) (p : Progress) (micros : ℕ) → Has p → Has (emergency_noted subject p micros)
   unfolding after_emergency
@@ -252,7 +252,7 @@ module _ (P : Dialogue → Type 0) (none : (d : Dialogue) → d.channel.transfer
   kind_has subject p micros (Control byte) off h = either (byte == 0) _ _ (boot_has subject p micros) (control_has subject p micros byte h)
   kind_has subject p micros (OddControl length) off h = odd_has subject p micros h
   kind_has subject p micros (Emcy code register) off h = noted_has subject p micros h
-  kind_has subject p micros (OddEmergency length) off h = emergency_has p micros h
+  kind_has subject p micros (OddEmergency length) off h = emergency_has p h
   kind_has subject p micros (Sdo side frame) off h = absurd (false≢true (sym off))
   kind_has subject p micros (Command service) off h = command_has p service false micros h
   kind_has subject p micros (CommandToAll service) off h = command_has p service subject.facts.starts_itself micros h

@@ -29,7 +29,7 @@ use Rattle.conode_compare_rules.specs.declared.nmt.Nmt.{Nmt}
 use Rattle.conode_compare_rules.specs.declared.progress.Progress.{Progress}
 use Rattle.conode_compare_rules.specs.Answers.{answer_finding, breach_finding, confirmed_finding, ended_finding, finding_of, held_finding, is_abort, known_answer, known_finding, late_answer, overdue_answer, stopped_finding, stopped_with, transfer_breach, what_finding}
 use Rattle.conode_compare_rules.specs.EmergencyRules.{is_stopped}
-use Rattle.conode_compare_rules.specs.Progresses.{answer_findings, answer_noted, confirmed_findings, exchange_at, findings_in, late_noted, request_findings}
+use Rattle.conode_compare_rules.specs.Progresses.{answer_findings, answer_nmt, answer_noted, confirmed_findings, exchange_at, findings_in, late_noted, request_findings}
 use Rattle.conode_compare_rules.specs.States.{is_settled, is_steady, judged_state}
 use Rattle.conode_compare_rules.specs.Verdicts.{found}
 use Rattle.conode_compare_laws.proofs.AnswerFollowed.{reads}
@@ -116,7 +116,7 @@ module _ (only : Option Finding → List Finding) (nothing : only None ≡ []) (
   unfolding answer_findings found exchange_at late_noted
   server_found subject rows p micros frame h =
       let x : Exchange = exchange_in subject.limits.answer p.started p.dialogue micros Server frame in
-      only_or (stopped_finding subject.limits p.started (answer_noted subject p micros).nmt x) _ (stopped_none subject.limits p.started (answer_noted subject p micros).nmt x)
+      only_or (stopped_finding subject.limits p.started (answer_nmt subject p micros) x) _ (stopped_none subject.limits p.started (answer_nmt subject p micros) x)
       (only_or (answer_finding subject rows micros x frame) (held_finding subject p.written x) (answer_none subject rows micros x frame h) (held_none subject p.written x))
 
   confirmed_none : (o : Option Finding) → only o ≡ [] → only (confirmed_findings o).frame ≡ []

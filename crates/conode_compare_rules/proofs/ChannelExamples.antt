@@ -1,6 +1,6 @@
 -- What isn't known of a device with another SDO channel than the default one, on both sides of each edge.
 use Rattle.std.proofs.Common.{◌≡◌, ℕ, Bool, true, false, List, [], ◌∷◌, map, Option, Some, None, refl}
-use Rattle.std.specs.Prelude.{pos}
+use Rattle.std.specs.Prelude.{◌+◌, pos}
 use Rattle.co_frame.specs.SdoRequests.{request_row_in}
 use Rattle.co_frame.specs.SdoResponses.{response_row_in}
 use Rattle.co_profile.specs.declared.access.Access.TheVariants.{Rw}
@@ -13,13 +13,13 @@ use Rattle.conode_compare_pdos.specs.declared.pdos.Pdos.{Pdos}
 use Rattle.conode_explain_transfers.specs.declared.kinds.Side.{Side}
 use Rattle.conode_explain_transfers.specs.declared.kinds.Side.TheVariants.{Client, Server}
 use Rattle.conode_compare_transfers.specs.declared.dialogue.Asked.{Asked}
-use Rattle.conode_compare_transfers.specs.Dialogues.{dialogue_heard, exchange_in}
+use Rattle.conode_compare_transfers.specs.Dialogues.{dialogue_heard, exchange_in, nothing_asked}
 use Rattle.conode_compare_rules.specs.declared.entries.Entries.{Entries}
 use Rattle.conode_compare_rules.specs.declared.limits.Subject.{Subject}
 use Rattle.conode_compare_rules.specs.declared.progress.Progress.{Progress}
 use Rattle.conode_compare_rules.specs.EntriesInForce.{asked_to_write, facts_of, initial_entries, overwritten, sheet_entries, shown_inhibit, shown_period}
 use Rattle.conode_compare_rules.specs.OtherClients.{clients_of, is_channel, is_open, may_send, no_clients}
-use Rattle.conode_compare_rules.specs.Progresses.{after_fault, after_process, before_recording, begun, booted, channel_heard, exchange_at, is_begun, pdos_asked, pdos_by, with_gap}
+use Rattle.conode_compare_rules.specs.Progresses.{after_emergency, after_fault, after_process, before_recording, begun, booted, channel_heard, exchange_at, is_begun, is_parameter, pdos_asked, pdos_by, with_gap}
 use Rattle.conode_compare_rules.proofs.Examples.{limits, row}
 
 abbrev key : ℕ → ℕ → Key
@@ -210,3 +210,39 @@ by_device = refl
 
 by_channel : writes_by Client (0x23 ∷ 1 ∷ 0x12 ∷ 1 ∷ 0 ∷ 0 ∷ 0 ∷ 0 ∷ []) ≡ unknown_pdos
 by_channel = refl
+
+-- ---- two writes in flight
+
+-- a write of 1017:00, and what it has after the answer, where an earlier request may still be answered since 5 µs
+abbrev written_after : Option ℕ → ℕ → Option ℕ
+written_after doubted micros =
+    let free = record up { dialogue = record nothing_asked { doubted = doubted } } in
+    let asked = channel_heard device free micros Client (record { id = 0x605; bytes = 0x2B ∷ 0x17 ∷ 0x10 ∷ 0 ∷ 0xE8 ∷ 3 ∷ 0 ∷ 0 ∷ [] }) in
+    (channel_heard device asked (micros + 1) Server (record { id = 0x585; bytes = 0x60 ∷ 0x17 ∷ 0x10 ∷ 0 ∷ 0 ∷ 0 ∷ 0 ∷ 0 ∷ [] })).entries.period
+
+-- the answer may be that to the write before until a second has passed; right after the begin of a recording it is the
+-- write's own
+two_writes : written_after (Some 5) 1000004 ∷ written_after (Some 5) 1000005 ∷ written_after None 10 ∷ [] ≡ None ∷ Some 1000 ∷ Some 1000 ∷ []
+unfolding request_row_in response_row_in exchange_in channel_heard exchange_at dialogue_heard shown_period shown_inhibit asked_to_write
+two_writes = refl
+
+-- an upload shows what it has all the same
+abbrev read_after : Option ℕ → ℕ → Option ℕ
+read_after doubted micros =
+    let free = record up { dialogue = record nothing_asked { doubted = doubted } } in
+    let asked = channel_heard device free micros Client (record { id = 0x605; bytes = 0x40 ∷ 0x17 ∷ 0x10 ∷ 0 ∷ 0 ∷ 0 ∷ 0 ∷ 0 ∷ [] }) in
+    (channel_heard device asked (micros + 1) Server (record { id = 0x585; bytes = 0x4B ∷ 0x17 ∷ 0x10 ∷ 0 ∷ 0xE8 ∷ 3 ∷ 0 ∷ 0 ∷ [] })).entries.period
+
+read_all_the_same : read_after (Some 5) 10 ≡ Some 1000
+unfolding request_row_in response_row_in exchange_in channel_heard exchange_at dialogue_heard shown_period shown_inhibit asked_to_write
+read_all_the_same = refl
+
+-- 1800h to 1803h
+parameters : map (λ index. is_parameter (key index 1)) (0x17FF ∷ 0x1800 ∷ 0x1803 ∷ 0x1804 ∷ []) ≡ false ∷ true ∷ true ∷ false ∷ []
+parameters = refl
+
+-- ---- an EMCY may have waited since the bus was free last
+
+counts_from_free : (after_emergency (record up { free = 7 })).emergency ≡ Some 7
+unfolding after_emergency
+counts_from_free = refl

@@ -1,5 +1,7 @@
 -- A heartbeat that is missing, by EMCYs and by TPDOs of the device, on both sides of each edge.
-use Rattle.std.proofs.Common.{◌≡◌, ℕ, true, false, [], Option, Some, None, refl}
+use Rattle.std.proofs.Common.{◌≡◌, ℕ, true, false, [], ◌∷◌, map, Option, Some, None, refl}
+use Rattle.conode_explain_transfers.specs.declared.kinds.Side.TheVariants.{Server}
+use Rattle.conode_compare_pdos.specs.declared.deviation.Deviation.TheVariants.{NotOperational}
 use Rattle.conode_compare_pdos.specs.declared.parameters.Parameters.{Parameters}
 use Rattle.conode_compare_pdos.specs.declared.pdos.Pdos.{Pdos}
 use Rattle.conode_compare_pdos.specs.Followed.{framed, sighting, unknown_pdos}
@@ -8,14 +10,14 @@ use Rattle.conode_compare_rules.specs.declared.entries.Entries.{Entries}
 use Rattle.conode_compare_rules.specs.declared.entries.Facts.{Facts}
 use Rattle.conode_compare_rules.specs.declared.finding.Finding.{Finding}
 use Rattle.conode_compare_rules.specs.declared.finding.Finding.TheVariants.{HeartbeatLate}
-use Rattle.conode_compare_rules.specs.declared.finding.NmtState.TheVariants.{Operational}
+use Rattle.conode_compare_rules.specs.declared.finding.NmtState.TheVariants.{Operational, Unknown}
 use Rattle.conode_compare_rules.specs.declared.kind.FrameKind.{FrameKind}
-use Rattle.conode_compare_rules.specs.declared.kind.FrameKind.TheVariants.{Control, Emergency, OddEmergency, Other, Process}
+use Rattle.conode_compare_rules.specs.declared.kind.FrameKind.TheVariants.{Control, Emergency, OddEmergency, Other, Process, Sdo}
 use Rattle.conode_compare_rules.specs.declared.limits.Subject.{Subject}
 use Rattle.conode_compare_rules.specs.declared.progress.Progress.{Progress}
 use Rattle.conode_compare_rules.specs.Heartbeats.{is_missing, late_finding, overdue_by}
-use Rattle.conode_compare_rules.specs.Progresses.{after_emergency, after_process, before_recording, begun, control_findings, emergency_findings, findings_at, heartbeat_findings, moment_at, process_findings, progress_with}
-use Rattle.conode_compare_rules.specs.States.{nothing_commanded}
+use Rattle.conode_compare_rules.specs.Progresses.{after_emergency, after_process, answer_findings, answer_nmt, before_recording, begun, control_findings, emergency_findings, findings_at, heartbeat_findings, late_noted, moment_at, process_findings, progress_with, steady_when_free, unless_overdue}
+use Rattle.conode_compare_rules.specs.States.{after_other, awaits_boot_up, is_settled, nothing_commanded}
 use Rattle.conode_compare_rules.specs.Verdicts.{found}
 use Rattle.conode_compare_rules.specs.OtherClients.{no_clients}
 use Rattle.conode_compare_rules.proofs.Examples.{limits}
@@ -116,10 +118,41 @@ waits_for_bus : found_of (record showing { newest = Some 2040000 }) 2040007 (Pro
 unfolding findings_at begun process_findings moment_at sighting found late_finding overdue_by is_missing
 waits_for_bus = refl
 
+-- ---- by an answer
+
+abbrev answer : FrameKind
+answer = Sdo Server (record { id = 0x585; bytes = [] })
+
+by_answer : found_of showing 2040007 answer ≡ Some (HeartbeatLate 2040002 1000)
+unfolding findings_at begun answer_findings found late_finding overdue_by is_missing
+by_answer = refl
+
+answer_not_yet : found_of showing 2040006 answer ≡ None
+unfolding findings_at begun answer_findings found late_finding overdue_by is_missing
+answer_not_yet = refl
+
+-- the first one may be of a device that was switched on again
+first_answer : found_of waiting 1020006 answer ≡ None
+unfolding findings_at begun answer_findings found late_finding overdue_by is_missing
+first_answer = refl
+
+-- so while a heartbeat is late the state says nothing, and no TPDO is judged
+not_steady : map (λ free. steady_when_free subject (record waiting { free = free })) (1020005 ∷ 1020006 ∷ []) ≡ true ∷ false ∷ []
+unfolding is_settled overdue_by
+not_steady = refl
+
+no_state : map (λ free. (answer_nmt subject (record waiting { free = free }) free).state) (1020005 ∷ 1020006 ∷ []) ≡ Operational ∷ Unknown ∷ []
+unfolding overdue_by late_noted after_other awaits_boot_up
+no_state = refl
+
+unjudged_tpdo : map (λ late. unless_overdue late (Some (record { number = 1; deviation = Some NotOperational; judged = true }))) (false ∷ true ∷ [])
+    ≡ Some (record { number = 1; deviation = Some NotOperational; judged = true }) ∷ Some (record { number = 1; deviation = None; judged = false }) ∷ []
+unjudged_tpdo = refl
+
 -- ---- no other frame says that the device sends: it may be switched off
 
 other_pdo : found_of showing 2040007 (Process 0x186 4) ≡ None
-unfolding findings_at begun process_findings moment_at sighting
+unfolding findings_at begun process_findings moment_at sighting overdue_by
 other_pdo = refl
 
 other_frame : found_of showing 2040007 Other ≡ None

@@ -19,6 +19,7 @@ use Rattle.conode_compare_transfers.specs.Dialogues.{dialogue_heard, is_certain,
 use Rattle.conode_compare_transfers.specs.NewestFrames.{newest_after, newest_with}
 use Rattle.conode_compare_rules.specs.EmergencyRules.{emergency_finding, inhibit_finding}
 use Rattle.conode_compare_rules.specs.FrameKinds.{command_kind}
+use Rattle.conode_compare_rules.specs.Heartbeats.{overdue_by}
 use Rattle.conode_compare_rules.specs.Progresses as progresses
 use Rattle.conode_compare_rules.specs.Progresses.{after_frame, before_recording, control_judged, emergency_findings, moment_at, still_awaited}
 use Rattle.conode_compare_rules.specs.States.{either_state, after_boot_up, after_command, after_control, after_other, awaits_boot_up, boot_finding, control_finding, freer, is_settled, is_steady, is_turn, nothing_commanded, restart_remark, second_boot_up, state_finding, with_state}
@@ -333,7 +334,7 @@ unfolding control_judged is_settled
 judged_when_free = refl
 
 emergency_waits : map (λ free. (emergency_findings device (after_stop free) 150000 0 0).frame) (110000 ∷ 110001 ∷ []) ≡ None ∷ Some EmergencyStopped ∷ []
-unfolding emergency_findings emergency_finding inhibit_finding is_settled found
+unfolding emergency_findings emergency_finding inhibit_finding is_settled found overdue_by
 emergency_waits = refl
 
 -- ---- a device that is slow to follow a command
@@ -364,7 +365,7 @@ abbrev later_in : Nmt → Progress
 later_in nmt = record (before_recording device) { free = 250000; nmt = nmt }
 
 sends_pdo : (moment_at device (later_in slow_start) 250000).idle ≡ false
-unfolding moment_at after_control after_other awaits_boot_up is_settled
+unfolding moment_at after_control after_other awaits_boot_up is_settled overdue_by
 sends_pdo = refl
 
 becomes_operational : control_finding device 0 false false slow_start 250000 250000 5 ≡ None
@@ -376,7 +377,7 @@ abbrev fell_back : Nmt
 fell_back = after_control limits 0 (after_control limits 0 slow_start 160000 160000 5) 170000 170000 127
 
 falls_back_later : (fell_back.due ≡ Unknown) × ((moment_at device (later_in fell_back) 250000).idle ≡ true)
-unfolding moment_at after_control after_other awaits_boot_up is_settled
+unfolding moment_at after_control after_other awaits_boot_up is_settled overdue_by
 falls_back_later = (refl, refl)
 
 -- from stopped to pre-operational
@@ -413,18 +414,18 @@ no_change = (refl, refl)
 
 -- an EMCY and a TPDO may have been on their way
 emergency_on_its_way : map (λ free. (emergency_findings device (record (before_recording device) { free = free; nmt = changed_to Stopped }) 150000 0 0).frame) (110000 ∷ 110001 ∷ []) ≡ None ∷ Some EmergencyStopped ∷ []
-unfolding emergency_findings emergency_finding inhibit_finding is_settled found
+unfolding emergency_findings emergency_finding inhibit_finding is_settled found overdue_by
 emergency_on_its_way = refl
 
 abbrev moment_after : ℕ → Moment
 moment_after free = moment_at device (record (before_recording device) { free = free; nmt = changed_to PreOperational }) 150000
 
 pdo_on_its_way : map (λ free. (moment_after free).idle) (110000 ∷ 110001 ∷ []) ≡ false ∷ true ∷ []
-unfolding moment_at is_settled
+unfolding moment_at is_settled overdue_by
 pdo_on_its_way = refl
 
 pdo_unjudged : map (λ free. (moment_after free).known) (110000 ∷ 110001 ∷ []) ≡ false ∷ true ∷ []
-unfolding moment_at is_settled
+unfolding moment_at is_settled overdue_by
 pdo_unjudged = refl
 
 -- ---- a command with more than two bytes: the device is in the state before, or in that after it

@@ -88,26 +88,26 @@ ignores = (0, Control 0) ∷ (100000, Command Start) ∷ (500000, Control 127) �
 
 -- it may have followed the command meanwhile
 follows : last_found ((0, Control 0) ∷ (100000, Command Start) ∷ (500000, Control 127) ∷ []) 600000 tpdo ≡ None
-unfolding findings_at progress_with begun booted found progresses.after_control states.after_control after_boot_up after_other awaits_boot_up progresses.after_command states.after_command after_process process_findings moment_at sighting framed deviation_at time_deviation is_settled
+unfolding findings_at progress_with begun booted found progresses.after_control states.after_control after_boot_up after_other awaits_boot_up progresses.after_command states.after_command after_process process_findings moment_at sighting framed deviation_at time_deviation is_settled overdue_by
 follows = refl
 
 -- and fall back by itself: from the heartbeat that shows that on it sends none
 falls_back : last_found ignores 610001 (Control 127) ≡ None
-unfolding findings_at progress_with begun booted found progresses.after_control states.after_control after_boot_up after_other awaits_boot_up progresses.after_command states.after_command after_process process_findings moment_at sighting framed deviation_at time_deviation is_settled control_findings heartbeat_findings control_finding state_finding
+unfolding findings_at progress_with begun booted found progresses.after_control states.after_control after_boot_up after_other awaits_boot_up progresses.after_command states.after_command after_process process_findings moment_at sighting framed deviation_at time_deviation is_settled control_findings heartbeat_findings control_finding state_finding overdue_by
 falls_back = refl
 
 sends_on : last_found (ignores ++ (610001, Control 127) ∷ []) 620002 tpdo ≡ Some (PdoFinding 1 NotOperational)
-unfolding findings_at progress_with begun booted found progresses.after_control states.after_control after_boot_up after_other awaits_boot_up progresses.after_command states.after_command after_process process_findings moment_at sighting framed deviation_at time_deviation is_settled
+unfolding findings_at progress_with begun booted found progresses.after_control states.after_control after_boot_up after_other awaits_boot_up progresses.after_command states.after_command after_process process_findings moment_at sighting framed deviation_at time_deviation is_settled overdue_by
 sends_on = refl
 
 -- one that was on its way
 on_its_way : last_found (ignores ++ (610001, Control 127) ∷ []) 620001 tpdo ≡ None
-unfolding findings_at progress_with begun booted found progresses.after_control states.after_control after_boot_up after_other awaits_boot_up progresses.after_command states.after_command after_process process_findings moment_at sighting framed deviation_at time_deviation is_settled
+unfolding findings_at progress_with begun booted found progresses.after_control states.after_control after_boot_up after_other awaits_boot_up progresses.after_command states.after_command after_process process_findings moment_at sighting framed deviation_at time_deviation is_settled overdue_by
 on_its_way = refl
 
 -- a heartbeat within the tolerance after the TPDO may have been on its way
 too_soon : last_found (ignores ++ (610000, Control 127) ∷ []) 700000 tpdo ≡ None
-unfolding findings_at progress_with begun booted found progresses.after_control states.after_control after_boot_up after_other awaits_boot_up progresses.after_command states.after_command after_process process_findings moment_at sighting framed deviation_at time_deviation is_settled
+unfolding findings_at progress_with begun booted found progresses.after_control states.after_control after_boot_up after_other awaits_boot_up progresses.after_command states.after_command after_process process_findings moment_at sighting framed deviation_at time_deviation is_settled overdue_by
 too_soon = refl
 
 -- a device that is slow sends no TPDO before it follows the command, however late
@@ -117,12 +117,12 @@ slow = refl
 
 -- TPDOs before the first heartbeat say nothing, since the state before the command isn't shown then
 not_shown : last_found ((0, Control 0) ∷ (100000, Command Start) ∷ (400000, tpdo) ∷ (500000, Control 127) ∷ []) 600000 tpdo ≡ None
-unfolding findings_at progress_with begun booted found progresses.after_control states.after_control after_boot_up after_other awaits_boot_up progresses.after_command states.after_command after_process process_findings moment_at sighting framed deviation_at time_deviation is_settled
+unfolding findings_at progress_with begun booted found progresses.after_control states.after_control after_boot_up after_other awaits_boot_up progresses.after_command states.after_command after_process process_findings moment_at sighting framed deviation_at time_deviation is_settled overdue_by
 not_shown = refl
 
 -- the next Start may be followed, too
 commanded_again : last_found (ignores ++ (700000, Control 127) ∷ (800000, Command Start) ∷ (900000, Control 127) ∷ []) 950000 tpdo ≡ None
-unfolding findings_at progress_with begun booted found progresses.after_control states.after_control after_boot_up after_other awaits_boot_up progresses.after_command states.after_command after_process process_findings moment_at sighting framed deviation_at time_deviation is_settled
+unfolding findings_at progress_with begun booted found progresses.after_control states.after_control after_boot_up after_other awaits_boot_up progresses.after_command states.after_command after_process process_findings moment_at sighting framed deviation_at time_deviation is_settled overdue_by
 commanded_again = refl
 
 -- from stopped: an EMCY shows that it has left that

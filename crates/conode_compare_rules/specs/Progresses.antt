@@ -1,5 +1,5 @@
 -- What a recording shows of a device, frame by frame, and where it differs from CiA 301.
-use Rattle.std.specs.Prelude.{ℕ, ◌==◌, nat_lt, Bool, true, false, not, ◌&&◌, ◌||◌, if◌then◌else◌, List, length, Option, Some, None, is_some, option_map}
+use Rattle.std.specs.Prelude.{ℕ, ◌==◌, nat_le, nat_lt, Bool, true, false, not, ◌&&◌, ◌||◌, if◌then◌else◌, List, length, Option, Some, None, is_some, option_map}
 use Rattle.std.specs.Option.{option_map_or, option_or}
 use Rattle.co_frame.specs.FrameContent.{FrameContent}
 use Rattle.co_frame.specs.declared.nmt.NmtService.{NmtService}
@@ -33,13 +33,13 @@ use Rattle.conode_compare_rules.specs.declared.kind.FrameKind.{FrameKind}
 use Rattle.conode_compare_rules.specs.declared.kind.FrameKind.TheVariants.{Command, CommandToAll, LongCommand, Guarding, Control, OddControl, Emergency, OddEmergency, Sdo, Process, Polled, Fault, Other}
 use Rattle.conode_compare_rules.specs.declared.verdict.Findings.{Findings}
 use Rattle.conode_compare_rules.specs.Answers.{answer_finding, confirmed_finding, held_finding, silence_finding, stopped_finding}
-use Rattle.conode_compare_transfers.specs.Dialogues.{asks_to_write, dialogue_heard, given_up, interrupted, nothing_asked, nothing_left, exchange_in}
+use Rattle.conode_compare_transfers.specs.Dialogues.{asks_to_write, dialogue_heard, given_up, interrupted, is_awaited, is_download, nothing_asked, nothing_left, exchange_in}
 use Rattle.conode_compare_transfers.specs.Breaches.{key_in}
 use Rattle.conode_compare_values.specs.HeldNumbers.{is_kept, nothing_written, unmapped, with_process, written_heard}
 use Rattle.conode_compare_rules.specs.EmergencyRules.{emergency_finding, is_stopped, length_finding}
 use Rattle.conode_compare_rules.specs.EntriesInForce.{asked_by, asked_to_write, ended_entries, overwritten, reset_entries, shares_id, with_sharing}
 use Rattle.conode_compare_rules.specs.OtherClients.{is_channel, may_send}
-use Rattle.conode_compare_rules.specs.Heartbeats.{after_byte, after_transfer, early_remark, follows_closely, late_finding, no_heartbeat, is_gap, is_late_again, is_missing, slow_after, with_shown}
+use Rattle.conode_compare_rules.specs.Heartbeats.{after_byte, after_transfer, early_remark, follows_closely, late_finding, no_heartbeat, is_gap, is_late_again, is_missing, overdue_by, slow_after, with_shown}
 use Rattle.conode_compare_rules.specs.States as states
 use Rattle.conode_compare_rules.specs.States.{boot_finding, control_finding, has_followed, is_operational, is_reset, is_same_byte, is_same_length, is_settled, is_steady, judged_state, nothing_commanded, after_turn, odd_after, odd_finding, restart_remark, with_followed, with_odd}
 use Rattle.conode_compare_transfers.specs.Times.{is_past}
@@ -185,10 +185,17 @@ is_known state = true
 abbrev pub settled_when_free : Subject → Progress → Bool
 settled_when_free subject progress = is_settled subject.limits progress.started progress.nmt.commanded progress.free
 
--- and since a heartbeat showed that it left operational or stopped, or entered stopped
+-- The next heartbeat was late when the bus was free last: the device may have been switched off and on. The
+-- frames of its new life may come before its boot-up, which has the lowest priority.
+abbrev pub is_overdue : Subject → Progress → Bool
+is_overdue subject progress =
+    is_some (overdue_by subject.limits progress.entries.period progress.heartbeats progress.free progress.free)
+
+-- and since a heartbeat showed that it left operational or stopped, or entered stopped; and none is late
 abbrev pub steady_when_free : Subject → Progress → Bool
 steady_when_free subject progress =
-    settled_when_free subject progress && is_steady subject.limits progress.nmt progress.free
+    (settled_when_free subject progress && is_steady subject.limits progress.nmt progress.free)
+    && not (is_overdue subject progress)
 
 -- a heartbeat is judged where the state is known, and was settled when the bus was free last
 unfoldable pub control_judged : Subject → Progress → Bool
@@ -209,7 +216,7 @@ late_at subject progress micros = if is_again subject progress then None else la
 abbrev pub is_missing_at : Subject → Progress → Bool
 is_missing_at subject progress = is_missing subject.limits progress.entries.period progress.heartbeats progress.free
 
--- an EMCY or a TPDO that is surely the device's shows that it sends, so its heartbeat may be missing
+-- an answer, an EMCY or a TPDO that is surely the device's shows that it sends, so its heartbeat may be missing
 abbrev pub late_by : Subject → Progress → Bool → ℕ → Option Finding
 late_by subject progress own micros = if own && is_missing_at subject progress then late_at subject progress micros else None
 
@@ -217,7 +224,7 @@ late_by subject progress own micros = if own && is_missing_at subject progress t
 abbrev pub said_late : Heartbeats → Option Finding → Heartbeats
 said_late heartbeats late = record heartbeats { since = if is_some late then None else heartbeats.since }
 
--- the heartbeats after an EMCY or a TPDO
+-- the heartbeats after an answer, an EMCY or a TPDO
 abbrev pub heartbeats_by : Subject → Progress → Bool → ℕ → Heartbeats
 heartbeats_by subject progress own micros =
     said_late (with_shown progress.heartbeats (own && is_some (late_at subject progress micros)) micros) (late_by subject progress own micros)
@@ -297,8 +304,9 @@ emergency_findings subject progress micros code register =
 abbrev pub odd_emergency_findings : Progress → ℕ → Findings
 odd_emergency_findings progress length = found None None None (length_finding progress.entries length) progress.entries.emergencies
 
-unfoldable pub after_emergency : Progress → ℕ → Progress
-after_emergency progress micros = record progress { nmt = record progress.nmt { booted = None }; emergency = Some micros }
+-- it may have waited since the bus was free last: its inhibit time counts from then
+unfoldable pub after_emergency : Progress → Progress
+after_emergency progress = record progress { nmt = record progress.nmt { booted = None }; emergency = Some progress.free }
 
 -- a stopped device sends none: that the device has followed a command, where a heartbeat showed stopped
 abbrev pub follows_by_emergency : Subject → Progress → Bool
@@ -311,7 +319,7 @@ emergency_noted subject progress micros =
     after_emergency (record progress {
       nmt = with_followed progress.nmt (follows_by_emergency subject progress) micros;
       heartbeats = heartbeats_by subject progress progress.entries.emergencies micros;
-    }) micros
+    })
 
 -- ---- the SDO channel
 
@@ -320,6 +328,25 @@ emergency_noted subject progress micros =
 abbrev pub shown_beside : Bool → Option Ended → Option Ended
 shown_beside true ended = None
 shown_beside false ended = ended
+
+-- an earlier request may still be answered
+abbrev pub is_doubtful : ℕ → Dialogue → ℕ → Bool
+is_doubtful answer dialogue micros =
+    is_awaited dialogue.slow micros || not (option_map_or (λ d. is_past d answer micros) dialogue.doubted true)
+
+-- Then the answer that ends a download may be that to an earlier one of the same entry: what it has stays
+-- unknown.
+abbrev pub leaves_unknown : Bool → Option Ended → Bool
+leaves_unknown doubtful None = false
+leaves_unknown doubtful (Some ended) = doubtful && is_download ended.direction
+
+abbrev pub leaves_unknown_at : Subject → Progress → ℕ → Option Ended → Bool
+leaves_unknown_at subject progress micros ended =
+    leaves_unknown (is_doubtful subject.limits.answer progress.dialogue micros) ended
+
+-- a transfer that ended shows nothing
+abbrev pub hides_end : Subject → Progress → ℕ → Option Ended → Bool
+hides_end subject progress micros ended = progress.other_client || leaves_unknown_at subject progress micros ended
 
 -- what a transfer that ended shows, and what a request asks to write
 abbrev pub entries_ended : Entries → Option Ended → Entries
@@ -347,6 +374,17 @@ pdos_asked pdos (Some asked) micros = if asked.writes then pdos_requested pdos a
 
 abbrev pub pdos_heard : Pdos → Option Ended → Option Asked → ℕ → Pdos
 pdos_heard pdos ended asked micros = pdos_asked (pdos_ended pdos ended micros) asked micros
+
+-- by such a download of a parameter of a TPDO (1800h to 1803h) the device may begin its times anew
+abbrev pub is_parameter : Key → Bool
+is_parameter key = nat_le 0x1800 key.index && nat_le key.index 0x1803
+
+abbrev pub is_of_parameter : Option Ended → Bool
+is_of_parameter None = false
+is_of_parameter (Some ended) = is_parameter ended.key
+
+abbrev pub pdos_beside : Bool → Option Ended → Pdos → Pdos
+pdos_beside unknown ended pdos = if unknown && is_of_parameter ended then tpdos.interrupted pdos else pdos
 
 -- what a client's frame of eight bytes asks to write, whatever it is in the transfers of the channel, as
 -- in `asked_by`
@@ -378,12 +416,13 @@ unfoldable pub channel_heard : Subject → Progress → ℕ → Side → FrameCo
 channel_heard subject progress micros side frame =
     let next = dialogue_heard subject.limits.answer progress.started progress.dialogue micros side frame in
     let ended = (exchange_at subject progress micros side frame).heard.ended in
-    let shown = shown_beside progress.other_client ended in
+    let shown = shown_beside (hides_end subject progress micros ended) ended in
+    let beside = pdos_beside (leaves_unknown_at subject progress micros ended) ended progress.pdos in
     record progress {
       nmt = nmt_heard subject.limits progress.started progress.nmt micros side (exchange_at subject progress micros side frame);
       heartbeats = after_transfer progress.heartbeats ended micros;
       entries = with_sharing (shares_id subject.node side frame) (asked_by side frame (entries_heard progress.entries shown next.asked));
-      pdos = pdos_by side frame (pdos_heard progress.pdos shown next.asked micros) micros;
+      pdos = pdos_by side frame (pdos_heard beside shown next.asked micros) micros;
       dialogue = next;
     }
 
@@ -398,15 +437,20 @@ abbrev pub after_sdo : Subject → Progress → ℕ → Side → FrameContent �
 after_sdo subject progress micros side frame =
     exchange_noted subject (channel_heard subject progress micros side frame) (exchange_at subject progress micros side frame)
 
--- an answer comes: where a heartbeat was late, it isn't said again
-unfoldable pub late_noted : Subject → Progress → Bool → ℕ → Progress
-late_noted subject progress late micros = record progress {
+-- an answer comes, by which a heartbeat may be missing
+unfoldable pub late_noted : Subject → Progress → Heartbeats → ℕ → Progress
+late_noted subject progress heartbeats micros = record progress {
   nmt = states.after_other subject.limits progress.nmt micros;
-  heartbeats = record progress.heartbeats { since = if late then None else progress.heartbeats.since };
+  heartbeats = heartbeats;
 }
 
 abbrev pub answer_noted : Subject → Progress → ℕ → Progress
-answer_noted subject progress micros = late_noted subject progress (is_some (late_at subject progress micros)) micros
+answer_noted subject progress micros = late_noted subject progress (heartbeats_by subject progress true micros) micros
+
+-- the state by which an answer is judged: none while a heartbeat is late
+abbrev pub answer_nmt : Subject → Progress → ℕ → Nmt
+answer_nmt subject progress micros =
+    if is_overdue subject progress then nothing_commanded else (answer_noted subject progress micros).nmt
 
 -- an answer is judged where it follows its initiate request, and answers that
 abbrev pub is_part : What → Bool
@@ -420,8 +464,8 @@ unfoldable pub answer_findings : Subject → List Row → Progress → ℕ → F
 answer_findings subject rows progress micros frame =
     let noted = answer_noted subject progress micros in
     let exchange = exchange_at subject noted micros Server frame in
-    found (boot_finding subject.limits progress.nmt micros) (late_at subject progress micros) None
-    (option_or (stopped_finding subject.limits noted.started noted.nmt exchange)
+    found (boot_finding subject.limits progress.nmt micros) (late_by subject progress true micros) None
+    (option_or (stopped_finding subject.limits noted.started (answer_nmt subject progress micros) exchange)
     (option_or (answer_finding subject rows micros exchange frame) (held_finding subject noted.written exchange)))
     (is_judged exchange)
 
@@ -461,8 +505,13 @@ sighting_findings late None = nothing_found
 sighting_findings late (Some sighting) =
     found None late None (option_map (λ deviation. PdoFinding sighting.number deviation) sighting.deviation) sighting.judged
 
+-- while a heartbeat is late it isn't judged
+abbrev pub unless_overdue : Bool → Option Sighting → Option Sighting
+unless_overdue overdue sighting = if overdue then tpdos.unjudged sighting else sighting
+
 abbrev pub sighted : Subject → Progress → ℕ → ℕ → ℕ → Option Sighting
-sighted subject progress micros id length = tpdos.sighting (moment_at subject progress micros) progress.pdos id length
+sighted subject progress micros id length =
+    unless_overdue (is_overdue subject progress) (tpdos.sighting (moment_at subject progress micros) progress.pdos id length)
 
 -- by a TPDO a heartbeat may be missing
 abbrev pub late_by_tpdo : Subject → Progress → ℕ → ℕ → ℕ → Option Finding
@@ -528,7 +577,7 @@ after_frame subject progress micros (Control byte) =
     if byte == 0 then booted subject progress micros else after_control subject progress micros byte
 after_frame subject progress micros (OddControl length) = after_length subject progress micros length
 after_frame subject progress micros (Emergency code register) = emergency_noted subject progress micros
-after_frame subject progress micros (OddEmergency length) = after_emergency progress micros
+after_frame subject progress micros (OddEmergency length) = after_emergency progress
 after_frame subject progress micros (Sdo Server frame) = after_answer subject progress micros frame
 after_frame subject progress micros (Sdo Client frame) = after_sdo subject progress micros Client frame
 after_frame subject progress micros (Command service) = after_command progress service false micros

@@ -1,10 +1,11 @@
 //! The frames of a device's SDO channel (CiA 301, 7.2.4), and what they show of it.
 
-ghost use Rattle.std.specs.Prelude.{◌≡◌, true, map};
+ghost use Rattle.std.specs.Prelude.{◌≡◌, ◌||◌, if◌then◌else◌, true, map};
 ghost use Rattle.std.specs.List.{AllPairs};
 ghost use Rattle.co_sheet.specs.SheetViews.{row_view};
 ghost use Rattle.co_value.specs.Keys.{is_key_before};
 ghost use Rattle.conode_explain_transfers.specs.declared.kinds.Side.TheVariants.{Client};
+ghost use Rattle.conode_compare_rules.specs.States.{nothing_commanded};
 ghost use Rattle.conode_compare_rules.specs.Progresses.{
   after_answer,
   after_sdo,
@@ -14,7 +15,12 @@ ghost use Rattle.conode_compare_rules.specs.Progresses.{
   exchange_at,
   exchange_noted,
   is_judged,
-  late_noted,
+  is_of_parameter,
+  answer_noted,
+  is_doubtful,
+  late_by,
+  leaves_unknown,
+  pdos_beside,
   pdos_by,
   pdos_heard,
   pdos_requested,
@@ -25,17 +31,20 @@ ghost use Rattle.conode_compare_rules.specs.Progresses.{
 use crate::answers::{answer_finding, confirmed_finding, held_finding, stopped_finding};
 use crate::clients::is_channel;
 use crate::entries::{Entries, shares_id};
+use crate::finding::Finding;
 use crate::limits::Subject;
+use crate::nmt::Nmt;
 use crate::progress::Progress;
 use crate::verdict::Findings;
 use co_frame::Frame;
 use co_sheet::EntryRow;
 use co_value::Key;
 use conode_compare_pdos::Pdos;
-use conode_compare_transfers::{Asked, Exchange, asks_to_write, key_in};
-use conode_explain_transfers::{Ended, Side, What};
+use conode_compare_transfers::{Asked, Dialogue, Exchange, asks_to_write, is_past, key_in};
+use conode_explain_transfers::{Direction, Ended, Side, What};
 
-// the entries after a frame of the SDO channel; `other`: the client of another channel has sent
+// the entries after a frame of the SDO channel; `other`: a transfer that ended shows nothing, since
+// the client of another channel has sent, or two downloads may be in flight
 fn entries_heard(
     entries: Entries,
     other: bool,
@@ -62,6 +71,54 @@ fn request_pdos(pdos: &mut Pdos, key: Key, micros: u64)
         *pdos = Pdos::unknown();
     } else {
         pdos.request(key, micros);
+    }
+}
+
+// whether an earlier request may still be answered
+fn is_doubtful(answer: u32, dialogue: &Dialogue, micros: u64) -> bool
+    ensures { result ≡ is_doubtful answer dialogue.now micros }
+{
+    let doubted = match dialogue.doubted {
+        Some(doubted) => !is_past(doubted, answer, micros),
+        None => false,
+    };
+    dialogue.slow.is_awaited(micros) || doubted
+}
+
+// whether a download that ended is one of two that may both be in flight: what its entry has stays
+// unknown
+fn leaves_unknown(doubtful: bool, ended: &Option<Ended>) -> bool
+    ensures { result ≡ leaves_unknown doubtful ended.now }
+{
+    match ended {
+        Some(ended) => doubtful && matches!(ended.direction, Direction::Download),
+        None => false,
+    }
+}
+
+// whether a transfer that ended is of a parameter of a TPDO
+fn is_of_parameter(ended: &Option<Ended>) -> bool
+    ensures { result ≡ is_of_parameter ended.now }
+{
+    match ended {
+        Some(ended) => 0x1800 <= ended.key.index && ended.key.index <= 0x1803,
+        None => false,
+    }
+}
+
+// whether a transfer that ended shows nothing
+fn hides_end(other_client: bool, unknown: bool) -> bool
+    ensures { result ≡ (other_client || unknown) }
+{
+    other_client || unknown
+}
+
+// the TPDOs after a transfer that ended, where that leaves its entry unknown
+fn leave_pdos(pdos: &mut Pdos, unknown: bool, ended: &Option<Ended>)
+    ensures { pdos.new ≡ pdos_beside unknown ended.now pdos.old }
+{
+    if unknown && is_of_parameter(ended) {
+        pdos.interrupt();
     }
 }
 
@@ -106,25 +163,29 @@ impl Progress {
         ensures progress { self.new ≡ channel_heard subject.now self.old micros side frame.now }
         ensures written { self.new.written ≡ self.old.written }
     {
+        let doubtful = is_doubtful(subject.limits.answer, &self.dialogue, micros);
         let exchange = self
             .dialogue
             .hear(subject.limits.answer, self.started, micros, side, frame);
+        let unknown = leaves_unknown(doubtful, &exchange.heard.ended);
+        let other = hides_end(self.other_client, unknown);
         self.nmt
             .note_heard(&subject.limits, self.started, micros, side, &exchange);
         let entries = entries_heard(
             self.entries,
-            self.other_client,
+            other,
             &exchange.heard.ended,
             self.dialogue.asked,
         );
-        self.entries = entries.asked_by(side, frame);
-        if shares_id(subject.node, side, frame) {
-            self.entries.emergencies = false;
-        }
+        let entries = entries.asked_by(side, frame);
+        let shares = shares_id(subject.node, side, frame);
+        let entries = entries.with_sharing(shares);
+        self.entries = entries;
         self.heartbeats = self.heartbeats.heard(&exchange.heard.ended, micros);
+        leave_pdos(&mut self.pdos, unknown, &exchange.heard.ended);
         hear_pdos(
             &mut self.pdos,
-            self.other_client,
+            other,
             &exchange.heard.ended,
             self.dialogue.asked,
             micros,
@@ -144,15 +205,22 @@ impl Progress {
         self.exchange = Some(exchange);
     }
 
-    // an answer comes: where a heartbeat was late, it isn't said again
+    // an answer comes, by which a heartbeat may be missing: the difference of that
     #[tactic(auto, unfolding(crate::specs::Progresses::late_noted))]
-    fn note_answer(&mut self, subject: &Subject, late: bool, micros: u64)
-        ensures { self.new ≡ late_noted subject.now self.old late micros }
+    fn note_answer(&mut self, subject: &Subject, micros: u64) -> Option<Finding>
+        ensures finding { result ≡ late_by subject.now self.old true micros }
+        ensures progress { self.new ≡ answer_noted subject.now self.old micros }
     {
+        let late = self.notice_late(subject, true, micros);
         self.nmt = self.nmt.after_other(&subject.limits, micros);
-        if late {
-            self.heartbeats.since = None;
-        }
+        late
+    }
+
+    // the state by which an answer is judged, once it is noted: none where a heartbeat was late
+    fn answer_nmt(&self, overdue: bool) -> Nmt
+        ensures { result ≡ (if overdue then nothing_commanded else self.now.nmt) }
+    {
+        if overdue { Nmt::new() } else { self.nmt }
     }
 
     /// An answer comes. Returns what is found at it; `rows` are the data sheet's entries, in increasing
@@ -171,9 +239,9 @@ impl Progress {
         ensures progress { self.new ≡ after_answer subject.now self.old micros frame.now }
     {
         let boot = self.nmt.boot_finding(&subject.limits, micros);
-        let heartbeat = self.late_at(subject, micros);
-        self.note_answer(subject, heartbeat.is_some(), micros);
-        let nmt = self.nmt;
+        let overdue = self.is_overdue(subject);
+        let heartbeat = self.note_answer(subject, micros);
+        let nmt = self.answer_nmt(overdue);
         let started = self.started;
         let exchange = self.hear(subject, micros, Side::Server, frame);
         let held = held_finding(subject, &self.written, &exchange);

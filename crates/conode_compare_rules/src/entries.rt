@@ -21,6 +21,7 @@ ghost use Rattle.conode_compare_rules.specs.EntriesInForce.{
   shares_id,
   shown_inhibit,
   shown_period,
+  with_sharing,
 };
 
 use crate::clients::{OtherClients, has_hidden_channel, is_channel};
@@ -203,6 +204,18 @@ impl Entries {
         match side {
             Side::Client if asks_to_write(frame) => self.asked_to_write(key_in(frame)),
             _ => self,
+        }
+    }
+
+    /// After a request by which a TPDO may get the identifier of EMCY, if `shares`.
+    pub(crate) fn with_sharing(self, shares: bool) -> Entries
+        ensures { result ≡ with_sharing shares self }
+    {
+        Entries {
+            period: self.period,
+            emergencies: !shares && self.emergencies,
+            inhibit: self.inhibit,
+            inhibit_shown: self.inhibit_shown,
         }
     }
 

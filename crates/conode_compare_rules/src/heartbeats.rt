@@ -180,9 +180,9 @@ impl Heartbeats {
         Some(Remark::EarlyHeartbeat(passed, period))
     }
 
-    // how late the next heartbeat is, where it is, and the period
+    /// How late the next heartbeat is, where it is, and the period.
     #[tactic(auto, unfolding(crate::specs::Heartbeats::overdue_by))]
-    fn overdue_by(
+    pub(crate) fn overdue_by(
         &self,
         limits: &Limits,
         entries: &Entries,

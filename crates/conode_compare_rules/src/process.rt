@@ -6,6 +6,7 @@ ghost use Rattle.conode_compare_rules.specs.Progresses.{
   moment_at,
   process_findings,
   sighting_findings,
+  unless_overdue,
 };
 ghost use Rattle.conode_compare_rules.specs.EntriesInForce.{overwritten};
 ghost use Rattle.conode_compare_pdos.specs.Followed.{unknown_pdos};
@@ -16,6 +17,20 @@ use crate::limits::Subject;
 use crate::progress::Progress;
 use crate::verdict::Findings;
 use conode_compare_pdos::{Moment, Pdos, Sighting};
+
+// a TPDO isn't judged while a heartbeat is late
+fn unless_overdue(overdue: bool, sighting: Option<Sighting>) -> Option<Sighting>
+    ensures { result ≡ unless_overdue overdue sighting }
+{
+    match sighting {
+        Some(seen) if overdue => Some(Sighting {
+            number: seen.number,
+            deviation: None,
+            judged: false,
+        }),
+        sighting => sighting,
+    }
+}
 
 // what is found at a PDO, where a heartbeat is late or isn't
 fn sighting_findings(late: Option<Finding>, sighting: Option<Sighting>) -> Findings
@@ -80,7 +95,10 @@ impl Progress {
         ensures progress { self.new ≡ after_process subject.now self.old micros id length }
     {
         let moment = self.moment_at(subject, micros);
-        let sighting = self.pdos.sighting(&moment, id, length);
+        let sighting = unless_overdue(
+            self.is_overdue(subject),
+            self.pdos.sighting(&moment, id, length),
+        );
         if self.follows_by_tpdo(subject, sighting.is_some()) {
             self.nmt.note_followed(micros);
         }

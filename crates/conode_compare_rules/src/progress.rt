@@ -25,6 +25,7 @@ ghost use Rattle.conode_compare_rules.specs.Progresses.{
   findings_in,
   heartbeat_findings,
   is_again,
+  is_overdue,
   is_number_kept,
   is_repeated,
   late_alone,
@@ -69,7 +70,7 @@ pub struct Progress {
     pub(crate) nmt: Nmt,
     pub(crate) heartbeats: Heartbeats,
     pub(crate) entries: Entries,
-    /// The stamp of its newest EMCY.
+    /// When the bus was free before its newest EMCY, which may have waited since then.
     pub(crate) emergency: Option<u64>,
     pub(crate) dialogue: Dialogue,
     pub(crate) pdos: Pdos,
@@ -175,14 +176,25 @@ impl Progress {
         Findings::of(None, None, None, frame, true)
     }
 
+    /// Whether the next heartbeat was late when the bus was free last: the device may have been
+    /// switched off and on since.
+    pub(crate) fn is_overdue(&self, subject: &Subject) -> bool
+        ensures { result ≡ is_overdue subject.now self.now }
+    {
+        self.heartbeats
+            .overdue_by(&subject.limits, &self.entries, self.free, self.free)
+            .is_some()
+    }
+
     // whether the tolerance was over when the bus was free last: since the newest command, and since
-    // a heartbeat showed that it left operational or stopped, or entered stopped
+    // a heartbeat showed that it left operational or stopped, or entered stopped; and none was late
     pub(crate) fn steady_when_free(&self, subject: &Subject) -> bool
         ensures { result ≡ steady_when_free subject.now self.now }
     {
         let limits = &subject.limits;
         self.nmt.is_settled(limits, self.started, self.free)
             && self.nmt.is_steady(limits, self.free)
+            && !self.is_overdue(subject)
     }
 
     // whether a heartbeat is judged: the state is known, and was settled when the bus was free last
@@ -283,7 +295,7 @@ impl Progress {
         )
     }
 
-    /// The difference of an EMCY or a TPDO, where the device's heartbeat is missing; `own`: the
+    /// The difference of an answer, an EMCY or a TPDO, where the device's heartbeat is missing; `own`: the
     /// frame is surely the device's. The first that shows a late heartbeat is noted; what is missing
     /// isn't said again until the next heartbeat.
     pub(crate) fn notice_late(
@@ -385,10 +397,10 @@ impl Progress {
     }
 
     #[tactic(auto, unfolding(crate::specs::Progresses::after_emergency))]
-    fn note_emergency(&mut self, micros: u64)
-        ensures { self.new ≡ after_emergency self.old micros }
+    fn note_emergency(&mut self)
+        ensures { self.new ≡ after_emergency self.old }
     {
-        self.emergency = Some(micros);
+        self.emergency = Some(self.free);
         self.nmt.booted = None;
     }
 
@@ -420,18 +432,18 @@ impl Progress {
         if follows {
             self.nmt.note_followed(micros);
         }
-        self.note_emergency(micros);
+        self.note_emergency();
         Findings::of(None, late, None, frame, self.entries.emergencies)
     }
 
     // an EMCY of another number of bytes than eight
     #[tactic(auto, unfolding(crate::specs::Progresses::after_emergency))]
-    fn take_odd_emergency(&mut self, micros: u64, length: u8) -> Findings
+    fn take_odd_emergency(&mut self, length: u8) -> Findings
         ensures findings { result ≡ odd_emergency_findings self.old length }
-        ensures progress { self.new ≡ after_emergency self.old micros }
+        ensures progress { self.new ≡ after_emergency self.old }
     {
         let frame = length_finding(&self.entries, length);
-        self.note_emergency(micros);
+        self.note_emergency();
         Findings::of(None, None, None, frame, self.entries.emergencies)
     }
 
@@ -458,7 +470,7 @@ impl Progress {
             FrameKind::Emergency(code, register) => {
                 return self.take_emergency(subject, micros, *code, *register);
             }
-            FrameKind::OddEmergency(length) => return self.take_odd_emergency(micros, *length),
+            FrameKind::OddEmergency(length) => return self.take_odd_emergency(*length),
             FrameKind::Sdo(Side::Client, frame) => {
                 return self.take_request(subject, rows, micros, frame);
             }
