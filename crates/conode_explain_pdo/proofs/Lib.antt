@@ -2,6 +2,7 @@ pub mod Claims
 pub mod Examples
 pub mod NamedIds
 pub mod NoClaims
+pub mod NothingNamed
 pub mod Parts
 pub mod Pieces
 mod ServiceExamples

@@ -6,6 +6,7 @@ ghost use Rattle.std.specs.Option.{option_to_list};
 ghost use Rattle.co_sheet_changes.specs.Names.{names_view};
 ghost use Rattle.conode_explain_pdo.specs.Buses.{bus_view};
 ghost use Rattle.conode_explain_pdo.specs.Known.{known_view};
+ghost use Rattle.conode_explain_pdo.specs.ServiceIds.{sheet_may_serve};
 ghost use Rattle.conode_explain_pdo.specs.Claims.{
   both_claims,
   claim_of,
@@ -240,9 +241,12 @@ fn add_kind(
     add_shown(claims, bus, range, id)
 }
 
-// whether one may have a PDO with an identifier, or names it otherwise
-fn sheets_may_have(sheets: &[KnownSheet<'_, '_>], id: u16) -> bool
-    ensures { result ≡ false → list_any (sheet_may_have id) (map known_view sheets.now) ≡ false }
+/// Whether one may have a PDO with an identifier, or a service.
+pub(crate) fn sheets_may_have(sheets: &[KnownSheet<'_, '_>], id: u16) -> bool
+    ensures pdos { result ≡ false →
+        list_any (sheet_may_have id) (map known_view sheets.now) ≡ false }
+    ensures services { result ≡ false →
+        list_any (sheet_may_serve id) (map known_view sheets.now) ≡ false }
 {
     for sheet in sheets {
         if sheet.may_name(id) {
