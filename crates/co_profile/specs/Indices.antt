@@ -52,9 +52,17 @@ identity = 0x1018
 abbrev pub sync_counter_overflow : ℕ
 sync_counter_overflow = 0x1019
 
+-- 1027h, the module list
+abbrev pub module_list : ℕ
+module_list = 0x1027
+
 -- 1029h, the error behaviour
 abbrev pub error_behaviour : ℕ
 error_behaviour = 0x1029
+
+-- 1F80h, NMT startup (CiA 302-2)
+abbrev pub nmt_startup : ℕ
+nmt_startup = 0x1F80
 
 -- ---- objects of one kind
 

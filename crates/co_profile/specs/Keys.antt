@@ -1,7 +1,11 @@
--- The entries of the communication profile that a device itself reads or writes, by their keys
--- (CiA 301, 7.5.2).
+-- The entries of the communication profile that have a meaning of their own, by their keys (CiA 301,
+-- 7.5.2): a device itself reads or writes them, or a recording is read by them.
 use Rattle.co_value.specs.declared.key.Key.{Key}
-use Rattle.co_profile.specs.Indices.{error_register, sync_cob_id, emergency_cob_id, emergency_inhibit_time, producer_heartbeat, sync_counter_overflow, error_behaviour}
+use Rattle.co_profile.specs.Indices.{device_type, error_register, sync_cob_id, emergency_cob_id, emergency_inhibit_time, producer_heartbeat, sync_counter_overflow, error_behaviour}
+
+-- 1000:00, the device type
+abbrev pub device_type_key : Key
+device_type_key = record { index = device_type; sub = 0 }
 
 -- 1001:00, the error register
 abbrev pub error_register_key : Key

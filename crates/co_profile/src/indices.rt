@@ -29,8 +29,12 @@ pub const PRODUCER_HEARTBEAT: u16 = 0x1017;
 pub const IDENTITY: u16 = 0x1018;
 /// The synchronous counter overflow value (CiA 301, 7.5.2.22).
 pub const SYNC_COUNTER_OVERFLOW: u16 = 0x1019;
+/// The module list (CiA 301, 7.5.2.30).
+pub const MODULE_LIST: u16 = 0x1027;
 /// The error behaviour (CiA 301, 7.5.2.32).
 pub const ERROR_BEHAVIOUR: u16 = 0x1029;
+/// NMT startup (CiA 302-2).
+pub const NMT_STARTUP: u16 = 0x1F80;
 
 /// The sub-index of the COB-ID in a PDO communication parameter (CiA 301, 7.5.2.35, 7.5.2.37).
 pub const PDO_COB_ID: u8 = 1;
@@ -107,7 +111,9 @@ pub fn index_numbers()
     ensures producer_heartbeat { PRODUCER_HEARTBEAT ≡ indices.producer_heartbeat }
     ensures identity { IDENTITY ≡ indices.identity }
     ensures sync_counter_overflow { SYNC_COUNTER_OVERFLOW ≡ indices.sync_counter_overflow }
+    ensures module_list { MODULE_LIST ≡ indices.module_list }
     ensures error_behaviour { ERROR_BEHAVIOUR ≡ indices.error_behaviour }
+    ensures nmt_startup { NMT_STARTUP ≡ indices.nmt_startup }
     ensures pdo_cob_id { PDO_COB_ID ≡ indices.pdo_cob_id }
     ensures transmission_type { TRANSMISSION_TYPE ≡ indices.transmission_type }
     ensures inhibit_time { INHIBIT_TIME ≡ indices.inhibit_time }

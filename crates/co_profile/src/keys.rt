@@ -1,4 +1,5 @@
-//! The entries of the communication profile that a device itself reads or writes, by their keys.
+//! The entries of the communication profile that have a meaning of their own, by their keys: a device
+//! itself reads or writes them, or a recording is read by them.
 
 ghost use Rattle.std.specs.Prelude.{◌≡◌};
 ghost use Rattle.co_profile.specs.Keys as keys;
@@ -6,6 +7,11 @@ ghost use Rattle.co_profile.specs.Keys as keys;
 use crate::indices;
 use co_value::Key;
 
+/// The device type (CiA 301, 7.5.2.1).
+pub const DEVICE_TYPE: Key = Key {
+    index: indices::DEVICE_TYPE,
+    sub: 0,
+};
 /// The error register (CiA 301, 7.5.2.2).
 pub const ERROR_REGISTER: Key = Key {
     index: indices::ERROR_REGISTER,
@@ -45,6 +51,7 @@ pub const COMMUNICATION_ERROR: Key = Key {
 /// Each key is the one that the standard gives its entry. This is a law: a call of it changes
 /// nothing.
 pub fn key_numbers()
+    ensures device_type { DEVICE_TYPE ≡ keys.device_type_key }
     ensures error_register { ERROR_REGISTER ≡ keys.error_register_key }
     ensures sync { SYNC_COB_ID ≡ keys.sync_key }
     ensures emergency { EMERGENCY_COB_ID ≡ keys.emergency_key }

@@ -18,7 +18,7 @@ use Rattle.co_sheet.specs.ObjectLists.{is_one_of}
 use Rattle.co_profile.specs.FixedTypes.{fixed_type_of}
 use Rattle.co_sheet.specs.Entries.{Entry, is_domain, data_type_with, type_code, data_type_of}
 use Rattle.co_sheet.specs.Limits.{Default, absent, number, node_id, text, pairs, number_at_type, numeric_default, is_numeric, limit_at, low_limit, high_limit, at_most, default_with, stated_default}
-use Rattle.co_sheet.specs.Checks.{fault_if, at_key, missing_key, unread_limit, unread_defaults, unread_limits, limit_outside, bad_limits, is_bad_default, bad_default_at, bad_default, in_numeric, left_out_codes, type_line, is_bad_type, bad_type, left_out_type, bad_access, unread_entry_numbers}
+use Rattle.co_sheet.specs.Checks.{fault_if, at_key, is_low_first, missing_key, unread_limit, unread_defaults, unread_limits, limit_outside, bad_limits, is_bad_default, bad_default_at, bad_default, in_numeric, left_out_codes, type_line, is_bad_type, bad_type, left_out_type, bad_access, unread_entry_numbers}
 use Rattle.co_sheet.specs.Accepted.{least_fault}
 use Rattle.co_sheet.specs.private.LeastFaults.{earlier}
 use Rattle.co_sheet.specs.private.Findings.{found_by, checked}
@@ -69,7 +69,7 @@ limit-read name t e limit numeric h = rw numeric (cases (property_at name e.sect
 found_cases : (t : DataType) (low_key high_key : Option Property) (low high : Option Limit) (low_value high_value : Option ℤ) → low_value ≡ value_of low → high_value ≡ value_of high
     → IsLimitAt t low_key low → IsLimitAt t high_key high
     → option_map_or (limit_outside t low_value) low_key [] ++ option_map_or (limit_outside t high_value) high_key []
-    ++ option_map_or (λ (k : Property). fault_if (not (at_most (option_or low_value (least_of t)) (option_or high_value (greatest_of t)))) BadLimits k.line) (option_or high_key low_key) []
+    ++ option_map_or (λ (k : Property). fault_if (not (at_most (option_or low_value (least_of t)) (option_or high_value (greatest_of t))) && not (is_low_first low_key high_key && not (option_map_or (is_in_type t) low_value true))) BadLimits k.line) (option_or high_key low_key) []
     ≡ limits_found t low high
 found_cases t None None None None low_value high_value l h p q = refl
 found_cases t (Some k) None (Some low) None low_value high_value l h p q = rw (l, h, p.1) refl

@@ -25,7 +25,7 @@ use Rattle.co_profile.specs.FixedTypes.{fixed_type_of}
 use Rattle.co_sheet.specs.Entries.{is_domain, listed_objects, Entry, entries_of, data_type_with, type_code, data_type_of, access_of}
 use Rattle.co_sheet.specs.Limits.{Default, absent, number, node_id, text, pairs, number_at_type, is_node_id, is_plus, node_id_sum, numeric_default, is_numeric, limit_at, low_limit, high_limit, at_most, is_in_type, is_in_limits, stated_default, value_property}
 use Rattle.co_sheet.specs.Commissioning.{node_id_with, node_id_of}
-use Rattle.co_sheet.specs.Checks.{left_out_codes, fault_if, at_key, is_bad_type, bad_type, type_line, in_numeric, limit_outside, limits_crossed, bad_limits, is_bad_default, bad_default_at, bad_default, checks}
+use Rattle.co_sheet.specs.Checks.{left_out_codes, fault_if, at_key, is_bad_type, bad_type, type_line, in_numeric, limit_outside, is_low_first, rests_on_low, limits_crossed, bad_limits, is_bad_default, bad_default_at, bad_default, checks}
 use Rattle.co_sheet.specs.Accepted.{first_found}
 use Rattle.co_value.specs.Keys.{is_key_before, same_key}
 use Rattle.co_sheet.specs.Content.{Row, row_with, row_of, insert_before, in_order, ObjectRow, object_row_of, rows_in, objects_in, content_of}
@@ -180,12 +180,28 @@ none_above : (low : Option ℤ) → IfSome low (λ a. IfSome None (λ (b : ℤ).
 none_above None = tt
 none_above (Some a) = tt
 
+-- a test that fails beside one that passes
+fails_alone : (a rests : Bool) → rests ≡ false → (a && not rests) ≡ false → a ≡ false
+fails_alone false rests is h = refl
+fails_alone true false is h = absurd (cc)
+fails_alone true true is h = absurd (cc)
+
 -- two limits that are stated are in order
-in_limit_order : (low : Option ℤ) (found : Property → Option ℤ) (least greatest : Option ℤ) (high_key low_key : Option Property)
-    → option_map_or (λ (k : Property). fault_if (not (at_most (option_or low least) (option_or (option_and_then found high_key) greatest))) BadLimits k.line) (option_or high_key low_key) [] ≡ []
+in_limit_order : (low : Option ℤ) (found : Property → Option ℤ) (least greatest : Option ℤ) (high_key low_key : Option Property) (rests : Bool) → rests ≡ false
+    → option_map_or (λ (k : Property). fault_if (not (at_most (option_or low least) (option_or (option_and_then found high_key) greatest)) && not rests) BadLimits k.line) (option_or high_key low_key) [] ≡ []
     → IfSome low (λ a. IfSome (option_and_then found high_key) (λ b. a ≤ℤ b))
-in_limit_order low found least greatest None low_key h = none_above low
-in_limit_order low found least greatest (Some k) low_key h = order_cases low (found k) least greatest (denied _ (no_fault _ BadLimits k.line h))
+in_limit_order low found least greatest None low_key rests is h = none_above low
+in_limit_order low found least greatest (Some k) low_key rests is h = order_cases low (found k) least greatest (denied _ (fails_alone _ rests is (no_fault _ BadLimits k.line h)))
+
+-- what is found of both limits rests on no LowLimit that is good
+good_low : (t : DataType) (limit : Option ℤ) (low_key high_key : Option Property) → option_map_or (limit_outside t limit) low_key [] ≡ [] → (is_low_first low_key high_key && not (option_map_or (is_in_type t) limit true)) ≡ false
+good_low t limit None None h = refl
+good_low t limit None (Some k) h = refl
+good_low t limit (Some l) high_key h = and_fails (is_low_first (Some l) high_key) _ (no_fault _ BadLimits l.line h)
+  where
+    and_fails : (a b : Bool) → b ≡ false → (a && b) ≡ false
+    and_fails true b is = is
+    and_fails false b is = refl
 
 -- what the limits of a row keep
 pub record AreLimits (t : DataType) (low high : Option ℤ) : Type 0 where
@@ -213,9 +229,9 @@ limits_cases t e true is h =
     record {
       low_in_type = inside t found low_key is (ap (λ l. option_map_or (limit_outside t l) low_key []) (sym low) ∙ ends.0);
       high_in_type = inside t found high_key is (ap (λ l. option_map_or (limit_outside t l) high_key []) (sym high) ∙ ends.1);
-      in_order = in_limit_order (option_and_then found low_key) found (least_of t) (greatest_of t) high_key low_key
-          (ap (λ l. option_map_or (λ (k : Property). fault_if (not (at_most (option_or l (least_of t)) (option_or (option_and_then found high_key) (greatest_of t)))) BadLimits k.line) (option_or high_key low_key) []) (sym low)
-          ∙ ap (λ u. option_map_or (λ (k : Property). fault_if (not (at_most (option_or (low_limit t e) (least_of t)) (option_or u (greatest_of t)))) BadLimits k.line) (option_or high_key low_key) []) (sym high)
+      in_order = in_limit_order (option_and_then found low_key) found (least_of t) (greatest_of t) high_key low_key (rests_on_low t e) (good_low t (low_limit t e) low_key high_key ends.0)
+          (ap (λ l. option_map_or (λ (k : Property). fault_if (not (at_most (option_or l (least_of t)) (option_or (option_and_then found high_key) (greatest_of t))) && not (rests_on_low t e)) BadLimits k.line) (option_or high_key low_key) []) (sym low)
+          ∙ ap (λ u. option_map_or (λ (k : Property). fault_if (not (at_most (option_or (low_limit t e) (least_of t)) (option_or u (greatest_of t))) && not (rests_on_low t e)) BadLimits k.line) (option_or high_key low_key) []) (sym high)
           ∙ parts.1);
     }
 

@@ -204,13 +204,27 @@ abbrev pub last_limit : Entry → Option Property
 last_limit e =
     option_or (property_at (codes "HighLimit") e.section) (property_at (codes "LowLimit") e.section)
 
+-- LowLimit is on an earlier line than HighLimit
+abbrev pub is_low_first : Option Property → Option Property → Bool
+is_low_first low high =
+    option_map_or (λ h. option_map_or (λ l. nat_lt l.line h.line) low false) high false
+
+-- what is found of both limits rests on a LowLimit outside the type's range, whose fault is on an
+-- earlier line
+abbrev pub rests_on_low : DataType → Entry → Bool
+rests_on_low t e =
+    is_low_first (property_at (codes "LowLimit") e.section)
+    (property_at (codes "HighLimit") e.section)
+    && not (option_map_or (is_in_type t) (low_limit t e) true)
+
 -- check 16: a limit outside the type's range; the lowest number above the highest, at the last
--- limit
+-- limit, unless that rests on a fault before it
 abbrev pub limit_outside : DataType → Option ℤ → Property → List SheetFault
 limit_outside t limit k = fault_if (not (option_map_or (is_in_type t) limit true)) BadLimits k.line
 
 abbrev pub limits_crossed : DataType → Entry → Property → List SheetFault
-limits_crossed t e k = fault_if (not (at_most (lowest t e) (highest t e))) BadLimits k.line
+limits_crossed t e k =
+    fault_if (not (at_most (lowest t e) (highest t e)) && not (rests_on_low t e)) BadLimits k.line
 
 abbrev pub bad_limits : DataType → Entry → List SheetFault
 bad_limits t e =

@@ -22,7 +22,7 @@ use Rattle.co_sheet_text.specs.Properties.{property_number}
 use Rattle.co_sheet.specs.ObjectLists.{is_one_of, Listing, object_lists, listings, listings_in, count_of, keys_to}
 use Rattle.co_sheet.specs.Entries.{single_codes, compound_codes, object_code, ListedObject, listed_objects, Entry, sub_indices, entries_in, entries_of, data_type_of, is_other_than_zero}
 use Rattle.co_sheet.specs.Limits.{Default, absent, number, node_id, text, pairs, at_most, is_in_type, is_numeric, low_limit, high_limit, stated_default, number_at_type}
-use Rattle.co_sheet.specs.Checks.{fault_if, at_key, unread, unread_number, missing_lists, has_numbers, unread_list_numbers, is_bad_list, bad_lists, is_listed_before, listed_twice, missing_section, sub_indices_checked, unread_object_numbers, other_object_type, bad_object_types, compact_form, compact_forms, missing_sub_index_0, missing_key, unread_entry_numbers, bad_type, left_out_type, bad_access, in_numeric, unread_limit, unread_defaults, unread_limits, bad_limits, is_bad_default, bad_default_at, bad_default, missing_mandatory, of_listings, of_objects, of_entries, checks}
+use Rattle.co_sheet.specs.Checks.{fault_if, at_key, is_low_first, unread, unread_number, missing_lists, has_numbers, unread_list_numbers, is_bad_list, bad_lists, is_listed_before, listed_twice, missing_section, sub_indices_checked, unread_object_numbers, other_object_type, bad_object_types, compact_form, compact_forms, missing_sub_index_0, missing_key, unread_entry_numbers, bad_type, left_out_type, bad_access, in_numeric, unread_limit, unread_defaults, unread_limits, bad_limits, is_bad_default, bad_default_at, bad_default, missing_mandatory, of_listings, of_objects, of_entries, checks}
 use Rattle.co_sheet.specs.SectionViews.{object_at}
 use Rattle.co_sheet_faults.specs.Soundness.{unless, is_found, is_unread_at, unread_in_lists, is_index, is_sound, sound_objects, is_outside, is_low_at_fault, is_high_at_fault, sound_low}
 use Rattle.co_sheet_faults.specs.AllChecks.{bad_list, all_bad_lists, all_listed_twice, all_missing_sections, object_type_found, object_types_found, all_compact_forms, sub_index_0_found, key_found, of_sound_type, limits_found, is_default_at_fault, default_found_at, default_found, all_missing_mandatory, of_sound_entries, all_checks}
@@ -290,12 +290,15 @@ limit_with t o = option_and_then (λ k. result_ok (number_at_type t k.value)) o
 abbrev outside_at : DataType → Option ℤ → Option Property → List SheetFault
 outside_at t limit o = option_map_or (λ k. fault_if (is_outside t limit) BadLimits k.line) o []
 
-abbrev crossed_at : DataType → Option ℤ → Option ℤ → Option Property → List SheetFault
-crossed_at t low high o =
-    option_map_or (λ k. fault_if (not (at_most (option_or low (least_of t)) (option_or high (greatest_of t)))) BadLimits k.line) o []
+abbrev rests_at : DataType → Option ℤ → Option Property → Option Property → Bool
+rests_at t low ol oh = is_low_first ol oh && is_outside t low
 
-abbrev high_at : DataType → Option ℤ → Option ℤ → Option Property → List SheetFault
-high_at t low high o = option_map_or (λ k. fault_if (is_outside t high || not (at_most low high)) BadLimits k.line) o []
+abbrev crossed_at : DataType → Option ℤ → Option ℤ → Option Property → Option Property → List SheetFault
+crossed_at t low high ol oh =
+    option_map_or (λ k. fault_if (not (at_most (option_or low (least_of t)) (option_or high (greatest_of t))) && not (rests_at t low ol oh)) BadLimits k.line) (option_or oh ol) []
+
+abbrev high_at : DataType → Option ℤ → Option ℤ → Option Property → Option Property → List SheetFault
+high_at t low high ol oh = option_map_or (λ k. fault_if (is_outside t high || (not (at_most low high) && not (rests_at t low ol oh))) BadLimits k.line) oh []
 
 or-front : (a b : Bool) → a ≡ true → (a || b) ≡ true
 or-front true b h = refl
@@ -320,11 +323,15 @@ sub-twice xs ys zs f g a c = by_cases (Contains-append_cases xs ys a c)
     by_cases (inl h) = f a h
     by_cases (inr h) = g a h
 
+and-front : (a b : Bool) → (a && b) ≡ true → a ≡ true
+and-front true b h = refl
+and-front false b h = absurd (cc)
+
 -- HighLimit below the lowest number is outside the type, or below LowLimit
-high-crossed : (t : DataType) (low : Option ℤ) (w : ℤ) → not (at_most (option_or low (least_of t)) (Some w)) ≡ true
-    → (is_outside t (Some w) || not (at_most low (Some w))) ≡ true
-high-crossed t None w h = below-least (at_most (least_of t) (Some w)) (at_most (Some w) (greatest_of t)) false h
-high-crossed t (Some v) w h = or-after (is_outside t (Some w)) (not (at_most (Some v) (Some w))) h
+high-crossed : (t : DataType) (low : Option ℤ) (w : ℤ) (alone : Bool) → (not (at_most (option_or low (least_of t)) (Some w)) && alone) ≡ true
+    → (is_outside t (Some w) || (not (at_most low (Some w)) && alone)) ≡ true
+high-crossed t None w alone h = below-least (at_most (least_of t) (Some w)) (at_most (Some w) (greatest_of t)) false (and-front (not (at_most (least_of t) (Some w))) alone h)
+high-crossed t (Some v) w alone h = or-after (is_outside t (Some w)) (not (at_most (Some v) (Some w)) && alone) h
 
 -- a number that is read
 read-some : (r : Result ℤ NumeralFault) (line : ℕ) → unread r line ≡ [] → (v : ℤ) × (result_ok r ≡ Some v)
@@ -332,37 +339,39 @@ read-some (Ok v) line h = (v, refl)
 read-some (Err e) line h = absurd (cc)
 
 low-alone : (t : DataType) (v : ℤ) (line : ℕ)
-    → Sub (fault_if (is_outside t (Some v)) BadLimits line ++ [] ++ fault_if (not (at_most (Some v) (greatest_of t))) BadLimits line) (fault_if (is_outside t (Some v)) BadLimits line ++ [])
+    → Sub (fault_if (is_outside t (Some v)) BadLimits line ++ [] ++ fault_if (not (at_most (Some v) (greatest_of t)) && true) BadLimits line) (fault_if (is_outside t (Some v)) BadLimits line ++ [])
 low-alone t v line =
     let found = fault_if (is_outside t (Some v)) BadLimits line in
-    let crossed = fault_if (not (at_most (Some v) (greatest_of t))) BadLimits line in
+    let crossed = fault_if (not (at_most (Some v) (greatest_of t)) && true) BadLimits line in
     sub-twice (found ++ []) crossed (found ++ []) (sub-id (found ++ []))
-    (sub-front crossed found [] (sub-if (not (at_most (Some v) (greatest_of t))) (is_outside t (Some v)) BadLimits line (above-greatest (at_most (least_of t) (Some v)) (at_most (Some v) (greatest_of t)))))
+    (sub-front crossed found [] (sub-if (not (at_most (Some v) (greatest_of t)) && true) (is_outside t (Some v)) BadLimits line
+    (λ h. above-greatest (at_most (least_of t) (Some v)) (at_most (Some v) (greatest_of t)) (and-front (not (at_most (Some v) (greatest_of t))) true h))))
 
-both-limits : (t : DataType) (low : Option ℤ) (w : ℤ) (line : ℕ) (found : List SheetFault)
-    → Sub (found ++ fault_if (is_outside t (Some w)) BadLimits line ++ fault_if (not (at_most (option_or low (least_of t)) (Some w))) BadLimits line)
-    (found ++ fault_if (is_outside t (Some w) || not (at_most low (Some w))) BadLimits line)
-both-limits t low w line found =
+both-limits : (t : DataType) (low : Option ℤ) (w : ℤ) (line : ℕ) (found : List SheetFault) (alone : Bool)
+    → Sub (found ++ fault_if (is_outside t (Some w)) BadLimits line ++ fault_if (not (at_most (option_or low (least_of t)) (Some w)) && alone) BadLimits line)
+    (found ++ fault_if (is_outside t (Some w) || (not (at_most low (Some w)) && alone)) BadLimits line)
+both-limits t low w line found alone =
+    let below = not (at_most low (Some w)) && alone in
     let high = fault_if (is_outside t (Some w)) BadLimits line in
-    let crossed = fault_if (not (at_most (option_or low (least_of t)) (Some w))) BadLimits line in
-    let all = fault_if (is_outside t (Some w) || not (at_most low (Some w))) BadLimits line in
+    let crossed = fault_if (not (at_most (option_or low (least_of t)) (Some w)) && alone) BadLimits line in
+    let all = fault_if (is_outside t (Some w) || below) BadLimits line in
     sub-twice (found ++ high) crossed (found ++ all)
-    (sub-append found high found all (sub-id found) (sub-if (is_outside t (Some w)) (is_outside t (Some w) || not (at_most low (Some w))) BadLimits line (or-front (is_outside t (Some w)) (not (at_most low (Some w))))))
-    (sub-after crossed found all (sub-if (not (at_most (option_or low (least_of t)) (Some w))) (is_outside t (Some w) || not (at_most low (Some w))) BadLimits line (high-crossed t low w)))
+    (sub-append found high found all (sub-id found) (sub-if (is_outside t (Some w)) (is_outside t (Some w) || below) BadLimits line (or-front (is_outside t (Some w)) below)))
+    (sub-after crossed found all (sub-if (not (at_most (option_or low (least_of t)) (Some w)) && alone) (is_outside t (Some w) || below) BadLimits line (high-crossed t low w alone)))
 
 limits-complete-at : (t : DataType) (ol oh : Option Property) → option_map_or (unread_limit t) ol [] ≡ [] → option_map_or (unread_limit t) oh [] ≡ []
-    → Sub (outside_at t (limit_with t ol) ol ++ outside_at t (limit_with t oh) oh ++ crossed_at t (limit_with t ol) (limit_with t oh) (option_or oh ol))
-    (outside_at t (limit_with t ol) ol ++ high_at t (limit_with t ol) (limit_with t oh) oh)
+    → Sub (outside_at t (limit_with t ol) ol ++ outside_at t (limit_with t oh) oh ++ crossed_at t (limit_with t ol) (limit_with t oh) ol oh)
+    (outside_at t (limit_with t ol) ol ++ high_at t (limit_with t ol) (limit_with t oh) ol oh)
 limits-complete-at t None None low high = sub-id []
 limits-complete-at t (Some k) None low high =
     let read = read-some (number_at_type t k.value) k.line low in
-    subst (λ (o : Option ℤ). Sub (fault_if (is_outside t o) BadLimits k.line ++ [] ++ fault_if (not (at_most (option_or o (least_of t)) (greatest_of t))) BadLimits k.line) (fault_if (is_outside t o) BadLimits k.line ++ [])) (sym read.1)
+    subst (λ (o : Option ℤ). Sub (fault_if (is_outside t o) BadLimits k.line ++ [] ++ fault_if (not (at_most (option_or o (least_of t)) (greatest_of t)) && true) BadLimits k.line) (fault_if (is_outside t o) BadLimits k.line ++ [])) (sym read.1)
     (low-alone t read.0 k.line)
 limits-complete-at t ol (Some k) low high =
     let read = read-some (number_at_type t k.value) k.line high in
-    subst (λ (o : Option ℤ). Sub (outside_at t (limit_with t ol) ol ++ fault_if (is_outside t o) BadLimits k.line ++ crossed_at t (limit_with t ol) o (Some k))
-    (outside_at t (limit_with t ol) ol ++ fault_if (is_outside t o || not (at_most (limit_with t ol) o)) BadLimits k.line)) (sym read.1)
-    (both-limits t (limit_with t ol) read.0 k.line (outside_at t (limit_with t ol) ol))
+    subst (λ (o : Option ℤ). Sub (outside_at t (limit_with t ol) ol ++ fault_if (is_outside t o) BadLimits k.line ++ crossed_at t (limit_with t ol) o ol (Some k))
+    (outside_at t (limit_with t ol) ol ++ high_at t (limit_with t ol) o ol (Some k))) (sym read.1)
+    (both-limits t (limit_with t ol) read.0 k.line (outside_at t (limit_with t ol) ol) (not (rests_at t (limit_with t ol) ol (Some k))))
 
 limit-is : (t : DataType) (o : Option Property) → is_numeric t ≡ true → cond (is_numeric t) (limit_with t o) None ≡ limit_with t o
 limit-is t o h = ap (λ (test : Bool). cond test (limit_with t o) None) h
@@ -373,8 +382,8 @@ limits-complete t e numeric h =
     let oh = property_at (codes "HighLimit") e.section in
     let first = both-empty (option_map_or (unread_limit t) ol [] ++ option_map_or (unread_limit t) oh []) (unread_defaults t e) h in
     let second = both-empty (option_map_or (unread_limit t) ol []) (option_map_or (unread_limit t) oh []) first.0 in
-    subst (λ (low : Option ℤ). Sub (outside_at t low ol ++ outside_at t (high_limit t e) oh ++ crossed_at t low (high_limit t e) (option_or oh ol)) (outside_at t low ol ++ high_at t low (high_limit t e) oh)) (sym (limit-is t ol numeric))
-    (subst (λ (high : Option ℤ). Sub (outside_at t (limit_with t ol) ol ++ outside_at t high oh ++ crossed_at t (limit_with t ol) high (option_or oh ol)) (outside_at t (limit_with t ol) ol ++ high_at t (limit_with t ol) high oh)) (sym (limit-is t oh numeric))
+    subst (λ (low : Option ℤ). Sub (outside_at t low ol ++ outside_at t (high_limit t e) oh ++ crossed_at t low (high_limit t e) ol oh) (outside_at t low ol ++ high_at t low (high_limit t e) ol oh)) (sym (limit-is t ol numeric))
+    (subst (λ (high : Option ℤ). Sub (outside_at t (limit_with t ol) ol ++ outside_at t high oh ++ crossed_at t (limit_with t ol) high ol oh) (outside_at t (limit_with t ol) ol ++ high_at t (limit_with t ol) high ol oh)) (sym (limit-is t oh numeric))
     (limits-complete-at t ol oh second.0 second.1))
 
 numeric-cases : (t : DataType) (e : Entry) (test : Bool) → is_numeric t ≡ test → cond test (unread_limits t e) [] ≡ [] → Sub (cond test (bad_limits t e) []) (cond test (limits_found t e) [])
@@ -400,10 +409,10 @@ low-good : (t : DataType) (o : Option Property) → outside_at t (limit_with t o
 low-good t None h = refl
 low-good t (Some k) h = no_fault _ BadLimits k.line h
 
-high-good : (t : DataType) (low : Option ℤ) (o : Option Property) → high_at t low (limit_with t o) o ≡ [] → (is_outside t (limit_with t o) || not (at_most low (limit_with t o))) ≡ false
-high-good t None None h = refl
-high-good t (Some v) None h = refl
-high-good t low (Some k) h = no_fault _ BadLimits k.line h
+high-good : (t : DataType) (low : Option ℤ) (ol oh : Option Property) → high_at t low (limit_with t oh) ol oh ≡ [] → (is_outside t (limit_with t oh) || (not (at_most low (limit_with t oh)) && not (rests_at t low ol oh))) ≡ false
+high-good t None ol None h = refl
+high-good t (Some v) ol None h = refl
+high-good t low ol (Some k) h = no_fault _ BadLimits k.line h
 
 -- limits of an entry that are not at fault
 record AreGood (t : DataType) (e : Entry) : Type 0 where
@@ -415,13 +424,13 @@ good-numeric t e numeric h =
     let ol = property_at (codes "LowLimit") e.section in
     let oh = property_at (codes "HighLimit") e.section in
     let none : limits_found t e ≡ [] = none-sub (limits_found t e) (λ a c. sub-same (bad_limits t e) [] h a (limits-sound t e a c)) in
-    let both = both-empty (outside_at t (low_limit t e) ol) (high_at t (low_limit t e) (high_limit t e) oh) none in
+    let both = both-empty (outside_at t (low_limit t e) ol) (high_at t (low_limit t e) (high_limit t e) ol oh) none in
     let low_same = limit-is t ol numeric in
     let high_same = limit-is t oh numeric in
     record {
       low = ap (is_outside t) low_same ∙ low-good t ol (ap (λ (o : Option ℤ). outside_at t o ol) (sym low_same) ∙ both.0);
-      high = ap (λ (o : Option ℤ). is_outside t o || not (at_most (low_limit t e) o)) high_same
-          ∙ high-good t (low_limit t e) oh (ap (λ (o : Option ℤ). high_at t (low_limit t e) o oh) (sym high_same) ∙ both.1);
+      high = ap (λ (o : Option ℤ). is_outside t o || (not (at_most (low_limit t e) o) && not (rests_at t (low_limit t e) ol oh))) high_same
+          ∙ high-good t (low_limit t e) ol oh (ap (λ (o : Option ℤ). high_at t (low_limit t e) o ol oh) (sym high_same) ∙ both.1);
     }
 
 good-other : (t : DataType) (e : Entry) → is_numeric t ≡ false → AreGood t e
@@ -430,7 +439,7 @@ good-other t e h =
     let oh = property_at (codes "HighLimit") e.section in
     record {
       low = ap (λ (test : Bool). is_outside t (cond test (limit_with t ol) None)) h;
-      high = ap (λ (test : Bool). is_outside t (cond test (limit_with t oh) None) || not (at_most (cond test (limit_with t ol) None) (cond test (limit_with t oh) None))) h;
+      high = ap (λ (test : Bool). is_outside t (cond test (limit_with t oh) None) || (not (at_most (cond test (limit_with t ol) None) (cond test (limit_with t oh) None)) && not (rests_at t (cond test (limit_with t ol) None) ol oh))) h;
     }
 
 good-cases : (t : DataType) (e : Entry) (test : Bool) → is_numeric t ≡ test → cond test (bad_limits t e) [] ≡ [] → AreGood t e

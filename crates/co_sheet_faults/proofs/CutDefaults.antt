@@ -14,14 +14,14 @@ use Rattle.co_sheet_text.specs.Sections.{Property, TextSection}
 use Rattle.co_sheet_text.specs.SectionLaws.{IsParsed}
 use Rattle.co_sheet.specs.Entries.{Entry, data_type_of}
 use Rattle.co_sheet.specs.Limits.{Default, absent, numeric_default, is_numeric, low_limit, high_limit, at_most, default_with, stated_default}
-use Rattle.co_sheet.specs.Checks.{fault_if, in_numeric, unread, unread_default, unread_limits}
+use Rattle.co_sheet.specs.Checks.{fault_if, in_numeric, is_low_first, unread, unread_default, unread_limits}
 use Rattle.co_sheet_faults.specs.Soundness.{sound_entries, is_data_type_at_fault, is_outside, sound_low, sound_high}
 use Rattle.co_sheet_faults.specs.AllChecks.{of_sound_type, limits_found, default_found, is_default_at_fault}
 use Rattle.co_sheet_faults.proofs.ElementLemmas.{In, found-by}
 use Rattle.co_sheet_faults.proofs.CutChecks.{Cut, cut_entry, key-cut, IsApart, entry-same}
 use Rattle.co_sheet_faults.proofs.CutEntries.{is_on, bad_lines, bad-at, kept, key-kept}
 use Rattle.co_sheet_faults.proofs.CutProperties.{first-named, second-named, defaults-at, hit-first, hit-second, apart-lines}
-use Rattle.co_sheet_faults.proofs.CutLimits.{limit_in, unread_by, AreLeft, typed-none, typed-all, numeric-none, numeric-at, default-test, test_of, test-same, default_by, default-same, low_at, high_at, default_at, value_at, low_of, high_of}
+use Rattle.co_sheet_faults.proofs.CutLimits.{limit_in, unread_by, AreLeft, typed-none, typed-all, numeric-none, numeric-at, default-test, test_of, test-same, default_by, default-same, low_at, high_at, default_at, value_at, low_of, high_of, first_at}
 
 -- ---- without its defaults at fault
 
@@ -102,7 +102,7 @@ high-same t e f same = ap (λ (o : Option Property). cond (is_numeric t) (limit_
 found-same : (t : DataType) (e f : Entry) → LimitsSame e f → limits_found t f ≡ limits_found t e
 found-same t e f same =
     let by_parts : Option ℤ → Option ℤ → Option Property → Option Property → List SheetFault = λ low high ol oh.
-    option_map_or (λ k. fault_if (is_outside t low) BadLimits k.line) ol [] ++ option_map_or (λ k. fault_if (is_outside t high || not (at_most low high)) BadLimits k.line) oh [] in
+    option_map_or (λ k. fault_if (is_outside t low) BadLimits k.line) ol [] ++ option_map_or (λ k. fault_if (is_outside t high || (not (at_most low high) && not (is_low_first ol oh && is_outside t low))) BadLimits k.line) oh [] in
     ap (λ (v : Option ℤ). by_parts v (high_limit t f) (low_at f) (high_at f)) (low-same t e f same)
     ∙ ap (λ (v : Option ℤ). by_parts (low_limit t e) v (low_at f) (high_at f)) (high-same t e f same)
     ∙ ap (λ (o : Option Property). by_parts (low_limit t e) (high_limit t e) o (high_at f)) same.low
@@ -113,7 +113,10 @@ sound-low-same t e f same = ap (λ (v : Option ℤ). low_of t v) (low-same t e f
 
 sound-high-same : (t : DataType) (e f : Entry) → LimitsSame e f → sound_high t f ≡ sound_high t e
 sound-high-same t e f same =
-    ap (λ (v : Option ℤ). high_of t v (high_limit t f)) (low-same t e f same) ∙ ap (λ (v : Option ℤ). high_of t (low_limit t e) v) (high-same t e f same)
+    ap (λ (v : Option ℤ). high_of t (first_at f) v (high_limit t f)) (low-same t e f same)
+    ∙ ap (λ (v : Option ℤ). high_of t (first_at f) (low_limit t e) v) (high-same t e f same)
+    ∙ ap (λ (o : Option Property). high_of t (is_low_first o (high_at f)) (low_limit t e) (high_limit t e)) same.low
+    ∙ ap (λ (o : Option Property). high_of t (is_low_first (low_at e) o) (low_limit t e) (high_limit t e)) same.high
 
 numeric-pair : (found : DataType → Entry → List SheetFault) (e f : Entry) (o : Option DataType) → data_type_of f ≡ o → data_type_of e ≡ o → ((t : DataType) → o ≡ Some t → is_numeric t ≡ true → found t f ≡ found t e) → in_numeric found f ≡ in_numeric found e
 numeric-pair found e f None is_f is_e same = numeric-none found f is_f ∙ sym (numeric-none found e is_e)

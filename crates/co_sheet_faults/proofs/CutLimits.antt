@@ -14,7 +14,7 @@ use Rattle.co_sheet_text.specs.Sections.{Property, TextSection, property_at}
 use Rattle.co_sheet_text.specs.SectionLaws.{IsParsed}
 use Rattle.co_sheet.specs.Entries.{Entry, data_type_of}
 use Rattle.co_sheet.specs.Limits.{Default, number, pairs, absent, node_id, text, number_at_type, is_numeric, low_limit, high_limit, at_most, stated_default}
-use Rattle.co_sheet.specs.Checks.{fault_if, in_numeric, unread, unread_limit, unread_default, unread_limits}
+use Rattle.co_sheet.specs.Checks.{fault_if, in_numeric, is_low_first, unread, unread_limit, unread_default, unread_limits}
 use Rattle.co_sheet_faults.specs.Soundness.{unless, sound_entries, is_data_type_at_fault, is_outside, sound_low, sound_high}
 use Rattle.co_sheet_faults.specs.AllChecks.{of_sound_type, limits_found, default_found, is_default_at_fault}
 use Rattle.co_sheet_faults.proofs.ElementLemmas.{same-some, In, found-by}
@@ -31,7 +31,7 @@ abbrev low_bad : DataType → Option Property → Bool
 low_bad t ol = is_outside t (limit_in t ol)
 
 abbrev high_bad : DataType → Option Property → Option Property → Bool
-high_bad t ol oh = is_outside t (limit_in t oh) || not (at_most (limit_in t ol) (limit_in t oh))
+high_bad t ol oh = is_outside t (limit_in t oh) || (not (at_most (limit_in t ol) (limit_in t oh)) && not (is_low_first ol oh && low_bad t ol))
 
 limit-none : (t : DataType) (b : Bool) (o : Option Property) → limit_in t (cond b None o) ≡ cond b None (limit_in t o)
 limit-none t true o = refl
@@ -45,22 +45,16 @@ most-none : (v : Option ℤ) → at_most v None ≡ true
 most-none None = refl
 most-none (Some v) = refl
 
-most-left : (b : Bool) (v w : Option ℤ) → at_most v w ≡ true → at_most (cond b None v) w ≡ true
-most-left true v w h = refl
-most-left false v w h = h
-
-both-false : (a b : Bool) → (a || not b) ≡ false → (a ≡ false) × (b ≡ true)
-both-false true b h = absurd (cc)
-both-false false true h = (refl, refl)
-both-false false false h = absurd (cc)
+first-false : (a b : Bool) → (a || b) ≡ false → a ≡ false
+first-false true b h = absurd (cc)
+first-false false b h = refl
 
 high-left : (t : DataType) (low b : Bool) (ol oh : Option Property) → high_bad t ol oh ≡ b → high_bad t (cond low None ol) (cond b None oh) ≡ false
-high-left t low true ol oh h = ap (λ c. not c) (most-none (limit_in t (cond low None ol)))
-high-left t low false ol oh h =
-    let both = both-false (is_outside t (limit_in t oh)) (at_most (limit_in t ol) (limit_in t oh)) h in
-    ap (λ c. c || not (at_most (limit_in t (cond low None ol)) (limit_in t oh))) both.0
-    ∙ ap (λ (v : Option ℤ). not (at_most v (limit_in t oh))) (limit-none t low ol)
-    ∙ ap (λ c. not c) (most-left low (limit_in t ol) (limit_in t oh) both.1)
+high-left t low true ol oh h =
+    ap (λ c. not c && not (is_low_first (cond low None ol) None && low_bad t (cond low None ol))) (most-none (limit_in t (cond low None ol)))
+high-left t true false ol oh h =
+    ap (λ c. c || false) (first-false (is_outside t (limit_in t oh)) (not (at_most (limit_in t ol) (limit_in t oh)) && not (is_low_first ol oh && low_bad t ol)) h)
+high-left t false false ol oh h = h
 
 -- a limit at fault can be read
 read-limit : (r : Result ℤ NumeralFault) (line : ℕ) (test : Option ℤ → Bool) → test None ≡ false → test (result_ok r) ≡ true → unread r line ≡ []
@@ -110,7 +104,8 @@ left t ol oh nl nh is_low is_high =
       unread = λ defaults.
           ap (λ (fs : List SheetFault). fs ++ option_map_or (unread_limit t) ch [] ++ defaults) (read-cases t ol (is_outside t) (low_bad t ol) refl refl)
           ∙ ap (λ (fs : List SheetFault). option_map_or (unread_limit t) ol [] ++ fs ++ defaults)
-          (read-cases t oh (λ v. is_outside t v || not (at_most (limit_in t ol) v)) (high_bad t ol oh) (high-none (limit_in t ol)) refl);
+          (read-cases t oh (λ v. is_outside t v || (not (at_most (limit_in t ol) v) && not (is_low_first ol oh && low_bad t ol))) (high_bad t ol oh)
+          (ap (λ c. c && not (is_low_first ol oh && low_bad t ol)) (high-none (limit_in t ol))) refl);
       none =
           ap (λ (fs : List SheetFault). fs ++ option_map_or (λ k. fault_if (high_bad t cl ch) BadLimits k.line) ch []) (none-found (low_bad t cl) BadLimits cl low_good)
           ∙ none-found (high_bad t cl ch) BadLimits ch high_good;
@@ -200,13 +195,17 @@ high-text t e h = ap (λ b. cond b (limit_in t (high_at e)) None) h
 abbrev pub low_of : DataType → Option ℤ → Option ℤ
 low_of t low = cond (is_outside t low) None low
 
-abbrev pub high_of : DataType → Option ℤ → Option ℤ → Option ℤ
-high_of t low high = cond (is_outside t high || not (at_most low high)) None high
+abbrev pub high_of : DataType → Bool → Option ℤ → Option ℤ → Option ℤ
+high_of t first low high = cond (is_outside t high || (not (at_most low high) && not (first && is_outside t low))) None high
+
+-- LowLimit is on an earlier line than HighLimit
+abbrev pub first_at : Entry → Bool
+first_at e = is_low_first (low_at e) (high_at e)
 
 abbrev found_with : DataType → Option ℤ → Option ℤ → Entry → List SheetFault
 found_with t low high e =
     option_map_or (λ k. fault_if (is_outside t low) BadLimits k.line) (low_at e) []
-    ++ option_map_or (λ k. fault_if (is_outside t high || not (at_most low high)) BadLimits k.line) (high_at e) []
+    ++ option_map_or (λ k. fault_if (is_outside t high || (not (at_most low high) && not (first_at e && is_outside t low))) BadLimits k.line) (high_at e) []
 
 limits-numeric : (t : DataType) (e : Entry) → is_numeric t ≡ true → limits_found t e ≡ limits_by t (low_at e) (high_at e)
 limits-numeric t e h =
@@ -218,14 +217,14 @@ sound-low-numeric t e h = ap (λ (v : Option ℤ). low_of t v) (low-numeric t e 
 
 sound-high-numeric : (t : DataType) (e : Entry) → is_numeric t ≡ true → sound_high t e ≡ cond (high_bad t (low_at e) (high_at e)) None (limit_in t (high_at e))
 sound-high-numeric t e h =
-    ap (λ (v : Option ℤ). high_of t v (high_limit t e)) (low-numeric t e h) ∙ ap (λ (v : Option ℤ). high_of t (limit_in t (low_at e)) v) (high-numeric t e h)
+    ap (λ (v : Option ℤ). high_of t (first_at e) v (high_limit t e)) (low-numeric t e h) ∙ ap (λ (v : Option ℤ). high_of t (first_at e) (limit_in t (low_at e)) v) (high-numeric t e h)
 
 sound-low-text : (t : DataType) (e : Entry) → is_numeric t ≡ false → sound_low t e ≡ None
 sound-low-text t e h = ap (λ (v : Option ℤ). low_of t v) (low-text t e h)
 
 sound-high-text : (t : DataType) (e : Entry) → is_numeric t ≡ false → sound_high t e ≡ None
 sound-high-text t e h =
-    ap (λ (v : Option ℤ). high_of t v (high_limit t e)) (low-text t e h) ∙ ap (λ (v : Option ℤ). high_of t None v) (high-text t e h)
+    ap (λ (v : Option ℤ). high_of t (first_at e) v (high_limit t e)) (low-text t e h) ∙ ap (λ (v : Option ℤ). high_of t (first_at e) None v) (high-text t e h)
 
 -- ---- without its limits at fault
 

@@ -218,6 +218,10 @@ both_limits_outside = refl
 low_limit_outside_alone : of_number (codes "LowLimit=0x100000000" ∷ []) ≡ fault_at 7 BadLimits ∷ lacking
 low_limit_outside_alone = refl
 
+-- HighLimit below a LowLimit that is outside the type: one fault, and a default is held against HighLimit; two where HighLimit comes first
+high_limit_below_bad_low : of_number (codes "LowLimit=0x100000000" ∷ codes "HighLimit=1" ∷ codes "DefaultValue=2" ∷ []) ≡ fault_at 7 BadLimits ∷ fault_at 9 BadDefault ∷ lacking
+high_limit_below_bad_low = refl
+
 high_limit_below_low : of_number (codes "HighLimit=1" ∷ codes "LowLimit=0x100000000" ∷ []) ≡ fault_at 8 BadLimits ∷ fault_at 7 BadLimits ∷ lacking
 high_limit_below_low = refl
 

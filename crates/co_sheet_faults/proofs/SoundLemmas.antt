@@ -11,7 +11,7 @@ use Rattle.co_sheet_text.specs.Sections.{Property, TextSection, property_at}
 use Rattle.co_sheet.specs.ObjectLists.{object_lists, listings}
 use Rattle.co_sheet.specs.Entries.{single_codes, compound_codes, ListedObject, listed_objects, Entry, entries_in, data_type_of}
 use Rattle.co_sheet.specs.Limits.{Default, absent, number, node_id, text, pairs, at_most, is_in_type, is_numeric, low_limit, high_limit, stated_default}
-use Rattle.co_sheet.specs.Checks.{fault_if, at_key, missing_lists, unread_list_numbers, bad_lists, listed_twice, missing_section, sub_indices_checked, unread_object_numbers, other_object_type, bad_object_types, compact_form, compact_forms, missing_sub_index_0, missing_key, unread_entry_numbers, bad_type, left_out_type, bad_access, in_numeric, unread_limits, lowest, highest, limit_outside, limits_crossed, bad_limits, is_bad_default, bad_default_at, bad_default, missing_mandatory, of_listings, of_entries, checks}
+use Rattle.co_sheet.specs.Checks.{fault_if, at_key, missing_lists, unread_list_numbers, bad_lists, listed_twice, missing_section, sub_indices_checked, unread_object_numbers, other_object_type, bad_object_types, compact_form, compact_forms, missing_sub_index_0, missing_key, unread_entry_numbers, bad_type, left_out_type, bad_access, in_numeric, unread_limits, lowest, highest, limit_outside, rests_on_low, limits_crossed, bad_limits, is_bad_default, bad_default_at, bad_default, missing_mandatory, of_listings, of_entries, checks}
 use Rattle.co_sheet.specs.SectionViews.{object_at}
 use Rattle.co_sheet_faults.specs.Soundness.{unless, are_lists_at_fault, is_unread_at, is_index, is_sound, sound_objects, is_compact, is_outside, is_low_at_fault, is_high_at_fault, sound_low, sound_high, is_object_type_at_fault, is_data_type_at_fault}
 use Rattle.co_sheet_faults.specs.AllChecks.{bad_list, all_bad_lists, all_listed_twice, all_missing_sections, object_type_found, object_types_found, all_compact_forms, sub_index_0_found, key_found, of_sound_type, high_found, limits_found, is_default_at_fault, default_found_at, default_found, all_missing_mandatory, of_sound_entries, all_checks}
@@ -82,6 +82,11 @@ high-sound : (outside crossed ends : Bool) (line : ℕ) → (crossed ≡ true �
 high-sound true crossed ends line h = sub-front (fault_if true BadLimits line) (fault_if true BadLimits line) (fault_if ends BadLimits line) (λ a c. c)
 high-sound false crossed ends line h = sub-if crossed ends BadLimits line h
 
+-- a test that passes beside another one
+beside-test : (a b r : Bool) → (a ≡ true → b ≡ true) → (a && r) ≡ true → (b && r) ≡ true
+beside-test true b r f h = rw (f refl) h
+beside-test false b r f h = absurd (cc)
+
 limits-sound-at : (t : DataType) (e : Entry) (ol oh : Option Property)
     → Sub (option_map_or (limit_outside t (low_limit t e)) ol [] ++ option_map_or (high_found t e) oh [])
     (option_map_or (limit_outside t (low_limit t e)) ol [] ++ option_map_or (limit_outside t (high_limit t e)) oh [] ++ option_map_or (limits_crossed t e) (option_or oh ol) [])
@@ -94,8 +99,9 @@ limits-sound-at t e ol (Some k) =
     let crossed = limits_crossed t e k in
     λ a c. sub-same (low ++ (high ++ crossed)) (low ++ high ++ crossed) (sym (append_assoc low high crossed)) a
     (sub-append low (high_found t e k) low (high ++ crossed) (λ b d. d)
-    (high-sound (is_outside t (high_limit t e)) (not (at_most (low_limit t e) (high_limit t e))) (not (at_most (lowest t e) (highest t e))) k.line
-    (crossed-ends (low_limit t e) (high_limit t e) (least_of t) (greatest_of t))) a c)
+    (high-sound (is_outside t (high_limit t e)) (not (at_most (low_limit t e) (high_limit t e)) && not (rests_on_low t e)) (not (at_most (lowest t e) (highest t e)) && not (rests_on_low t e)) k.line
+    (beside-test (not (at_most (low_limit t e) (high_limit t e))) (not (at_most (lowest t e) (highest t e))) (not (rests_on_low t e))
+    (crossed-ends (low_limit t e) (high_limit t e) (least_of t) (greatest_of t)))) a c)
 
 pub limits-sound : (t : DataType) (e : Entry) → Sub (limits_found t e) (bad_limits t e)
 limits-sound t e = limits-sound-at t e (property_at (codes "LowLimit") e.section) (property_at (codes "HighLimit") e.section)

@@ -10,7 +10,7 @@ use Rattle.co_sheet.specs.ObjectLists.{is_one_of, Listing, object_lists, listing
 use Rattle.co_sheet.specs.Entries.{single_codes, ListedObject, Entry, entries_in}
 use Rattle.co_sheet.specs.SectionViews.{object_at}
 use Rattle.co_sheet.specs.Limits.{low_limit, high_limit, at_most, is_in_type}
-use Rattle.co_sheet.specs.Checks.{unread_number, missing_lists, bad_lists, is_listed_before, of_listings, listed_twice, missing_section, other_object_type, bad_type}
+use Rattle.co_sheet.specs.Checks.{rests_on_low, unread_number, missing_lists, bad_lists, is_listed_before, of_listings, listed_twice, missing_section, other_object_type, bad_type}
 
 -- what is found, where nothing that it rests on is at fault
 abbrev pub unless : Bool → List SheetFault → List SheetFault
@@ -72,7 +72,8 @@ is_object_type_at_fault e = is_found (other_object_type single_codes e.section)
 abbrev pub is_data_type_at_fault : Entry → Bool
 is_data_type_at_fault e = is_found (bad_type e)
 
--- a limit that can be read, and is outside the type's range or, as HighLimit, below LowLimit
+-- a limit that can be read, and is outside the type's range or, as HighLimit, below LowLimit, unless
+-- that is on an earlier line and itself outside
 abbrev pub is_outside : DataType → Option ℤ → Bool
 is_outside t limit = not (option_map_or (is_in_type t) limit true)
 
@@ -81,7 +82,8 @@ is_low_at_fault t e = is_outside t (low_limit t e)
 
 abbrev pub is_high_at_fault : DataType → Entry → Bool
 is_high_at_fault t e =
-    is_outside t (high_limit t e) || not (at_most (low_limit t e) (high_limit t e))
+    is_outside t (high_limit t e)
+    || (not (at_most (low_limit t e) (high_limit t e)) && not (rests_on_low t e))
 
 -- the limits against which a default is checked
 abbrev pub sound_low : DataType → Entry → Option ℤ

@@ -1,12 +1,24 @@
 //! What is at fault in an entry.
 
-ghost use Rattle.std.specs.Prelude.{◌≡◌, ◌++◌, Some, None, true, false, OnOk, if◌then◌else◌};
+ghost use Rattle.std.specs.Prelude.{
+  ◌≡◌,
+  ◌++◌,
+  Some,
+  None,
+  true,
+  false,
+  codes,
+  OnOk,
+  if◌then◌else◌,
+};
+ghost use Rattle.co_sheet_text.specs.Sections.{property_at};
 ghost use Rattle.co_sheet_text.specs.Views.{section_view};
 ghost use Rattle.co_sheet.specs.ObjectLists.{is_one_of};
 ghost use Rattle.co_sheet.specs.Entries.{single_codes, type_code, data_type_of};
 ghost use Rattle.co_sheet.specs.Limits.{is_numeric, limit_at};
 ghost use Rattle.co_sheet.specs.Checks.{
   at_key,
+  is_low_first,
   type_line,
   left_out_codes,
   bad_access,
@@ -197,6 +209,21 @@ fn is_outside(data_type: DataType, limit: Option<i128>) -> bool
     }
 }
 
+// whether LowLimit is on an earlier line than HighLimit
+fn is_low_first(section: &TextSection) -> bool
+    ensures { result ≡ is_low_first
+        (property_at (codes "LowLimit") (section_view section.now))
+        (property_at (codes "HighLimit") (section_view section.now)) }
+{
+    match (
+        section.property(b"LowLimit"),
+        section.property(b"HighLimit"),
+    ) {
+        (Some(low), Some(high)) => low.line < high.line,
+        _ => false,
+    }
+}
+
 // a limit, where it isn't at fault
 fn sound(is_bad: bool, limit: Option<i128>) -> Option<i128>
     ensures { result ≡ (if is_bad then None else limit) }
@@ -222,7 +249,8 @@ fn limits_of(entry: &EntrySection, data_type: DataType) -> Limits
     let low = limit_at(entry, data_type, b"LowLimit");
     let high = limit_at(entry, data_type, b"HighLimit");
     let is_low_bad = is_outside(data_type, low);
-    let is_high_bad = is_outside(data_type, high) || !at_most(low, high);
+    let rests = is_low_first(entry.section) && is_low_bad;
+    let is_high_bad = is_outside(data_type, high) || (!at_most(low, high) && !rests);
     Limits {
         low: sound(is_low_bad, low),
         high: sound(is_high_bad, high),

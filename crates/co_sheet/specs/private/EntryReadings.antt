@@ -93,12 +93,20 @@ value_of limit = option_map (λ l. l.value) limit
 abbrev pub outside : DataType → Limit → List SheetFault
 outside t limit = fault_if (not (is_in_type t limit.value)) BadLimits limit.line
 
--- a low limit above the high one, where a limit that is absent is the type's end
+-- a low limit that is outside the type's range, on an earlier line than the high one
+abbrev pub low_before : DataType → Limit → Limit → Bool
+low_before t high low = nat_lt low.line high.line && not (is_in_type t low.value)
+
+abbrev pub rests : DataType → Option Limit → Option Limit → Bool
+rests t low high = option_map_or (λ h. option_map_or (low_before t h) low false) high false
+
+-- a low limit above the high one, where a limit that is absent is the type's end; not where that
+-- rests on a fault before it
 abbrev pub crossed : DataType → Option Limit → Option Limit → Limit → List SheetFault
 crossed t low high last =
     let lowest = option_or (value_of low) (least_of t) in
     let highest = option_or (value_of high) (greatest_of t) in
-    fault_if (not (at_most lowest highest)) BadLimits last.line
+    fault_if (not (at_most lowest highest) && not (rests t low high)) BadLimits last.line
 
 -- what is wrong with limits
 abbrev pub limits_found : DataType → Option Limit → Option Limit → List SheetFault

@@ -51,6 +51,7 @@ ghost use Rattle.co_sheet.specs.private.EntryReadings.{
   value_of,
   outside,
   crossed,
+  rests,
   limits_found,
   preset_of,
   is_other_default,
@@ -182,7 +183,18 @@ fn value_of(limit: Option<Limit>) -> Option<i128>
     Some(limit?.value)
 }
 
-// a low limit above the high one, on the high one's line, or else the low one's
+// whether a low limit is outside the type's range, on an earlier line than the high one
+fn rests(data_type: DataType, low: Option<Limit>, high: Option<Limit>) -> bool
+    ensures { result ≡ rests data_type low high }
+{
+    match (low, high) {
+        (Some(low), Some(high)) => low.line < high.line && !is_in_type(data_type, low.value),
+        _ => false,
+    }
+}
+
+// a low limit above the high one, on the high one's line, or else the low one's; not where that
+// rests on a fault before it
 fn crossed(data_type: DataType, low: Option<Limit>, high: Option<Limit>) -> Option<SheetFault>
     ensures { result
         ≡ least_fault (option_map_or (crossed data_type low high) (option_or high low) []) }
@@ -190,7 +202,8 @@ fn crossed(data_type: DataType, low: Option<Limit>, high: Option<Limit>) -> Opti
     let last = high.or(low)?;
     let lowest = value_of(low).or(data_type.least());
     let highest = value_of(high).or(data_type.greatest());
-    fault_if(!at_most(lowest, highest), FaultKind::BadLimits, last.line)
+    let is_crossed = !at_most(lowest, highest) && !rests(data_type, low, high);
+    fault_if(is_crossed, FaultKind::BadLimits, last.line)
 }
 
 // the default at a key of a string or a domain; a domain's is passed over
