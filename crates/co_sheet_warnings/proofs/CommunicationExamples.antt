@@ -39,7 +39,7 @@ first_and_past : places InhibitTime (codes "[1800sub2]" ∷ codes "DefaultValue=
 unfolding places_of few_places place_in_text places_in
 first_and_past = refl
 
-types : map is_synchronous (0 ∷ 1 ∷ 240 ∷ 241 ∷ 254 ∷ []) ≡ true ∷ true ∷ true ∷ false ∷ false ∷ []
+types : map is_synchronous (0 ∷ 1 ∷ 240 ∷ 241 ∷ 251 ∷ 252 ∷ 253 ∷ 254 ∷ []) ≡ true ∷ true ∷ true ∷ false ∷ false ∷ true ∷ false ∷ false ∷ []
 types = refl
 
 -- ---- OwnHeartbeat, HeartbeatTwice

@@ -9,6 +9,7 @@ use Rattle.std.specs.Prelude.{
   false,
   not,
   ◌&&◌,
+  ◌||◌,
   ◌==◌,
   nat_le,
   nat_lt,
@@ -44,9 +45,9 @@ number_at_sub sub entries = option_and_then value_number (find (λ e. e.key.sub 
 abbrev pub line_if : (ℕ → Bool) → Property → List ℕ
 line_if test k = if option_map_or test (property_number k) false then k.line ∷ [] else []
 
--- transmission types 0 to 240 wait for a SYNC, and an inhibit time isn't used then
+-- transmission types 0 to 240 and 252 wait for a SYNC, and an inhibit time isn't used then
 abbrev pub is_synchronous : ℕ → Bool
-is_synchronous transmission = nat_le transmission 240
+is_synchronous transmission = nat_le transmission 240 || (transmission == 252)
 
 abbrev pub is_some_time : ℕ → Bool
 is_some_time time = nat_lt 0 time

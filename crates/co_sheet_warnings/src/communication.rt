@@ -42,7 +42,7 @@ pub(crate) fn number_at_sub(parts: &[EntrySection], sub: u8) -> Option<u64>
 fn is_synchronous(transmission: u64) -> bool
     ensures { result ≡ is_synchronous transmission }
 {
-    transmission <= 240
+    transmission <= 240 || transmission == 252
 }
 
 fn is_some_time(time: u64) -> bool

@@ -1,15 +1,15 @@
 -- What the last frames of nodes had, computed from the definitions.
 use Rattle.std.proofs.Common.{◌≡◌, ℕ, true, false, List, [], ◌∷◌, refl, Some, None}
-use Rattle.std.specs.Prelude.{codes}
+use Rattle.std.specs.Prelude.{codes, length, map}
 use Rattle.conode_explain_services.specs.declared.guarding.Guarding.{Guarding}
 use Rattle.conode_explain_services.specs.declared.guarding.Guarding.TheVariants.{NotSeen, BootedUp, Requested, Answered}
 use Rattle.conode_explain_services.specs.declared.last.Last.{Last}
 use Rattle.conode_explain_services.specs.declared.nmt_state.KnownState.{KnownState}
-use Rattle.conode_explain_services.specs.declared.nmt_state.KnownState.TheVariants.{Unknown, Seen}
-use Rattle.conode_explain_services.specs.declared.nmt_state.NmtState.TheVariants.{Operational, PreOperational}
+use Rattle.conode_explain_services.specs.declared.nmt_state.KnownState.TheVariants.{Unknown, Seen, Commanded}
+use Rattle.conode_explain_services.specs.declared.nmt_state.NmtState.TheVariants.{Operational, PreOperational, Stopped}
 use Rattle.conode_explain_services.specs.declared.node.Node.{Node}
-use Rattle.conode_explain_services.specs.Nodes.{last_for, last_in, last_of, new_node, nodes_after, nodes_asked, noted, nothing_seen}
-use Rattle.conode_explain_services.specs.NmtStates.{state_at}
+use Rattle.conode_explain_services.specs.Nodes.{last_for, last_in, last_of, new_node, nodes_after, nodes_asked, nodes_commanded, noted, nothing_seen}
+use Rattle.conode_explain_services.specs.NmtStates.{state_at, state_commanded}
 
 abbrev after : List Node → List ℕ → ℕ → List ℕ → List Node
 after nodes interface id bytes = nodes_after nodes interface (record { id = id; bytes = bytes })
@@ -69,6 +69,35 @@ of_command_to_all = refl
 of_emergency : at_frame 0x085 [] ≡ had 0x44 NotSeen
 unfolding last_for nodes_after last_of last_in noted
 of_emergency = refl
+
+-- a command to all nodes counts for those from which nothing came, on its interface, until one of their own
+abbrev started : List Node
+started = after three (codes "a") 0 (1 ∷ 0 ∷ [])
+
+abbrev state_in : List Node → List ℕ → ℕ → KnownState
+state_in nodes interface id = (last_for nodes interface (record { id = 0; bytes = 1 ∷ id ∷ [] })).state
+
+of_started : map (state_in started (codes "a")) (5 ∷ 6 ∷ 7 ∷ []) ≡ Commanded Operational ∷ Commanded Operational ∷ Commanded Operational ∷ []
+unfolding last_for nodes_after nodes_commanded last_of last_in noted state_commanded
+of_started = refl
+
+on_the_other : map (state_in started (codes "b")) (5 ∷ 7 ∷ []) ≡ Unknown ∷ Unknown ∷ []
+unfolding last_for nodes_after nodes_commanded last_of last_in noted state_commanded
+on_the_other = refl
+
+-- a node that comes later begins with it; a reset of all ends it
+later : map (state_in (after (after started (codes "a") 0x087 (emergency_of 1)) (codes "a") 0 (2 ∷ 8 ∷ [])) (codes "a")) (7 ∷ 8 ∷ 9 ∷ [])
+    ≡ Commanded Operational ∷ Commanded Stopped ∷ Commanded Operational ∷ []
+unfolding last_for nodes_after nodes_commanded last_of last_in noted state_commanded
+later = refl
+
+reset : map (state_in (after started (codes "a") 0 (130 ∷ 0 ∷ [])) (codes "a")) (5 ∷ 7 ∷ []) ≡ Unknown ∷ Unknown ∷ []
+unfolding last_for nodes_after nodes_commanded last_of last_in noted state_commanded
+reset = refl
+
+started_again : length (after started (codes "a") 0 (1 ∷ 0 ∷ [])) ≡ 4
+unfolding last_for nodes_after nodes_commanded last_of last_in noted state_commanded
+started_again = refl
 
 -- seven bytes, SYNC and TPDOs change nothing
 short_emergency : after [] (codes "a") 0x085 (0 ∷ 0 ∷ 1 ∷ 0 ∷ 0 ∷ 0 ∷ 0 ∷ []) ≡ []

@@ -39,10 +39,11 @@ shown : shown_words (Commanded Operational) 127 ∷ shown_words (Commanded Opera
 unfolding shown_words found_words state_at
 shown = refl
 
--- a command to all is for the nodes of its interface that are kept
+-- a command to all is for the nodes of its interface that are kept, and node 0 stands for others
 to_all : nodes_commanded (new_node (codes "a") 5 nothing_seen ∷ new_node (codes "b") 5 nothing_seen ∷ []) (codes "a") 1 0
-    ≡ new_node (codes "a") 5 (record { register = None; guarding = NotSeen; state = Commanded Operational }) ∷ new_node (codes "b") 5 nothing_seen ∷ []
-unfolding nodes_commanded state_commanded
+    ≡ new_node (codes "a") 5 (record { register = None; guarding = NotSeen; state = Commanded Operational }) ∷ new_node (codes "b") 5 nothing_seen
+    ∷ new_node (codes "a") 0 (record { register = None; guarding = NotSeen; state = Commanded Operational }) ∷ []
+unfolding nodes_commanded state_commanded noted
 to_all = refl
 
 to_one : nodes_after [] (codes "a") (record { id = 0; bytes = 2 ∷ 5 ∷ [] })

@@ -12,9 +12,9 @@ use Rattle.conode_explain_services.specs.Guardings.{guarding_after, guarding_ask
 use Rattle.conode_explain_services.specs.declared.nmt_state.KnownState.TheVariants.{Unknown}
 use Rattle.conode_explain_services.specs.NmtStates.{is_command, state_after, state_commanded}
 
--- at most so many nodes are kept: 127 on each of 8 interfaces
+-- at most so many nodes are kept: on each of 8 interfaces 127, and node 0, which stands for all
 abbrev pub most_nodes : ℕ
-most_nodes = 1016
+most_nodes = 1024
 
 -- nothing came from a node
 abbrev pub nothing_seen : Last
@@ -33,13 +33,21 @@ place_of nodes interface id = position (is_of interface id) nodes
 abbrev pub node_at : List Node → ℕ → Node
 node_at nodes place = slice_index_or nodes place (new_node [] 0 nothing_seen)
 
--- what its last frames had
 abbrev pub last_at : Option ℕ → List Node → Last
 last_at None nodes = nothing_seen
 last_at (Some place) nodes = (node_at nodes place).last
 
+-- of a node from which nothing came: what was commanded of all nodes
+abbrev pub last_of_all : List Node → List ℕ → Last
+last_of_all nodes interface = last_at (place_of nodes interface 0) nodes
+
+-- what its last frames had
+abbrev pub last_found : Option ℕ → List Node → List ℕ → Last
+last_found None nodes interface = last_of_all nodes interface
+last_found (Some place) nodes interface = (node_at nodes place).last
+
 unfoldable pub last_in : List Node → List ℕ → ℕ → Last
-last_in nodes interface id = last_at (place_of nodes interface id) nodes
+last_in nodes interface id = last_found (place_of nodes interface id) nodes interface
 
 -- with a boot-up, which is byte 0, the error register begins anew
 abbrev pub register_after : Option ℕ → ℕ → Option ℕ
@@ -61,7 +69,8 @@ abbrev pub noted_at : Option ℕ → List Node → List ℕ → ℕ → Shown �
 noted_at (Some place) nodes interface id shown =
     slice_set nodes place (record (node_at nodes place) { last = last_with (node_at nodes place).last shown })
 noted_at None nodes interface id shown =
-    if nat_lt (length nodes) most_nodes then nodes ++ new_node interface id (last_with nothing_seen shown) ∷ [] else nodes
+    if nat_lt (length nodes) most_nodes
+    then nodes ++ new_node interface id (last_with (last_of_all nodes interface) shown) ∷ [] else nodes
 
 unfoldable pub noted : List Node → List ℕ → ℕ → Shown → List Node
 noted nodes interface id shown = noted_at (place_of nodes interface id) nodes interface id shown
@@ -98,14 +107,14 @@ commanded interface command node =
     if bytes_eq node.interface.items interface
     then record node { last = last_with node.last (Command command) } else node
 
--- all nodes that are kept; of others nothing is known anyway
+-- all nodes that are kept
 abbrev pub all_commanded : List Node → List ℕ → ℕ → List Node
 all_commanded nodes interface command = map (commanded interface command) nodes
 
--- a node, or all
+-- a node, or all: node 0 keeps what was commanded of those from which nothing came
 unfoldable pub nodes_commanded : List Node → List ℕ → ℕ → ℕ → List Node
 nodes_commanded nodes interface command id =
-    if id == 0 then all_commanded nodes interface command
+    if id == 0 then noted (all_commanded nodes interface command) interface 0 (Command command)
     else noted nodes interface id (Command command)
 
 -- what the last frames of the node of a data frame had: of a command, the node that it is for

@@ -9,6 +9,7 @@ ghost use Rattle.conode_explain_services.specs.Nodes.{
   last_for,
   last_in,
   last_of,
+  last_of_all,
   last_with,
   nodes_after,
   nodes_asked,
@@ -30,10 +31,11 @@ use std::alloc::{AllocError, Global};
 use std::marker::Model;
 
 /// How many nodes are kept at most.
-const MOST_NODES: usize = 1016;
+const MOST_NODES: usize = 1024;
 
 /// The nodes of a recording by interface and node-ID, with what their last frames had: at most
-/// 1,016, 127 on each of 8 interfaces. Contracts see them in the order in which they came first.
+/// 1,024, on each of 8 interfaces 127, and node 0 once a command came to all nodes. Contracts see
+/// them in the order in which they came first.
 #[derive(Drop)]
 pub struct Nodes {
     nodes: Vec<Node>,
@@ -135,13 +137,23 @@ impl Nodes {
         }
     }
 
+    // of a node from which nothing came: what was commanded of all nodes
+    fn last_of_all(&self, interface: &[u8]) -> Last
+        ensures { result ≡ last_of_all self.now interface.now }
+    {
+        match place_of(self.nodes.as_slice(), interface, 0) {
+            Some(place) => self.nodes[place].last,
+            None => Last::new(),
+        }
+    }
+
     #[tactic(auto, unfolding(crate::specs::Nodes::last_in))]
     fn last_in(&self, interface: &[u8], id: u8) -> Last
         ensures { result ≡ last_in self.now interface.now id }
     {
         match place_of(self.nodes.as_slice(), interface, id) {
             Some(place) => self.nodes[place].last,
-            None => Last::new(),
+            None => self.last_of_all(interface),
         }
     }
 
@@ -173,10 +185,8 @@ impl Nodes {
         if self.nodes.len() >= MOST_NODES {
             return Ok(());
         }
-        match self
-            .nodes
-            .push(Node::new(interface, id, Last::new().with(shown)))
-        {
+        let last = self.last_of_all(interface).with(shown);
+        match self.nodes.push(Node::new(interface, id, last)) {
             Ok(()) => Ok(()),
             Err(_) => Err(AllocError),
         }
@@ -222,7 +232,6 @@ impl Nodes {
     {
         if id == 0 {
             self.command_all(interface, command);
-            return Ok(());
         }
         self.note(interface, id, Shown::Command(command))
     }

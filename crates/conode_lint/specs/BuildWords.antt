@@ -52,8 +52,8 @@ build_fix NodeId = codes "give a node-ID from 1 to 127"
 build_fix (ValueRange key) = codes "correct the default or the limits"
 build_fix (BadCobId key) =
     if is_sync key
-    then codes "give a free COB-ID; bit 30 is legal, but conode's node sends no SYNC: clear it to build"
-    else codes "give a free COB-ID; bit 29 is legal, but conode's node has no 29-bit identifiers: clear it to build"
+    then codes "give a free COB-ID of 11 bits; if bit 30 is set, clear it: it is legal, but conode's node sends no SYNC"
+    else codes "give a free COB-ID of 11 bits; if bit 29 is set, clear it: it is legal, but conode's node has no 29-bit identifiers"
 build_fix (PdoPair index) = codes "list or describe what is missing"
 build_fix (BadMapping key) = codes "correct the mapping, or set PDOMapping=1 for the entry"
 build_fix TooMany = codes "take objects out of the lists, or lower --domains or --strings"

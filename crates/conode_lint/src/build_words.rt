@@ -83,12 +83,12 @@ const FIXES: [&str; 9] = [
     "",
     "give a node-ID from 1 to 127",
     "correct the default or the limits",
-    "give a free COB-ID; bit 29 is legal, but conode's node has no 29-bit identifiers: clear it to build",
+    "give a free COB-ID of 11 bits; if bit 29 is set, clear it: it is legal, but conode's node has no 29-bit identifiers",
     "list or describe what is missing",
     "correct the mapping, or set PDOMapping=1 for the entry",
     "take objects out of the lists, or lower --domains or --strings",
     "run it again with more memory",
-    "give a free COB-ID; bit 30 is legal, but conode's node sends no SYNC: clear it to build",
+    "give a free COB-ID of 11 bits; if bit 30 is set, clear it: it is legal, but conode's node sends no SYNC",
 ];
 
 /// How to fix it, in one line.
