@@ -17,7 +17,7 @@ use Rattle.conode_explain_transfers.specs.declared.kinds.Protocol.{Protocol}
 use Rattle.conode_explain_transfers.specs.declared.kinds.Protocol.TheVariants.{Expedited, Segmented, Block}
 use Rattle.conode_explain_transfers.specs.declared.kinds.Side.TheVariants.{Server}
 use Rattle.conode_compare_values.specs.declared.mismatch.Mismatch.{Mismatch}
-use Rattle.conode_compare_values.specs.declared.mismatch.Mismatch.TheVariants.{ValueLength, ValueConst, ConstText, ReadRefused, Written, AboveLimit, BelowLimit, BeyondRoom}
+use Rattle.conode_compare_values.specs.declared.mismatch.Mismatch.TheVariants.{ValueLength, ValueConst, ConstText, ReadRefused, ReadServed, Written, AboveLimit, BelowLimit, BeyondRoom}
 use Rattle.conode_compare_values.specs.declared.rooms.Rooms.{Rooms}
 use Rattle.conode_compare_values.specs.SheetValues.{binds, refused_mismatch, row_mismatch, value_mismatch, written_mismatch}
 
@@ -380,6 +380,19 @@ read_of_modules modular index sub bytes =
 by_modules : map (λ modular. read_of_modules modular 0x1000 0 (0x92 ∷ 1 ∷ 0xF ∷ 0 ∷ [])) (true ∷ false ∷ []) ≡ None ∷ other_profile 0xF0192 ∷ []
 unfolding row_mismatch value_mismatch
 by_modules = refl
+
+-- a write-only entry is read: in one frame, in segments, in blocks; of a modular device; another entry, and one that is refused
+abbrev served : Bool → Access → Protocol → Ending → Option Mismatch
+served modular access protocol ending = row_mismatch 5 modular (given None None) (row 0x2000 3 Unsigned8 access absent) true (transfer (row 0x2000 3 Unsigned8 access absent) Upload protocol 1 ending)
+
+write_only_read : map (λ protocol. served false Wo protocol (Done false)) (Expedited ∷ Segmented ∷ Block ∷ [])
+    ≡ Some (ReadServed (key 0x2000 3)) ∷ Some (ReadServed (key 0x2000 3)) ∷ Some (ReadServed (key 0x2000 3)) ∷ []
+unfolding row_mismatch value_mismatch
+write_only_read = refl
+
+others_read : served true Wo Expedited (Done false) ∷ served false Rw Expedited (Done false) ∷ served false Wo Expedited (Aborted Server (record { 0 = 0x06010001 })) ∷ [] ≡ None ∷ None ∷ None ∷ []
+unfolding row_mismatch value_mismatch
+others_read = refl
 
 not_by_modules : read_of_modules true 0x1018 2 (0x92 ∷ 1 ∷ 0xF ∷ 0 ∷ []) ∷ read_of_modules true 0x1000 0 (0x91 ∷ 1 ∷ []) ∷ []
     ≡ Some (ValueConst (key 0x1018 2) 0xF0192 0xF0191) ∷ Some (ValueLength (key 0x1000 0) 2 4) ∷ []

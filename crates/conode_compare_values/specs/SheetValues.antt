@@ -27,7 +27,7 @@ use Rattle.conode_explain_transfers.specs.declared.kinds.Protocol.TheVariants.{E
 use Rattle.conode_explain_transfers.specs.declared.kinds.Side.TheVariants.{Server}
 use Rattle.conode_compare_pdos.specs.SheetNumbers.{number_of}
 use Rattle.conode_compare_values.specs.declared.mismatch.Mismatch.{Mismatch}
-use Rattle.conode_compare_values.specs.declared.mismatch.Mismatch.TheVariants.{ValueLength, ValueConst, ConstText, ReadRefused, Written, AboveLimit, BelowLimit, BeyondRoom}
+use Rattle.conode_compare_values.specs.declared.mismatch.Mismatch.TheVariants.{ValueLength, ValueConst, ConstText, ReadRefused, ReadServed, Written, AboveLimit, BelowLimit, BeyondRoom}
 use Rattle.conode_compare_values.specs.declared.rooms.Rooms.{Rooms}
 
 -- ---- values
@@ -283,9 +283,14 @@ abbrev pub unless_modules : Bool → Option Mismatch → Option Mismatch
 unless_modules modular None = None
 unless_modules modular (Some mismatch) = if modular && is_by_modules mismatch then None else Some mismatch
 
+-- `access-read`: the data sheet has the entry as write only
+abbrev pub served_mismatch : Bool → Row → Option Mismatch
+served_mismatch modular row = if modular then None else Some (ReadServed row.key)
+
 -- of an upload that is done; whether the device is modular
 abbrev pub read_mismatch : ℕ → Bool → Row → Bool → Ended → Option Mismatch
-read_mismatch node modular row exact ended = unless_modules modular (value_mismatch node row exact ended)
+read_mismatch node modular row exact ended =
+    if is_readable row.access then unless_modules modular (value_mismatch node row exact ended) else served_mismatch modular row
 
 -- The bytes of a number that was written: in one frame there are four where their number isn't
 -- indicated, and as many count as the type has.

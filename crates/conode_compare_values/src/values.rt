@@ -45,6 +45,7 @@ ghost use Rattle.conode_compare_values.specs.SheetValues.{
   read_mismatch,
   refused_mismatch,
   row_mismatch,
+  served_mismatch,
   shown_number,
   text_mismatch,
   unless_modules,
@@ -515,6 +516,17 @@ fn unless_modules(modular: bool, found: Option<Mismatch>) -> Option<Mismatch>
     }
 }
 
+// the difference of an upload that is done, of an entry that is write only
+fn served_mismatch(modular: bool, row: &EntryRow<'_>) -> Option<Mismatch>
+    ensures { result ≡ served_mismatch modular (row_view row.now) }
+{
+    if modular {
+        None
+    } else {
+        Some(Mismatch::ReadServed(row.key))
+    }
+}
+
 // the difference of an upload that is done, of a device that may be modular
 fn read_mismatch(
     node: u8,
@@ -525,7 +537,11 @@ fn read_mismatch(
 ) -> Option<Mismatch>
     ensures { result ≡ read_mismatch node modular (row_view row.now) exact ended.now }
 {
-    unless_modules(modular, value_mismatch(node, row, exact, ended))
+    if is_readable(row.access) {
+        unless_modules(modular, value_mismatch(node, row, exact, ended))
+    } else {
+        served_mismatch(modular, row)
+    }
 }
 
 // the difference of the end of a transfer of an entry
