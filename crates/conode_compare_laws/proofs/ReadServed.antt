@@ -1,7 +1,6 @@
 -- Of a device that is built from a data sheet no upload is done of an entry that the sheet has as write only.
 use Rattle.std.proofs.Common.{◌≡◌, ℕ, Bool, true, false, List, [], ◌∷◌, ◌++◌, Option, Some, None, refl, sym, ap, ◌∙◌, subst}
-use Rattle.std.specs.Prelude.{if◌then◌else◌, is_none, not, option_and_then, IfSome}
-use Rattle.std.specs.Option.{option_map_or}
+use Rattle.std.specs.Prelude.{option_and_then, IfSome}
 use Rattle.std.proofs.lemmas.Bool.{false≢true}
 use Rattle.co_value.specs.declared.key.Key.{Key}
 use Rattle.co_frame.specs.AbortCodes.{no_value, write_only}
@@ -31,8 +30,8 @@ use Rattle.conode_compare_rules.specs.declared.limits.Subject.{Subject}
 use Rattle.conode_compare_rules.specs.declared.progress.Progress.{Progress}
 use Rattle.conode_compare_rules.specs.declared.verdict.Findings.{Findings}
 use Rattle.conode_compare_rules.specs.Progresses.{findings_at, progress_with}
-use Rattle.conode_compare_laws.specs.Differences.{before_recording, differences_from, differences_in}
-use Rattle.conode_compare_laws.specs.Recordings.{Recorded, kind_in}
+use Rattle.conode_compare_laws.specs.Differences.{before_recording, differences_from, differences_in, kind_in}
+use Rattle.conode_compare_laws.specs.Recordings.{Recorded}
 use Rattle.conode_compare_laws.specs.ValueFindings.{of_served, read_differences, refusal_differences, served_differences}
 use Rattle.conode_compare_laws.proofs.ValueAllowed.{row_built}
 use Rattle.conode_compare_laws.proofs.ValueLengths.{had_of}
