@@ -29,8 +29,8 @@ use Rattle.conode_compare_rules.specs.declared.kind.FrameKind.TheVariants.{Sdo}
 use Rattle.conode_compare_rules.specs.declared.limits.Subject.{Subject}
 use Rattle.conode_compare_rules.specs.declared.progress.Progress.{Progress}
 use Rattle.conode_compare_rules.specs.declared.verdict.Findings.{Findings}
-use Rattle.conode_compare_rules.specs.Progresses.{findings_at, progress_with}
-use Rattle.conode_compare_laws.specs.Differences.{before_recording, differences_from, differences_in, kind_in}
+use Rattle.conode_compare_rules.specs.Progresses.{before_recording, findings_at, progress_with}
+use Rattle.conode_compare_laws.specs.Differences.{differences_from, differences_in, kind_in}
 use Rattle.conode_compare_laws.specs.Recordings.{Recorded}
 use Rattle.conode_compare_laws.specs.ValueFindings.{of_served, read_differences, refusal_differences, served_differences}
 use Rattle.conode_compare_laws.proofs.ValueAllowed.{row_built}
