@@ -235,7 +235,7 @@ module _ (P : Contents → Type 0) (R : Key → Type 0) where
           by : (Unit {0} × (last.done ≡ [])) ⊎ (last.done ≡ read_served (answered_next d contents (opened_after log) frame.bytes) last.count ++ (read_served (ended_by (request_in frame.bytes) (acknowledged_whole log)) 1 ++ [])) → AreHad last.done
           by (inl e) = subst AreHad (sym e.1) tt
           by (inr e) = subst AreHad (sym e) (served_had (answered_next d contents (opened_after log) frame.bytes) last.count _ answered served
-          (served_had (ended_by (request_in frame.bytes) (acknowledged_whole log)) 1 [] (by_end (is_upload_end (request_in frame.bytes))) (allowed_if (is_upload_end (request_in frame.bytes)) (acknowledged_whole log) s.ended) tt))
+              (served_had (ended_by (request_in frame.bytes) (acknowledged_whole log)) 1 [] (by_end (is_upload_end (request_in frame.bytes))) (allowed_if (is_upload_end (request_in frame.bytes)) (acknowledged_whole log) s.ended) tt))
 
       client_fine : IsFine only nothing others subject rows micros frame (reads v.following micros Client frame.bytes)
       client_fine = frame_fine micros Client frame v s.both.holds_data.taken s.lean (told_before (λ n. micros) answers heard told)
