@@ -1,6 +1,6 @@
 -- A request on the default channel of a device without block transfers, and its answers: nothing is found within the transfer.
 use Rattle.std.proofs.Common.{◌≡◌, ℕ, ◌<◌, Bool, true, false, not, List, Option, Some, None, refl, sym, ap, ◌∙◌, ◌⊎◌, inl, inr}
-use Rattle.std.specs.Prelude.{◌&&◌, if◌then◌else◌, is_some, IfSome}
+use Rattle.std.specs.Prelude.{if◌then◌else◌, is_some, IfSome}
 use Rattle.std.proofs.lemmas.Bool.{false≢true}
 use Rattle.co_value.specs.declared.key.Key.{Key}
 use Rattle.co_frame.specs.FrameContent.{FrameContent}
@@ -16,7 +16,7 @@ use Rattle.conode_explain_transfers.specs.declared.stage.Stage.{Stage}
 use Rattle.conode_explain_transfers.specs.declared.stage.Stage.TheVariants.{DownloadSent, UploadAsked, SubBlock, BlockInitiated, AllAcknowledged}
 use Rattle.conode_explain_transfers.specs.declared.transfer.Transfer.{Transfer}
 use Rattle.conode_explain_transfers.specs.BlockTurns.{acknowledged, acknowledged_at, block_ended, block_ended_at, crc_in, end_confirmed, end_confirmed_at, is_block, upload_started_at}
-use Rattle.conode_explain_transfers.specs.Followed.{Followed, abort_ending, turns_at, with_frame}
+use Rattle.conode_explain_transfers.specs.Followed.{abort_ending, turns_at, with_frame}
 use Rattle.conode_explain_transfers.specs.Readings.{is_in_sub_block}
 use Rattle.conode_explain_transfers.specs.Stages.{confirmed_with}
 use Rattle.conode_explain_transfers.specs.Transfers.{Turn, after, is_download, unexpected}

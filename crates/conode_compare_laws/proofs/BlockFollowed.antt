@@ -1,7 +1,7 @@
 -- What explain says of a frame on the channel, and the transfer that is open then, of whatever kind: inside a sub-block of a download
 -- explain reads a frame of the client as a segment.
 use Rattle.std.proofs.Common.{◌≡◌, ℕ, Bool, true, false, not, List, Option, Some, None, refl, sym, ap, ◌∙◌, ◌⊎◌, inl, inr}
-use Rattle.std.specs.Prelude.{◌&&◌, ◌||◌, if◌then◌else◌, is_some, IfSome, nat_le}
+use Rattle.std.specs.Prelude.{◌||◌, if◌then◌else◌, is_some, IfSome, nat_le}
 use Rattle.std.proofs.lemmas.Bool.{false≢true}
 use Rattle.co_value.specs.declared.key.Key.{Key}
 use Rattle.co_frame.specs.FrameContent.{FrameContent}

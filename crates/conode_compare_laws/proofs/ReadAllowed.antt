@@ -10,7 +10,7 @@ use Rattle.co_frame.specs.declared.sdo_request.SdoRequest.{SdoRequest}
 use Rattle.co_frame.specs.declared.sdo_request.SdoRequest.TheVariants.{DownloadInitiate, DownloadSegment, Upload as UploadInitiate, UploadSegment as NextSegment, BlockUploadInitiate, BlockUploadAcknowledge, BlockUploadStart, BlockDownloadInitiate}
 use Rattle.co_frame.specs.Segments.{is_odd}
 use Rattle.co_dict.specs.Refusals.{first_of, refused_if}
-use Rattle.co_dict.specs.Rows.{Contents, Rows}
+use Rattle.co_dict.specs.Rows.{Contents}
 use Rattle.co_dict.specs.Stores.{Description}
 use Rattle.co_sdo.specs.declared.stage.Stage.{Stage}
 use Rattle.co_sdo.specs.declared.stage.Stage.TheVariants.{Download as Receiving, Upload as Uploading, SubBlock, LastTaken, BlockUploadInitiated as Begun, BlockUpload, BlockUploadEnded}
@@ -18,12 +18,12 @@ use Rattle.co_sdo.specs.Completed.{unless}
 use Rattle.co_sdo.specs.Opened.{OpenTransfer}
 use Rattle.co_sdo.specs.OpenTransfers.{is_initiate}
 use Rattle.co_sdo.specs.Refused.{initiate_refusal, reading_refusal}
-use Rattle.co_sdo.specs.Replies.{block_size_refusal, held_with, is_in_sub_block, segment_next, segment_refusal, sub_block_refusal, taken_with, toggle_refusal}
+use Rattle.co_sdo.specs.Replies.{block_size_refusal, held_with, is_in_sub_block, segment_next, segment_refusal, sub_block_refusal, toggle_refusal}
 use Rattle.co_sdo.specs.Steps.{after_acknowledge, after_frame_at, after_initiate, after_later, after_next_sub_block, after_request, after_segment, after_start, after_upload_segment, next_on, opened_at, opened_next, stage_after_frame}
 use Rattle.co_sdo.specs.SubBlocks.{ends_sub_block, is_last_taken}
 use Rattle.co_sdo.specs.Uploads.{is_last_after, segment_count, sub_block_length, value_at}
 use Rattle.conode_explain_laws.specs.Uploads.{Read}
-use Rattle.conode_explain_laws.proofs.UploadSteps.{acknowledged_by, acknowledged_next, all_of, answered_by, answered_next, at_once, of_open, with_acknowledge, with_segment}
+use Rattle.conode_explain_laws.proofs.UploadSteps.{acknowledged_by, acknowledged_next, all_of, answered_by, answered_next, with_acknowledge, with_segment}
 
 -- whatever entry
 abbrev pub Any : Key → Type 0

@@ -14,12 +14,10 @@ use Rattle.co_dict.specs.Rows.{Contents}
 use Rattle.co_dict.specs.Stores.{Description, IsDictionary}
 use Rattle.co_dict.specs.declared.row.Row.{Row as DictionaryRow}
 use Rattle.co_dict_build.specs.Built.{Plan, built_description}
-use Rattle.co_dict_build.specs.EntryLimits.{row_in}
 use Rattle.co_sdo.specs.Refused.{reading_refusal}
 use Rattle.co_sdo.proofs.RefusalLemmas.{second_none}
 use Rattle.co_sheet.specs.Content.{Row}
 use Rattle.co_sheet_changes.specs.Names.{row_at}
-use Rattle.conode_explain_transfers.specs.declared.ended.Ended.{Ended}
 use Rattle.conode_compare_values.specs.declared.mismatch.Mismatch.TheVariants.{AboveLimit, BelowLimit, BeyondRoom, ConstText, ReadRefused, ValueConst, ValueLength, Written}
 use Rattle.conode_compare_values.specs.SheetValues.{is_readable}
 use Rattle.conode_compare_rules.specs.declared.finding.Finding.{Finding}
