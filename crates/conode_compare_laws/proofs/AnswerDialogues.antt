@@ -17,10 +17,10 @@ use Rattle.conode_explain_laws.proofs.Readings.{Begin, begun_with, follows_by, r
 use Rattle.conode_compare_transfers.specs.declared.dialogue.Asked.{Asked}
 use Rattle.conode_compare_transfers.specs.declared.dialogue.Dialogue.{Dialogue}
 use Rattle.conode_compare_transfers.specs.declared.left.Left.{Left}
-use Rattle.conode_compare_transfers.specs.Dialogues.{asked_after, dialogue_heard, exchange_in, is_awaited, is_certain, is_initiate, is_of_earlier, leaves_request_open, may_be_segment}
+use Rattle.conode_compare_transfers.specs.Dialogues.{asked_after, dialogue_heard, exchange_in, is_awaited, is_certain, is_initiate, is_of_earlier, leaves_request_open, may_be_segment, owes}
 use Rattle.conode_compare_transfers.specs.Times.{is_past}
 use Rattle.conode_compare_laws.proofs.AnswerTurns.{Sound}
-use Rattle.conode_compare_laws.proofs.AnswerFollowed.{GoesOn, GoesOpen, client_open, client_reading, goes_on, leaves_is, next_is, no_begin, reads, server_goes, what_is}
+use Rattle.conode_compare_laws.proofs.AnswerFollowed.{GoesOn, GoesOpen, Leaves, client_open, client_reading, goes_on, leaves_is, next_is, no_begin, reads, server_goes, what_is}
 use Rattle.conode_compare_laws.proofs.AnswerFound.{never_past}
 
 module _ (answer started : ℕ) (d : Dialogue) (micros : ℕ) (side : Side) (frame : FrameContent) where
@@ -34,14 +34,14 @@ module _ (answer started : ℕ) (d : Dialogue) (micros : ℕ) (side : Side) (fra
   asked_is = ap (λ w. asked_after w micros frame) (what_is d.channel micros side frame.bytes)
 
   pub doubted_is : (dialogue_heard answer started d micros side frame).doubted
-      ≡ (if leaves_request_open side (reads d.channel micros side frame.bytes).says frame || may_be_segment d.sub_block (reads d.channel micros side frame.bytes).says.what then Some micros else d.doubted)
+      ≡ (if leaves_request_open (owes answer started d) side (reads d.channel micros side frame.bytes).says frame || may_be_segment d.sub_block (reads d.channel micros side frame.bytes).says.what then Some micros else d.doubted)
   unfolding dialogue_heard
   doubted_is =
-      ap (λ b. if b || may_be_segment d.sub_block (followed d.channel micros side frame.bytes).says.what then Some micros else d.doubted) (leaves_is d.channel micros side frame)
-      ∙ ap (λ w. if leaves_request_open side (reads d.channel micros side frame.bytes).says frame || may_be_segment d.sub_block w then Some micros else d.doubted) (what_is d.channel micros side frame.bytes)
+      ap (λ b. if b || may_be_segment d.sub_block (followed d.channel micros side frame.bytes).says.what then Some micros else d.doubted) (leaves_is (owes answer started d) d.channel micros side frame)
+      ∙ ap (λ w. if leaves_request_open (owes answer started d) side (reads d.channel micros side frame.bytes).says frame || may_be_segment d.sub_block w then Some micros else d.doubted) (what_is d.channel micros side frame.bytes)
 
   -- a request is left open
-  pub doubted_by : leaves_request_open side (reads d.channel micros side frame.bytes).says frame ≡ true → (dialogue_heard answer started d micros side frame).doubted ≡ Some micros
+  pub doubted_by : leaves_request_open (owes answer started d) side (reads d.channel micros side frame.bytes).says frame ≡ true → (dialogue_heard answer started d micros side frame).doubted ≡ Some micros
   doubted_by leaves = doubted_is ∙ ap (λ b. if b || may_be_segment d.sub_block (reads d.channel micros side frame.bytes).says.what then Some micros else d.doubted) leaves
 
 pub none_asked : (w : What) (micros : ℕ) (frame : FrameContent) → is_initiate w ≡ false → asked_after w micros frame ≡ None
@@ -112,8 +112,8 @@ later_heard answer started d micros frame s n =
     let g : GoesOn d.channel.transfer f = goes_on d.channel.heard d.channel.transfer (request_reading r micros frame.bytes) micros Client frame.bytes s (no_begin r micros frame.bytes n) in
     let o : GoesOpen f frame = client_open d.channel.heard d.channel.transfer r micros frame s n in
     let channel : (dialogue_heard answer started d micros Client frame).channel ≡ f.next = channel_is answer started d micros Client frame ∙ ap (λ (x : Followed). x.next) same in
-    let doubts : leaves_request_open Client f.says frame ≡ true → (dialogue_heard answer started d micros Client frame).doubted ≡ Some micros =
-    λ h. doubted_by answer started d micros Client frame (ap (λ (x : Followed). leaves_request_open Client x.says frame) same ∙ h) in
+    let doubts : Leaves Client f frame → (dialogue_heard answer started d micros Client frame).doubted ≡ Some micros =
+    λ h. doubted_by answer started d micros Client frame (ap (λ (x : Followed). leaves_request_open (owes answer started d) Client x.says frame) same ∙ h (owes answer started d)) in
     record {
       sound = subst (λ (x : Following). IfSome x.transfer Sound) (sym channel) g.sound;
       asked = asked_is answer started d micros Client frame ∙ ap (λ (x : Followed). asked_after x.says.what micros frame) same ∙ none_asked f.says.what micros frame g.what;

@@ -1,6 +1,6 @@
 -- What explain says of a frame on the channel, and the transfer that is open then, as far as the laws of answers need it.
 use Rattle.std.proofs.Common.{◌≡◌, ℕ, ◌<◌, ◌≤◌, Bool, true, false, not, List, length, Option, Some, None, refl, sym, ap, ◌∙◌, ◌⊎◌, inl, inr, subst, arith}
-use Rattle.std.specs.Prelude.{◌&&◌, ◌||◌, if◌then◌else◌, is_some, IfSome}
+use Rattle.std.specs.Prelude.{◌||◌, ◌==◌, if◌then◌else◌, is_some, IfSome}
 use Rattle.std.proofs.lemmas.Bool.{false≢true}
 use Rattle.arrayvec.specs.ArrayVec.{ArrayVec}
 use Rattle.co_value.specs.declared.key.Key.{Key}
@@ -21,6 +21,8 @@ use Rattle.co_frame.specs.declared.sdo_response.SdoResponse.TheVariants.{Abort a
 use Rattle.co_sdo.specs.OpenTransfers.{is_initiate as initiates}
 use Rattle.co_sdo_laws.proofs.Frames.{block_initiated_read, done_read, expedited_sent_read}
 use Rattle.conode_explain_transfers.specs.declared.ended.Ended.{Ended}
+use Rattle.conode_explain_transfers.specs.declared.ended.Ending.{Ending}
+use Rattle.conode_explain_transfers.specs.declared.ended.Ending.TheVariants.{Aborted, CrcDiffers, Done, Irregular, NotFollowed, Repeated}
 use Rattle.conode_explain_transfers.specs.declared.kinds.Direction.{Direction}
 use Rattle.conode_explain_transfers.specs.declared.kinds.Direction.TheVariants.{Download, Upload}
 use Rattle.conode_explain_transfers.specs.declared.kinds.Protocol.{Protocol}
@@ -33,21 +35,22 @@ use Rattle.conode_explain_transfers.specs.declared.stage.Stage.{Stage}
 use Rattle.conode_explain_transfers.specs.declared.stage.Stage.TheVariants.{Initiated, SubBlock}
 use Rattle.conode_explain_transfers.specs.declared.transfer.Transfer.{Transfer}
 use Rattle.conode_explain_transfers.specs.BlockTurns.{is_block}
-use Rattle.conode_explain_transfers.specs.Endings.{ended, verdict}
-use Rattle.conode_explain_transfers.specs.Followed.{Followed, Following, abort_ending, followed, one_more, turns_at, with_frame}
+use Rattle.conode_explain_transfers.specs.Endings.{crc_verdict, ended, size_fault, size_verdict, verdict}
+use Rattle.conode_explain_transfers.specs.Followed.{Followed, Following, abort_ending, followed, left_by, left_ending, one_more, turns_at, with_frame}
 use Rattle.conode_explain_transfers.specs.Readings.{awaits_segment, is_sender, may_have_segment, is_in_sub_block}
 use Rattle.conode_explain_transfers.specs.Stages.{confirmed_with}
 use Rattle.conode_explain_transfers.specs.Initiates.{first_segment, initiate_of}
-use Rattle.conode_explain_transfers.specs.Transfers.{Turn, after, begun}
+use Rattle.conode_explain_transfers.specs.Transfers.{Turn, after, begun, is_same_request}
 use Rattle.conode_explain_laws.specs.Downloads.{is_block_begin}
 use Rattle.conode_explain_transfers.specs.Turns.{request_turn, response_turn}
-use Rattle.conode_explain_transfers.specs.Unanswered.{not_followed_by}
+use Rattle.conode_explain_transfers.specs.Unanswered.{is_lost, not_followed_by, number_of, segment_follows}
 use Rattle.conode_explain_laws.proofs.Begins.{response_is}
 use Rattle.conode_explain_laws.proofs.Follows.{none_of_server}
 use Rattle.conode_explain_laws.proofs.Kept.{Keeps, keeps}
 use Rattle.conode_explain_laws.proofs.Readings.{Reading, Segment, Begin, Abort, Request, Response, Nothing, request_reading, response_reading, plain_reading, beginning, segment_reading, reading_of, turn_of, follows_by, same as same_reading, begun_on, went_on_as}
 use Rattle.conode_explain_laws.proofs.Views.{abort_is, is_abort_reading, is_begin, server_no_begin}
-use Rattle.conode_compare_transfers.specs.Dialogues.{continues, ends_in_doubt, is_initiate, is_known_end, is_odd, leaves_request_open}
+use Rattle.conode_compare_transfers.specs.Dialogues.{continues, ends_in_doubt, is_aborted, is_initiate, is_known_end, is_odd, leaves_request_open}
+use Rattle.conode_compare_transfers.specs.Dialogues as dialogues
 use Rattle.conode_compare_laws.proofs.AnswerTurns.{Asked, Blocks, Plain, Sound, Turned, asked, asks_for_blocks, in_blocks, is_request, is_turned, turned}
 
 -- ---- explain's frames, by the readings of conode_explain_laws
@@ -61,9 +64,9 @@ what_is following micros side bytes = ap (λ (f : Followed). f.says.what) (same_
 pub next_is : (following : Following) (micros : ℕ) (side : Side) (bytes : List ℕ) → (followed following micros side bytes).next ≡ (reads following micros side bytes).next
 next_is following micros side bytes = ap (λ (f : Followed). f.next) (same_reading following.heard following.transfer micros side bytes bytes).followed
 
-pub leaves_is : (following : Following) (micros : ℕ) (side : Side) (frame : FrameContent)
-    → leaves_request_open side (followed following micros side frame.bytes).says frame ≡ leaves_request_open side (reads following micros side frame.bytes).says frame
-leaves_is following micros side frame = ap (λ (f : Followed). leaves_request_open side f.says frame) (same_reading following.heard following.transfer micros side frame.bytes frame.bytes).followed
+pub leaves_is : (owed : Bool) (following : Following) (micros : ℕ) (side : Side) (frame : FrameContent)
+    → leaves_request_open owed side (followed following micros side frame.bytes).says frame ≡ leaves_request_open owed side (reads following micros side frame.bytes).says frame
+leaves_is owed following micros side frame = ap (λ (f : Followed). leaves_request_open owed side f.says frame) (same_reading following.heard following.transfer micros side frame.bytes frame.bytes).followed
 
 -- ---- a frame that begins nothing
 
@@ -176,38 +179,80 @@ pub client_reading : (current : Option Transfer) (micros : ℕ) (bytes : List �
 client_reading None micros bytes s = refl
 client_reading (Some t) micros bytes s = rw (no_segment t s) refl
 
--- after a frame of the client that begins nothing, an earlier request may be answered; or the transfer is open
+-- after a frame an earlier request may be answered, whether an answer was owed or not
+abbrev pub Leaves : Side → Followed → FrameContent → Type 0
+Leaves side f frame = (owed : Bool) → leaves_request_open owed side f.says frame ≡ true
+
+-- so after a frame of the client that begins nothing; or the transfer is open
 abbrev pub GoesOpen : Followed → FrameContent → Type 0
-GoesOpen f frame = (leaves_request_open Client f.says frame ≡ true) ⊎ (is_some f.next.transfer ≡ true)
+GoesOpen f frame = Leaves Client f frame ⊎ (is_some f.next.transfer ≡ true)
 
 or_last : (a b : Bool) → b ≡ true → (a || b) ≡ true
 or_last true b h = refl
 or_last false b h = h
 
--- its last confirmation, of a block transfer
-block_ends : (x : Ended) (frame : FrameContent) → is_block x.protocol ≡ true → ends_in_doubt (Some x) frame ≡ true
-block_ends x frame h = rw h refl
+-- explain's protocol of blocks is compare's
+pub same_block : (protocol : Protocol) → is_block protocol ≡ true → dialogues.is_block protocol ≡ true
+same_block Block h = refl
+same_block _ h = absurd (false≢true h)
 
-confirmed_in_doubt : (crc : Option ℕ) (heard : Bool) (w : What) (u : Transfer) (micros : ℕ) (frame : FrameContent) (block : Bool) → is_block u.protocol ≡ block → block ≡ true
-    → leaves_request_open Client (turns_at (Some crc) heard w u micros Client).says frame ≡ true
-confirmed_in_doubt crc heard w u micros frame true e on =
-    or_last (is_odd Client w) (ends_in_doubt (Some (ended (one_more u) micros (verdict u crc))) frame) (block_ends (ended (one_more u) micros (verdict u crc)) frame e)
-confirmed_in_doubt crc heard w u micros frame false e on = absurd (false≢true on)
+-- a transfer that is left isn't aborted, nor is one that is confirmed
+pub not_aborted_left : (t : Transfer) (bytes : List ℕ) → is_aborted (left_ending t bytes) ≡ false
+not_aborted_left t bytes = by (segment_follows t bytes) (is_lost t) (is_same_request t bytes) t.by
+  where
+    by : (follows lost same : Bool) (side : Side) → is_aborted (if follows then NotFollowed (Some (number_of bytes)) else (if lost then NotFollowed None else (if same then Repeated else left_by side))) ≡ false
+    by true lost same side = refl
+    by false true same side = refl
+    by false false true side = refl
+    by false false false Client = refl
+    by false false false Server = refl
+
+not_aborted_crc : (computed : ℕ) (came : Option ℕ) → is_aborted (crc_verdict computed came) ≡ false
+not_aborted_crc computed None = refl
+not_aborted_crc computed (Some came) = by (came == computed)
+  where
+    by : (same : Bool) → is_aborted (if same then Done true else CrcDiffers came computed) ≡ false
+    by true = refl
+    by false = refl
+
+pub not_aborted : (u : Transfer) (crc : Option ℕ) → is_aborted (verdict u crc) ≡ false
+not_aborted u crc = by u.irregular (size_fault u.size u.taken.count)
+  where
+    by : (irregular : Bool) (size : Option ℕ) → is_aborted (if irregular then Irregular else size_verdict size (crc_verdict u.taken.crc crc)) ≡ false
+    by true size = refl
+    by false None = not_aborted_crc u.taken.crc crc
+    by false (Some size) = refl
+
+known_end : (owed : Bool) (ending : Ending) (key : Key) (frame : FrameContent) → is_aborted ending ≡ false → is_known_end owed true ending key frame ≡ false
+known_end owed (Aborted side code) key frame h = absurd (false≢true (sym h))
+known_end owed (Done crc) key frame h = refl
+known_end owed _ key frame h = refl
+
+-- the end of a block transfer without an abort
+pub block_ends : (owed : Bool) (x : Ended) (frame : FrameContent) → is_block x.protocol ≡ true → is_aborted x.ending ≡ false → ends_in_doubt owed (Some x) frame ≡ true
+block_ends owed x frame block ending = ap (λ b. not (is_known_end owed b x.ending x.key frame)) (same_block x.protocol block) ∙ ap not (known_end owed x.ending x.key frame ending)
+
+-- its last confirmation, of a block transfer
+pub confirmed_in_doubt : (side : Side) (crc : Option ℕ) (heard : Bool) (w : What) (u : Transfer) (micros : ℕ) (frame : FrameContent) → is_block u.protocol ≡ true
+    → Leaves side (turns_at (Some crc) heard w u micros side) frame
+confirmed_in_doubt side crc heard w u micros frame block owed =
+    or_last (is_odd side w) (ends_in_doubt owed (Some (ended (one_more u) micros (verdict u crc))) frame)
+    (block_ends owed (ended (one_more u) micros (verdict u crc)) frame block (not_aborted u crc))
 
 open_turn : (x : Option (Option ℕ)) (heard : Bool) (w : What) (u : Transfer) (micros : ℕ) (frame : FrameContent) (go : Bool) → continues w ≡ go → is_turned w ≡ true
     → (is_some x ≡ true → is_block u.protocol ≡ true) → GoesOpen (turns_at x heard w u micros Client) frame
 open_turn x heard w u micros frame false c on ends = inl (odd x w c on)
   where
-    odd : (x : Option (Option ℕ)) (w : What) → continues w ≡ false → is_turned w ≡ true → leaves_request_open Client (turns_at x heard w u micros Client).says frame ≡ true
-    odd None what.Initiate c on = absurd (false≢true on)
-    odd None what.Part c on = absurd (false≢true (sym c))
-    odd None (what.Segment n) c on = absurd (false≢true (sym c))
-    odd None _ c on = refl
-    odd (Some crc) what.Initiate c on = absurd (false≢true on)
-    odd (Some crc) what.Part c on = absurd (false≢true (sym c))
-    odd (Some crc) (what.Segment n) c on = absurd (false≢true (sym c))
-    odd (Some crc) _ c on = refl
-open_turn (Some crc) heard w u micros frame true c on ends = inl (confirmed_in_doubt crc heard w u micros frame true (ends refl) refl)
+    odd : (x : Option (Option ℕ)) (w : What) → continues w ≡ false → is_turned w ≡ true → Leaves Client (turns_at x heard w u micros Client) frame
+    odd None what.Initiate c on owed = absurd (false≢true on)
+    odd None what.Part c on owed = absurd (false≢true (sym c))
+    odd None (what.Segment n) c on owed = absurd (false≢true (sym c))
+    odd None _ c on owed = refl
+    odd (Some crc) what.Initiate c on owed = absurd (false≢true on)
+    odd (Some crc) what.Part c on owed = absurd (false≢true (sym c))
+    odd (Some crc) (what.Segment n) c on owed = absurd (false≢true (sym c))
+    odd (Some crc) _ c on owed = refl
+open_turn (Some crc) heard w u micros frame true c on ends = inl (confirmed_in_doubt Client crc heard w u micros frame (ends refl))
 open_turn None heard w u micros frame true c on ends = inr refl
 
 request_open : (heard : Bool) (t : Transfer) (request : SdoRequest) (micros : ℕ) (frame : FrameContent) → Sound t
@@ -220,23 +265,22 @@ request_open heard t request micros frame s =
 
 stray_open : (heard : Bool) (reading : Reading) (micros : ℕ) (frame : FrameContent) → is_begin reading ≡ false → GoesOpen (follows_by heard None reading micros Client frame.bytes) frame
 stray_open heard (Begin new) micros frame n = absurd (false≢true (sym n))
-stray_open true _ micros frame n = inl refl
-stray_open false _ micros frame n = inl refl
+stray_open true _ micros frame n = inl (λ owed. refl)
+stray_open false _ micros frame n = inl (λ owed. refl)
 
 abort_open : (heard : Bool) (t : Transfer) (code : AbortCode) (micros : ℕ) (frame : FrameContent) → GoesOpen (follows_by heard (Some t) (Abort code) micros Client frame.bytes) frame
 abort_open heard t code micros frame = inl (by (is_block t.protocol) (not_followed_by Client t frame.bytes))
   where
-    by : (block : Bool) (segment : Option (Option ℕ)) → not (not block && is_known_end (abort_ending Client segment code) t.key frame) ≡ true
-    by true segment = refl
-    by false None = refl
-    by false (Some next) = refl
+    by : (block : Bool) (segment : Option (Option ℕ)) (owed : Bool) → not (is_known_end owed block (abort_ending Client segment code) t.key frame) ≡ true
+    by block None owed = refl
+    by block (Some next) owed = refl
 
 nothing_open : (heard : Bool) (t : Transfer) (micros : ℕ) (frame : FrameContent) → Sound t → GoesOpen (follows_by heard (Some t) Nothing micros Client frame.bytes) frame
 nothing_open heard t micros frame s = inl (by (confirmed_with t.stage))
   where
-    by : (x : Option (Option ℕ)) → leaves_request_open Client (turns_at x heard what.Unexpected (after t (turn_of t Nothing frame.bytes)) micros Client).says frame ≡ true
-    by None = refl
-    by (Some crc) = refl
+    by : (x : Option (Option ℕ)) → Leaves Client (turns_at x heard what.Unexpected (after t (turn_of t Nothing frame.bytes)) micros Client) frame
+    by None owed = refl
+    by (Some crc) owed = refl
 
 -- what a request asks for
 abbrev pub asks_in : Option SdoRequest → Bool

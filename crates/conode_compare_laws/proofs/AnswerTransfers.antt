@@ -1,6 +1,6 @@
 -- A request on the default channel of a device without block transfers, and its answers: nothing is found within the transfer.
 use Rattle.std.proofs.Common.{◌≡◌, ℕ, ◌<◌, Bool, true, false, not, List, Option, Some, None, refl, sym, ap, ◌∙◌, ◌⊎◌, inl, inr}
-use Rattle.std.specs.Prelude.{◌&&◌, if◌then◌else◌, is_some, IfSome}
+use Rattle.std.specs.Prelude.{if◌then◌else◌, is_some, IfSome}
 use Rattle.std.proofs.lemmas.Bool.{false≢true}
 use Rattle.co_value.specs.declared.key.Key.{Key}
 use Rattle.co_frame.specs.FrameContent.{FrameContent}
@@ -16,7 +16,7 @@ use Rattle.conode_explain_transfers.specs.declared.stage.Stage.{Stage}
 use Rattle.conode_explain_transfers.specs.declared.stage.Stage.TheVariants.{DownloadSent, UploadAsked, SubBlock, BlockInitiated, AllAcknowledged}
 use Rattle.conode_explain_transfers.specs.declared.transfer.Transfer.{Transfer}
 use Rattle.conode_explain_transfers.specs.BlockTurns.{acknowledged, acknowledged_at, block_ended, block_ended_at, crc_in, end_confirmed, end_confirmed_at, is_block, upload_started_at}
-use Rattle.conode_explain_transfers.specs.Followed.{Followed, abort_ending, turns_at, with_frame}
+use Rattle.conode_explain_transfers.specs.Followed.{abort_ending, turns_at, with_frame}
 use Rattle.conode_explain_transfers.specs.Readings.{is_in_sub_block}
 use Rattle.conode_explain_transfers.specs.Stages.{confirmed_with}
 use Rattle.conode_explain_transfers.specs.Transfers.{Turn, after, is_download, unexpected}
@@ -24,10 +24,10 @@ use Rattle.conode_explain_transfers.specs.Turns.{request_turn}
 use Rattle.conode_explain_transfers.specs.Unanswered.{not_followed_by}
 use Rattle.conode_explain_laws.proofs.Readings.{Reading, Segment, Begin, Abort, Request, Response, Nothing, follows_by, request_reading, turn_of}
 use Rattle.conode_explain_laws.proofs.Views.{is_begin}
-use Rattle.conode_compare_transfers.specs.Dialogues.{continues, is_known_end, leaves_request_open}
+use Rattle.conode_compare_transfers.specs.Dialogues.{continues, is_known_end}
 use Rattle.conode_compare_laws.proofs.AnswerTurns.{Sound, in_blocks, is_turned, turned}
 use Rattle.conode_compare_laws.proofs.AnswerKeys.{Kept, asked_next, kept, sent_next}
-use Rattle.conode_compare_laws.proofs.AnswerFollowed.{goes_on, no_begin}
+use Rattle.conode_compare_laws.proofs.AnswerFollowed.{Leaves, goes_on, no_begin}
 
 -- ---- a transfer of an entry that isn't in blocks
 
@@ -107,9 +107,6 @@ abbrev pub StandsIn : Option SdoRequest → Option Transfer → Type 0
 StandsIn r None = ⊥
 StandsIn r (Some t) = StandsFor r t
 
-abbrev Leaves : Followed → FrameContent → Type 0
-Leaves f frame = leaves_request_open Client f.says frame ≡ true
-
 frame_stands : (r : Option SdoRequest) (w : What) (u : Transfer) (micros : ℕ) (side : Side) → StandsFor r u → StandsFor r (with_frame w u micros side)
 frame_stands (Some (DownloadSegment toggle segment last)) what.Overtaken u micros side h = h
 frame_stands (Some (DownloadSegment toggle segment last)) _ u micros side h = h
@@ -117,29 +114,29 @@ frame_stands (Some (NextSegment toggle)) what.Overtaken u micros side h = h
 frame_stands (Some (NextSegment toggle)) _ u micros side h = h
 frame_stands _ w u micros side h = absurd h
 
-odd_frame : (x : Option (Option ℕ)) (heard : Bool) (w : What) (u : Transfer) (micros : ℕ) (frame : FrameContent) → continues w ≡ false → is_turned w ≡ true → Leaves (turns_at x heard w u micros Client) frame
-odd_frame None heard what.Initiate u micros frame c on = absurd (false≢true on)
-odd_frame None heard what.Part u micros frame c on = absurd (false≢true (sym c))
-odd_frame None heard (what.Segment n) u micros frame c on = absurd (false≢true (sym c))
-odd_frame None heard _ u micros frame c on = refl
-odd_frame (Some crc) heard what.Initiate u micros frame c on = absurd (false≢true on)
-odd_frame (Some crc) heard what.Part u micros frame c on = absurd (false≢true (sym c))
-odd_frame (Some crc) heard (what.Segment n) u micros frame c on = absurd (false≢true (sym c))
-odd_frame (Some crc) heard _ u micros frame c on = refl
+odd_frame : (x : Option (Option ℕ)) (heard : Bool) (w : What) (u : Transfer) (micros : ℕ) (frame : FrameContent) → continues w ≡ false → is_turned w ≡ true → Leaves Client (turns_at x heard w u micros Client) frame
+odd_frame None heard what.Initiate u micros frame c on owed = absurd (false≢true on)
+odd_frame None heard what.Part u micros frame c on owed = absurd (false≢true (sym c))
+odd_frame None heard (what.Segment n) u micros frame c on owed = absurd (false≢true (sym c))
+odd_frame None heard _ u micros frame c on owed = refl
+odd_frame (Some crc) heard what.Initiate u micros frame c on owed = absurd (false≢true on)
+odd_frame (Some crc) heard what.Part u micros frame c on owed = absurd (false≢true (sym c))
+odd_frame (Some crc) heard (what.Segment n) u micros frame c on owed = absurd (false≢true (sym c))
+odd_frame (Some crc) heard _ u micros frame c on owed = refl
 
 some_confirmed : (x : Option (Option ℕ)) → x ≡ None → is_some x ≡ false
 some_confirmed x e = ap is_some e
 
 -- by whether it goes on
 stands_by : (r : Option SdoRequest) (x : Option (Option ℕ)) (heard : Bool) (w : What) (u : Transfer) (micros : ℕ) (frame : FrameContent) (go : Bool) → continues w ≡ go → is_turned w ≡ true
-    → (go ≡ true → (x ≡ None) × StandsFor r u) → Leaves (turns_at x heard w u micros Client) frame ⊎ StandsIn r (turns_at x heard w u micros Client).next.transfer
+    → (go ≡ true → (x ≡ None) × StandsFor r u) → Leaves Client (turns_at x heard w u micros Client) frame ⊎ StandsIn r (turns_at x heard w u micros Client).next.transfer
 stands_by r x heard w u micros frame false c on h = inl (odd_frame x heard w u micros frame c on)
 stands_by r None heard w u micros frame true c on h = inr (frame_stands r w u micros Client (h refl).1)
 stands_by r (Some crc) heard w u micros frame true c on h = absurd (false≢true (sym (some_confirmed (Some crc) (h refl).0)))
 
 request_stands : (key : Key) (heard : Bool) (t : Transfer) (request : SdoRequest) (micros : ℕ) (frame : FrameContent) → Shape key t
     → (continues (request_turn t request frame.bytes).what ≡ true → (confirmed_with (request_turn t request frame.bytes).transfer.stage ≡ None) × StandsFor (Some request) (request_turn t request frame.bytes).transfer)
-    → Leaves (follows_by heard (Some t) (Request request) micros Client frame.bytes) frame ⊎ StandsIn (Some request) (follows_by heard (Some t) (Request request) micros Client frame.bytes).next.transfer
+    → Leaves Client (follows_by heard (Some t) (Request request) micros Client frame.bytes) frame ⊎ StandsIn (Some request) (follows_by heard (Some t) (Request request) micros Client frame.bytes).next.transfer
 request_stands key heard t request micros frame s h =
     let turn : Turn = request_turn t request frame.bytes in
     stands_by (Some request) (confirmed_with turn.transfer.stage) heard turn.what (after t turn) micros frame (continues turn.what) refl (turned t (Request request) frame.bytes s.sound).what
@@ -183,7 +180,7 @@ never : {A : Type 0} (b : Bool) → b ≡ false → b ≡ true → A
 never b off on = absurd (false≢true (sym off ∙ on))
 
 goes_on_stands : (key : Key) (heard : Bool) (t : Transfer) (request : SdoRequest) (micros : ℕ) (frame : FrameContent) → Shape key t
-    → Leaves (follows_by heard (Some t) (Request request) micros Client frame.bytes) frame ⊎ StandsIn (Some request) (follows_by heard (Some t) (Request request) micros Client frame.bytes).next.transfer
+    → Leaves Client (follows_by heard (Some t) (Request request) micros Client frame.bytes) frame ⊎ StandsIn (Some request) (follows_by heard (Some t) (Request request) micros Client frame.bytes).next.transfer
 goes_on_stands key heard t (DownloadSegment toggle segment last) micros frame s =
     request_stands key heard t (DownloadSegment toggle segment last) micros frame s (λ go. let e = sent_next t.stage t toggle segment last go in (ap confirmed_with e, e))
 goes_on_stands key heard t (NextSegment toggle) micros frame s =
@@ -202,21 +199,20 @@ goes_on_stands key heard t (BlockUploadInitiate k size threshold) micros frame s
 goes_on_stands key heard t (BlockDownloadInitiate k size) micros frame s = request_stands key heard t (BlockDownloadInitiate k size) micros frame s (λ go. never _ refl go)
 
 -- whatever it is
-stray_leaves : (heard : Bool) (reading : Reading) (micros : ℕ) (frame : FrameContent) → is_begin reading ≡ false → Leaves (follows_by heard None reading micros Client frame.bytes) frame
-stray_leaves heard (Begin new) micros frame n = absurd (false≢true (sym n))
-stray_leaves true _ micros frame n = refl
-stray_leaves false _ micros frame n = refl
+stray_leaves : (heard : Bool) (reading : Reading) (micros : ℕ) (frame : FrameContent) → is_begin reading ≡ false → Leaves Client (follows_by heard None reading micros Client frame.bytes) frame
+stray_leaves heard (Begin new) micros frame n owed = absurd (false≢true (sym n))
+stray_leaves true _ micros frame n owed = refl
+stray_leaves false _ micros frame n owed = refl
 
-abort_leaves : (heard : Bool) (t : Transfer) (code : AbortCode) (micros : ℕ) (frame : FrameContent) → Leaves (follows_by heard (Some t) (Abort code) micros Client frame.bytes) frame
+abort_leaves : (heard : Bool) (t : Transfer) (code : AbortCode) (micros : ℕ) (frame : FrameContent) → Leaves Client (follows_by heard (Some t) (Abort code) micros Client frame.bytes) frame
 abort_leaves heard t code micros frame = by (is_block t.protocol) (not_followed_by Client t frame.bytes)
   where
-    by : (block : Bool) (segment : Option (Option ℕ)) → not (not block && is_known_end (abort_ending Client segment code) t.key frame) ≡ true
-    by true segment = refl
-    by false None = refl
-    by false (Some next) = refl
+    by : (block : Bool) (segment : Option (Option ℕ)) (owed : Bool) → not (is_known_end owed block (abort_ending Client segment code) t.key frame) ≡ true
+    by block None owed = refl
+    by block (Some next) owed = refl
 
 pub later_stands : (key : Key) (heard : Bool) (current : Option Transfer) (r : Option SdoRequest) (micros : ℕ) (frame : FrameContent) → IfSome current (Shape key) → initiates r ≡ false
-    → Leaves (follows_by heard current (request_reading r micros frame.bytes) micros Client frame.bytes) frame
+    → Leaves Client (follows_by heard current (request_reading r micros frame.bytes) micros Client frame.bytes) frame
     ⊎ StandsIn r (follows_by heard current (request_reading r micros frame.bytes) micros Client frame.bytes).next.transfer
 later_stands key heard None r micros frame s n = inl (stray_leaves heard (request_reading r micros frame.bytes) micros frame (no_begin r micros frame.bytes n))
 later_stands key heard (Some t) None micros frame s n = inl (odd_frame (confirmed_with t.stage) heard what.Unexpected (after t (turn_of t Nothing frame.bytes)) micros frame refl refl)

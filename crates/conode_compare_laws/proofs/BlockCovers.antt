@@ -14,11 +14,9 @@ use Rattle.co_frame.specs.declared.sdo_request.SdoRequest.TheVariants.{DownloadE
 use Rattle.co_frame.specs.declared.sdo_response.SdoResponse.{SdoResponse}
 use Rattle.co_frame.specs.declared.sdo_response.SdoResponse.TheVariants.{BlockDownloadInitiated, BlockDownloadAcknowledge}
 use Rattle.conode_explain_transfers.specs.declared.ended.Ended.{Ended}
-use Rattle.conode_explain_transfers.specs.declared.ended.Ending.TheVariants.{CrcDiffers, Done, Interrupted, Irregular, NotFollowed, Repeated}
+use Rattle.conode_explain_transfers.specs.declared.ended.Ending.TheVariants.{Interrupted, NotFollowed}
 use Rattle.conode_explain_transfers.specs.declared.kinds.Direction.{Direction}
 use Rattle.conode_explain_transfers.specs.declared.kinds.Direction.TheVariants.{Download, Upload}
-use Rattle.conode_explain_transfers.specs.declared.kinds.Protocol.{Protocol}
-use Rattle.conode_explain_transfers.specs.declared.kinds.Protocol.TheVariants.{Block}
 use Rattle.conode_explain_transfers.specs.declared.kinds.Side.{Side}
 use Rattle.conode_explain_transfers.specs.declared.kinds.Side.TheVariants.{Client, Server}
 use Rattle.conode_explain_transfers.specs.declared.kinds.What.{What}
@@ -27,14 +25,14 @@ use Rattle.conode_explain_transfers.specs.declared.stage.Stage.{Stage}
 use Rattle.conode_explain_transfers.specs.declared.stage.Stage.TheVariants.{Initiated, DownloadConfirmed, DownloadSent, UploadTaken, UploadAsked, BlockInitiated, SubBlock, AllAcknowledged, BlockEnded}
 use Rattle.conode_explain_transfers.specs.declared.transfer.Transfer.{Transfer}
 use Rattle.conode_explain_transfers.specs.BlockTurns.{is_block, upload_started_at, acknowledged, acknowledged_at, crc_in, block_ended, block_ended_at, end_confirmed, end_confirmed_at}
-use Rattle.conode_explain_transfers.specs.Endings.{crc_verdict, ended, size_fault, size_verdict, verdict}
-use Rattle.conode_explain_transfers.specs.Followed.{Followed, Following, broken_off, followed, left_by, left_ending, one_more, stray, turns_at, with_frame}
+use Rattle.conode_explain_transfers.specs.Endings.{ended, verdict}
+use Rattle.conode_explain_transfers.specs.Followed.{Followed, Following, broken_off, followed, left_ending, one_more, stray, turns_at, with_frame}
 use Rattle.conode_explain_transfers.specs.Readings.{awaits_segment, is_in_sub_block, is_sender, may_have_segment}
 use Rattle.conode_explain_transfers.specs.SegmentedTurns.{download_segment_at, upload_request_at}
 use Rattle.conode_explain_transfers.specs.Stages.{confirmed_with, is_initiated}
-use Rattle.conode_explain_transfers.specs.Transfers.{Turn, after, awaited_number, is_download, is_same_request, overtaken, unexpected}
+use Rattle.conode_explain_transfers.specs.Transfers.{Turn, after, awaited_number, is_download, overtaken, unexpected}
 use Rattle.conode_explain_transfers.specs.Turns.{request_turn, response_turn}
-use Rattle.conode_explain_transfers.specs.Unanswered.{is_lost, number_of, segment_follows}
+use Rattle.conode_explain_transfers.specs.Unanswered.{is_lost}
 use Rattle.conode_explain_laws.proofs.Follows.{none_of_server, response_read}
 use Rattle.conode_explain_laws.proofs.Kept.{keeps}
 use Rattle.conode_explain_laws.proofs.Readings.{Reading, Segment, Begin, Abort, Request, Response, Nothing, request_reading, response_reading, reading_of, turn_of, follows_by, same as same_reading}
@@ -44,7 +42,7 @@ use Rattle.conode_compare_transfers.specs.Breaches.{byte_at}
 use Rattle.conode_compare_transfers.specs.Dialogues.{continues, dialogue_heard, interrupted, is_aborted, leaves_block, names_other, opens_sub_block, sub_block_after}
 use Rattle.conode_compare_transfers.specs.Dialogues as dialogues
 use Rattle.conode_compare_laws.proofs.AnswerTurns.{in_blocks}
-use Rattle.conode_compare_laws.proofs.AnswerFollowed.{reads}
+use Rattle.conode_compare_laws.proofs.AnswerFollowed.{not_aborted, not_aborted_left, reads, same_block}
 use Rattle.conode_compare_laws.proofs.AnswerDialogues.{channel_is}
 use Rattle.conode_compare_laws.proofs.BlockTurns.{Live}
 use Rattle.conode_compare_laws.proofs.BlockFollowed.{begins_plain}
@@ -301,44 +299,14 @@ leaves_down other x true true p d on b a = rw (p, d, a) (any other)
 leaves_down other x false block p d on b a = absurd (false≢true on)
 leaves_down other x true false p d on b a = absurd (false≢true b)
 
-same_block : (protocol : Protocol) → is_block protocol ≡ true → dialogues.is_block protocol ≡ true
-same_block Block h = refl
-same_block _ h = absurd (false≢true h)
-
 down_left : (other : Bool) (x : Ended) → x.direction ≡ Download → is_block x.protocol ≡ true → is_aborted x.ending ≡ false → leaves_block other (Some x) ≡ true
 down_left other x d b a = leaves_down other x (dialogues.is_download x.direction) (dialogues.is_block x.protocol) refl refl (ap dialogues.is_download d) (same_block x.protocol b) a
-
-not_aborted_left : (t : Transfer) (bytes : List ℕ) → is_aborted (left_ending t bytes) ≡ false
-not_aborted_left t bytes = by (segment_follows t bytes) (is_lost t) (is_same_request t bytes) t.by
-  where
-    by : (follows lost same : Bool) (side : Side) → is_aborted (if follows then NotFollowed (Some (number_of bytes)) else (if lost then NotFollowed None else (if same then Repeated else left_by side))) ≡ false
-    by true lost same side = refl
-    by false true same side = refl
-    by false false true side = refl
-    by false false false Client = refl
-    by false false false Server = refl
 
 -- ---- the client's frames, inside a sub-block
 
 or_last : (a b : Bool) → b ≡ true → (a || b) ≡ true
 or_last true b h = refl
 or_last false b h = h
-
-not_aborted_crc : (computed : ℕ) (came : Option ℕ) → is_aborted (crc_verdict computed came) ≡ false
-not_aborted_crc computed None = refl
-not_aborted_crc computed (Some came) = by (came == computed)
-  where
-    by : (same : Bool) → is_aborted (if same then Done true else CrcDiffers came computed) ≡ false
-    by true = refl
-    by false = refl
-
-not_aborted : (u : Transfer) (crc : Option ℕ) → is_aborted (verdict u crc) ≡ false
-not_aborted u crc = by u.irregular (size_fault u.size u.taken.count)
-  where
-    by : (irregular : Bool) (size : Option ℕ) → is_aborted (if irregular then Irregular else size_verdict size (crc_verdict u.taken.crc crc)) ≡ false
-    by true size = refl
-    by false None = not_aborted_crc u.taken.crc crc
-    by false (Some size) = refl
 
 ended_covered : (d : Dialogue) (x : Option (Option ℕ)) (heard : Bool) (w : What) (u : Transfer) (micros : ℕ) (frame : FrameContent) → Down u
     → (kept_by d Client (turns_at x heard w u micros Client).says.ended (turns_at x heard w u micros Client).says.what frame ≡ true) ⊎ IsDown (turns_at x heard w u micros Client).next.transfer

@@ -2,6 +2,7 @@
 -- doubt, and that a sub-block may be open.
 use Rattle.std.proofs.Common.{◌≡◌, ℕ, Bool, true, false, Option, Some, None, refl, sym, ap, ◌∙◌, ◌⊎◌, inl, inr, subst}
 use Rattle.std.specs.Prelude.{◌||◌, if◌then◌else◌, is_some, IfSome}
+use Rattle.std.specs.Option.{option_map_or}
 use Rattle.std.proofs.lemmas.Bool.{false≢true}
 use Rattle.co_frame.specs.FrameContent.{FrameContent}
 use Rattle.co_frame.specs.SdoRequests.{request_in}
@@ -14,12 +15,12 @@ use Rattle.conode_explain_laws.proofs.Readings.{Reading, Begin, follows_by, read
 use Rattle.conode_explain_laws.proofs.Views.{is_begin}
 use Rattle.conode_compare_transfers.specs.declared.dialogue.Asked.{Asked}
 use Rattle.conode_compare_transfers.specs.declared.dialogue.Dialogue.{Dialogue}
-use Rattle.conode_compare_transfers.specs.Dialogues.{asked_after, dialogue_heard, exchange_in, leaves_request_open, may_be_segment}
+use Rattle.conode_compare_transfers.specs.Dialogues.{asked_after, dialogue_heard, exchange_in, is_certain, leaves_request_open, may_be_segment, owes}
 use Rattle.conode_compare_laws.proofs.AnswerTurns.{is_turned}
-use Rattle.conode_compare_laws.proofs.AnswerFollowed.{asks_in, reads, what_is}
+use Rattle.conode_compare_laws.proofs.AnswerFollowed.{Leaves, asks_in, block_ends, not_aborted_left, reads, what_is}
 use Rattle.conode_compare_laws.proofs.AnswerDialogues.{asked_is, channel_is, doubt_stays, doubted_by, doubted_is, none_asked}
 use Rattle.conode_compare_laws.proofs.BlockTurns.{Lasts, Live}
-use Rattle.conode_compare_laws.proofs.BlockFollowed.{GoesOn, GoesOpen, LastsOn, block_ends, client_open, goes_on, server_goes, server_lasts}
+use Rattle.conode_compare_laws.proofs.BlockFollowed.{GoesOn, GoesOpen, LastsOn, client_open, goes_on, server_goes, server_lasts}
 use Rattle.conode_compare_laws.proofs.BlockCovers.{Covers, IsDown}
 
 -- ---- a frame of the server
@@ -55,11 +56,14 @@ lasting : (d : Dialogue) (micros : ℕ) (frame : FrameContent) (t : Transfer) �
 lasting d micros frame t is l =
     subst (λ o. LastsOn (reads (record { heard = d.channel.heard; transfer = o }) micros Server frame.bytes) frame) (sym is) (server_lasts d.channel.heard t micros frame l)
 
-open_after : (answer started : ℕ) (d : Dialogue) (micros : ℕ) (frame : FrameContent) → LastsOn (reads d.channel micros Server frame.bytes) frame
+none_owed : (answer started : ℕ) (d : Dialogue) → d.asked ≡ None → owes answer started d ≡ false
+none_owed answer started d none = ap (λ (o : Option Asked). option_map_or (λ a. is_certain answer started d.slow d.doubted a.micros) o false) none
+
+open_after : (answer started : ℕ) (d : Dialogue) (micros : ℕ) (frame : FrameContent) → d.asked ≡ None → LastsOn (reads d.channel micros Server frame.bytes) frame
     → ((dialogue_heard answer started d micros Server frame).doubted ≡ Some micros)
     ⊎ ((is_some (dialogue_heard answer started d micros Server frame).channel.transfer ≡ true) × IfSome (dialogue_heard answer started d micros Server frame).channel.transfer Lasts)
-open_after answer started d micros frame l = elim l.lasts [
-  | inl doubt ↦ inl (doubted_by answer started d micros Server frame doubt)
+open_after answer started d micros frame none l = elim l.lasts [
+  | inl doubt ↦ inl (doubted_by answer started d micros Server frame (ap (λ b. leaves_request_open b Server (reads d.channel micros Server frame.bytes).says frame) (none_owed answer started d none) ∙ doubt))
   | inr live ↦ inr (
     ap (λ (f : Following). is_some f.transfer) (channel_is answer started d micros Server frame) ∙ live,
     subst (λ (f : Following). IfSome f.transfer Lasts) (sym (channel_is answer started d micros Server frame)) l.blocks,
@@ -73,7 +77,7 @@ sends_on answer started d micros frame h =
       live = s.live;
       asked = s.asked;
       lasts = elim h.lasts [
-        | inl doubt ↦ inl (doubted_is answer started d micros Server frame ∙ doubt_stays (leaves_request_open Server (reads d.channel micros Server frame.bytes).says frame || may_be_segment d.sub_block (reads d.channel micros Server frame.bytes).says.what) micros d.doubted doubt)
+        | inl doubt ↦ inl (doubted_is answer started d micros Server frame ∙ doubt_stays (leaves_request_open (owes answer started d) Server (reads d.channel micros Server frame.bytes).says frame || may_be_segment d.sub_block (reads d.channel micros Server frame.bytes).says.what) micros d.doubted doubt)
         | inr live ↦ by d.channel.transfer refl live.0 live.1
       ];
     }
@@ -82,7 +86,7 @@ sends_on answer started d micros frame h =
         → ((dialogue_heard answer started d micros Server frame).doubted ≡ Some micros)
         ⊎ ((is_some (dialogue_heard answer started d micros Server frame).channel.transfer ≡ true) × IfSome (dialogue_heard answer started d micros Server frame).channel.transfer Lasts)
     by None is some l = absurd (false≢true some)
-    by (Some t) is some l = open_after answer started d micros frame (lasting d micros frame t is l)
+    by (Some t) is some l = open_after answer started d micros frame h.asked (lasting d micros frame t is l)
 
 -- ---- a frame of the client that begins nothing
 
@@ -99,7 +103,7 @@ later_heard answer started d micros frame s n =
     let g : GoesOn d.channel.transfer f = goes_on d.channel.heard d.channel.transfer (reading_of d.channel.transfer Client micros frame.bytes) micros Client frame.bytes s n in
     let o : GoesOpen (asks_in (request_in frame.bytes)) f frame = client_open d.channel.heard d.channel.transfer micros frame s n in
     let channel : (dialogue_heard answer started d micros Client frame).channel ≡ f.next = channel_is answer started d micros Client frame in
-    let doubts : leaves_request_open Client f.says frame ≡ true → (dialogue_heard answer started d micros Client frame).doubted ≡ Some micros = doubted_by answer started d micros Client frame in
+    let doubts : Leaves Client f frame → (dialogue_heard answer started d micros Client frame).doubted ≡ Some micros = λ h. doubted_by answer started d micros Client frame (h (owes answer started d)) in
     record {
       live = subst (λ (x : Following). IfSome x.transfer Live) (sym channel) g.live;
       asked = asked_is answer started d micros Client frame ∙ none_asked f.says.what micros frame g.what;
@@ -141,7 +145,7 @@ doubted_begin answer started d micros frame b c = by (reading_of d.channel.trans
     begun : (t : Transfer) → reading_of d.channel.transfer Client micros frame.bytes ≡ Begin t → (d.sub_block ≡ true) ⊎ IsDown d.channel.transfer → (dialogue_heard answer started d micros Client frame).doubted ≡ Some micros
     begun t is (inl on) =
         doubted_is answer started d micros Client frame
-        ∙ ap (λ (x : Followed). if leaves_request_open Client x.says frame || may_be_segment d.sub_block x.says.what then Some micros else d.doubted)
+        ∙ ap (λ (x : Followed). if leaves_request_open (owes answer started d) Client x.says frame || may_be_segment d.sub_block x.says.what then Some micros else d.doubted)
         (ap (λ r. follows_by d.channel.heard d.channel.transfer r micros Client frame.bytes) is)
         ∙ ap (λ b. if b then Some micros else d.doubted) (kept _ on)
     begun t is (inr down) = left d.channel.transfer refl down
@@ -150,9 +154,9 @@ doubted_begin answer started d micros frame b c = by (reading_of d.channel.trans
         left None e down = absurd down
         left (Some old) e down =
             doubted_by answer started d micros Client frame
-            (ap (λ (x : Followed). leaves_request_open Client x.says frame)
+            (ap (λ (x : Followed). leaves_request_open (owes answer started d) Client x.says frame)
             (ap (λ r. follows_by d.channel.heard d.channel.transfer r micros Client frame.bytes) is ∙ ap (λ o. follows_by d.channel.heard o (Begin t) micros Client frame.bytes) e)
-            ∙ block_ends (ended old micros (left_ending old frame.bytes)) frame down.block)
+            ∙ block_ends (owes answer started d) (ended old micros (left_ending old frame.bytes)) frame down.block (not_aborted_left old frame.bytes))
 
     by : (reading : Reading) → reading_of d.channel.transfer Client micros frame.bytes ≡ reading → is_begin reading ≡ true → (dialogue_heard answer started d micros Client frame).doubted ≡ Some micros
     by (Begin t) is b = begun t is c.covered

@@ -1,8 +1,9 @@
 -- What explain says of a frame on the channel, and the transfer that is open then, of whatever kind: inside a sub-block of a download
 -- explain reads a frame of the client as a segment.
-use Rattle.std.proofs.Common.{◌≡◌, ℕ, Bool, true, false, not, List, Option, Some, None, refl, sym, ◌∙◌, ◌⊎◌, inl, inr}
-use Rattle.std.specs.Prelude.{◌&&◌, ◌||◌, if◌then◌else◌, is_some, IfSome, nat_le}
+use Rattle.std.proofs.Common.{◌≡◌, ℕ, Bool, true, false, not, List, Option, Some, None, refl, sym, ap, ◌∙◌, ◌⊎◌, inl, inr}
+use Rattle.std.specs.Prelude.{◌||◌, if◌then◌else◌, is_some, IfSome, nat_le}
 use Rattle.std.proofs.lemmas.Bool.{false≢true}
+use Rattle.co_value.specs.declared.key.Key.{Key}
 use Rattle.co_frame.specs.FrameContent.{FrameContent}
 use Rattle.co_frame.specs.BlockSegments.{block_segment_in, is_abort_in_sub_block}
 use Rattle.co_frame.specs.SdoParts.{code_in}
@@ -11,14 +12,15 @@ use Rattle.co_frame.specs.declared.abort_code.AbortCode.{AbortCode}
 use Rattle.co_frame.specs.declared.block_segment.BlockSegment.{BlockSegment}
 use Rattle.co_frame.specs.declared.sdo_request.SdoRequest.{SdoRequest}
 use Rattle.co_frame.specs.declared.sdo_request.SdoRequest.TheVariants.{DownloadSegment, UploadSegment as NextSegment, Abort as Abandon, BlockUploadEnd as UploadEnd, BlockUploadAcknowledge, BlockUploadStart, BlockDownloadEnd}
-use Rattle.conode_explain_transfers.specs.declared.ended.Ended.{Ended}
+use Rattle.conode_explain_transfers.specs.declared.ended.Ending.{Ending}
+use Rattle.conode_explain_transfers.specs.declared.ended.Ending.TheVariants.{Aborted, Done}
 use Rattle.conode_explain_transfers.specs.declared.kinds.Side.{Side}
 use Rattle.conode_explain_transfers.specs.declared.kinds.Side.TheVariants.{Client, Server}
 use Rattle.conode_explain_transfers.specs.declared.kinds.What.{What}
 use Rattle.conode_explain_transfers.specs.declared.kinds.What.TheVariants as what
 use Rattle.conode_explain_transfers.specs.declared.transfer.Transfer.{Transfer}
 use Rattle.conode_explain_transfers.specs.BlockTurns.{block_segment, is_block}
-use Rattle.conode_explain_transfers.specs.Endings.{ended, verdict}
+use Rattle.conode_explain_transfers.specs.Endings.{ended}
 use Rattle.conode_explain_transfers.specs.Followed.{Followed, Following, abort_ending, one_more, turns_at, with_frame}
 use Rattle.conode_explain_transfers.specs.Readings.{awaits_segment}
 use Rattle.conode_explain_transfers.specs.Stages.{confirmed_with}
@@ -29,7 +31,7 @@ use Rattle.conode_explain_laws.proofs.Readings.{Reading, Segment, Begin, Abort, 
 use Rattle.conode_explain_laws.proofs.Views.{is_begin, server_no_begin}
 use Rattle.conode_compare_transfers.specs.Dialogues.{continues, ends_in_doubt, is_initiate, is_known_end, is_odd, leaves_request_open}
 use Rattle.conode_compare_laws.proofs.AnswerTurns.{Asked, asked, asks_for_blocks, in_blocks, is_request, is_turned}
-use Rattle.conode_compare_laws.proofs.AnswerFollowed.{asks_in, reads, server_no_request}
+use Rattle.conode_compare_laws.proofs.AnswerFollowed.{Leaves, asks_in, confirmed_in_doubt, reads, same_block, server_no_request}
 use Rattle.conode_compare_laws.proofs.BlockTurns.{Blocks, Lasts, LastsIn, Live, Turned, lasts, segment_lasts, turned}
 
 -- ---- a frame that begins nothing
@@ -88,24 +90,24 @@ pub or_last : (a b : Bool) → b ≡ true → (a || b) ≡ true
 or_last true b h = refl
 or_last false b h = h
 
-pub block_ends : (x : Ended) (frame : FrameContent) → is_block x.protocol ≡ true → ends_in_doubt (Some x) frame ≡ true
-block_ends x frame h = rw h refl
-
-confirmed_in_doubt : (side : Side) (crc : Option ℕ) (heard : Bool) (w : What) (u : Transfer) (micros : ℕ) (frame : FrameContent) → is_block u.protocol ≡ true
-    → leaves_request_open side (turns_at (Some crc) heard w u micros side).says frame ≡ true
-confirmed_in_doubt side crc heard w u micros frame p =
-    or_last (is_odd side w) (ends_in_doubt (Some (ended (one_more u) micros (verdict u crc))) frame) (block_ends (ended (one_more u) micros (verdict u crc)) frame p)
+-- where no answer is owed, an abort too
+not_owed : (ending : Ending) (key : Key) (frame : FrameContent) → is_known_end false true ending key frame ≡ false
+not_owed (Aborted Server code) key frame = refl
+not_owed (Aborted Client code) key frame = refl
+not_owed (Done crc) key frame = refl
+not_owed _ key frame = refl
 
 aborted_in_doubt : (heard : Bool) (t : Transfer) (code : AbortCode) (micros : ℕ) (side : Side) (frame : FrameContent) → is_block t.protocol ≡ true
-    → leaves_request_open side (follows_by heard (Some t) (Abort code) micros side frame.bytes).says frame ≡ true
+    → leaves_request_open false side (follows_by heard (Some t) (Abort code) micros side frame.bytes).says frame ≡ true
 aborted_in_doubt heard t code micros side frame p =
     let ending = abort_ending side (not_followed_by side t frame.bytes) code in
-    or_last (is_odd side what.Part) (ends_in_doubt (Some (ended (one_more t) micros ending)) frame) (block_ends (ended (one_more t) micros ending) frame p)
+    or_last (is_odd side what.Part) (ends_in_doubt false (Some (ended (one_more t) micros ending)) frame)
+    (ap (λ b. not (is_known_end false b ending t.key frame)) (same_block t.protocol p) ∙ ap not (not_owed ending t.key frame))
 
--- ---- the server's frames in blocks: the transfer lasts, or its end leaves a doubt
+-- ---- the server's frames in blocks, after which no answer is owed: the transfer lasts, or its end leaves a doubt
 
 pub record LastsOn (f : Followed) (frame : FrameContent) : Type 0 where
-  pub lasts : (leaves_request_open Server f.says frame ≡ true) ⊎ (is_some f.next.transfer ≡ true)
+  pub lasts : (leaves_request_open false Server f.says frame ≡ true) ⊎ (is_some f.next.transfer ≡ true)
   pub blocks : IfSome f.next.transfer Lasts
 
 lasts_frame : (w : What) (u : Transfer) (micros : ℕ) (side : Side) → Lasts u → Lasts (with_frame w u micros side)
@@ -114,7 +116,7 @@ lasts_frame _ u micros side l = record { stage = l.stage; block = l.block }
 
 turn_lasts : (x : Option (Option ℕ)) (heard : Bool) (w : What) (u : Transfer) (micros : ℕ) (frame : FrameContent) → is_block u.protocol ≡ true → (x ≡ None → in_blocks u.stage ≡ true)
     → LastsOn (turns_at x heard w u micros Server) frame
-turn_lasts (Some crc) heard w u micros frame p i = record { lasts = inl (confirmed_in_doubt Server crc heard w u micros frame p); blocks = tt }
+turn_lasts (Some crc) heard w u micros frame p i = record { lasts = inl (confirmed_in_doubt Server crc heard w u micros frame p false); blocks = tt }
 turn_lasts None heard w u micros frame p i = record { lasts = inr refl; blocks = lasts_frame w u micros Server (record { stage = i refl; block = p }) }
 
 by_block_turn : (heard : Bool) (t : Transfer) (reading : Reading) (micros : ℕ) (frame : FrameContent) → is_request reading ≡ false → Lasts t
@@ -140,25 +142,25 @@ server_lasts heard t micros frame l =
 
 -- an earlier request may be answered; or the transfer is open, and in blocks where segments are asked for
 pub record GoesOpen (blocks : Bool) (f : Followed) (frame : FrameContent) : Type 0 where
-  pub live : (leaves_request_open Client f.says frame ≡ true) ⊎ (is_some f.next.transfer ≡ true)
-  pub lasting : blocks ≡ true → (leaves_request_open Client f.says frame ≡ true) ⊎ IfSome f.next.transfer Lasts
+  pub live : Leaves Client f frame ⊎ (is_some f.next.transfer ≡ true)
+  pub lasting : blocks ≡ true → Leaves Client f frame ⊎ IfSome f.next.transfer Lasts
 
-doubted : (blocks : Bool) (f : Followed) (frame : FrameContent) → leaves_request_open Client f.says frame ≡ true → GoesOpen blocks f frame
+doubted : (blocks : Bool) (f : Followed) (frame : FrameContent) → Leaves Client f frame → GoesOpen blocks f frame
 doubted blocks f frame h = record { live = inl h; lasting = λ on. inl h }
 
 open_turn : (blocks : Bool) (x : Option (Option ℕ)) (heard : Bool) (w : What) (u : Transfer) (micros : ℕ) (frame : FrameContent) (go : Bool) → continues w ≡ go → is_turned w ≡ true
     → (is_some x ≡ true → is_block u.protocol ≡ true) → (blocks ≡ true → go ≡ true → Lasts u) → GoesOpen blocks (turns_at x heard w u micros Client) frame
 open_turn blocks x heard w u micros frame false c on ends goes = doubted blocks _ frame (odd x w c on)
   where
-    odd : (x : Option (Option ℕ)) (w : What) → continues w ≡ false → is_turned w ≡ true → leaves_request_open Client (turns_at x heard w u micros Client).says frame ≡ true
-    odd None what.Initiate c on = absurd (false≢true on)
-    odd None what.Part c on = absurd (false≢true (sym c))
-    odd None (what.Segment n) c on = absurd (false≢true (sym c))
-    odd None _ c on = refl
-    odd (Some crc) what.Initiate c on = absurd (false≢true on)
-    odd (Some crc) what.Part c on = absurd (false≢true (sym c))
-    odd (Some crc) (what.Segment n) c on = absurd (false≢true (sym c))
-    odd (Some crc) _ c on = refl
+    odd : (x : Option (Option ℕ)) (w : What) → continues w ≡ false → is_turned w ≡ true → Leaves Client (turns_at x heard w u micros Client) frame
+    odd None what.Initiate c on owed = absurd (false≢true on)
+    odd None what.Part c on owed = absurd (false≢true (sym c))
+    odd None (what.Segment n) c on owed = absurd (false≢true (sym c))
+    odd None _ c on owed = refl
+    odd (Some crc) what.Initiate c on owed = absurd (false≢true on)
+    odd (Some crc) what.Part c on owed = absurd (false≢true (sym c))
+    odd (Some crc) (what.Segment n) c on owed = absurd (false≢true (sym c))
+    odd (Some crc) _ c on owed = refl
 open_turn blocks (Some crc) heard w u micros frame true c on ends goes = doubted blocks _ frame (confirmed_in_doubt Client crc heard w u micros frame (ends refl))
 open_turn blocks None heard w u micros frame true c on ends goes = record { live = inr refl; lasting = λ b. inr (lasts_frame w u micros Client (goes b refl)) }
 
@@ -184,23 +186,22 @@ segment_open blocks heard t segment micros frame s awaited =
 
 stray_open : (blocks heard : Bool) (reading : Reading) (micros : ℕ) (frame : FrameContent) → is_begin reading ≡ false → GoesOpen blocks (follows_by heard None reading micros Client frame.bytes) frame
 stray_open blocks heard (Begin new) micros frame n = absurd (false≢true (sym n))
-stray_open blocks true _ micros frame n = doubted blocks _ frame refl
-stray_open blocks false _ micros frame n = doubted blocks _ frame refl
+stray_open blocks true _ micros frame n = doubted blocks _ frame (λ owed. refl)
+stray_open blocks false _ micros frame n = doubted blocks _ frame (λ owed. refl)
 
 abort_open : (blocks heard : Bool) (t : Transfer) (code : AbortCode) (micros : ℕ) (frame : FrameContent) → GoesOpen blocks (follows_by heard (Some t) (Abort code) micros Client frame.bytes) frame
 abort_open blocks heard t code micros frame = doubted blocks _ frame (by (is_block t.protocol) (not_followed_by Client t frame.bytes))
   where
-    by : (block : Bool) (segment : Option (Option ℕ)) → not (not block && is_known_end (abort_ending Client segment code) t.key frame) ≡ true
-    by true segment = refl
-    by false None = refl
-    by false (Some next) = refl
+    by : (block : Bool) (segment : Option (Option ℕ)) (owed : Bool) → not (is_known_end owed block (abort_ending Client segment code) t.key frame) ≡ true
+    by block None owed = refl
+    by block (Some next) owed = refl
 
 nothing_open : (blocks heard : Bool) (t : Transfer) (micros : ℕ) (frame : FrameContent) → GoesOpen blocks (follows_by heard (Some t) Nothing micros Client frame.bytes) frame
 nothing_open blocks heard t micros frame = doubted blocks _ frame (by (confirmed_with t.stage))
   where
-    by : (x : Option (Option ℕ)) → leaves_request_open Client (turns_at x heard what.Unexpected (after t (turn_of t Nothing frame.bytes)) micros Client).says frame ≡ true
-    by None = refl
-    by (Some crc) = refl
+    by : (x : Option (Option ℕ)) → Leaves Client (turns_at x heard what.Unexpected (after t (turn_of t Nothing frame.bytes)) micros Client) frame
+    by None owed = refl
+    by (Some crc) owed = refl
 
 -- read as a request
 plain_open : (heard : Bool) (t : Transfer) (r : Option SdoRequest) (micros : ℕ) (frame : FrameContent) → Live t → is_begin (request_reading r micros frame.bytes) ≡ false

@@ -139,9 +139,11 @@ pub mod ValueMismatches
 pub mod ValueAllowed
 pub mod ValueAborts
 pub mod ValueRefused
+pub mod ReadAllowed
 pub mod ReadAnswers
 pub mod ReadFrames
 pub mod ReadInputs
+pub mod ReadServed
 pub mod ValueWrites
 pub mod ValueRooms
 pub mod ValueExpedited

@@ -41,12 +41,12 @@ use Rattle.conode_explain_laws.proofs.Kept.{Keeps, keeps}
 use Rattle.conode_explain_laws.proofs.Readings.{Abort, Begin, Nothing, Reading, Request, Response, Segment, begun_after, begun_with, follows_by, plain_reading, reading_of, request_reading, sub_block_reading, turn_of, went_on_as}
 use Rattle.conode_explain_laws.proofs.Views.{is_begin, server_no_begin}
 use Rattle.conode_compare_values.specs.SheetValues.{denies, is_readable}
-use Rattle.conode_compare_values.specs.declared.mismatch.Mismatch.TheVariants.{AboveLimit, BelowLimit, BeyondRoom, ConstText, ReadRefused, ValueConst, ValueLength, Written}
+use Rattle.conode_compare_values.specs.declared.mismatch.Mismatch.TheVariants.{AboveLimit, BelowLimit, BeyondRoom, ConstText, ReadRefused, ReadServed, ValueConst, ValueLength, Written}
 use Rattle.conode_compare_rules.specs.declared.finding.Finding.{Finding}
 use Rattle.conode_compare_rules.specs.declared.finding.Finding.TheVariants.{Value}
 use Rattle.conode_compare_rules.specs.declared.limits.Subject.{Subject}
 use Rattle.conode_compare_rules.specs.Answers.{known_finding, refuses_other}
-use Rattle.conode_compare_laws.specs.ValueFindings.{of_reads}
+use Rattle.conode_compare_laws.specs.ValueFindings.{of_refusals}
 use Rattle.conode_compare_laws.proofs.AnswerBreaches.{key_of_refusal}
 use Rattle.conode_compare_laws.proofs.AnswerFollowed.{reads}
 use Rattle.conode_compare_laws.proofs.AnswerSteps.{some_map}
@@ -55,28 +55,32 @@ use Rattle.conode_compare_laws.proofs.UploadAnswers.{InSubBlock, IsBegun, abort_
 use Rattle.conode_compare_laws.proofs.UploadRequests.{some_heard, start_heard}
 use Rattle.conode_compare_laws.proofs.ValueAborts.{HasRoom, aborted_by, is_refusal, never_abort}
 use Rattle.conode_compare_laws.proofs.ValueFrames.{AllFine, IsFine, answer_frame, following_on}
-use Rattle.conode_compare_laws.proofs.ValueMismatches.{Passes, if_none, is_data, is_write, named_none, refusals_none}
+use Rattle.conode_compare_laws.proofs.ValueMismatches.{Passes, if_none, is_data, is_served, is_write, named_none, refusals_none}
 use Rattle.conode_compare_laws.proofs.ValueOnly.{is_value}
 use Rattle.conode_compare_laws.proofs.ValueRefused.{Mild, as_sent}
 
 -- ---- which are picked
 
-pub no_read : (finding : Finding) → is_value finding ≡ false → of_reads (Some finding) ≡ []
+pub no_read : (finding : Finding) → is_value finding ≡ false → of_refusals (Some finding) ≡ []
 no_read (Value mismatch) off = absurd (false≢true (sym off))
 no_read _ off = refl
 
-reads_data : Passes of_reads refl is_data
+reads_data : Passes of_refusals refl is_data
 reads_data (ValueLength key came width) h = refl
 reads_data (ValueConst key shown held) h = refl
 reads_data (ConstText key) h = refl
 reads_data _ h = absurd (false≢true h)
 
-reads_writes : Passes of_reads refl is_write
+reads_writes : Passes of_refusals refl is_write
 reads_writes (Written key) h = refl
 reads_writes (AboveLimit key) h = refl
 reads_writes (BelowLimit key) h = refl
 reads_writes (BeyondRoom key came room) h = refl
 reads_writes _ h = absurd (false≢true h)
+
+reads_served : Passes of_refusals refl is_served
+reads_served (ReadServed key) h = refl
+reads_served _ h = absurd (false≢true h)
 
 -- ---- how far both are
 
@@ -171,21 +175,21 @@ module _ (subject : Subject) (rows : List Row) (micros : ℕ) where
   nothing_more true = refl
   nothing_more false = refl
 
-  ended_fine : (frame : FrameContent) (e : Ended) → ((code : AbortCode) → e.direction ≡ Upload → e.ending ≡ Aborted Server code → refuses_other frame e ≡ false → IsDenied e code) → of_reads (known_finding subject rows frame e) ≡ []
+  ended_fine : (frame : FrameContent) (e : Ended) → ((code : AbortCode) → e.direction ≡ Upload → e.ending ≡ Aborted Server code → refuses_other frame e ≡ false → IsDenied e code) → of_refusals (known_finding subject rows frame e) ≡ []
   ended_fine frame e h =
-      named_none of_reads refl subject rows frame e
-      (λ named row is. refusals_none of_reads refl subject.node subject.facts.modular subject.rooms row _ e reads_data reads_writes
-      (λ code up ends. if_none of_reads refl (not subject.facts.modular && (denies row.key code.0 && is_readable row.access)) (Some (ReadRefused row.key code)) None
+      named_none of_refusals refl subject rows frame e
+      (λ named row is. refusals_none of_refusals refl subject.node subject.facts.modular subject.rooms row _ e reads_data reads_writes reads_served
+      (λ code up ends. if_none of_refusals refl (not subject.facts.modular && (denies row.key code.0 && is_readable row.access)) (Some (ReadRefused row.key code)) None
       (λ on. absurd (false≢true (sym (h code up ends named row is) ∙ (and_parts (not subject.facts.modular) (denies row.key code.0 && is_readable row.access) on).1)))
       (λ off. refl)))
 
   abbrev pub Fine : FrameContent → Followed → Type 0
-  Fine frame f = IsFine of_reads refl no_read subject rows micros frame f
+  Fine frame f = IsFine of_refusals refl no_read subject rows micros frame f
 
   -- a frame that isn't read as an abort of the server
   unrefused : (side : Side) (f : Following) (frame : FrameContent) → ((code : AbortCode) → side ≡ Server → reading_of f.transfer side micros frame.bytes ≡ Abort code → ⊥) → Fine frame (reads f micros side frame.bytes)
   unrefused side f frame never =
-      some_map (reads f micros side frame.bytes).says.ended _ (λ e. of_reads (known_finding subject rows frame e) ≡ [])
+      some_map (reads f micros side frame.bytes).says.ended _ (λ e. of_refusals (known_finding subject rows frame e) ≡ [])
       (λ e g. ended_fine frame e (λ code up ends other row is. let p = g code ends in absurd (never code p.0 p.1)))
       (aborted_by f.heard f.transfer (reading_of f.transfer side micros frame.bytes) micros side frame.bytes)
 
@@ -195,11 +199,11 @@ module _ (subject : Subject) (rows : List Row) (micros : ℕ) where
   -- one with which a download ends
   down_fine : (side : Side) (f : Following) (frame : FrameContent) → StaysDown (reads f micros side frame.bytes) → Fine frame (reads f micros side frame.bytes)
   down_fine side f frame h =
-      some_map (reads f micros side frame.bytes).says.ended (λ e. e.direction ≡ Download) (λ e. of_reads (known_finding subject rows frame e) ≡ [])
+      some_map (reads f micros side frame.bytes).says.ended (λ e. e.direction ≡ Download) (λ e. of_refusals (known_finding subject rows frame e) ≡ [])
       (λ e down. ended_fine frame e (λ code up ends other row is. absurd (let no : Download ≡ Upload = sym down ∙ up in cc))) h.ended
 
   abbrev answer_on : List ℕ → FrameContent
-  answer_on bytes = answer_frame of_reads refl no_read subject rows micros bytes
+  answer_on bytes = answer_frame of_refusals refl no_read subject rows micros bytes
 
   response_fine : (response : SdoResponse) (f : Following) → is_refusal response ≡ false → HasRoom response → Fine (answer_on (response_bytes response)) (reads f micros Server (response_bytes response))
   response_fine response f n h = unrefused Server f (answer_on (response_bytes response)) (λ code is e. never_abort response f.transfer micros code n h e)
@@ -208,7 +212,7 @@ module _ (subject : Subject) (rows : List Row) (micros : ℕ) where
   refused_fine : (key : Key) (code : ℕ) (f : Following) → key.index < 65536 → Mild rows key code
       → Fine (answer_on (response_bytes (Refuse key (record { 0 = code })))) (reads f micros Server (response_bytes (Refuse key (record { 0 = code }))))
   refused_fine key code f small mild =
-      some_map (reads f micros Server bytes).says.ended _ (λ e. of_reads (known_finding subject rows frame e) ≡ [])
+      some_map (reads f micros Server bytes).says.ended _ (λ e. of_refusals (known_finding subject rows frame e) ≡ [])
       (λ e g. ended_fine frame e (λ came up ends named row is. let p = g came ends in denied e came (sym p.1 ∙ abort_read_as f.transfer micros key code) named row is))
       (aborted_by f.heard f.transfer (reading_of f.transfer Server micros bytes) micros Server bytes)
     where
@@ -240,11 +244,11 @@ module _ (subject : Subject) (rows : List Row) (micros : ℕ) where
   Answers (answer ∷ later) f next =
       Fine (answer_on (answer_bytes answer)) (reads f micros Server (answer_bytes answer)) × Answers later (reads f micros Server (answer_bytes answer)).next next
 
-  pub all_fine : (answers : List Answer) (f : Following) (next : Following → Type 0) → Answers answers f next → AllFine of_reads refl no_read subject rows micros f answers
+  pub all_fine : (answers : List Answer) (f : Following) (next : Following → Type 0) → Answers answers f next → AllFine of_refusals refl no_read subject rows micros f answers
   all_fine [] f next h = tt
   all_fine (answer ∷ later) f next h = (h.0, all_fine later (reads f micros Server (answer_bytes answer)).next next h.1)
 
-  pub last_is : (answers : List Answer) (f : Following) (next : Following → Type 0) → Answers answers f next → next (following_on of_reads refl no_read subject rows micros f answers)
+  pub last_is : (answers : List Answer) (f : Following) (next : Following → Type 0) → Answers answers f next → next (following_on of_refusals refl no_read subject rows micros f answers)
   last_is [] f next h = h
   last_is (answer ∷ later) f next h = last_is later (reads f micros Server (answer_bytes answer)).next next h.1
 

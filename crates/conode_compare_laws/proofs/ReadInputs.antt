@@ -26,7 +26,7 @@ use Rattle.conode_compare_rules.specs.declared.limits.Subject.{Subject}
 use Rattle.conode_compare_rules.specs.declared.progress.Progress.{Progress}
 use Rattle.conode_compare_rules.specs.declared.verdict.Findings.{Findings}
 use Rattle.conode_compare_rules.specs.Progresses.{begun}
-use Rattle.conode_compare_laws.specs.ValueFindings.{of_reads, read_differences}
+use Rattle.conode_compare_laws.specs.ValueFindings.{of_refusals, refusal_differences}
 use Rattle.conode_compare_laws.proofs.AnswerExchange.{answer_kind, request_kind}
 use Rattle.conode_compare_laws.proofs.AnswerFollowed.{reads}
 use Rattle.conode_compare_laws.proofs.AnswerOpened.{exchange_with}
@@ -66,11 +66,11 @@ module _ (subject : Subject) (rows : List Row) (d : Description) (milds : IsDesc
   -- answers of which nothing is found, and what both have then
   answers_goes : (micros : ℕ) (answers : List Answer) (q : Progress) (f : Following) (next : Following → Type 0) (After : Option Transfer → Type 0) → q.newest ≡ Some micros → q.dialogue.channel ≡ f
       → Answers subject rows micros answers f next → ((g : Following) → next g → After g.transfer)
-      → AllRun read_differences subject rows micros q (frames_on (0x580 + subject.node) answers) (λ x. After x.dialogue.channel.transfer)
+      → AllRun refusal_differences subject rows micros q (frames_on (0x580 + subject.node) answers) (λ x. After x.dialogue.channel.transfer)
   answers_goes micros answers q f next After now is h then =
-      mapped read_differences subject rows micros (frames_on (0x580 + subject.node) answers) q (λ x. x.dialogue.channel ≡ following_on of_reads refl no_read subject rows micros f answers) (λ x. After x.dialogue.channel.transfer)
+      mapped refusal_differences subject rows micros (frames_on (0x580 + subject.node) answers) q (λ x. x.dialogue.channel ≡ following_on of_refusals refl no_read subject rows micros f answers) (λ x. After x.dialogue.channel.transfer)
       (λ x on. subst (λ (g : Following). After g.transfer) (sym on) (then _ (last_is subject rows micros answers f next h)))
-      (answers_run of_reads refl no_read subject rows micros answers f q now is (all_fine subject rows micros answers f next h))
+      (answers_run of_refusals refl no_read subject rows micros answers f q now is (all_fine subject rows micros answers f next h))
 
   -- ---- a request
 
@@ -82,10 +82,10 @@ module _ (subject : Subject) (rows : List Row) (d : Description) (milds : IsDesc
     more = Exchanged (exchange_with d contents log frame.bytes) ∷ log
 
     request_runs : frame.id ≡ 0x600 + subject.node → length frame.bytes ≡ 8 → IsDictionary d contents
-        → AllRun read_differences subject rows micros p (frame ∷ []) (λ q. AllRun read_differences subject rows micros q (frames_on (0x580 + subject.node) (reply_to d contents log frame.bytes)) (λ x. Stands d more x.dialogue.channel.transfer))
+        → AllRun refusal_differences subject rows micros p (frame ∷ []) (λ q. AllRun refusal_differences subject rows micros q (frames_on (0x580 + subject.node) (reply_to d contents log frame.bytes)) (λ x. Stands d more x.dialogue.channel.transfer))
     request_runs id eight lawful =
-        sdo_run of_reads refl no_read subject rows micros p frame [] Client _ (request_kind subject.node frame id) (client_fine subject rows micros f frame)
-        (λ q n next. subst (λ x. AllRun read_differences subject rows micros q (frames_on (0x580 + subject.node) x) (λ x. Stands d more x.dialogue.channel.transfer)) (sym one.replies)
+        sdo_run of_refusals refl no_read subject rows micros p frame [] Client _ (request_kind subject.node frame id) (client_fine subject rows micros f frame)
+        (λ q n next. subst (λ x. AllRun refusal_differences subject rows micros q (frames_on (0x580 + subject.node) x) (λ x. Stands d more x.dialogue.channel.transfer)) (sym one.replies)
         (answers_goes micros (answers_to d contents (opened_after log) frame.bytes) q (reads f micros Client frame.bytes).next (AreNear (opened_next d contents (opened_after log) frame.bytes)) (Stands d more) n next
         (request_goes subject rows micros (opened_after log) (opened_next d contents (opened_after log) frame.bytes) frame.bytes (answers_to d contents (opened_after log) frame.bytes) f made s.near)
         (λ g near. record {
@@ -101,9 +101,9 @@ module _ (subject : Subject) (rows : List Row) (d : Description) (milds : IsDesc
         made = step rows d (milds lawful.description) contents frame.bytes bytes (opened_after log) s.small
 
     -- one that the device ignores
-    ignored_runs : frame.id ≡ 0x600 + subject.node → ((length frame.bytes == 8) ≡ false) ⊎ (opened_after log ≡ None) → AllRun read_differences subject rows micros p (frame ∷ []) (λ x. Stands d log x.dialogue.channel.transfer)
+    ignored_runs : frame.id ≡ 0x600 + subject.node → ((length frame.bytes == 8) ≡ false) ⊎ (opened_after log ≡ None) → AllRun refusal_differences subject rows micros p (frame ∷ []) (λ x. Stands d log x.dialogue.channel.transfer)
     ignored_runs id by =
-        sdo_run of_reads refl no_read subject rows micros p frame [] Client _ (request_kind subject.node frame id) (client_fine subject rows micros f frame)
+        sdo_run of_refusals refl no_read subject rows micros p frame [] Client _ (request_kind subject.node frame id) (client_fine subject rows micros f frame)
         (λ q n next. subst (λ (g : Following). Stands d log g.transfer) (sym next)
         (record { under_way = s.under_way; small = s.small; near = ignored_near subject rows micros (opened_after log) f frame.bytes by s.near }))
 
@@ -114,9 +114,9 @@ module _ (subject : Subject) (rows : List Row) (d : Description) (milds : IsDesc
   open_small (Some o) h = h
 
   aborted_runs : (micros : ℕ) (log : Log) (q : Progress) → Stands d log (begun subject q micros).dialogue.channel.transfer
-      → AllRun read_differences subject rows micros q (frames_on (0x580 + subject.node) (time_out_reply log)) (λ x. Stands d (TimedOut (time_out_reply log) ∷ log) x.dialogue.channel.transfer)
+      → AllRun refusal_differences subject rows micros q (frames_on (0x580 + subject.node) (time_out_reply log)) (λ x. Stands d (TimedOut (time_out_reply log) ∷ log) x.dialogue.channel.transfer)
   aborted_runs micros log q s =
-      sdo_run of_reads refl no_read subject rows micros q (answer_frame of_reads refl no_read subject rows micros bytes) [] Server _ (answer_kind subject.node bytes)
+      sdo_run of_refusals refl no_read subject rows micros q (answer_frame of_refusals refl no_read subject rows micros bytes) [] Server _ (answer_kind subject.node bytes)
       (found.0)
       (λ x n next. closed_stands d (TimedOut (time_out_reply log) ∷ log) x.dialogue.channel.transfer (channel_ended log (time_out_reply log)))
     where
@@ -130,11 +130,11 @@ module _ (subject : Subject) (rows : List Row) (d : Description) (milds : IsDesc
 
   -- ---- all of it
 
-  quiet : (kind : FrameKind) (found : Findings) → is_sdo kind ≡ false → read_differences kind found ≡ []
+  quiet : (kind : FrameKind) (found : Findings) → is_sdo kind ≡ false → refusal_differences kind found ≡ []
   quiet (Sdo side frame) found off = absurd (false≢true (sym off))
   quiet _ found off = refl
 
-  pub obeys : Obeys d subject rows read_differences (IsDictionary d) (Stands d)
+  pub obeys : Obeys d subject rows refusal_differences (IsDictionary d) (Stands d)
   obeys = record {
     quiet = quiet;
     first = record { under_way = tt; small = tt; near = tt };

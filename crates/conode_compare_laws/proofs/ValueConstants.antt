@@ -40,8 +40,8 @@ use Rattle.conode_explain_transfers.specs.declared.ended.Ended.{Ended}
 use Rattle.conode_explain_transfers.specs.declared.kinds.Direction.TheVariants.{Upload}
 use Rattle.conode_compare_pdos.specs.SheetNumbers.{number_of}
 use Rattle.conode_compare_values.specs.declared.mismatch.Mismatch.{Mismatch}
-use Rattle.conode_compare_values.specs.declared.mismatch.Mismatch.TheVariants.{AboveLimit, BelowLimit, BeyondRoom, ConstText, ReadRefused, ValueConst, Written}
-use Rattle.conode_compare_values.specs.SheetValues.{begins_with, byte_of, constant_mismatch, held_number, is_boolean, is_comparable, is_constant, is_held, is_held_text, is_its_own, is_other_boolean, is_other_number, is_other_text, is_version, is_visible, shown_number, text_mismatch, text_with, value_by, value_mismatch}
+use Rattle.conode_compare_values.specs.declared.mismatch.Mismatch.TheVariants.{AboveLimit, BelowLimit, BeyondRoom, ConstText, ReadRefused, ReadServed, ValueConst, Written}
+use Rattle.conode_compare_values.specs.SheetValues.{begins_with, byte_of, constant_mismatch, held_number, is_boolean, is_comparable, is_constant, is_held, is_held_text, is_its_own, is_other_boolean, is_other_number, is_other_text, is_other_value, is_version, is_visible, profile_in, shown_number, text_mismatch, text_with, value_by, value_mismatch}
 use Rattle.conode_compare_rules.specs.declared.finding.Finding.{Finding}
 use Rattle.conode_compare_rules.specs.declared.finding.Finding.TheVariants.{Value}
 use Rattle.conode_compare_rules.specs.declared.limits.Subject.{Subject}
@@ -51,10 +51,11 @@ use Rattle.conode_compare_laws.specs.ValueFindings.{of_constants}
 use Rattle.conode_compare_laws.proofs.ConstantEntries as entries
 use Rattle.conode_compare_laws.proofs.Fitting.{error_type, moved_key}
 use Rattle.conode_compare_laws.proofs.BuiltBytes.{is_error, is_fixed}
+use Rattle.conode_compare_laws.proofs.ReadAllowed.{Any}
 use Rattle.conode_compare_laws.proofs.SheetNumbers.{IsFound, default_is, row_found, same_back}
 use Rattle.conode_compare_laws.proofs.ValueAllowed.{row_built}
 use Rattle.conode_compare_laws.proofs.ValueLengths.{IsNumber, had_of, number_of as number_shown}
-use Rattle.conode_compare_laws.proofs.ValueMismatches.{Passes, is_refusal, is_write, known_none, number_none, uploads_none}
+use Rattle.conode_compare_laws.proofs.ValueMismatches.{Passes, is_refusal, is_served, is_write, known_none, number_none, uploads_none}
 use Rattle.conode_compare_laws.proofs.ValueOnly.{is_value}
 use Rattle.conode_compare_laws.proofs.ValueShown.{IsShown}
 use Rattle.conode_compare_laws.proofs.ValueUploads.{HadBytes, Picks}
@@ -201,12 +202,22 @@ other_boolean : (n : ℕ) (b : Bool) → (n == 0) ≡ b → (if b then n % 2 == 
 other_boolean n true is = ap (λ x. x % 2 == 1) (eqb-true n 0 is)
 other_boolean n false is = is
 
+self : (n : ℕ) → (n == n) ≡ true
+self n = grind (arith, nat_tests)
+
 same_number : (t : DataType) (n : ℕ) → is_other_number t n n ≡ false
 same_number t n = by (is_boolean t)
   where
     by : (b : Bool) → (if b then is_other_boolean n n else not (n == n)) ≡ false
     by true = other_boolean n (n == 0) refl
-    by false = let same : (n == n) ≡ true = grind (arith, nat_tests) in ap not same
+    by false = ap not (self n)
+
+same_value : (row : Row) (n : ℕ) → is_other_value row n n ≡ false
+same_value row n = by (row.key.index == 0x1000)
+  where
+    by : (b : Bool) → (if b then not (profile_in n == profile_in n) else is_other_number row.data_type n n) ≡ false
+    by true = ap not (self (profile_in n))
+    by false = same_number row.data_type n
 
 constant_none : (row : Row) (shown held : Option ℕ) → ((n : ℕ) → held ≡ Some n → shown ≡ Some n) → constant_mismatch row shown held ≡ None
 constant_none row None held h = refl
@@ -214,7 +225,7 @@ constant_none row (Some s) None h = refl
 constant_none row (Some s) (Some n) h =
     let some : Some s ≡ Some n = h n refl in
     let same : s ≡ n = cc in
-    ap (λ b. if b then Some (ValueConst row.key s n) else None) (ap (λ x. is_other_number row.data_type x n) same ∙ same_number row.data_type n)
+    ap (λ b. if b then Some (ValueConst row.key s n) else None) (ap (λ x. is_other_value row x n) same ∙ same_value row n)
 
 shown_whole : (w : ℕ) (bytes : List ℕ) → w ≤ 8 → length bytes ≡ w → shown_number w bytes ≡ Some (unsigned_of bytes)
 shown_whole w bytes few long =
@@ -303,6 +314,10 @@ constants_refusals : Passes of_constants refl is_refusal
 constants_refusals (ReadRefused key code) h = refl
 constants_refusals _ h = absurd (false≢true h)
 
+constants_served : Passes of_constants refl is_served
+constants_served (ReadServed key) h = refl
+constants_served _ h = absurd (false≢true h)
+
 nothing_of : (m : Option Mismatch) → m ≡ None → of_constants (value_finding m) ≡ []
 nothing_of m none = ap (λ (o : Option Mismatch). of_constants (value_finding o)) none
 
@@ -338,11 +353,11 @@ module _ (plan : Plan) (row : Row) (e : Ended) (got : List ℕ) (is : row_at pla
           ∙ ap Some (number_held plan.node e.key row last found n numeric both.0 both.1)
 
 -- `value-const`
-pub constant_picks : (plan : Plan) (subject : Subject) → subject.node ≡ plan.node → plan.node ≤ 127 → All IsSheetRow plan.rows → value_out_of_range plan.node plan.rows ≡ None → Picks (HoldsSheet plan) of_constants subject plan.rows
+pub constant_picks : (plan : Plan) (subject : Subject) → subject.node ≡ plan.node → plan.node ≤ 127 → All IsSheetRow plan.rows → value_out_of_range plan.node plan.rows ≡ None → Picks (HoldsSheet plan) Any of_constants subject plan.rows
 constant_picks plan subject same last lawful inside frame e got n shown small had =
     known_none of_constants refl subject plan.rows frame e
-    (λ row is. uploads_none of_constants refl subject.node subject.facts.modular subject.rooms row _ e constants_writes constants_refusals
-    (λ crc up done. by row is (subst (λ (o : Option Row). IfSome o (IsFound plan.node e.key)) is (row_found plan.node plan.rows e.key lawful inside)) (shown_of e got crc done shown) (had_of (HoldsSheet plan) e got n crc up done had) up (width_of row.data_type) refl))
+    (λ row is. uploads_none of_constants refl subject.node subject.facts.modular subject.rooms row _ e constants_writes constants_refusals constants_served
+    (λ crc up done. by row is (subst (λ (o : Option Row). IfSome o (IsFound plan.node e.key)) is (row_found plan.node plan.rows e.key lawful inside)) (shown_of e got crc done shown) (had_of (HoldsSheet plan) Any e got n crc up done had).0 up (width_of row.data_type) refl))
   where
     by : (row : Row) → row_at plan.rows e.key ≡ Some row → IsFound plan.node e.key row → IsShown e got → HadBytes (HoldsSheet plan) e.key got → e.direction ≡ Upload → (o : Option ℕ) → width_of row.data_type ≡ o
         → of_constants (value_finding (value_mismatch subject.node row (is_exact e.protocol frame) e)) ≡ []

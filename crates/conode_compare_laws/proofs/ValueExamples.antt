@@ -15,7 +15,7 @@ use Rattle.co_value.specs.declared.key.Key.{Key}
 use Rattle.conode_compare_pdos.specs.Followed.{unknown_pdos}
 use Rattle.conode_compare_values.specs.HeldNumbers.{held_mismatch}
 use Rattle.conode_compare_values.specs.SheetValues.{mismatch_at, row_mismatch, value_mismatch}
-use Rattle.conode_compare_values.specs.declared.mismatch.Mismatch.TheVariants.{AboveLimit, BelowLimit, BeyondRoom, ConstText, ReadRefused, ValueConst, ValueLength, Written}
+use Rattle.conode_compare_values.specs.declared.mismatch.Mismatch.TheVariants.{AboveLimit, BelowLimit, BeyondRoom, ConstText, ReadRefused, ReadServed, ValueConst, ValueLength, Written}
 use Rattle.conode_compare_transfers.specs.Breaches.{breach_at}
 use Rattle.conode_compare_transfers.specs.Dialogues.{dialogue_heard, exchange_in, is_certain}
 use Rattle.conode_compare_transfers.specs.NewestFrames.{newest_after, newest_with}
@@ -118,6 +118,12 @@ write_only : differences_in read_differences subject (rows Wo None None) (answer
 unfolding findings_at progress_with begun booted found states.after_control after_boot_up after_other awaits_boot_up is_settled progresses.after_control control_findings heartbeat_findings silence_finding channel_heard exchange_at exchange_noted late_noted
     request_findings confirmed_finding answer_findings answer_finding stopped_finding held_finding what_finding held_mismatch dialogue_heard exchange_in is_certain newest_with newest_after breach_at shown_period shown_inhibit asked_to_write mismatch_at row_mismatch value_mismatch request_row_in response_row_in overdue_by late_finding is_missing
 write_only = refl
+
+-- it gives data of a write-only entry
+served : differences_in read_differences subject (rows Wo None None) (answered 0x4000_2000_0000_0000 0x4F00_2000_0500_0000) ≡ Value (ReadServed entry) ∷ []
+unfolding findings_at progress_with begun booted found states.after_control after_boot_up after_other awaits_boot_up is_settled progresses.after_control control_findings heartbeat_findings silence_finding channel_heard exchange_at exchange_noted late_noted
+    request_findings confirmed_finding answer_findings answer_finding stopped_finding held_finding what_finding held_mismatch dialogue_heard exchange_in is_certain newest_with newest_after breach_at shown_period shown_inhibit asked_to_write mismatch_at row_mismatch value_mismatch request_row_in response_row_in overdue_by late_finding is_missing
+served = refl
 
 -- an abort of another entry
 of_another : differences_in read_differences subject (rows Rw None None) (answered 0x4000_2000_0000_0000 0x8001_2000_0100_0106) ≡ []

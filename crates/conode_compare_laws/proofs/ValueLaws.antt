@@ -10,6 +10,7 @@ use Rattle.co_node_model.specs.Device.{contents_of}
 use Rattle.co_node_model.specs.Inputs.{Inputs}
 use Rattle.co_node_model.specs.Moments.{Constants, channels}
 use Rattle.co_node_model.specs.Sync.{is_sync_id}
+use Rattle.co_sdo.specs.Refused.{reading_refusal}
 use Rattle.co_sheet.specs.SheetLaws.{IsSheetRow}
 use Rattle.conode_compare_rules.specs.declared.finding.Finding.{Finding}
 use Rattle.conode_compare_rules.specs.declared.limits.Subject.{Subject}
@@ -20,12 +21,14 @@ use Rattle.conode_compare_laws.specs.GivenRooms.{AreAmple, AreRoomsOf}
 use Rattle.conode_compare_laws.specs.Identifiers.{AreElsewhere, IsAside}
 use Rattle.conode_compare_laws.specs.IdentityEntries.{AllHaveIdentity, HasIdentity}
 use Rattle.conode_compare_laws.specs.Recordings.{Stamped, recording}
-use Rattle.conode_compare_laws.specs.ValueFindings.{constant_differences, length_differences, limit_differences, read_differences, of_constants, of_lengths, of_limits, of_writes, on_channel, write_differences, of_rooms, room_differences}
+use Rattle.conode_compare_laws.specs.ValueFindings.{constant_differences, length_differences, limit_differences, read_differences, of_constants, of_lengths, of_limits, of_served, of_writes, on_channel, refusal_differences, served_differences, write_differences, of_rooms, room_differences}
 use Rattle.conode_compare_laws.proofs.Begins.{node_ok, to_127}
 use Rattle.conode_compare_laws.proofs.BuiltBytes.{always_fixed, identity_same, is_fixed}
 use Rattle.conode_compare_laws.proofs.Heard.{of_device}
 use Rattle.conode_compare_laws.proofs.KeptEntries.{SetsPermitted}
+use Rattle.conode_compare_laws.proofs.ReadAllowed.{Any}
 use Rattle.conode_compare_laws.proofs.ReadInputs as refused
+use Rattle.conode_compare_laws.proofs.ReadServed.{MayRead, both_none, may_read, no_served, served_picks}
 use Rattle.conode_compare_laws.proofs.TpdoMapped.{none_out}
 use Rattle.conode_compare_laws.proofs.ValueConstants.{HoldsSheet, constant_picks, no_constant}
 use Rattle.conode_compare_laws.proofs.ValueDownloads.{Picks, Standing, obeys}
@@ -74,25 +77,34 @@ module _ (plan : Plan) (k : Constants) (is : IsBuilt plan k) (subject : Subject)
   no_rooms are ample = downloads of_rooms refl no_room (subst (Picks of_rooms (of_device k subject) plan.rows) (sym is.description) (room_picks plan (of_device k subject) are ample))
 
   -- of uploads that are done
-  uploads : (only : Option Finding → List Finding) (nothing : only None ≡ []) → ((finding : Finding) → is_value finding ≡ false → only (Some finding) ≡ []) → (P : Contents → Type 0) → ((c : Contents) → P c → IsDictionary k.description c)
-      → uploaded.Picks P only (of_device k subject) plan.rows → AllHold P k [] inputs → differences_in (on_channel only) subject plan.rows (recording k inputs) ≡ []
-  uploads only nothing besides P lawful picks hold =
-      none_in k subject plan.rows (on_channel only) P (uploaded.Stands P k.description) (uploaded.obeys P only nothing besides (of_device k subject) plan.rows k.description lawful picks) inputs same answers bytes hold other sync others aside
+  uploads : (only : Option Finding → List Finding) (nothing : only None ≡ []) → ((finding : Finding) → is_value finding ≡ false → only (Some finding) ≡ []) → (P : Contents → Type 0) (R : Key → Type 0) → ((c : Contents) → P c → IsDictionary k.description c)
+      → ((c : Contents) (key : Key) → reading_refusal k.description c key ≡ None → R key) → uploaded.Picks P R only (of_device k subject) plan.rows → AllHold P k [] inputs → differences_in (on_channel only) subject plan.rows (recording k inputs) ≡ []
+  uploads only nothing besides P R lawful allows picks hold =
+      none_in k subject plan.rows (on_channel only) P (uploaded.Stands P R k.description) (uploaded.obeys P R only nothing besides (of_device k subject) plan.rows k.description lawful allows picks) inputs same answers bytes hold other sync others aside
 
   pub no_lengths : differences_in length_differences subject plan.rows (recording k inputs) ≡ []
   no_lengths =
-      uploads of_lengths refl no_length (IsDictionary k.description) (λ c h. h)
-      (subst (λ (d : Description). uploaded.Picks (IsDictionary d) of_lengths (of_device k subject) plan.rows) (sym is.description) (length_picks plan (of_device k subject))) (all_held k inputs [] held)
+      uploads of_lengths refl no_length (IsDictionary k.description) Any (λ c h. h) (λ c key none. tt)
+      (subst (λ (d : Description). uploaded.Picks (IsDictionary d) Any of_lengths (of_device k subject) plan.rows) (sym is.description) (length_picks plan (of_device k subject))) (all_held k inputs [] held)
 
   pub no_constants : SetsPermitted → All IsSheetRow plan.rows → AllHaveIdentity k [] inputs → differences_in constant_differences subject plan.rows (recording k inputs) ≡ []
   no_constants permitted lawful identity =
-      uploads of_constants refl no_constant (HoldsSheet plan) (λ c h. subst (λ (d : Description). IsDictionary d c) (sym is.description) h.lawful)
+      uploads of_constants refl no_constant (HoldsSheet plan) Any (λ c h. subst (λ (d : Description). IsDictionary d c) (sym is.description) h.lawful) (λ c key none. tt)
       (constant_picks plan (of_device k subject) (ap (λ (d : Description). d.node) is.description) (to_127 plan.node (node_ok plan is.faultless)) lawful (none_out plan is.faultless))
       (all_hold_sheet permitted plan k is inputs [] held identity)
 
+  -- of uploads of write-only entries
+  no_served_reads : differences_in served_differences subject plan.rows (recording k inputs) ≡ []
+  no_served_reads =
+      uploads of_served refl no_served (IsDictionary k.description) (MayRead k.description) (λ c h. h) (may_read k.description)
+      (subst (λ (d : Description). uploaded.Picks (IsDictionary d) (MayRead d) of_served (of_device k subject) plan.rows) (sym is.description) (served_picks plan (of_device k subject))) (all_held k inputs [] held)
+
   -- of uploads that are refused
-  pub no_reads : differences_in read_differences subject plan.rows (recording k inputs) ≡ []
-  no_reads =
-      none_in k subject plan.rows read_differences (IsDictionary k.description) (refused.Stands k.description)
+  no_refusals : differences_in refusal_differences subject plan.rows (recording k inputs) ≡ []
+  no_refusals =
+      none_in k subject plan.rows refusal_differences (IsDictionary k.description) (refused.Stands k.description)
       (refused.obeys (of_device k subject) plan.rows k.description (subst (λ (d : Description). IsDescription d → Milds plan.rows d) (sym is.description) (built_milds plan))) inputs same answers bytes
       (all_held k inputs [] held) other sync others aside
+
+  pub no_reads : differences_in read_differences subject plan.rows (recording k inputs) ≡ []
+  no_reads = both_none subject plan.rows (recording k inputs) no_refusals no_served_reads

@@ -4,6 +4,7 @@ use Rattle.std.specs.Prelude.{nat_le, unwrap_or}
 use Rattle.std.proofs.lemmas.Bool.{false≢true}
 use Rattle.std.proofs.lemmas.Bool.Decides.{nat_tests}
 use Rattle.std.proofs.lemmas.List.{take_all}
+use Rattle.co_value.specs.declared.key.Key.{Key}
 use Rattle.co_value.specs.Types.{width_of}
 use Rattle.co_dict.specs.Rows.{Contents}
 use Rattle.co_dict.specs.Stores.{IsDictionary}
@@ -17,7 +18,7 @@ use Rattle.conode_explain_transfers.specs.declared.kinds.Direction.TheVariants.{
 use Rattle.conode_explain_transfers.specs.declared.kinds.Protocol.TheVariants.{Expedited}
 use Rattle.conode_explain_transfers.specs.Digests.{counted}
 use Rattle.conode_explain_laws.specs.Uploads.{read_said}
-use Rattle.conode_compare_values.specs.declared.mismatch.Mismatch.TheVariants.{AboveLimit, BelowLimit, BeyondRoom, ConstText, ReadRefused, ValueConst, Written}
+use Rattle.conode_compare_values.specs.declared.mismatch.Mismatch.TheVariants.{AboveLimit, BelowLimit, BeyondRoom, ConstText, ReadRefused, ReadServed, ValueConst, Written}
 use Rattle.conode_compare_values.specs.SheetValues.{constant_mismatch, held_number, shown_number, text_mismatch, value_by, value_mismatch}
 use Rattle.conode_compare_rules.specs.declared.finding.Finding.{Finding}
 use Rattle.conode_compare_rules.specs.declared.finding.Finding.TheVariants.{Value}
@@ -25,10 +26,11 @@ use Rattle.conode_compare_rules.specs.declared.limits.Subject.{Subject}
 use Rattle.conode_compare_rules.specs.Answers.{is_exact, value_finding}
 use Rattle.conode_compare_laws.specs.ValueFindings.{of_lengths}
 use Rattle.conode_compare_laws.proofs.Expedited.{is_expedited}
+use Rattle.conode_compare_laws.proofs.ReadAllowed.{Any}
 use Rattle.conode_compare_laws.proofs.Fitting.{HasWidth, bytes_wide, of_filled}
 use Rattle.conode_compare_laws.proofs.ValueAllowed.{row_built}
 use Rattle.conode_compare_laws.proofs.ValueExpedited.{Small, download, long, short}
-use Rattle.conode_compare_laws.proofs.ValueMismatches.{Passes, constants_only, is_const, is_refusal, is_write, known_none, number_none, passed, texts_only, uploads_none}
+use Rattle.conode_compare_laws.proofs.ValueMismatches.{Passes, constants_only, is_const, is_refusal, is_served, is_write, known_none, number_none, passed, texts_only, uploads_none}
 use Rattle.conode_compare_laws.proofs.ValueOnly.{is_value}
 use Rattle.conode_compare_laws.proofs.ValueShown.{IsShown}
 use Rattle.conode_compare_laws.proofs.ValueUploads.{AreHad, HadBytes, Picks}
@@ -39,8 +41,8 @@ use Rattle.conode_compare_laws.proofs.ValueWrites.{few_bytes, shown_of}
 said_read : (e : Ended) (got : List ℕ) (n : ℕ) (crc : Bool) → e.direction ≡ Upload → e.ending ≡ Done crc → read_said (Some e) got n ≡ record { frame = n; key = e.key; bytes = got } ∷ []
 said_read e got n crc d s = rw (d, s) refl
 
-pub had_of : (P : Contents → Type 0) (e : Ended) (got : List ℕ) (n : ℕ) (crc : Bool) → e.direction ≡ Upload → e.ending ≡ Done crc → AreHad P (read_said (Some e) got n) → HadBytes P e.key got
-had_of P e got n crc up done h = (subst (AreHad P) (said_read e got n crc up done) h).0
+pub had_of : (P : Contents → Type 0) (R : Key → Type 0) (e : Ended) (got : List ℕ) (n : ℕ) (crc : Bool) → e.direction ≡ Upload → e.ending ≡ Done crc → AreHad P R (read_said (Some e) got n) → HadBytes P e.key got × R e.key
+had_of P R e got n crc up done h = (subst (AreHad P R) (said_read e got n crc up done) h).0
 
 -- of a number
 pub record IsNumber (e : Ended) (got : List ℕ) (w : ℕ) : Type 0 where
@@ -90,6 +92,10 @@ lengths_refusals : Passes of_lengths refl is_refusal
 lengths_refusals (ReadRefused key code) h = refl
 lengths_refusals _ h = absurd (false≢true h)
 
+lengths_served : Passes of_lengths refl is_served
+lengths_served (ReadServed key) h = refl
+lengths_served _ h = absurd (false≢true h)
+
 lengths_constants : Passes of_lengths refl is_const
 lengths_constants (ValueConst key shown held) h = refl
 lengths_constants (ConstText key) h = refl
@@ -102,11 +108,11 @@ text_lengths node row exact e none =
     (passed of_lengths refl is_const lengths_constants (text_mismatch row exact e.first.items) (texts_only row exact row.default e.first.items))
 
 -- `value-length`
-pub length_picks : (plan : Plan) (subject : Subject) → Picks (IsDictionary (built_description plan)) of_lengths subject plan.rows
+pub length_picks : (plan : Plan) (subject : Subject) → Picks (IsDictionary (built_description plan)) Any of_lengths subject plan.rows
 length_picks plan subject frame e got n shown small had =
     known_none of_lengths refl subject plan.rows frame e
-    (λ row is. uploads_none of_lengths refl subject.node subject.facts.modular subject.rooms row _ e lengths_writes lengths_refusals
-    (λ crc up done. by row is (shown_of e got crc done shown) (had_of _ e got n crc up done had) up (width_of row.data_type) refl))
+    (λ row is. uploads_none of_lengths refl subject.node subject.facts.modular subject.rooms row _ e lengths_writes lengths_refusals lengths_served
+    (λ crc up done. by row is (shown_of e got crc done shown) (had_of (IsDictionary (built_description plan)) Any e got n crc up done had).0 up (width_of row.data_type) refl))
   where
     by : (row : Row) → row_at plan.rows e.key ≡ Some row → IsShown e got → HadBytes (IsDictionary (built_description plan)) e.key got → e.direction ≡ Upload → (o : Option ℕ) → width_of row.data_type ≡ o
         → of_lengths (value_finding (value_mismatch subject.node row (is_exact e.protocol frame) e)) ≡ []

@@ -21,7 +21,7 @@ use Rattle.conode_explain_transfers.specs.declared.kinds.Protocol.{Protocol}
 use Rattle.conode_explain_transfers.specs.declared.kinds.Protocol.TheVariants.{Block, Expedited, Segmented}
 use Rattle.conode_explain_transfers.specs.Digests.{counted}
 use Rattle.conode_explain_laws.specs.Downloads.{entry_bytes}
-use Rattle.conode_compare_values.specs.declared.mismatch.Mismatch.TheVariants.{AboveLimit, BelowLimit, BeyondRoom, ConstText, ReadRefused, ValueConst, ValueLength, Written}
+use Rattle.conode_compare_values.specs.declared.mismatch.Mismatch.TheVariants.{AboveLimit, BelowLimit, BeyondRoom, ConstText, ReadRefused, ReadServed, ValueConst, ValueLength, Written}
 use Rattle.conode_compare_values.specs.declared.rooms.Rooms.{Rooms}
 use Rattle.conode_compare_values.specs.SheetValues.{beyond_mismatch, default_length, download_mismatch, is_read_only, least_bytes, over_room, room_by, room_mismatch, room_of, written_bytes, written_mismatch}
 use Rattle.conode_compare_rules.specs.declared.finding.Finding.{Finding}
@@ -34,7 +34,7 @@ use Rattle.conode_compare_laws.proofs.DownloadProtocols.{IsFit}
 use Rattle.conode_compare_laws.proofs.RoomsOfDevices.{room_is}
 use Rattle.conode_compare_laws.proofs.ValueAllowed.{Accepted}
 use Rattle.conode_compare_laws.proofs.ValueDownloads.{Picks}
-use Rattle.conode_compare_laws.proofs.ValueMismatches.{Passes, downloads_none, if_none, is_data, is_limit, is_refusal, known_none, limits_only, or_none, passed}
+use Rattle.conode_compare_laws.proofs.ValueMismatches.{Passes, downloads_none, if_none, is_data, is_limit, is_refusal, is_served, known_none, limits_only, or_none, passed}
 use Rattle.conode_compare_laws.proofs.ValueOnly.{is_value}
 use Rattle.conode_compare_laws.proofs.ValueShown.{IsShown}
 use Rattle.conode_compare_laws.proofs.ValueWrites.{accepted_of, permitted_of, shown_of}
@@ -54,6 +54,10 @@ rooms_data _ h = absurd (false≢true h)
 rooms_refusals : Passes of_rooms refl is_refusal
 rooms_refusals (ReadRefused key code) h = refl
 rooms_refusals _ h = absurd (false≢true h)
+
+rooms_served : Passes of_rooms refl is_served
+rooms_served (ReadServed key) h = refl
+rooms_served _ h = absurd (false≢true h)
 
 rooms_limits : Passes of_rooms refl is_limit
 rooms_limits (AboveLimit key) h = refl
@@ -155,6 +159,6 @@ module _ (plan : Plan) (subject : Subject) (are : AreRoomsOf plan.limits subject
   pub room_picks : Picks of_rooms subject plan.rows (built_description plan)
   room_picks frame e initiate got n shown fits permitted =
       known_none of_rooms refl subject plan.rows frame e
-      (λ row is. downloads_none of_rooms refl subject.node subject.facts.modular subject.rooms row _ e rooms_data rooms_refusals
+      (λ row is. downloads_none of_rooms refl subject.node subject.facts.modular subject.rooms row _ e rooms_data rooms_refusals rooms_served
       (λ crc down done. room_row row e initiate got (shown_of e got crc done shown) (fits down)
       (accepted_of plan row e.key _ is (permitted_of (built_description plan) initiate e got n crc down done permitted))))

@@ -15,13 +15,14 @@ use Rattle.co_frame.specs.declared.sdo_response.SdoResponse.TheVariants.{Abort a
 use Rattle.co_dict.specs.Rows.{Contents}
 use Rattle.co_dict.specs.Stores.{Description, IsDictionary}
 use Rattle.co_sdo.specs.Log.{Answer, Event, Exchange, Exchanged, Log, Response as Replied, Ticked as Elapsed, TimedOut, Dropped, answer_bytes, frames_on}
-use Rattle.co_sdo.specs.Opened.{is_end_sent, opened_after}
+use Rattle.co_sdo.specs.Opened.{is_end_sent, opened, opened_after}
 use Rattle.co_sdo.specs.OpenTransfers.{Since, and_event, begins, is_last_part, is_upload_end, open_since, open_transfer, since_initiate}
+use Rattle.co_sdo.specs.Refused.{reading_refusal}
 use Rattle.co_sdo.specs.Replies.{answers_to, open_key, reply_to, time_out_reply}
 use Rattle.co_sdo.specs.Standing.{is_under_way}
 use Rattle.co_sdo.specs.Steps.{opened_next}
 use Rattle.co_sdo.specs.Uploads.{value_at}
-use Rattle.co_sdo_laws.proofs.Channel.{Served, ended as channel_ended, served}
+use Rattle.co_sdo_laws.proofs.Channel.{Served, ended as channel_ended, served, tick_opens}
 use Rattle.co_sheet.specs.Content.{Row}
 use Rattle.conode_explain_transfers.specs.declared.ended.Ended.{Ended}
 use Rattle.conode_explain_transfers.specs.declared.kinds.Side.{Side}
@@ -33,7 +34,7 @@ use Rattle.conode_explain_laws.specs.Uploads.{Read, acknowledged_whole, answered
 use Rattle.conode_explain_laws.proofs.Readings.{Reading, bytes_by, reading_of}
 use Rattle.conode_explain_laws.proofs.UploadExchanges.{EndsWith, exchange}
 use Rattle.conode_explain_laws.proofs.UploadStanding.{FollowsIn}
-use Rattle.conode_explain_laws.proofs.UploadSteps.{Completes, answered_next, completes}
+use Rattle.conode_explain_laws.proofs.UploadSteps.{Completes, answered_next, completes, dropped_whole, ticked_whole}
 use Rattle.conode_explain_laws.proofs.UploadViews.{aborted_closes, hears, hears_answers}
 use Rattle.conode_explain_laws.proofs.Views.{Closes, View}
 use Rattle.conode_compare_rules.specs.declared.finding.Finding.{Finding}
@@ -54,6 +55,7 @@ use Rattle.conode_compare_laws.proofs.AnswerOpened.{exchange_with}
 use Rattle.conode_compare_laws.proofs.AnswerOthers.{is_sdo}
 use Rattle.conode_compare_laws.proofs.AnswerWhole.{HasTaken, kept_answers, kept_hears}
 use Rattle.conode_compare_laws.proofs.NamedKeys.{first_of, last_of}
+use Rattle.conode_compare_laws.proofs.ReadAllowed.{IsAllowed, IsOpenAllowed, acknowledged_allowed, answered_allowed, opened_allowed}
 use Rattle.conode_compare_laws.proofs.Runs.{AllRun}
 use Rattle.conode_compare_laws.proofs.ValueExpedited.{Lean, Small, lean_after}
 use Rattle.conode_compare_laws.proofs.ValueFrames.{AllFine, IsFine, answer_frame, answers_run, following_on, sdo_run}
@@ -69,12 +71,6 @@ module _ (P : Contents → Type 0) where
     pub contents : Contents
     pub held : P contents
     pub is : bytes ≡ value_at contents key
-
-  abbrev pub IsHad : Complete → Type 0
-  IsHad c = HadBytes c.key c.bytes
-
-  abbrev pub AreHad : List Complete → Type 0
-  AreHad done = AllByRecursion IsHad done
 
   abbrev pub ReadHad : Option Read → Type 0
   ReadHad o = IfSome o (λ r. HadBytes r.key r.bytes)
@@ -114,19 +110,34 @@ module _ (P : Contents → Type 0) where
   acknowledged_had : (log : Log) → Begun log → ReadHad (acknowledged_whole log)
   acknowledged_had log h = if_had (list_any is_end_sent (sent_last log)) _ (since_had (since_initiate log) h)
 
-  served_had : (o : Option Read) (n : ℕ) (rest : List Complete) → ReadHad o → AreHad rest → AreHad (read_served o n ++ rest)
-  served_had None n rest h g = g
-  served_had (Some r) n rest h g = (h, g)
+-- ---- what both have
 
-  -- ---- what both have
+-- entries whose uploads are permitted
+module _ (P : Contents → Type 0) (R : Key → Type 0) where
+  -- an upload that is done has the bytes that its entry had, and is permitted
+  abbrev pub IsHad : Complete → Type 0
+  IsHad c = HadBytes P c.key c.bytes × R c.key
+
+  abbrev pub AreHad : List Complete → Type 0
+  AreHad done = AllByRecursion IsHad done
+
+  served_had : (o : Option Read) (n : ℕ) (rest : List Complete) → ReadHad P o → IsAllowed R o → AreHad rest → AreHad (read_served o n ++ rest)
+  served_had None n rest h k g = g
+  served_had (Some r) n rest h k g = ((h, k), g)
+
+  allowed_if : (b : Bool) (o : Option Read) → IsAllowed R o → IsAllowed R (if b then o else None)
+  allowed_if true o h = h
+  allowed_if false o h = tt
 
   pub record Stands (d : Description) (log : Log) (o : Option Transfer) : Type 0 where
     pub both : Standing d.rows log o
-    pub begun : Begun log
+    pub begun : Begun P log
     pub lean : IfSome o Lean
+    pub allowed : IsOpenAllowed R (opened_after log)
+    pub ended : IsAllowed R (acknowledged_whole log)
 
-  none_stands : (d : Description) (log : Log) → is_under_way d.rows (open_transfer log) → Begun log → Stands d log None
-  none_stands d log u b = record { both = nothing_known d.rows log u; begun = b; lean = tt }
+  none_stands : (d : Description) (log : Log) → is_under_way d.rows (open_transfer log) → Begun P log → IsOpenAllowed R (opened_after log) → IsAllowed R (acknowledged_whole log) → Stands d log None
+  none_stands d log u b k e = record { both = nothing_known d.rows log u; begun = b; lean = tt; allowed = k; ended = e }
 
   -- ---- frame by frame
 
@@ -147,7 +158,7 @@ module _ (P : Contents → Type 0) where
   abbrev pub Picks : (Option Finding → List Finding) → Subject → List Row → Type 0
   Picks only subject rows = (frame : FrameContent) (e : Ended) (got : List ℕ) (n : ℕ) → Shown (Some e) got → Small e → AreHad (read_said (Some e) got n) → only (known_finding subject rows frame e) ≡ []
 
-  module _ (only : Option Finding → List Finding) (nothing : only None ≡ []) (others : (finding : Finding) → is_value finding ≡ false → only (Some finding) ≡ []) (subject : Subject) (rows : List Row) (d : Description) (lawful : (c : Contents) → P c → IsDictionary d c) (picks : Picks only subject rows) where
+  module _ (only : Option Finding → List Finding) (nothing : only None ≡ []) (others : (finding : Finding) → is_value finding ≡ false → only (Some finding) ≡ []) (subject : Subject) (rows : List Row) (d : Description) (lawful : (c : Contents) → P c → IsDictionary d c) (allows : (c : Contents) (key : Key) → reading_refusal d c key ≡ None → R key) (picks : Picks only subject rows) where
     fine_of : (frame : FrameContent) (o : Option Ended) (got : List ℕ) (n : ℕ) → Shown o got → IfSome o Small → AreHad (read_said o got n) → IfSome o (λ e. only (known_finding subject rows frame e) ≡ [])
     fine_of frame None got n s l h = tt
     fine_of frame (Some e) got n s l h = picks frame e got n s l h
@@ -205,22 +216,26 @@ module _ (P : Contents → Type 0) where
       step : EndsWith (Unit {0}) d contents (λ n. micros) frame.bytes (opened_after log) (acknowledged_whole log) [] 0 heard
       step = exchange (Unit {0}) d contents (λ n. micros) frame.bytes (opened_after log) (acknowledged_whole log) v bytes (lawful contents held) s.both.holds_data.follows s.both.holds_data.taken (inl tt)
 
-      begun_more : Begun more
-      begun_more = begun_exchanged (exchange_with d contents log frame.bytes) log held s.begun
+      begun_more : Begun P more
+      begun_more = begun_exchanged P (exchange_with d contents log frame.bytes) log held s.begun
 
-      by_end : (b : Bool) → ReadHad (if b then acknowledged_whole log else None)
-      by_end b = if_had b (acknowledged_whole log) (acknowledged_had log s.begun)
+      by_end : (b : Bool) → ReadHad P (if b then acknowledged_whole log else None)
+      by_end b = if_had P b (acknowledged_whole log) (acknowledged_had P log s.begun)
 
       -- also where the device ignores it
       told : AreHad last.done
       told = by step.reads
         where
-          answered : ReadHad (answered_next d contents (opened_after log) frame.bytes)
-          answered = subst ReadHad made.answered (answered_had (reply_to d contents log frame.bytes) more begun_more)
+          answered : ReadHad P (answered_next d contents (opened_after log) frame.bytes)
+          answered = subst (ReadHad P) made.answered (answered_had P (reply_to d contents log frame.bytes) more begun_more)
+
+          served : IsAllowed R (answered_next d contents (opened_after log) frame.bytes)
+          served = answered_allowed R d allows contents (opened_after log) frame.bytes s.allowed
 
           by : (Unit {0} × (last.done ≡ [])) ⊎ (last.done ≡ read_served (answered_next d contents (opened_after log) frame.bytes) last.count ++ (read_served (ended_by (request_in frame.bytes) (acknowledged_whole log)) 1 ++ [])) → AreHad last.done
           by (inl e) = subst AreHad (sym e.1) tt
-          by (inr e) = subst AreHad (sym e) (served_had (answered_next d contents (opened_after log) frame.bytes) last.count _ answered (served_had (ended_by (request_in frame.bytes) (acknowledged_whole log)) 1 [] (by_end (is_upload_end (request_in frame.bytes))) tt))
+          by (inr e) = subst AreHad (sym e) (served_had (answered_next d contents (opened_after log) frame.bytes) last.count _ answered served
+              (served_had (ended_by (request_in frame.bytes) (acknowledged_whole log)) 1 [] (by_end (is_upload_end (request_in frame.bytes))) (allowed_if (is_upload_end (request_in frame.bytes)) (acknowledged_whole log) s.ended) tt))
 
       client_fine : IsFine only nothing others subject rows micros frame (reads v.following micros Client frame.bytes)
       client_fine = frame_fine micros Client frame v s.both.holds_data.taken s.lean (told_before (λ n. micros) answers heard told)
@@ -255,6 +270,8 @@ module _ (P : Contents → Type 0) where
             };
             begun = begun_more;
             lean = lean_answers (λ n. micros) answers heard lean_then;
+            allowed = subst (IsOpenAllowed R) (sym one.next.opens) (opened_allowed R d allows contents (opened_after log) frame.bytes s.allowed);
+            ended = subst (IsAllowed R) (sym made.acknowledged) (acknowledged_allowed R (opened_after log) frame.bytes s.allowed);
           }
 
       -- one that the device ignores
@@ -262,7 +279,7 @@ module _ (P : Contents → Type 0) where
       ignored_runs id by =
           sdo_run only nothing others subject rows micros p frame [] Client _ (request_kind subject.node frame id) client_fine
           (λ q n next. subst (λ (f : Following). Stands d log f.transfer) (sym next)
-          (record { both = record { under_way = s.both.under_way; holds_data = record { got = heard.got; follows = after.1; taken = taken_then } }; begun = s.begun; lean = lean_then }))
+          (record { both = record { under_way = s.both.under_way; holds_data = record { got = heard.got; follows = after.1; taken = taken_then } }; begun = s.begun; lean = lean_then; allowed = s.allowed; ended = s.ended }))
         where
           after : IsWhole (reads v.following micros Client frame.bytes).says.ended × FollowsIn (Unit {0}) heard.following.transfer heard.got (opened_after log) (acknowledged_whole log)
           after = ignored_whole (λ n. micros) frame.bytes (opened_after log) (acknowledged_whole log) v by s.both.holds_data.follows s.both.holds_data.taken
@@ -276,7 +293,8 @@ module _ (P : Contents → Type 0) where
         (frame_fine micros Server frame v s.both.holds_data.taken s.lean (subst AreHad (sym closes.same) tt))
         (λ x n next. subst (λ (f : Following). Stands d (TimedOut (time_out_reply log) ∷ log) f.transfer) (sym next)
         (subst (Stands d (TimedOut (time_out_reply log) ∷ log)) (sym closes.none)
-        (none_stands d (TimedOut (time_out_reply log) ∷ log) (subst (is_under_way d.rows) (sym (channel_ended log (time_out_reply log))) tt) (and_held (TimedOut (time_out_reply log)) (since_initiate log) s.begun))))
+        (none_stands d (TimedOut (time_out_reply log) ∷ log) (subst (is_under_way d.rows) (sym (channel_ended log (time_out_reply log))) tt) (and_held P (TimedOut (time_out_reply log)) (since_initiate log) s.begun)
+        (subst (λ t. IsOpenAllowed R (opened t)) (sym (channel_ended log (time_out_reply log))) tt) tt)))
       where
         v : View
         v = record { following = (begun subject q micros).dialogue.channel; got = s.both.holds_data.got; done = []; count = 0 }
@@ -296,10 +314,22 @@ module _ (P : Contents → Type 0) where
     pub obeys : Obeys d subject rows (on_channel only) P (Stands d)
     obeys = record {
       quiet = quiet;
-      first = none_stands d [] tt tt;
-      none = λ log o s. none_stands d log s.both.under_way s.begun;
-      ticked = λ log o s. record { both = standing_ticked d.rows log o s.both; begun = and_held Elapsed (since_initiate log) s.begun; lean = s.lean };
-      dropped = λ log o none s. record { both = standing_dropped d.rows log o none s.both; begun = and_held Dropped (since_initiate log) s.begun; lean = s.lean };
+      first = none_stands d [] tt tt tt tt;
+      none = λ log o s. none_stands d log s.both.under_way s.begun s.allowed s.ended;
+      ticked = λ log o s. record {
+        both = standing_ticked d.rows log o s.both;
+        begun = and_held P Elapsed (since_initiate log) s.begun;
+        lean = s.lean;
+        allowed = subst (λ t. IsOpenAllowed R (opened t)) (sym (tick_opens log)) s.allowed;
+        ended = subst (IsAllowed R) (sym (ticked_whole log)) s.ended;
+      };
+      dropped = λ log o none s. record {
+        both = standing_dropped d.rows log o none s.both;
+        begun = and_held P Dropped (since_initiate log) s.begun;
+        lean = s.lean;
+        allowed = subst (λ t. IsOpenAllowed R (opened t)) (sym none) tt;
+        ended = subst (IsAllowed R) (sym (dropped_whole log)) s.ended;
+      };
       aborted = aborted_runs;
       request = λ micros contents log frame p id bytes eight held s. request_runs micros contents log frame p bytes held s id eight;
       ignored = λ micros contents log frame p id bytes held by s. ignored_runs micros contents log frame p bytes held s id by;

@@ -33,7 +33,7 @@ use Rattle.conode_explain_transfers.specs.declared.kinds.Direction.TheVariants.{
 use Rattle.conode_explain_transfers.specs.declared.kinds.Protocol.{Protocol}
 use Rattle.conode_explain_transfers.specs.declared.kinds.Protocol.TheVariants.{Expedited}
 use Rattle.conode_explain_laws.specs.Downloads.{entry_bytes, write_said}
-use Rattle.conode_compare_values.specs.declared.mismatch.Mismatch.TheVariants.{AboveLimit, BelowLimit, BeyondRoom, ConstText, ReadRefused, ValueConst, ValueLength, Written}
+use Rattle.conode_compare_values.specs.declared.mismatch.Mismatch.TheVariants.{AboveLimit, BelowLimit, BeyondRoom, ConstText, ReadRefused, ReadServed, ValueConst, ValueLength, Written}
 use Rattle.conode_compare_values.specs.declared.rooms.Rooms.{Rooms}
 use Rattle.conode_compare_values.specs.SheetValues.{beyond_mismatch, download_mismatch, first_bytes, has_limits, is_above, is_below, is_number, is_read_only, limit_mismatch, room_mismatch, written_bytes, written_mismatch}
 use Rattle.conode_compare_rules.specs.declared.finding.Finding.{Finding}
@@ -43,7 +43,7 @@ use Rattle.conode_compare_rules.specs.Answers.{value_finding}
 use Rattle.conode_compare_laws.specs.ValueFindings.{of_limits, of_writes}
 use Rattle.conode_compare_laws.proofs.ValueAllowed.{Accepted, IsInside, accepted, can_write, inside, row_built}
 use Rattle.conode_compare_laws.proofs.ValueDownloads.{ArePermitted, Permitted, Picks}
-use Rattle.conode_compare_laws.proofs.ValueMismatches.{Passes, downloads_none, if_none, is_data, is_limit, is_refusal, is_room, known_none, limits_only, or_none, passed, rooms_only}
+use Rattle.conode_compare_laws.proofs.ValueMismatches.{Passes, downloads_none, if_none, is_data, is_limit, is_refusal, is_served, is_room, known_none, limits_only, or_none, passed, rooms_only}
 use Rattle.conode_compare_laws.proofs.ValueOnly.{is_value}
 use Rattle.conode_compare_laws.proofs.ValueShown.{IsShown, Shown}
 
@@ -67,6 +67,10 @@ writes_refusals : Passes of_writes refl is_refusal
 writes_refusals (ReadRefused key code) h = refl
 writes_refusals _ h = absurd (false≢true h)
 
+writes_served : Passes of_writes refl is_served
+writes_served (ReadServed key) h = refl
+writes_served _ h = absurd (false≢true h)
+
 writes_limits : Passes of_writes refl is_limit
 writes_limits (AboveLimit key) h = refl
 writes_limits (BelowLimit key) h = refl
@@ -85,6 +89,10 @@ limits_data _ h = absurd (false≢true h)
 limits_refusals : Passes of_limits refl is_refusal
 limits_refusals (ReadRefused key code) h = refl
 limits_refusals _ h = absurd (false≢true h)
+
+limits_served : Passes of_limits refl is_served
+limits_served (ReadServed key) h = refl
+limits_served _ h = absurd (false≢true h)
 
 limits_rooms : Passes of_limits refl is_room
 limits_rooms (BeyondRoom key came room) h = refl
@@ -219,7 +227,7 @@ module _ (plan : Plan) (subject : Subject) where
   pub write_picks : Picks of_writes subject plan.rows (built_description plan)
   write_picks frame e initiate got n shown fits permitted =
       known_none of_writes refl subject plan.rows frame e
-      (λ row is. downloads_none of_writes refl subject.node subject.facts.modular subject.rooms row _ e writes_data writes_refusals
+      (λ row is. downloads_none of_writes refl subject.node subject.facts.modular subject.rooms row _ e writes_data writes_refusals writes_served
       (λ crc down done. write_row subject.rooms row e
       (can_write row.access (accepted_of plan row e.key _ is (permitted_of (built_description plan) initiate e got n crc down done permitted)).writable)))
 
@@ -241,7 +249,7 @@ module _ (plan : Plan) (subject : Subject) where
   pub limit_picks : Picks of_limits subject plan.rows (built_description plan)
   limit_picks frame e initiate got n shown fits permitted =
       known_none of_limits refl subject plan.rows frame e
-      (λ row is. downloads_none of_limits refl subject.node subject.facts.modular subject.rooms row _ e limits_data limits_refusals
+      (λ row is. downloads_none of_limits refl subject.node subject.facts.modular subject.rooms row _ e limits_data limits_refusals limits_served
       (λ crc down done. limit_row subject.rooms row e
       (compared_inside plan row e initiate got is (shown_of e got crc done shown)
       (accepted_of plan row e.key _ is (permitted_of (built_description plan) initiate e got n crc down done permitted)))))

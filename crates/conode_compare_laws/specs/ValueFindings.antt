@@ -1,6 +1,6 @@
 -- What `compare` finds of the values and the access of entries, by the end of a transfer on a device's default SDO channel.
-use Rattle.std.specs.Prelude.{List, [], ◌∷◌, Option, Some}
-use Rattle.conode_compare_values.specs.declared.mismatch.Mismatch.TheVariants.{Written, AboveLimit, BelowLimit, BeyondRoom, ConstText, ReadRefused, ValueConst, ValueLength}
+use Rattle.std.specs.Prelude.{List, [], ◌∷◌, ◌++◌, Option, Some}
+use Rattle.conode_compare_values.specs.declared.mismatch.Mismatch.TheVariants.{Written, AboveLimit, BelowLimit, BeyondRoom, ConstText, ReadRefused, ReadServed, ValueConst, ValueLength}
 use Rattle.conode_compare_rules.specs.declared.finding.Finding.{Finding}
 use Rattle.conode_compare_rules.specs.declared.finding.Finding.TheVariants.{Value}
 use Rattle.conode_compare_rules.specs.declared.kind.FrameKind.{FrameKind}
@@ -60,10 +60,25 @@ constant_differences = on_channel of_constants
 
 -- ---- refusals
 
--- `access-read`
+-- `access-read`, of an entry that is readable
+abbrev pub of_refusals : Option Finding → List Finding
+of_refusals (Some (Value (ReadRefused key code))) = Value (ReadRefused key code) ∷ []
+of_refusals finding = []
+
+abbrev pub refusal_differences : FrameKind → Findings → List Finding
+refusal_differences = on_channel of_refusals
+
+-- and of one that is write only
+abbrev pub of_served : Option Finding → List Finding
+of_served (Some (Value (ReadServed key))) = Value (ReadServed key) ∷ []
+of_served finding = []
+
+abbrev pub served_differences : FrameKind → Findings → List Finding
+served_differences = on_channel of_served
+
+-- both
 abbrev pub of_reads : Option Finding → List Finding
-of_reads (Some (Value (ReadRefused key code))) = Value (ReadRefused key code) ∷ []
-of_reads finding = []
+of_reads finding = of_refusals finding ++ of_served finding
 
 abbrev pub read_differences : FrameKind → Findings → List Finding
 read_differences = on_channel of_reads

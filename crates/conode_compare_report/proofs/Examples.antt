@@ -372,7 +372,7 @@ read_refused : after 0x2001 Upload Expedited refused ≡ AccessRead ∷ []
 unfolding ended_passed upload_passed counts_passed
 read_refused = refl
 
-read_write_only : after 0x2002 Upload Expedited done ≡ ValueLength ∷ []
+read_write_only : after 0x2002 Upload Expedited done ≡ AccessRead ∷ []
 unfolding ended_passed upload_passed counts_passed
 read_write_only = refl
 

@@ -5,7 +5,7 @@ use Rattle.conode_compare_pdos.specs.declared.deviation.Deviation.TheVariants.{L
 use Rattle.conode_compare_transfers.specs.declared.breach.Breach.{Breach}
 use Rattle.conode_compare_transfers.specs.declared.breach.Breach.TheVariants.{Toggle, Form, Size, Crc, Early}
 use Rattle.conode_compare_values.specs.declared.mismatch.Mismatch.{Mismatch}
-use Rattle.conode_compare_values.specs.declared.mismatch.Mismatch.TheVariants.{ConstText, ReadRefused, Written, AboveLimit, BelowLimit, BeyondRoom}
+use Rattle.conode_compare_values.specs.declared.mismatch.Mismatch.TheVariants.{ConstText, ReadRefused, ReadServed, Written, AboveLimit, BelowLimit, BeyondRoom}
 use Rattle.conode_compare_rules.specs.declared.finding.Finding.{Finding}
 use Rattle.conode_compare_rules.specs.declared.finding.Finding.TheVariants.{SecondBootUp, NoState, TwoStates, WrongState, EmergencyStopped, Unasked, AnswerStopped, Transfer, Value, Held, Pdo}
 use Rattle.conode_compare_report.specs.declared.kind.Kind.{Kind}
@@ -32,6 +32,7 @@ of_mismatch (Mismatch.ValueLength key length width) = ValueLength
 of_mismatch (Mismatch.ValueConst key shown held) = ValueConst
 of_mismatch (ConstText key) = ValueConst
 of_mismatch (ReadRefused key code) = AccessRead
+of_mismatch (ReadServed key) = AccessRead
 of_mismatch (Written key) = AccessWrite
 of_mismatch (AboveLimit key) = AccessLimits
 of_mismatch (BelowLimit key) = AccessLimits
@@ -119,7 +120,7 @@ kind_rule AbortEarly = codes "no transfer is aborted as timed out before its tim
 kind_rule ValueLength = codes "a number has as many bytes as its data type (CiA 301, 7.4.7.1)"
 kind_rule ValueConst = codes "a constant entry has the value of the data sheet (CiA 301, 7.4)"
 kind_rule ValueHeld = codes "an entry that is named as held keeps what is written to it"
-kind_rule AccessRead = codes "an entry that is readable can be read (CiA 301, 7.4)"
+kind_rule AccessRead = codes "an entry that is readable can be read, and no other (CiA 301, 7.4)"
 kind_rule AccessWrite = codes "an entry that is read only isn't written (CiA 301, 7.2.4.3.17)"
 kind_rule AccessLimits = codes "a value outside the limits is refused (CiA 301, 7.2.4.3.17)"
 

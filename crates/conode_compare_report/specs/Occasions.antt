@@ -183,12 +183,16 @@ abbrev pub is_block : Protocol → Bool
 is_block Block = true
 is_block other = false
 
+-- an upload that is done shows a value, which is compared where the entry is readable
+abbrev pub shows_value : Row → Bool → Bool
+shows_value row done = done && is_readable row.access
+
 -- an upload; of an entry that the data sheet doesn't have no value is compared
 abbrev pub entry_of_upload : Option Row → Bool → List Counted → List Counted
 entry_of_upload None done counts = counts
 entry_of_upload (Some row) done counts =
-    counts_passed (is_readable row.access) AccessRead
-    (counts_passed (done && is_held row) ValueConst (counts_passed done ValueLength counts))
+    counts_passed true AccessRead
+    (counts_passed (shows_value row done && is_held row) ValueConst (counts_passed (shows_value row done) ValueLength counts))
 
 unfoldable pub upload_passed : Option Row → Bool → Protocol → List Counted → List Counted
 upload_passed row done protocol counts =

@@ -35,6 +35,7 @@ ghost use Rattle.conode_compare_report.specs.Occasions.{
   none_of,
   passes,
   role_passed,
+  shows_value,
   side_passed,
   upload_passed,
   way_passed,
@@ -315,18 +316,26 @@ fn is_block(protocol: Protocol) -> bool
     matches!(protocol, Protocol::Block)
 }
 
+// whether an upload shows a value, which is compared where the entry is readable
+fn shows_value(row: &EntryRow<'_>, done: bool) -> bool
+    ensures { result ≡ shows_value (row_view row.now) done }
+{
+    done && is_readable(row.access)
+}
+
 // an upload of an entry
 fn pass_entry(counts: &mut [Counted], row: Option<&EntryRow<'_>>, done: bool)
     ensures { counts.new
         ≡ entry_of_upload (option_map row_view (option_copied row.entry)) done counts.old }
 {
     if let Some(row) = row {
+        let shows = shows_value(row, done);
         pass_all(
             counts,
             &[
-                (done, Kind::ValueLength),
-                (done && is_held(row), Kind::ValueConst),
-                (is_readable(row.access), Kind::AccessRead),
+                (shows, Kind::ValueLength),
+                (shows && is_held(row), Kind::ValueConst),
+                (true, Kind::AccessRead),
             ],
         );
     }

@@ -10,7 +10,7 @@ use Rattle.conode_explain_values.specs.Numbers.{number_text}
 use Rattle.conode_explain_values.specs.Values.{value_text}
 use Rattle.conode_compare_pdos.specs.declared.deviation.Deviation.TheVariants.{Length, NotOperational, WithoutSync, FewSyncs, Inhibit, Timer}
 use Rattle.conode_compare_transfers.specs.declared.breach.Breach.TheVariants.{Toggle, Form, AbortKey, Size, Crc, Early}
-use Rattle.conode_compare_values.specs.declared.mismatch.Mismatch.TheVariants.{ValueLength, ValueConst, ConstText, ReadRefused, Written, AboveLimit, BelowLimit, BeyondRoom}
+use Rattle.conode_compare_values.specs.declared.mismatch.Mismatch.TheVariants.{ValueLength, ValueConst, ConstText, ReadRefused, ReadServed, Written, AboveLimit, BelowLimit, BeyondRoom}
 use Rattle.conode_compare_rules.specs.declared.finding.Finding.TheVariants.{BootMissing, SecondBootUp, HeartbeatLength, NoState, WrongState, TwoStates, HeartbeatLate, EmergencyLength, EmergencyRegister, EmergencyInhibit, NoAnswer, AnswerKey, AnswerForm, AnswerStopped, Transfer, Value, Held, Pdo}
 use Rattle.conode_compare_rules.specs.declared.finding.NmtState.TheVariants.{PreOperational, Operational}
 use Rattle.conode_compare_choices.specs.declared.choice.Choice.TheVariants.{Segments, NoSize, ShortSegment, NoCrc, BlockSize, Switched, Code, Timeout, NoTimeout, Heartbeat, Phase, NoEmergency, OtherEmergency}
@@ -107,6 +107,10 @@ value_const_time = refl
 refused : finding_text plain (Value (ReadRefused key (record { 0 = 0x06020000 }))) ≡ codes "access-read: 1018:01 refused with 06020000, the sheet has it as readable"
 unfolding finding_text mismatch_text digits_text filled
 refused = refl
+
+served : finding_text plain (Value (ReadServed key)) ≡ codes "access-read: 1018:01 was read, the sheet has it as write only"
+unfolding finding_text mismatch_text digits_text filled
+served = refl
 
 written : finding_text plain (Value (Written key)) ≡ codes "access-write: 1018:01 was written, the sheet has it as read only"
 unfolding finding_text mismatch_text digits_text filled

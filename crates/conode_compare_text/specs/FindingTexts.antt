@@ -9,7 +9,7 @@ use Rattle.conode_compare_pdos.specs.declared.deviation.Deviation.TheVariants.{L
 use Rattle.conode_compare_transfers.specs.declared.breach.Breach.{Breach}
 use Rattle.conode_compare_transfers.specs.declared.breach.Breach.TheVariants.{Toggle, Form, AbortKey, Size, Crc, Early}
 use Rattle.conode_compare_values.specs.declared.mismatch.Mismatch.{Mismatch}
-use Rattle.conode_compare_values.specs.declared.mismatch.Mismatch.TheVariants.{ValueLength, ValueConst, ConstText, ReadRefused, Written, AboveLimit, BelowLimit, BeyondRoom}
+use Rattle.conode_compare_values.specs.declared.mismatch.Mismatch.TheVariants.{ValueLength, ValueConst, ConstText, ReadRefused, ReadServed, Written, AboveLimit, BelowLimit, BeyondRoom}
 use Rattle.conode_compare_rules.specs.declared.finding.Finding.{Finding}
 use Rattle.conode_compare_rules.specs.declared.finding.Finding.TheVariants.{BootMissing, SecondBootUp, HeartbeatLength, NoState, WrongState, TwoStates, HeartbeatLate, EmergencyLength, EmergencyStopped, EmergencyRegister, EmergencyInhibit, NoAnswer, Unasked, AnswerKey, AnswerForm, AnswerStopped, Transfer, Value, Held, Pdo}
 use Rattle.conode_compare_rules.specs.declared.finding.NmtState.{NmtState}
@@ -93,6 +93,8 @@ mismatch_text t (ConstText key) =
 mismatch_text t (ReadRefused key code) =
     filled (codes "access-read: % refused with %, the sheet has it as readable")
     (key_text key ∷ digits_text 16 8 code.0 ∷ [])
+mismatch_text t (ReadServed key) =
+    filled (codes "access-read: % was read, the sheet has it as write only") (key_text key ∷ [])
 mismatch_text t (Written key) =
     filled (codes "access-write: % was written, the sheet has it as read only") (key_text key ∷ [])
 mismatch_text t (AboveLimit key) =

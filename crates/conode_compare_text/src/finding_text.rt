@@ -172,6 +172,10 @@ fn mismatch_said(value_type: ValueType, mismatch: Mismatch) -> Said
             Value::Key(key),
             Value::Long(code.0),
         ),
+        Mismatch::ReadServed(key) => Said::One(
+            "access-read: % was read, the sheet has it as write only",
+            Value::Key(key),
+        ),
         Mismatch::Written(key) => Said::One(
             "access-write: % was written, the sheet has it as read only",
             Value::Key(key),

@@ -1,5 +1,5 @@
 -- Which requests an answer is owed to, which may take long, what they write, and which sub-blocks are followed, on both sides of each edge, computed from the definitions.
-use Rattle.std.proofs.Common.{◌≡◌, ℕ, List, [], ◌∷◌, true, false, map, Option, Some, None, refl}
+use Rattle.std.proofs.Common.{◌≡◌, ℕ, ◌+◌, List, [], ◌∷◌, true, false, map, Option, Some, None, refl}
 use Rattle.co_frame.specs.FrameContent.{FrameContent}
 use Rattle.co_frame.specs.SdoRequests.{request_row_in}
 use Rattle.co_frame.specs.SdoResponses.{response_row_in}
@@ -381,6 +381,46 @@ open_after_pause : begun_block.sub_block ∷ (interrupted begun_block 9000000).s
     ≡ false ∷ true ∷ false ∷ true ∷ []
 unfolding dialogue_heard is_certain newest_after newest_with request_row_in response_row_in
 open_after_pause = refl
+
+-- ---- a block transfer that is refused at once
+
+-- a download or an upload of 2000:01 in blocks is asked for then, and a millisecond later this comes
+abbrev asked_in_blocks : Dialogue → ℕ → ℕ → List ℕ → Dialogue
+asked_in_blocks before first micros answer = sent (sent before micros Client (first ∷ 0 ∷ 0x20 ∷ 1 ∷ 9 ∷ 0 ∷ 0 ∷ 0 ∷ [])) (micros + 1000) Server answer
+
+-- with 06010002 and 06010001
+abbrev refused_download : Dialogue → ℕ → Dialogue
+refused_download before micros = asked_in_blocks before 0xC6 micros (0x80 ∷ 0 ∷ 0x20 ∷ 1 ∷ 2 ∷ 0 ∷ 1 ∷ 6 ∷ [])
+
+abbrev refused_upload : Dialogue
+refused_upload = asked_in_blocks nothing_asked 0xA4 2000000 (0x80 ∷ 0 ∷ 0x20 ∷ 1 ∷ 1 ∷ 0 ∷ 1 ∷ 6 ∷ [])
+
+no_doubt : (refused_download nothing_asked 2000000).doubted ∷ refused_upload.doubted ∷ [] ≡ None ∷ None ∷ []
+unfolding dialogue_heard is_certain newest_after newest_with request_row_in response_row_in
+no_doubt = refl
+
+-- so an answer is owed to the next request, 1 ms later
+owed_after_refusal : owes 1000 0 (sent (refused_download nothing_asked 2000000) 2002000 Client (0x40 ∷ 0 ∷ 0x10 ∷ 0 ∷ 0 ∷ 0 ∷ 0 ∷ 0 ∷ [])) ≡ true
+unfolding dialogue_heard is_certain newest_after newest_with request_row_in response_row_in
+owed_after_refusal = refl
+
+-- the request came while an earlier one could be answered, within 1000 ms after the recording began; segments of an earlier block download
+-- may be awaited
+earlier_doubt : map (λ micros. (refused_download nothing_asked micros).doubted) (1000000 ∷ 1000001 ∷ []) ≡ Some 1001000 ∷ None ∷ []
+unfolding dialogue_heard is_certain newest_after newest_with request_row_in response_row_in
+earlier_doubt = refl
+
+segments_awaited : (refused_download (record nothing_asked { sub_block = true }) 2000000).doubted ≡ Some 2001000
+unfolding dialogue_heard is_certain newest_after newest_with request_row_in response_row_in
+segments_awaited = refl
+
+-- with 05040000, which may be of an earlier transfer; of another entry; not at once
+other_refusals : (asked_in_blocks nothing_asked 0xC6 2000000 (0x80 ∷ 0 ∷ 0x20 ∷ 1 ∷ 0 ∷ 0 ∷ 4 ∷ 5 ∷ [])).doubted
+    ∷ (asked_in_blocks nothing_asked 0xC6 2000000 (0x80 ∷ 0 ∷ 0x20 ∷ 2 ∷ 2 ∷ 0 ∷ 1 ∷ 6 ∷ [])).doubted
+    ∷ (sent (asked_in_blocks nothing_asked 0xC6 2000000 (0xA4 ∷ 0 ∷ 0x20 ∷ 1 ∷ 30 ∷ 0 ∷ 0 ∷ 0 ∷ [])) 2002000 Server (0x80 ∷ 0 ∷ 0x20 ∷ 1 ∷ 2 ∷ 0 ∷ 1 ∷ 6 ∷ [])).doubted ∷ []
+    ≡ Some 2001000 ∷ Some 2001000 ∷ Some 2002000 ∷ []
+unfolding dialogue_heard is_certain newest_after newest_with request_row_in response_row_in
+other_refusals = refl
 
 -- ---- how long the client is awaited
 

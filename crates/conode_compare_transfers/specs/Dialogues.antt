@@ -2,6 +2,7 @@
 -- transfers in it are those of `followed`.
 use Rattle.std.specs.Prelude.{ℕ, ◌+◌, ◌-◌, ◌/◌, ◌%◌, ◌==◌, nat_le, nat_lt, Bool, true, false, not, ◌&&◌, ◌||◌, if◌then◌else◌, [], ◌∷◌, Option, Some, None, is_some}
 use Rattle.std.specs.Option.{option_map_or}
+use Rattle.co_frame.specs.AbortCodes.{timed_out}
 use Rattle.co_frame.specs.FrameContent.{FrameContent}
 use Rattle.co_profile.specs.Indices.{store_parameters, restore_parameters}
 use Rattle.co_value.specs.declared.key.Key.{Key}
@@ -66,22 +67,24 @@ asked_after what micros frame = None
 
 -- ---- doubts
 
--- A transfer that both ends know to have ended; of a block transfer that isn't assumed. An abort of
--- another entry answers an earlier request.
+-- A transfer that both ends know to have ended. An abort of another entry answers an earlier request.
+-- Of a block transfer that isn't assumed, but where its initiate request, which came when no earlier one
+-- could be answered (`owed`), is refused: then no segment and no acknowledge is on its way. An abort with
+-- 05040000 may be of an earlier transfer of the entry.
 abbrev pub is_block : Protocol → Bool
 is_block Block = true
 is_block other = false
 
-abbrev pub is_known_end : Ending → Key → FrameContent → Bool
-is_known_end (Done crc) key frame = true
-is_known_end (Aborted Server code) key frame = same_key (key_in frame) key
-is_known_end other key frame = false
+abbrev pub is_known_end : Bool → Bool → Ending → Key → FrameContent → Bool
+is_known_end owed block (Done crc) key frame = not block
+is_known_end owed block (Aborted Server code) key frame = ((owed && not (code.0 == timed_out)) || not block) && same_key (key_in frame) key
+is_known_end owed block other key frame = false
 
-abbrev pub both_know_its_end : Ended → FrameContent → Bool
-both_know_its_end ended frame = not (is_block ended.protocol) && is_known_end ended.ending ended.key frame
+abbrev pub both_know_its_end : Bool → Ended → FrameContent → Bool
+both_know_its_end owed ended frame = is_known_end owed (is_block ended.protocol) ended.ending ended.key frame
 
-abbrev pub ends_in_doubt : Option Ended → FrameContent → Bool
-ends_in_doubt ended frame = option_map_or (λ e. not (both_know_its_end e frame)) ended false
+abbrev pub ends_in_doubt : Bool → Option Ended → FrameContent → Bool
+ends_in_doubt owed ended frame = option_map_or (λ e. not (both_know_its_end owed e frame)) ended false
 
 -- a frame that goes on with the open transfer
 abbrev pub continues : What → Bool
@@ -100,8 +103,8 @@ is_odd Client what = not (is_initiate what || continues what)
 
 -- After a frame an earlier request may still be answered: a transfer was left, or the frame goes on
 -- with none.
-abbrev pub leaves_request_open : Side → Heard → FrameContent → Bool
-leaves_request_open side heard frame = is_odd side heard.what || ends_in_doubt heard.ended frame
+abbrev pub leaves_request_open : Bool → Side → Heard → FrameContent → Bool
+leaves_request_open owed side heard frame = is_odd side heard.what || ends_in_doubt owed heard.ended frame
 
 -- ---- sub-blocks that aren't followed
 
@@ -294,9 +297,10 @@ exchange_in answer started dialogue micros side frame = record {
   awaited = awaited_for dialogue.newest dialogue.requested micros;
 }
 
-abbrev pub doubted_after : Bool → Side → Heard → FrameContent → Option ℕ → ℕ → Option ℕ
-doubted_after awaits side heard frame doubted micros =
-    if leaves_request_open side heard frame || may_be_segment awaits heard.what then Some micros else doubted
+-- `owed`: an answer is owed to the initiate request right before this frame
+abbrev pub doubted_after : Bool → Bool → Side → Heard → FrameContent → Option ℕ → ℕ → Option ℕ
+doubted_after owed awaits side heard frame doubted micros =
+    if leaves_request_open owed side heard frame || may_be_segment awaits heard.what then Some micros else doubted
 
 -- A transfer isn't judged whose initiate request comes while an earlier request may still be answered.
 abbrev pub newest_heard : Bool → Side → What → FrameContent → Option Newest → Option Newest
@@ -305,7 +309,7 @@ newest_heard certain side what frame newest = if is_initiate what && not certain
 unfoldable pub dialogue_heard : ℕ → ℕ → Dialogue → ℕ → Side → FrameContent → Dialogue
 dialogue_heard answer started dialogue micros side frame =
     let f = followed dialogue.channel micros side frame.bytes in
-    let doubted = doubted_after dialogue.sub_block side f.says frame dialogue.doubted micros in
+    let doubted = doubted_after (owes answer started dialogue) dialogue.sub_block side f.says frame dialogue.doubted micros in
     let other = names_other f.says.ended frame in
     let leaves = leaves_slow other dialogue.newest f.says.ended in
     let turns = is_in_turn answer started dialogue side f.says.what frame in

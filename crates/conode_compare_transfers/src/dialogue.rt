@@ -47,7 +47,7 @@ use crate::breach::{Breach, breach_at, byte_at, key_in};
 use crate::left::Left;
 use crate::newest::{Newest, newest_with};
 use crate::times::is_past;
-use co_frame::Frame;
+use co_frame::{AbortCode, Frame};
 use co_profile::{RESTORE_PARAMETERS, STORE_PARAMETERS};
 use co_value::{Key, unsigned_of};
 use conode_explain_transfers::{Channel, Direction, Ended, Ending, Heard, Protocol, Side, What};
@@ -297,29 +297,32 @@ fn asked_after(what: What, micros: u64, frame: &Frame) -> Option<Asked>
     }
 }
 
-// Whether a transfer that a frame ended was no block transfer, and both ends know its end. An abort
-// of another entry answers an earlier request.
-fn both_know_its_end(ended: &Ended, frame: &Frame) -> bool
-    ensures { result ≡ both_know_its_end ended.now frame.now }
+// Whether both ends know the end of a transfer that a frame ended. An abort of another entry answers
+// an earlier request. Of a block transfer that isn't assumed, but where its initiate request is
+// refused, and an answer was owed to that (`owed`): not with 05040000, which may be of an earlier
+// transfer of the entry.
+fn both_know_its_end(owed: bool, ended: &Ended, frame: &Frame) -> bool
+    ensures { result ≡ both_know_its_end owed ended.now frame.now }
 {
-    if let Protocol::Block = ended.protocol {
-        return false;
-    }
+    let is_block = matches!(ended.protocol, Protocol::Block);
     match ended.ending {
-        Ending::Done { crc: _ } => true,
+        Ending::Done { crc: _ } => !is_block,
         Ending::Aborted {
             by: Side::Server,
-            code: _,
-        } => key_in(frame) == ended.key,
+            code,
+        } => {
+            let is_refused = owed && code != AbortCode::TIMED_OUT;
+            (is_refused || !is_block) && key_in(frame) == ended.key
+        }
         _ => false,
     }
 }
 
-fn ends_in_doubt(ended: &Option<Ended>, frame: &Frame) -> bool
-    ensures { result ≡ ends_in_doubt ended.now frame.now }
+fn ends_in_doubt(owed: bool, ended: &Option<Ended>, frame: &Frame) -> bool
+    ensures { result ≡ ends_in_doubt owed ended.now frame.now }
 {
     match ended {
-        Some(ended) => !both_know_its_end(ended, frame),
+        Some(ended) => !both_know_its_end(owed, ended, frame),
         None => false,
     }
 }
@@ -398,18 +401,20 @@ fn may_be_segment(awaits: bool, what: What) -> bool
 }
 
 // whether after a frame an earlier request may still be answered
-fn leaves_request_open(side: Side, heard: &Heard, frame: &Frame) -> bool
-    ensures { result ≡ leaves_request_open side heard.now frame.now }
+fn leaves_request_open(owed: bool, side: Side, heard: &Heard, frame: &Frame) -> bool
+    ensures { result ≡ leaves_request_open owed side heard.now frame.now }
 {
     let odd = match side {
         Side::Server => !continues(heard.what),
         Side::Client => !(is_initiate(heard.what) || continues(heard.what)),
     };
-    odd || ends_in_doubt(&heard.ended, frame)
+    odd || ends_in_doubt(owed, &heard.ended, frame)
 }
 
-// the stamp of the newest frame by which an earlier request may still be answered
+// The stamp of the newest frame by which an earlier request may still be answered. `owed`: an answer
+// is owed to the initiate request right before this frame.
 fn doubted_after(
+    owed: bool,
     awaits: bool,
     side: Side,
     heard: &Heard,
@@ -417,9 +422,9 @@ fn doubted_after(
     doubted: Option<u64>,
     micros: u64,
 ) -> Option<u64>
-    ensures { result ≡ doubted_after awaits side heard.now frame.now doubted micros }
+    ensures { result ≡ doubted_after owed awaits side heard.now frame.now doubted micros }
 {
-    if leaves_request_open(side, heard, frame) || may_be_segment(awaits, heard.what) {
+    if leaves_request_open(owed, side, heard, frame) || may_be_segment(awaits, heard.what) {
         Some(micros)
     } else {
         doubted
@@ -550,7 +555,8 @@ impl Dialogue {
         let leaves = leaves_slow(other, self.newest, &heard.ended);
         self.slow = self.slow.after_answer(late, turns).after(leaves, micros);
         self.asked = asked_after(heard.what, micros, frame);
-        self.doubted = doubted_after(self.sub_block, side, &heard, frame, self.doubted, micros);
+        let awaits = self.sub_block;
+        self.doubted = doubted_after(owed, awaits, side, &heard, frame, self.doubted, micros);
         let left = leaves_block(other, &heard.ended);
         self.sub_block = sub_block_after(side, left, heard.what, byte_at(frame, 0), self.sub_block);
         let judged = self.is_certain(answer, started, micros);

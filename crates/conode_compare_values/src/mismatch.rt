@@ -16,6 +16,8 @@ pub enum Mismatch {
     /// `access-read`: an upload of this entry, which the data sheet has as readable, is refused
     /// with this code.
     ReadRefused(Key, AbortCode),
+    /// `access-read`: an upload of this entry, which the data sheet has as write only, gives data.
+    ReadServed(Key),
     /// `access-write`: a download to this entry, which the data sheet has as read only, is
     /// acknowledged.
     Written(Key),
