@@ -17,7 +17,7 @@ use Rattle.co_sheet_text.specs.Properties.{property_number}
 use Rattle.co_sheet.specs.ObjectLists.{is_one_of}
 use Rattle.co_profile.specs.FixedTypes.{fixed_type_of}
 use Rattle.co_sheet.specs.Entries.{Entry, is_domain, data_type_with, type_code, data_type_of}
-use Rattle.co_sheet.specs.Limits.{Default, absent, number, node_id, text, pairs, number_at_type, numeric_default, is_numeric, limit_at, low_limit, high_limit, at_most, default_with, stated_default}
+use Rattle.co_sheet.specs.Limits.{is_in_type, Default, absent, number, node_id, text, pairs, number_at_type, numeric_default, is_numeric, limit_at, low_limit, high_limit, at_most, default_with, stated_default}
 use Rattle.co_sheet.specs.Checks.{fault_if, at_key, is_low_first, missing_key, unread_limit, unread_defaults, unread_limits, limit_outside, bad_limits, is_bad_default, bad_default_at, bad_default, in_numeric, left_out_codes, type_line, is_bad_type, bad_type, left_out_type, bad_access, unread_entry_numbers}
 use Rattle.co_sheet.specs.Accepted.{least_fault}
 use Rattle.co_sheet.specs.private.LeastFaults.{earlier}

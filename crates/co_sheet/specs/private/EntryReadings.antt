@@ -1,5 +1,5 @@
 -- What is checked of one entry, and what is read of it on the way (CiA 306, object description).
-use Rattle.std.specs.Prelude.{◌≡◌, ℕ, ◌∷◌, [], ◌++◌, Bool, false, ◌&&◌, not, List, ℤ, Option, Some, None, map, option_map, Ok}
+use Rattle.std.specs.Prelude.{nat_lt, ◌≡◌, ℕ, ◌∷◌, [], ◌++◌, Bool, false, ◌&&◌, not, List, ℤ, Option, Some, None, map, option_map, Ok}
 use Rattle.std.specs.Option.{option_map_or, option_or}
 use Rattle.co_value.specs.declared.data_type.DataType.{DataType}
 use Rattle.co_value.specs.Types.{least_of, greatest_of}
