@@ -1,109 +1,73 @@
--- A download in blocks from which frames may be lost, whatever the dictionary permits: what holds of a world. Frames are lost from the
--- front of a queue alone. An acknowledgement is answered to the last frame on its way, and the client goes on only with it. Where it is
--- permitted and undisturbed (`p`), each sub-block is taken whole, and the frames are counted.
-use Rattle.std.proofs.Common.{◌≡◌, ℕ, ◌+◌, ◌<◌, ◌≤◌, Bool, true, false, List, [], ◌∷◌, ◌++◌, length, Option, Some, None, refl, ap, eqb, suc, ◌-◌, ◌*◌, ◌/◌, take, ◌⊎◌, zero, cond, drop, map, sym, ◌∙◌, arith, subst, inl, inr}
-use Rattle.std.specs.Prelude.{nat_lt}
+-- A download in blocks, whatever the dictionary permits: the client sends the segments, and the channel takes them. Here are its frames,
+-- what either end knows at each place, and what is this direction's alone: the begin, the end, which the channel confirms, and a channel
+-- that has given up and reads segments as requests.
+use Rattle.std.proofs.Common.{◌≡◌, ℕ, zero, suc, ◌+◌, ◌-◌, ◌*◌, ◌<◌, Bool, true, false, cond, List, [], ◌∷◌, take, map, Option, Some, None, refl, sym, ap, ◌∙◌, arith, eqb, subst, ◌⊎◌, inl, inr}
+use Rattle.std.specs.List.{range_with_len}
+use Rattle.std.proofs.lemmas.Bool.{false≢true, not-false}
+use Rattle.std.proofs.lemmas.Bool.Decides.{nat_tests}
+use Rattle.std.proofs.lemmas.Simd.{map-map}
 use Rattle.co_value.specs.declared.key.Key.{Key}
+use Rattle.co_value.specs.Keys.{same_key-refl}
+use Rattle.co_frame.specs.BlockSegments.{is_abort_in_sub_block}
 use Rattle.co_frame.specs.declared.sdo_request.SdoRequest.TheVariants.{BlockDownloadInitiate, BlockDownloadEnd}
-use Rattle.co_frame.specs.declared.sdo_response.SdoResponse.TheVariants.{BlockDownloadInitiated, BlockDownloadDone, BlockDownloadAcknowledge}
+use Rattle.co_frame.specs.declared.sdo_response.SdoResponse.{SdoResponse}
+use Rattle.co_frame.specs.declared.sdo_response.SdoResponse.TheVariants.{Abort as Aborted, BlockDownloadInitiated, BlockDownloadDone, BlockDownloadAcknowledge}
 use Rattle.co_frame.specs.SdoRequests.{request_bytes}
 use Rattle.co_frame.specs.SdoResponses.{response_bytes, response_in}
-use Rattle.co_sdo_client.specs.Segments.{size_sent}
+use Rattle.co_sdo_client.specs.declared.stage.Stage.TheVariants.{BlockDownload as Sending, BlockDownloadEnded}
+use Rattle.co_sdo_client.specs.Calls.{Call, Segment, message_bytes, Answers, with_answer}
+use Rattle.co_sdo_client.specs.Segments.{size_sent, block_segment, sub_block_length, sub_block_sent, block_download_end}
+use Rattle.co_sdo_client.specs.Stages.{acknowledged, block_size_by, newest, stage_since, held_since}
+use Rattle.co_sdo_client.specs.Verdicts.{taken_with, response_verdict}
+use Rattle.co_sdo_client.specs.Outcomes.{state_by}
 use Rattle.co_dict.specs.Rows.{Contents, written}
-use Rattle.co_dict.specs.Stores.{Description}
 use Rattle.co_sdo.specs.declared.stage.Stage.TheVariants.{SubBlock, LastTaken}
 use Rattle.co_sdo.specs.Refused.{capacity_at, initiate_refusal, completion_refusal}
-use Rattle.co_sdo.specs.Downloads.{without}
-use Rattle.co_sdo.specs.Log.{Response, Log, answer_bytes}
+use Rattle.co_sdo.specs.Log.{Response, Log}
 use Rattle.co_sdo.specs.Opened.{OpenTransfer}
-use Rattle.co_sdo.specs.Replies.{aborted, reply_to}
-use Rattle.co_sdo_laws.specs.World.{Setup, World, Requests, at_channel, without_front, front_arrives}
-use Rattle.co_sdo_laws.proofs.Frames.{size_read, block_begin_read, block_end_read, block_begin_long, block_done_read, acknowledged_read}
-use Rattle.co_sdo_laws.proofs.Permits.{bytes, sends_in_blocks, indicated, IsDownload, lawful_of, none≢some, entry_is}
-use Rattle.co_sdo_laws.proofs.Channel.{Steps, IsServing, Serves, moved, is_served}
-use Rattle.co_sdo_laws.proofs.BlockSegments.{unused, frame_with, all_held, total, size_after, blocks, segments, InTurn, IsWhole, all_is, segment_at, frame_is, frame_long, Reads, Goes, Completes, next_inside, next_ends, has_room}
-use Rattle.co_sdo_client.specs.Calls.{Answers}
-use Rattle.co_sdo_client.specs.Stages.{acknowledged, block_size_by, newest}
-use Rattle.co_sdo_client.specs.SubBlocks.{is_last_taken}
-use Rattle.co_sdo_client.specs.Verdicts.{segment_next, taken_with, held_with}
-use Rattle.co_sdo_laws.proofs.Blocks.{Lawful, Standing, live, Count, Moment, IsDone, is_live, kept_after, disturbed, replied, no_request, dropped, front_came, nothing_came}
-use Rattle.co_sdo_laws.proofs.GoneChannels.{awaited, IsGone, is_awaited_frame, aborted_other, gone_answers, gone_goes_on}
-use Rattle.std.proofs.lemmas.Bool.Decides.{nat_tests}
+use Rattle.co_sdo.specs.Replies.{time_out_reply}
+use Rattle.co_sdo_laws.specs.World.{Setup, Requests, Answers as Back}
+use Rattle.co_sdo_laws.proofs.Frames.{block_begin_read, block_end_read, block_begin_long, block_initiated_read, block_done_read, acknowledged_read}
+use Rattle.co_sdo_laws.proofs.Permits.{bytes, sends_in_blocks, indicated, IsDownload, none≢some}
+use Rattle.co_sdo_laws.proofs.Channel.{serves_first, unopened}
+use Rattle.co_sdo_laws.proofs.Failures.{is_aborted, has_failed}
+use Rattle.co_sdo_laws.proofs.Blocks.{live, kept, cut_fails, cut_read, cons≢nil, head_is, tail_is}
+use Rattle.co_sdo_laws.proofs.BlockSegments.{unused, all_held, total, size_after, segments, frame_is, frame_with, frame_long, all_is}
+use Rattle.co_sdo_laws.proofs.GoneChannels.{is_awaited, is_awaited_frame, awaited, aborted_other, IsGone, idle, gone_answers, gone_goes_on, gone_ticks, gone_ends}
+use Rattle.co_sdo_laws.proofs.Ends.{client, channel, verdict_of, after_request, Serving, channel_takes, channel_refuses}
+use Rattle.co_sdo_laws.proofs.Places.{Place, asking, confirmed, starting, taking, acknowledging, finishing, ending, ended, all_over, Plan, way, may_await, OnWay, InSubBlock, turns, Reacts, goes, gives_up, one}
+use Rattle.co_sdo_laws.proofs.Receivers.{Receiver, SenderStays, receives}
+use Rattle.co_sdo_laws.proofs.Senders.{Sender, ReceiverStays, sends_more, sends_end}
+use Rattle.co_sdo_laws.proofs.BlockTransfers.{requests≢back, Knows, waits, is_done, Parts, Channel, May, ClientReacts, reacts, finishes, Hears, GoneHears, IsWaiting, Theory}
 
 -- ---- frames
 
-abbrev pub begin : Setup → List ℕ
+abbrev begin : Setup → List ℕ
 begin s = request_bytes (BlockDownloadInitiate s.call.key (size_sent s.call.job))
 
-abbrev pub confirmation : Setup → List ℕ
+abbrev confirmation : Setup → List ℕ
 confirmation s = response_bytes (BlockDownloadInitiated s.call.key 127)
 
-abbrev pub acknowledgement : ℕ → List ℕ
+abbrev acknowledgement : ℕ → List ℕ
 acknowledgement count = response_bytes (BlockDownloadAcknowledge count 127)
 
-abbrev pub client_end : Setup → List ℕ
+abbrev client_end : Setup → List ℕ
 client_end s = request_bytes (BlockDownloadEnd (unused (bytes s)))
 
-abbrev pub all_done : List ℕ
+abbrev all_done : List ℕ
 all_done = response_bytes BlockDownloadDone
 
--- ---- the begin at an idle channel
+abbrev frame_at : Setup → Place → List ℕ
+frame_at s asking = begin s
+frame_at s confirmed = confirmation s
+frame_at s ending = client_end s
+frame_at s ended = all_done
+frame_at s _ = []
 
--- inside a sub-block after so many of its segments, and after the last of all
-abbrev pub inside : Key → Option ℕ → ℕ → List ℕ → OpenTransfer
-inside key size taken held = record { key = key; stage = SubBlock size taken; bytes = held }
+abbrev plan : Setup → Type 0 → Plan
+plan s p = record { p = p; forward = Requests; value = bytes s; acknowledgement = acknowledgement; frame = frame_at s; awaits = is_awaited_frame }
 
-abbrev pub at_last : Key → Option ℕ → List ℕ → OpenTransfer
-at_last key size held = record { key = key; stage = LastTaken size; bytes = held }
-
-pub initiate_taken : (d : Description) (contents : Contents) (key : Key) (size : Option ℕ) → key.index < 65536 → initiate_refusal d key (size_read size) ≡ None
-    → Steps d contents None (request_bytes (BlockDownloadInitiate key size)) (Response (BlockDownloadInitiated key 127) ∷ []) (Some (inside key (size_read size) 0 [])) contents
-initiate_taken d contents key size k free = let read = block_begin_read key size k in record { replies = rw (read, free) refl; opens = rw (read, free) refl; sets = rw read refl }
-
-pub initiate_refused : (d : Description) (contents : Contents) (key : Key) (size : Option ℕ) (code : ℕ) → key.index < 65536 → initiate_refusal d key (size_read size) ≡ Some code
-    → Steps d contents None (request_bytes (BlockDownloadInitiate key size)) (aborted key code) None contents
-initiate_refused d contents key size code k refused = let read = block_begin_read key size k in record { replies = rw (read, refused) refl; opens = rw (read, refused) refl; sets = rw read refl }
-
--- ---- a frame at a channel inside a sub-block
-
--- it doesn't end the sub-block
-inside_taken : (d : Description) (contents : Contents) (key : Key) (size : Option ℕ) (t : ℕ) (held frame : List ℕ) → Reads frame false
-    → Steps d contents (Some (inside key size t held)) frame [] (Some (inside key size (taken_with t frame) (held_with held t frame))) contents
-inside_taken d contents key size t held frame r = record { replies = rw r.ends refl; opens = rw (r.ends, r.other) refl; sets = refl }
-
--- it ends it: there is room for what is held, or not
-sub_block_ended : (d : Description) (contents : Contents) (key : Key) (size : Option ℕ) (t : ℕ) (held frame : List ℕ) → Reads frame true
-    → is_last_taken (segment_next t frame) ≡ false → nat_lt (capacity_at d.rows key) (length (held_with held t frame)) ≡ false
-    → Steps d contents (Some (inside key size t held)) frame (Response (BlockDownloadAcknowledge (taken_with t frame) 127) ∷ []) (Some (inside key size 0 (held_with held t frame))) contents
-sub_block_ended d contents key size t held frame r more room =
-    record { replies = rw (r.ends, more, room) refl; opens = rw (r.ends, r.other, more, room) refl; sets = refl }
-
-sub_block_refused : (d : Description) (contents : Contents) (key : Key) (size : Option ℕ) (t : ℕ) (held frame : List ℕ) → Reads frame true
-    → is_last_taken (segment_next t frame) ≡ false → nat_lt (capacity_at d.rows key) (length (held_with held t frame)) ≡ true
-    → Steps d contents (Some (inside key size t held)) frame (aborted key 0x06070012) None contents
-sub_block_refused d contents key size t held frame r more room =
-    record { replies = rw (r.ends, more, room) refl; opens = rw (r.ends, r.other, more, room) refl; sets = refl }
-
--- the last of all was taken
-last_taken : (d : Description) (contents : Contents) (key : Key) (size : Option ℕ) (t : ℕ) (held frame : List ℕ) → Reads frame true
-    → is_last_taken (segment_next t frame) ≡ true
-    → Steps d contents (Some (inside key size t held)) frame (Response (BlockDownloadAcknowledge (taken_with t frame) 127) ∷ []) (Some (at_last key size (held_with held t frame))) contents
-last_taken d contents key size t held frame r last = record { replies = rw (r.ends, last) refl; opens = rw (r.ends, r.other, last) refl; sets = refl }
-
--- ---- the end
-
-pub end_taken : (d : Description) (contents : Contents) (key : Key) (size : Option ℕ) (held value : List ℕ) (m : ℕ) → m ≤ 7 → without m held ≡ value → completion_refusal d contents key size value ≡ None
-    → Steps d contents (Some (at_last key size held)) (request_bytes (BlockDownloadEnd m)) (Response BlockDownloadDone ∷ []) None (written contents key value)
-end_taken d contents key size held value m few whole free = let read = block_end_read m few in record { replies = rw (read, whole, free) refl; opens = rw read refl; sets = rw (read, whole, free) refl }
-
-pub completion_refused : (d : Description) (contents : Contents) (key : Key) (size : Option ℕ) (held value : List ℕ) (m code : ℕ) → m ≤ 7 → without m held ≡ value → completion_refusal d contents key size value ≡ Some code
-    → Steps d contents (Some (at_last key size held)) (request_bytes (BlockDownloadEnd m)) (aborted key code) None contents
-completion_refused d contents key size held value m code few whole refused =
-    let read = block_end_read m few in record { replies = rw (read, whole, refused) refl; opens = rw read refl; sets = rw (read, whole, refused) refl }
-
--- ---- what holds of a world
-
--- ---- the client
+-- ---- what either end knows
 
 -- so many segments were acknowledged
 pub record Took (s : Setup) (sum : ℕ) (known : Option Answers) : Type 0 where
@@ -112,219 +76,335 @@ pub record Took (s : Setup) (sum : ℕ) (known : Option Answers) : Type 0 where
   pub total : acknowledged taken.later ≡ sum
   pub size : block_size_by (response_in (newest taken)) ≡ 127
 
--- ---- the channel
+abbrev Client : Setup → Place → Knows → Type 0
+Client s asking (waits known) = known ≡ None
+Client s confirmed (waits known) = known ≡ None
+Client s (taking a t) (waits known) = Took s a known
+Client s (acknowledging a u) (waits known) = Took s a known
+Client s (finishing a u) (waits known) = Took s a known
+Client s ending (waits known) = Took s (total (bytes s)) known
+Client s ended (waits known) = Took s (total (bytes s)) known
+Client s all_over is_done = Unit {0}
+Client s _ _ = ⊥
 
--- inside a sub-block: so many segments were taken, as many of them in it
-abbrev pub taking : Setup → ℕ → ℕ → OpenTransfer
-taking s sum taken = inside s.call.key (indicated s) taken (take (7 * sum) (bytes s))
+-- while it waits
+abbrev AtClient : Setup → Place → Option Answers → Type 0
+AtClient s k known = Client s k (waits known)
 
--- all were taken
-abbrev pub complete : Setup → OpenTransfer
+-- inside a sub-block after so many of its segments, and after the last of all
+abbrev inside : Key → Option ℕ → ℕ → List ℕ → OpenTransfer
+inside key size taken held = record { key = key; stage = SubBlock size taken; bytes = held }
+
+abbrev at_last : Key → Option ℕ → List ℕ → OpenTransfer
+at_last key size held = record { key = key; stage = LastTaken size; bytes = held }
+
+-- so many segments were taken, as many of them in the sub-block; all were taken
+abbrev taken : Setup → ℕ → ℕ → OpenTransfer
+taken s sum t = inside s.call.key (indicated s) t (take (7 * sum) (bytes s))
+
+abbrev complete : Setup → OpenTransfer
 complete s = at_last s.call.key (indicated s) (all_held (bytes s) (total (bytes s) - 1))
 
--- this is open, or, of a disturbed transfer, the channel gave it up
-abbrev pub May : Setup → Type 0 → OpenTransfer → Log → Contents → Type 0
-May s p o log contents = IsServing s (Lawful s) (Some o) log contents ⊎ ((p → ⊥) × IsGone log)
+abbrev opened : Setup → Place → Option OpenTransfer
+opened s confirmed = Some (taken s 0 0)
+opened s (taking a t) = Some (taken s (a + t) t)
+opened s (acknowledging a u) = Some (taken s (a + u) 0)
+opened s (finishing a u) = Some (complete s)
+opened s ending = Some (complete s)
+opened s _ = None
 
--- undisturbed, nothing is open, and no other entry was set
-pub record Closed (s : Setup) (log : Log) (contents : Contents) : Type 0 where
-  pub serves : Serves s.description.rows log None
-  pub sets : contents ≡ written s.contents s.call.key (bytes s)
+-- the entry is set at the end
+abbrev left : Setup → Place → Contents
+left s ended = written s.contents s.call.key (bytes s)
+left s all_over = written s.contents s.call.key (bytes s)
+left s _ = s.contents
 
--- the entry has the bytes
-pub record IsSet (s : Setup) (p : Type 0) (log : Log) (contents : Contents) : Type 0 where
-  pub entry : contents s.call.key ≡ Some (bytes s)
-  pub closed : p → Closed s log contents
+abbrev pub parts : (s : Setup) → Type 0 → Parts s
+parts s p = record { plan = plan s p; given = []; Client = Client s; opened = opened s; left = left s; Gone = λ x. IsGone x.0 }
 
--- undisturbed, all frames have come
-pub record Last (s : Setup) (w : World) : Type 0 where
-  pub answers : w.answers ≡ []
-  pub count : Count (2 + total (bytes s)) (2 + blocks (bytes s)) w
+-- ---- the channel, which takes the segments
 
--- ---- what holds of a world
-
--- where the client waits and has taken these answers
-pub data Waits (s : Setup) (p : Type 0) (known : Option Answers) (w : World) : Type 0 where
-  -- the begin is on its way, or its confirmation, or nothing
-  asking : known ≡ None → Moment p live (begin s ∷ []) [] 0 0 w → IsServing s (Lawful s) None w.log w.contents → Waits s p known w
-  confirmed : known ≡ None → Moment p live [] (confirmation s ∷ []) 1 0 w → May s p (taking s 0 0) w.log w.contents → Waits s p known w
-  unconfirmed : (p → ⊥) → known ≡ None → w.requests ≡ [] → live w.answers ≡ [] → Waits s p known w
-  -- segment n of the sub-block after a and more after it are on their way; the channel took t of it, or has given up
-  sending : (a t n more : ℕ) → Took s a known → a + t < total (bytes s) → 1 ≤ n → n + more ≡ size_after (bytes s) a → (p → InTurn a t n)
-      → Moment p awaited (segments (bytes s) a n (suc more)) [] (1 + a + t) (1 + a / 127) w → IsServing s (Lawful s) (Some (taking s (a + t) t)) w.log w.contents → Waits s p known w
-  unheard : (a n more : ℕ) → (p → ⊥) → Took s a known → a < total (bytes s) → 1 ≤ n → n + more ≡ size_after (bytes s) a
-      → w.requests ≡ segments (bytes s) a n (suc more) → awaited w.answers ≡ [] → IsGone w.log → Waits s p known w
-  -- t segments are acknowledged; others are left, or none
-  acknowledging : (a t : ℕ) → Took s a known → a + t < total (bytes s) → (p → IsWhole (bytes s) a t)
-      → Moment p awaited [] (acknowledgement t ∷ []) (1 + a + t) (1 + a / 127) w → May s p (taking s (a + t) 0) w.log w.contents → Waits s p known w
-  finishing : (a t : ℕ) → Took s a known → a < total (bytes s) → a + t ≡ total (bytes s) → (p → IsWhole (bytes s) a t)
-      → Moment p awaited [] (acknowledgement t ∷ []) (1 + a + t) (1 + a / 127) w → May s p (complete s) w.log w.contents → Waits s p known w
-  -- the end, or its confirmation, is on its way
-  ending : Took s (total (bytes s)) known → Moment p awaited (client_end s ∷ []) [] (1 + total (bytes s)) (1 + blocks (bytes s)) w → May s p (complete s) w.log w.contents → Waits s p known w
-  ended : Took s (total (bytes s)) known → Moment p awaited [] (all_done ∷ []) (2 + total (bytes s)) (1 + blocks (bytes s)) w → IsSet s p w.log w.contents → Waits s p known w
-  -- nothing is on its way that the client awaits
-  quiet : (a : ℕ) → (p → ⊥) → Took s a known → w.requests ≡ [] → awaited w.answers ≡ [] → Waits s p known w
-
--- where it is done
-pub record IsOver (s : Setup) (p : Type 0) (w : World) : Type 0 where
-  pub done : IsDone s [] w.events
-  pub none : w.requests ≡ []
-  pub set : IsSet s p w.log w.contents
-  pub last : p → Last s w
-
-abbrev pub Stands : Setup → Type 0 → World → Type 0
-Stands s p = Standing s p (Waits s p) (IsOver s p)
-
--- ---- a request comes to the channel
-
-initiate_comes : {known : Option Answers} (s : Setup) (p : Type 0) → IsDownload s p sends_in_blocks → (w : World) → known ≡ None → Moment p live [] [] 0 0 w → IsServing s (Lawful s) None w.log w.contents
-    → (refusal : Option ℕ) → initiate_refusal s.description s.call.key (indicated s) ≡ refusal → Waits s p known (at_channel s (begin s) w)
-initiate_comes s p m w c at h None e =
-    let made = is_served s w.log w.contents None (begin s) _ _ _ h.serves (lawful_of s m.dictionary w.contents h.lawful) (block_begin_long s.call.key (size_sent s.call.job))
-    (initiate_taken s.description w.contents s.call.key (size_sent s.call.job) m.key e) in
-    confirmed c (replied s p live (kept_after is_live) (begin s) w _ _ _ _ 1 _ at made.replies refl (λ x. refl) (λ x. refl))
-    (inl (record { serves = made.serves; lawful = made.sets ∙ h.lawful }))
-initiate_comes s p m w c at h (Some code) e =
-    let made = is_served s w.log w.contents None (begin s) _ _ _ h.serves (lawful_of s m.dictionary w.contents h.lawful) (block_begin_long s.call.key (size_sent s.call.job))
-    (initiate_refused s.description w.contents s.call.key (size_sent s.call.job) code m.key e) in
-    unconfirmed (λ x. none≢some _ code (m.may_begin x) e) c at.requests (kept_after is_live w.answers _ _ at.answers (rw made.replies refl))
-
-acknowledged_other : (count : ℕ) → awaited (map answer_bytes (Response (BlockDownloadAcknowledge count 127) ∷ [])) ≡ acknowledgement count ∷ []
-acknowledged_other count = rw (acknowledged_read count 127) refl
-
--- the channel gives up, or is gone: what it answers isn't awaited
-gives_up : {known : Option Answers} (s : Setup) (p : Type 0) (a r q : ℕ) (frame : List ℕ) (w : World) (key : Key) (code : ℕ) → (p → ⊥) → Took s a known → Moment p awaited [] [] r q w → reply_to s.description w.contents w.log frame ≡ aborted key code
-    → Waits s p known (at_channel s frame w)
-gives_up s p a r q frame w key code never c at e = quiet a never c at.requests (kept_after is_awaited_frame w.answers _ _ at.answers (rw e (aborted_other key code)))
-
-acknowledges : (u n : ℕ) → u ≡ n → awaited (map answer_bytes (Response (BlockDownloadAcknowledge u 127) ∷ [])) ≡ acknowledgement n ∷ []
-acknowledges u n e = acknowledged_other u ∙ ap (λ (i : ℕ). acknowledgement i ∷ []) e
-
--- a segment ends its sub-block, and others are left
-sub_block_ends : {known : Option Answers} (s : Setup) (p : Type 0) → IsDownload s p sends_in_blocks → (a t n : ℕ) (w : World) → Took s a known → n ≡ size_after (bytes s) a → (p → InTurn a t n)
-    → Moment p awaited [] [] (1 + a + t) (1 + a / 127) w → IsServing s (Lawful s) (Some (taking s (a + t) t)) w.log w.contents → Goes p (bytes s) a t n true (segment_at (bytes s) a n)
-    → (above : Bool) → nat_lt (capacity_at s.description.rows s.call.key) (length (held_with (take (7 * (a + t)) (bytes s)) t (segment_at (bytes s) a n))) ≡ above
-    → Waits s p known (at_channel s (segment_at (bytes s) a n) w)
-sub_block_ends s p m a t n w c size turn at h g true room =
-    let frame = segment_at (bytes s) a n in
-    let made = is_served s w.log w.contents _ frame _ _ _ h.serves (lawful_of s m.dictionary w.contents h.lawful) g.reads.long
-    (sub_block_refused s.description w.contents s.call.key (indicated s) t (take (7 * (a + t)) (bytes s)) frame g.reads g.more room) in
-    gives_up s p a _ _ frame w s.call.key 0x06070012 (λ x. has_room p (bytes s) a t n (capacity_at s.description.rows s.call.key) true frame g (m.room x) room) c at made.replies
-sub_block_ends s p m a t n w c size turn at h g false room =
-    let frame = segment_at (bytes s) a n in
-    let made = is_served s w.log w.contents _ frame _ _ _ h.serves (lawful_of s m.dictionary w.contents h.lawful) g.reads.long
-    (sub_block_ended s.description w.contents s.call.key (indicated s) t (take (7 * (a + t)) (bytes s)) frame g.reads g.more room) in
-    let under = g.under in
-    acknowledging a g.u c under (λ x. record { whole = (turn x).whole; size = g.next x ∙ size; within = omega arith })
-    (replied s p awaited (kept_after is_awaited_frame) frame w _ _ _ _ _ _ at made.replies (acknowledges _ _ g.taken) (λ x. ap (λ (u : ℕ). acknowledgement u ∷ []) g.taken) (λ x. let u = g.next x in let k = (turn x).next in omega arith))
-    (inl (record { serves = moved _ _ _ _ (ap (λ (xs : List ℕ). Some (inside s.call.key (indicated s) 0 xs)) g.held) made.serves; lawful = made.sets ∙ h.lawful }))
-
--- it is the last of all, and all before it were taken
-last_comes : {known : Option Answers} (s : Setup) (p : Type 0) → IsDownload s p sends_in_blocks → (a t n : ℕ) (w : World) → Took s a known → n ≡ size_after (bytes s) a → (p → InTurn a t n)
-    → Moment p awaited [] [] (1 + a + t) (1 + a / 127) w → IsServing s (Lawful s) (Some (taking s (a + t) t)) w.log w.contents → Completes (bytes s) a t n (segment_at (bytes s) a n)
-    → Waits s p known (at_channel s (segment_at (bytes s) a n) w)
-last_comes s p m a t n w c size turn at h g =
-    let frame = segment_at (bytes s) a n in
-    let made = is_served s w.log w.contents _ frame _ _ _ h.serves (lawful_of s m.dictionary w.contents h.lawful) g.reads.long
-    (last_taken s.description w.contents s.call.key (indicated s) t (take (7 * (a + t)) (bytes s)) frame g.reads g.last) in
-    let next = g.next in
-    let whole = g.whole in
-    finishing a n c (omega arith) whole (λ x. record { whole = (turn x).whole; size = size; within = omega arith })
-    (replied s p awaited (kept_after is_awaited_frame) frame w _ _ _ _ _ _ at made.replies (acknowledges _ _ g.taken) (λ x. ap (λ (u : ℕ). acknowledgement u ∷ []) g.taken) (λ x. omega arith))
-    (inl (record { serves = moved _ _ _ _ (ap (λ (xs : List ℕ). Some (at_last s.call.key (indicated s) xs)) g.held) made.serves; lawful = made.sets ∙ h.lawful }))
-
--- to a segment that ends nothing the channel answers nothing
 inside_is : (key : Key) (size : Option ℕ) (t u : ℕ) (xs ys : List ℕ) → t ≡ u → xs ≡ ys → Some (inside key size t xs) ≡ Some (inside key size u ys)
 inside_is key size t u xs ys e f = rw (e, f) refl
 
-segment_comes : {known : Option Answers} (s : Setup) (p : Type 0) → IsDownload s p sends_in_blocks → (a t n more : ℕ) (w : World) → Took s a known → a + t < total (bytes s) → 1 ≤ n → n + more ≡ size_after (bytes s) a → (p → InTurn a t n)
-    → Moment p awaited (segments (bytes s) a (n + 1) more) [] (1 + a + t) (1 + a / 127) w → IsServing s (Lawful s) (Some (taking s (a + t) t)) w.log w.contents → Waits s p known (at_channel s (segment_at (bytes s) a n) w)
-segment_comes s p m a t n zero w c under some size turn at h =
-    elim (next_ends p (bytes s) a t n under some (omega arith) turn _ _ refl refl) [
-      | inl g ↦ sub_block_ends s p m a t n w c (omega arith) turn at h g _ refl
-      | inr g ↦ last_comes s p m a t n w c (omega arith) turn at h g
-    ]
-segment_comes s p m a t n (suc more) w c under some size turn at h =
-    let frame = segment_at (bytes s) a n in
-    let g = next_inside p (bytes s) a t n more under some size turn in
-    let made = is_served s w.log w.contents _ frame _ _ _ h.serves (lawful_of s m.dictionary w.contents h.lawful) g.reads.long
-    (inside_taken s.description w.contents s.call.key (indicated s) t (take (7 * (a + t)) (bytes s)) frame g.reads) in
-    sending a g.u (n + 1) more c g.under (omega arith) (omega arith) (λ x. record { whole = (turn x).whole; next = let u = g.next x in omega arith })
-    (replied s p awaited (kept_after is_awaited_frame) frame w _ _ _ _ _ _ at made.replies refl (λ x. refl) (λ x. let u = g.next x in let k = (turn x).next in omega arith))
-    (record { serves = moved _ _ _ _ (inside_is s.call.key (indicated s) _ _ _ _ g.taken g.held) made.serves; lawful = made.sets ∙ h.lawful })
+receiver : (s : Setup) (p : Type 0) → IsDownload s p sends_in_blocks → Receiver (plan s p) (channel s) (Channel (parts s p))
+receiver s p m = record {
+  capacity = capacity_at s.description.rows s.call.key;
+  fits = m.room;
+  inside = λ a t n x frame h g. let r = g.reads in channel_takes s m.dictionary x (Some (taken s (a + t) t)) frame [] [] _ _ x.1 s.contents h r.long
+      refl (inside_is s.call.key (indicated s) _ _ _ _ g.taken g.held) h.lawful
+      (record { replies = rw r.ends refl; opens = rw (r.ends, r.other) refl; sets = refl });
+  ends = λ a t n x frame h g room. let r = g.reads in let more = g.more in
+      channel_takes s m.dictionary x (Some (taken s (a + t) t)) frame (Response (BlockDownloadAcknowledge (taken_with t frame) 127) ∷ []) _ _ _ x.1 s.contents h r.long
+      (ap (λ (u : ℕ). acknowledgement u ∷ []) g.taken) (inside_is s.call.key (indicated s) 0 0 _ _ refl g.held) h.lawful
+      (record { replies = rw (r.ends, more, room) refl; opens = rw (r.ends, r.other, more, room) refl; sets = refl });
+  is_full = λ a t n x frame h g room. let r = g.reads in let more = g.more in
+      channel_refuses s m.dictionary x (Some (taken s (a + t) t)) frame s.call.key 0x06070012 h r.long
+      (record { replies = rw (r.ends, more, room) refl; opens = rw (r.ends, r.other, more, room) refl; sets = refl });
+  last = λ a t n x frame h g. let r = g.reads in let last = g.last in
+      channel_takes s m.dictionary x (Some (taken s (a + t) t)) frame (Response (BlockDownloadAcknowledge (taken_with t frame) 127) ∷ []) _ _ _ x.1 s.contents h r.long
+      (ap (λ (u : ℕ). acknowledgement u ∷ []) g.taken) (ap (λ (xs : List ℕ). Some (at_last s.call.key (indicated s) xs)) g.held) h.lawful
+      (record { replies = rw (r.ends, last) refl; opens = rw (r.ends, r.other, last) refl; sets = refl });
+}
 
--- ---- a segment comes to a channel that gave up
+receiver_stays : (s : Setup) (p : Type 0) → ReceiverStays (May (parts s p))
+receiver_stays s p = record {
+  more = λ a u y h. let none : a + u ≡ a + u + 0 = omega arith in
+      subst (λ (j : ℕ). Serving s s.contents (Some (taken s j 0)) y ⊎ (Unit {0} × (p → ⊥) × IsGone y.0)) none h;
+  all = λ a u y h. h;
+}
 
+-- ---- the client, which sends them
+
+burst : (v : List ℕ) (a : ℕ) → a < total v → map message_bytes (sub_block_sent v a 127) ≡ segments v a 1 (suc (size_after v a - 1))
+burst v a h =
+    let some : size_after v a ≡ suc (size_after v a - 1) = omega arith in
+    map-map message_bytes (λ n. Segment (block_segment v a n)) (range_with_len 1 (size_after v a)) ∙ ap (segments v a 1) some
+
+took_more : (s : Setup) (a t : ℕ) (known : Option Answers) → Took s a known → Took s (a + t) (Some (with_answer (acknowledgement t) known))
+took_more s a t known c = record {
+  taken = record { first = c.taken.first; later = acknowledgement t ∷ c.taken.later };
+  is = ap (λ (x : Option Answers). Some (with_answer (acknowledgement t) x)) c.is;
+  total = rw (c.total, acknowledged_read t 127) refl;
+  size = ap block_size_by (acknowledged_read t 127);
+}
+
+sender : (s : Setup) (p : Type 0) → IsDownload s p sends_in_blocks → Sender (plan s p) (client s) (AtClient s)
+sender s p m = record {
+  too_many = λ a u known c under many.
+      let more : eqb a (total (bytes s)) ≡ false = grind (arith, nat_tests) in
+      rw (c.is, m.transfer, c.total, c.size, more, acknowledged_read u 127, many) refl;
+  more = λ a u known c under few.
+      let more : eqb a (total (bytes s)) ≡ false = grind (arith, nat_tests) in
+      let left : eqb (a + u) (total (bytes s)) ≡ false = grind (arith, nat_tests) in
+      record {
+        messages = sub_block_sent (bytes s) (a + u) 127;
+        is = rw (c.is, m.transfer, c.total, c.size, more, acknowledged_read u 127, few, left) refl;
+        sends = burst (bytes s) (a + u) under;
+        next = took_more s a u known c;
+      };
+  all = λ a u known c under whole few.
+      let more : eqb a (total (bytes s)) ≡ false = grind (arith, nat_tests) in
+      let done : eqb (a + u) (total (bytes s)) ≡ true = grind (arith, nat_tests) in
+      record {
+        messages = block_download_end (bytes s);
+        is = rw (c.is, m.transfer, c.total, c.size, more, acknowledged_read u 127, few, done) refl;
+        sends = refl;
+        next = subst (λ (j : ℕ). Took s j (Some (with_answer (acknowledgement u) known))) whole (took_more s a u known c);
+      };
+  same = λ a u known c. c;
+}
+
+sender_stays : (s : Setup) → SenderStays (Client s)
+sender_stays s = record { inside = λ a t u y c. c; ends = λ a t u y c. c; last = λ a t u y c. c }
+
+-- ---- the begin and its confirmation
+
+begins : (s : Setup) (p : Type 0) → IsDownload s p sends_in_blocks → (x : Log × Contents) → Serving s s.contents None x
+    → (refusal : Option ℕ) → initiate_refusal s.description s.call.key (indicated s) ≡ refusal
+    → Reacts (plan s p) (channel s) Requests (Channel (parts s p)) (Client s) asking [] x (begin s)
+begins s p m x h None e =
+    let read = block_begin_read s.call.key (size_sent s.call.job) m.key in
+    goes confirmed (confirmation s ∷ []) (channel_takes s m.dictionary x None (begin s) (Response (BlockDownloadInitiated s.call.key 127) ∷ []) _ (Some (taken s 0 0)) _ x.1 s.contents h
+    (block_begin_long s.call.key (size_sent s.call.job)) refl refl h.lawful (record { replies = rw (read, e) refl; opens = rw (read, e) refl; sets = rw read refl }))
+    (record { onward = turns refl refl refl; here = λ y. refl; there = λ y. refl; narrows = λ xs same. same }) (λ y c. c)
+begins s p m x h (Some code) e =
+    let read = block_begin_read s.call.key (size_sent s.call.job) m.key in
+    gives_up (λ y. none≢some _ code (m.may_begin y) e) refl (channel_refuses s m.dictionary x None (begin s) s.call.key code h
+    (block_begin_long s.call.key (size_sent s.call.job)) (record { replies = rw (read, e) refl; opens = rw (read, e) refl; sets = rw read refl }))
+
+-- frames that are aborts alone are none that is awaited
+cut_other : (r : Option SdoResponse) → is_aborted r ≡ true → is_awaited r ≡ false
+cut_other (Some (Aborted key code)) h = refl
+cut_other _ h = absurd (false≢true h)
+
+live_none : (xs : List (List ℕ)) → live xs ≡ [] → awaited xs ≡ []
+live_none [] e = refl
+live_none (x ∷ xs) e = by _ refl (live_none xs)
+  where
+    by : (cut : Bool) → is_abort_in_sub_block x ≡ cut → (live xs ≡ [] → awaited xs ≡ []) → awaited (x ∷ xs) ≡ []
+    by true c later =
+        let same : live (x ∷ xs) ≡ live xs = rw c refl in
+        rw (cut_other (response_in x) (cut_read x c)) (later (sym same ∙ e))
+    by false c later =
+        let some : live (x ∷ xs) ≡ x ∷ live xs = rw c refl in
+        absurd (cons≢nil x (live xs) (sym some ∙ e))
+
+is_confirmed : (s : Setup) (p : Type 0) → IsDownload s p sends_in_blocks → (known : Option Answers) → known ≡ None
+    → ClientReacts (parts s p) confirmed [] known (confirmation s)
+is_confirmed s p m known c =
+    let read = block_initiated_read s.call.key 127 m.key in
+    reacts (goes (taking 0 0) _ (record {
+      messages = sub_block_sent (bytes s) 0 127;
+      is = rw (c, read, m.transfer, same_key-refl s.call.key) refl;
+      sends = burst (bytes s) 0 (omega arith);
+      next = record {
+        taken = record { first = confirmation s; later = [] };
+        is = ap (λ (a : Option Answers). Some (with_answer (confirmation s) a)) c;
+        total = refl;
+        size = ap block_size_by read;
+      };
+    }) (record {
+      onward = turns refl refl (record {
+        n = 1;
+        more = size_after (bytes s) 0 - 1;
+        are = refl;
+        under = omega arith;
+        some = omega arith;
+        size = omega arith;
+        turn = λ y. record { whole = refl; next = refl };
+      });
+      here = λ y. refl;
+      there = λ y. refl;
+      narrows = λ xs none. live_none xs none;
+    }) (λ y h. h))
+
+-- ---- the end and its confirmation
+
+ends : (s : Setup) (p : Type 0) → IsDownload s p sends_in_blocks → (x : Log × Contents) → Serving s s.contents (Some (complete s)) x
+    → (refusal : Option ℕ) → completion_refusal s.description x.1 s.call.key (indicated s) (bytes s) ≡ refusal
+    → Reacts (plan s p) (channel s) Requests (Channel (parts s p)) (Client s) ending [] x (client_end s)
+ends s p m x h None e =
+    let v = bytes s in
+    let whole = all_is v (total v - 1) (omega arith) in
+    let read = block_end_read (unused v) (omega arith) in
+    goes ended (all_done ∷ []) (channel_takes s m.dictionary x (Some (complete s)) (client_end s) (Response BlockDownloadDone ∷ []) _ None _ (written x.1 s.call.key v) _ h refl
+    refl refl (ap (λ (y : Contents). written y s.call.key v) h.lawful) (record { replies = rw (read, whole, e) refl; opens = rw read refl; sets = rw (read, whole, e) refl }))
+    (record { onward = turns refl refl refl; here = λ y. omega arith; there = λ y. refl; narrows = λ xs same. same }) (λ y c. c)
+ends s p m x h (Some code) e =
+    let v = bytes s in
+    let whole = all_is v (total v - 1) (omega arith) in
+    let read = block_end_read (unused v) (omega arith) in
+    gives_up (λ y. none≢some _ code (ap (λ (c : Contents). completion_refusal s.description c s.call.key (indicated s) v) h.lawful ∙ m.may_complete y) e) refl
+    (channel_refuses s m.dictionary x (Some (complete s)) (client_end s) s.call.key code h refl
+    (record { replies = rw (read, whole, e) refl; opens = rw read refl; sets = rw (read, whole, e) refl }))
+
+confirms : (s : Setup) (p : Type 0) → IsDownload s p sends_in_blocks → (known : Option Answers) → Took s (total (bytes s)) known
+    → ClientReacts (parts s p) ended [] known all_done
+confirms s p m known c =
+    let all : eqb (total (bytes s)) (total (bytes s)) ≡ true = grind (arith, nat_tests) in
+    finishes all_over [] [] (rw (c.is, m.transfer, c.total, c.size, all, block_done_read) refl) refl
+    (record { onward = turns refl refl refl; here = λ y. omega arith; there = λ y. refl; narrows = λ xs same. same }) tt
+    (λ x h. elim h [ inl serving ↦ inl serving | inr gone ↦ absurd (requests≢back gone.0) ])
+
+-- ---- what else may come
+
+-- an answer that isn't awaited
+sending_fails : (call : Call) (count sent : ℕ) (held : List ℕ) (r : Option SdoResponse) → is_awaited r ≡ false → has_failed (state_by (response_verdict call (Sending count sent) held r)) ≡ true
+sending_fails call count sent held (Some (BlockDownloadAcknowledge sequence size)) h = absurd (false≢true (sym h))
+sending_fails call count sent held (Some BlockDownloadDone) h = absurd (false≢true (sym h))
+sending_fails call count sent held _ h = refl
+
+ended_fails : (call : Call) (held : List ℕ) (r : Option SdoResponse) → is_awaited r ≡ false → has_failed (state_by (response_verdict call BlockDownloadEnded held r)) ≡ true
+ended_fails call held (Some (BlockDownloadAcknowledge sequence size)) h = absurd (false≢true (sym h))
+ended_fails call held (Some BlockDownloadDone) h = absurd (false≢true (sym h))
+ended_fails call held _ h = refl
+
+other_fails : (s : Setup) (p : Type 0) → IsDownload s p sends_in_blocks → (a : ℕ) (known : Option Answers) (frame : List ℕ) → Took s a known
+    → is_awaited_frame frame ≡ false → (all : Bool) → eqb a (total (bytes s)) ≡ all → has_failed (state_by (verdict_of s known frame)) ≡ true
+other_fails s p m a known frame c other true e = rw (c.is, m.transfer, c.total, c.size, e) (ended_fails s.call [] (response_in frame) other)
+other_fails s p m a known frame c other false e =
+    rw (c.is, m.transfer, c.total, c.size, e) (sending_fails s.call a (sub_block_length (bytes s) a 127) [] (response_in frame) other)
+
+strange : (s : Setup) (p : Type 0) → IsDownload s p sends_in_blocks → (k : Place) (known : Option Answers) (frame : List ℕ) → AtClient s k known
+    → may_await (plan s p) k frame ≡ false → has_failed (state_by (verdict_of s known frame)) ≡ true
+strange s p m asking known frame c other = cut_fails s.call (stage_since s.call known) (held_since s.call known) frame (not-false (is_abort_in_sub_block frame) other)
+strange s p m confirmed known frame c other = cut_fails s.call (stage_since s.call known) (held_since s.call known) frame (not-false (is_abort_in_sub_block frame) other)
+strange s p m (taking a t) known frame c other = other_fails s p m a known frame c other _ refl
+strange s p m (acknowledging a u) known frame c other = other_fails s p m a known frame c other _ refl
+strange s p m (finishing a u) known frame c other = other_fails s p m a known frame c other _ refl
+strange s p m ending known frame c other = other_fails s p m _ known frame c other _ refl
+strange s p m ended known frame c other = other_fails s p m _ known frame c other _ refl
+strange s p m _ known frame c other = absurd c
+
+passes : (s : Setup) (p : Type 0) (k : Place) (xs : List (List ℕ)) → OnWay (plan s p) k xs → way Requests k ≡ Back → kept (may_await (plan s p) k) xs ≡ xs
+passes s p confirmed xs o e = rw o refl
+passes s p (acknowledging a u) xs o e = rw (o.are, acknowledged_read u 127) refl
+passes s p (finishing a u) xs o e = rw (o.are, acknowledged_read u 127) refl
+passes s p ended xs o e = rw (o, block_done_read) refl
+passes s p _ xs o e = absurd (requests≢back e)
+
+-- there is no start
+no_start : {A : Type 0} (s : Setup) (y : Knows) → Client s starting y → A
+no_start s (waits known) c = absurd c
+no_start s is_done c = absurd c
+
+-- a channel that has given up
 low_byte : (n : ℕ) → n < 128 → cond false 128 0 + n < 128
 low_byte n h = omega arith
 
-gone_replies : (s : Setup) (frame : List ℕ) (w : World) → awaited w.answers ≡ [] → IsGone w.log → awaited (w.answers ++ map answer_bytes (reply_to s.description w.contents w.log frame)) ≡ []
-gone_replies s frame w none h = kept_after is_awaited_frame w.answers _ _ none (gone_answers s.description w.contents w.log frame h)
+segment_gone : (s : Setup) (p : Type 0) (a t : ℕ) (x : Log × Contents) (frame : List ℕ) (later : List (List ℕ)) → InSubBlock p (bytes s) a t (frame ∷ later)
+    → IsGone x.0 → (later ≡ []) ⊎ IsGone (after_request s x frame).0
+segment_gone s p a t x frame later o h = by o.more o.are o.size
+  where
+    by : (more : ℕ) → frame ∷ later ≡ segments (bytes s) a o.n (suc more) → o.n + more ≡ size_after (bytes s) a
+        → (later ≡ []) ⊎ IsGone (after_request s x frame).0
+    by zero are size = inl (tail_is frame _ later _ are)
+    by (suc more) are size =
+        let other : eqb (a + o.n) (total (bytes s)) ≡ false = grind (arith, nat_tests) in
+        let few : o.n < 128 = omega arith in
+        let is : frame ≡ frame_with (bytes s) a o.n false = head_is frame _ later _ are ∙ frame_is (bytes s) a o.n false other in
+        inr (subst (λ (y : List ℕ). IsGone (after_request s x y).0) (sym is)
+        (gone_goes_on s.description x.1 x.0 (frame_with (bytes s) a o.n false) h (frame_long (bytes s) a o.n false) (low_byte o.n few)))
 
-unheard_comes : (known : Option Answers) (s : Setup) (p : Type 0) (a n more : ℕ) (w : World) → (p → ⊥) → Took s a known → a < total (bytes s) → 1 ≤ n → n + more ≡ size_after (bytes s) a → w.requests ≡ segments (bytes s) a (n + 1) more → awaited w.answers ≡ []
-    → IsGone w.log → Waits s p known (at_channel s (segment_at (bytes s) a n) w)
-unheard_comes known s p a n zero w never c under some size rest none h = quiet a never c rest (gone_replies s (segment_at (bytes s) a n) w none h)
-unheard_comes known s p a n (suc more) w never c under some size rest none h =
-    let other : eqb (a + n) (total (bytes s)) ≡ false = grind (arith, nat_tests) in
-    let few : n < 128 = omega arith in
-    let v = bytes s in
-    subst (λ (x : List ℕ). Waits s p known (at_channel s x w)) (sym (frame_is v a n false other))
-    (unheard a (n + 1) more never c under (omega arith) (omega arith) rest (gone_replies s (frame_with v a n false) w none h)
-    (gone_goes_on s.description w.contents w.log (frame_with v a n false) h (frame_long v a n false) (low_byte n few)))
+gone_hears : (s : Setup) (p : Type 0) (k : Place) (x : Log × Contents) (frame : List ℕ) (later : List (List ℕ)) → OnWay (plan s p) k (frame ∷ later)
+    → GoneHears (parts s p) (way Requests k) k x frame later
+gone_hears s p asking x frame later o = λ y c may h. absurd may
+gone_hears s p starting x frame later o = λ y c may h. no_start s y c
+gone_hears s p (taking a t) x frame later o = λ y c may h. (gone_answers s.description x.1 x.0 frame h, segment_gone s p a t x frame later o h)
+gone_hears s p ending x frame later o = λ y c may h. (gone_answers s.description x.1 x.0 frame h, inl (tail_is frame _ later [] o))
+gone_hears s p all_over x frame later o = λ y c may h. absurd may
+gone_hears s p _ x frame later o = tt
 
--- ---- the end comes
+closes : (s : Setup) (p : Type 0) (k : Place) (x : Log × Contents) → (p → ⊥) → Serving s (left s k) None x → May (parts s p) k x
+closes s p asking x never h = inl h
+closes s p ended x never h = inl h
+closes s p all_over x never h = inl h
+closes s p _ x never h = inr (tt, never, idle (unopened s.description.rows x.0 h.serves))
 
-done_awaited : awaited (map answer_bytes (Response BlockDownloadDone ∷ [])) ≡ all_done ∷ []
-done_awaited = rw block_done_read refl
+-- ---- the transfer
 
-finish_comes : {known : Option Answers} (s : Setup) (p : Type 0) → IsDownload s p sends_in_blocks → (w : World) → Took s (total (bytes s)) known → Moment p awaited [] [] (1 + total (bytes s)) (1 + blocks (bytes s)) w → IsServing s (Lawful s) (Some (complete s)) w.log w.contents
-    → (refusal : Option ℕ) → completion_refusal s.description w.contents s.call.key (indicated s) (bytes s) ≡ refusal → Waits s p known (at_channel s (client_end s) w)
-finish_comes s p m w c at h None e =
-    let v = bytes s in
-    let whole = all_is v (total v - 1) (omega arith) in
-    let made = is_served s w.log w.contents _ (client_end s) _ _ _ h.serves (lawful_of s m.dictionary w.contents h.lawful) refl
-    (end_taken s.description w.contents s.call.key (indicated s) (all_held v (total v - 1)) v (unused v) (omega arith) whole e) in
-    ended c (replied s p awaited (kept_after is_awaited_frame) (client_end s) w _ _ _ _ _ _ at made.replies done_awaited (λ x. refl) (λ x. omega arith)) (record {
-      entry = ap (λ (x : Contents). x s.call.key) made.sets ∙ entry_is w.contents s.call.key v;
-      closed = λ x. record { serves = made.serves; sets = made.sets ∙ ap (λ (y : Contents). written y s.call.key v) h.lawful };
-    })
-finish_comes s p m w c at h (Some code) e =
-    let v = bytes s in
-    let whole = all_is v (total v - 1) (omega arith) in
-    let made = is_served s w.log w.contents _ (client_end s) _ _ _ h.serves (lawful_of s m.dictionary w.contents h.lawful) refl
-    (completion_refused s.description w.contents s.call.key (indicated s) (all_held v (total v - 1)) v (unused v) code (omega arith) whole e) in
-    let permitted : p → ⊥ = λ x. none≢some _ code (ap (λ (y : Contents). completion_refusal s.description y s.call.key (indicated s) v) h.lawful ∙ m.may_complete x) e in
-    gives_up s p (total v) _ _ (client_end s) w s.call.key code permitted c at made.replies
+hears : (s : Setup) (p : Type 0) → IsDownload s p sends_in_blocks → (k : Place) (x : Log × Contents) (frame : List ℕ) (later : List (List ℕ))
+    → OnWay (plan s p) k (frame ∷ later) → Hears (parts s p) (way Requests k) k x frame later
+hears s p m asking x frame later o =
+    λ y c h. one (λ f l. Reacts (plan s p) (channel s) Requests (Channel (parts s p)) (Client s) asking l x f) (begin s) [] frame later o (begins s p m x h _ refl)
+hears s p m confirmed x frame later o = λ known c. one (λ f l. ClientReacts (parts s p) confirmed l known f) (confirmation s) [] frame later o (is_confirmed s p m known c)
+hears s p m starting x frame later o = λ y c h. no_start s y c
+hears s p m (taking a t) x frame later o =
+    λ y c h. receives (plan s p) (channel s) (Channel (parts s p)) (Client s) (receiver s p m) (sender_stays s) a t x frame later o h
+hears s p m (acknowledging a u) x frame later o =
+    λ known c. reacts (sends_more (plan s p) (client s) (AtClient s) (May (parts s p)) (sender s p m) (receiver_stays s p) a u known frame later o c)
+hears s p m (finishing a u) x frame later o =
+    λ known c. reacts (sends_end (plan s p) (client s) (AtClient s) (May (parts s p)) (sender s p m) (receiver_stays s p) a u known frame later o c)
+hears s p m ending x frame later o =
+    λ y c h. one (λ f l. Reacts (plan s p) (channel s) Requests (Channel (parts s p)) (Client s) ending l x f) (client_end s) [] frame later o (ends s p m x h _ refl)
+hears s p m ended x frame later o = λ known c. one (λ f l. ClientReacts (parts s p) ended l known f) all_done [] frame later o (confirms s p m known c)
+hears s p m all_over x frame later o = absurd (cons≢nil frame later o)
 
--- ---- the oldest request comes or is lost
+waiting : (s : Setup) (k : Place) (known : Option Answers) → Client s k (waits known) → IsWaiting Requests k
+waiting s ended known c = refl
+waiting s all_over known c = absurd c
+waiting s _ known c = tt
 
-pub loses_request : (s : Setup) (p : Type 0) (known : Option Answers) (w : World) → (p → ⊥) → Waits s p known w → Waits s p known (without_front Requests w)
-loses_request s p known w never (asking b m h) = unconfirmed never b (ap (drop 1) m.requests) m.answers
-loses_request s p known w never (confirmed b m h) = subst (Waits s p known) (no_request w m.requests) (confirmed b m h)
-loses_request s p known w never (unconfirmed n b e f) = unconfirmed never b (ap (drop 1) e) f
-loses_request s p known w never (sending a t n zero b under some size turn m h) = quiet a never b (ap (drop 1) m.requests) m.answers
-loses_request s p known w never (sending a t n (suc more) b under some size turn m h) =
-    sending a t (n + 1) more b under (omega arith) (omega arith) (λ x. absurd (never x)) (disturbed p awaited _ _ _ _ (without_front Requests w) never (ap (drop 1) m.requests) m.answers) h
-loses_request s p known w never (unheard a n zero g b under some size e f h) = quiet a never b (ap (drop 1) e) f
-loses_request s p known w never (unheard a n (suc more) g b under some size e f h) = unheard a (n + 1) more never b under (omega arith) (omega arith) (ap (drop 1) e) f h
-loses_request s p known w never (acknowledging a t b under whole m h) = subst (Waits s p known) (no_request w m.requests) (acknowledging a t b under whole m h)
-loses_request s p known w never (finishing a t b under e whole m h) = subst (Waits s p known) (no_request w m.requests) (finishing a t b under e whole m h)
-loses_request s p known w never (ending b m h) = quiet (total (bytes s)) never b (ap (drop 1) m.requests) m.answers
-loses_request s p known w never (ended b m h) = subst (Waits s p known) (no_request w m.requests) (ended b m h)
-loses_request s p known w never (quiet a n b e f) = quiet a never b (ap (drop 1) e) f
+done : (s : Setup) (k : Place) → Client s k is_done → (k ≡ all_over) ⊎ ((k ≡ ended) × (Requests ≡ Back))
+done s all_over c = inl refl
+done s _ c = absurd c
 
-pub request_comes : (s : Setup) (p : Type 0) → IsDownload s p sends_in_blocks → (known : Option Answers) (w : World) → Waits s p known w → Waits s p known (front_arrives s Requests w.requests (without_front Requests w))
-request_comes s p up known w (asking b m h) = front_came s (Waits s p known) w _ m.requests (initiate_comes s p up (without_front Requests w) b (dropped p live _ _ _ _ _ w m) h _ refl)
-request_comes s p up known w (confirmed b m h) = nothing_came s (Waits s p known) w m.requests (confirmed b m h)
-request_comes s p up known w (unconfirmed n b e f) = nothing_came s (Waits s p known) w e (unconfirmed n b e f)
-request_comes s p up known w (sending a t n more b under some size turn m h) =
-    front_came s (Waits s p known) w (segment_at (bytes s) a n ∷ segments (bytes s) a (n + 1) more) m.requests
-    (segment_comes s p up a t n more (without_front Requests w) b under some size turn (dropped p awaited (segment_at (bytes s) a n) (segments (bytes s) a (n + 1) more) _ _ _ w m) h)
-request_comes s p up known w (unheard a n more never b under some size e f h) =
-    front_came s (Waits s p known) w (segment_at (bytes s) a n ∷ segments (bytes s) a (n + 1) more) e (unheard_comes _ s p a n more (without_front Requests w) never b under some size (ap (drop 1) e) f h)
-request_comes s p up known w (acknowledging a t b under whole m h) = nothing_came s (Waits s p known) w m.requests (acknowledging a t b under whole m h)
-request_comes s p up known w (finishing a t b under e whole m h) = nothing_came s (Waits s p known) w m.requests (finishing a t b under e whole m h)
-request_comes s p up known w (ending b m (inl h)) = front_came s (Waits s p known) w _ m.requests (finish_comes s p up (without_front Requests w) b (dropped p awaited _ _ _ _ _ w m) h _ refl)
-request_comes s p up known w (ending b m (inr h)) = front_came s (Waits s p known) w _ m.requests (quiet (total (bytes s)) h.0 b (ap (drop 1) m.requests) (gone_replies s (client_end s) (without_front Requests w) m.answers h.1))
-request_comes s p up known w (ended b m h) = nothing_came s (Waits s p known) w m.requests (ended b m h)
-request_comes s p up known w (quiet a n b e f) = nothing_came s (Waits s p known) w e (quiet a n b e f)
+pub theory : (s : Setup) (p : Type 0) → IsDownload s p sends_in_blocks → Theory (parts s p)
+theory s p m = record {
+  first_request = rw m.transfer refl;
+  first_client = refl;
+  first_channel = record { serves = serves_first s.description.rows s.past m.idle; lawful = refl };
+  hears = hears s p m;
+  gone_hears = gone_hears s p;
+  strange = strange s p m;
+  passes = passes s p;
+  drops = aborted_other;
+  closes = closes s p;
+  gone_ticks = λ log contents h. gone_ticks log h;
+  gone_ends = λ log contents h. gone_ends log (time_out_reply log);
+  waiting = waiting s;
+  done = done s;
+  none_open = refl;
+  same_left = refl;
+}

@@ -13,11 +13,14 @@ pub mod SegmentedDownloads
 pub mod Uploads
 pub mod Blocks
 pub mod BlockSegments
+pub mod Ends
+pub mod Places
+pub mod Receivers
+pub mod Senders
+pub mod BlockTransfers
 pub mod BlockUploads
-pub mod BlockUploadEvents
 pub mod GoneChannels
 pub mod BlockDownloads
-pub mod BlockDownloadEvents
 pub mod Progress
 pub mod Transfers
 pub mod Chains

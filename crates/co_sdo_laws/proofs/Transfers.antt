@@ -16,7 +16,7 @@ use Rattle.co_dict.specs.Stores.{Description, IsDictionary}
 use Rattle.co_sdo.specs.Log.{Log}
 use Rattle.co_sdo.specs.OpenTransfers.{open_transfer}
 use Rattle.co_sdo.specs.Uploads.{value_at}
-use Rattle.co_sdo_laws.specs.World.{Setup, World, WorldEvent, Delivered, Lost, Repeated, ClientTicked, ChannelTicked, is_repeat, world_after}
+use Rattle.co_sdo_laws.specs.World.{Setup, World, Requests, Answers as Back, WorldEvent, Delivered, Lost, Repeated, ClientTicked, ChannelTicked, is_repeat, world_after}
 use Rattle.co_sdo_laws.specs.Undisturbed.{IsCalm, AreCalm, IsUndisturbed, arrived, on_their_way, rounds_after, IsOver, GoesInTurns, is_short, is_expedited_download, is_segmented_download, is_plain_upload, is_block_download, is_block_upload, GoesInBlocks, HaveSent, block_frames, block_upload_frames, upload_requests, block_download_requests, block_download_answers, block_upload_requests, block_upload_answers}
 use Rattle.co_sdo_laws.proofs.Permits.{value, Protocol, reads_in_segments, is_download, may_send, IsDownload, IsUpload, Goes, in_segments, at_once, at_once_few, short_bytes}
 use Rattle.co_sdo_laws.proofs.Permits as protocols
@@ -27,13 +27,10 @@ use Rattle.co_sdo_laws.proofs.StopAndWait.{Parts, StopAndWait}
 use Rattle.co_sdo_laws.proofs.InTurns.{turns_of}
 use Rattle.co_sdo_laws.proofs.SegmentedDownloads as downloads
 use Rattle.co_sdo_laws.proofs.Uploads as uploading
-use Rattle.co_sdo_laws.proofs.Blocks.{once_done}
+use Rattle.co_sdo_laws.proofs.Places.{all_over, came}
+use Rattle.co_sdo_laws.proofs.BlockTransfers.{Parts as BlockParts, Theory, Stands, Alive, Is, is_done as client_done, always as all_events, when_done as over_when_done, is_left, closed, all_sent, goes_in_blocks, unchanged}
 use Rattle.co_sdo_laws.proofs.BlockDownloads as sent
-use Rattle.co_sdo_laws.proofs.BlockDownloadEvents.{always as sent_blocks}
-use Rattle.co_sdo_laws.proofs.BlockDownloadEvents as blocks_outcome
 use Rattle.co_sdo_laws.proofs.BlockUploads as fetched
-use Rattle.co_sdo_laws.proofs.BlockUploadEvents.{always as fetched_blocks}
-use Rattle.co_sdo_laws.proofs.BlockUploadEvents as fetched_outcome
 
 -- ---- of every kind
 
@@ -258,52 +255,44 @@ once s (event ∷ older) calm =
     let b = once s older calm.1 in
     rw (a, b) refl
 
+in_blocks : {s : Setup} (t : BlockParts s) → Theory t → t.plan.p → (frames requests answers : ℕ) → block_frames (length t.plan.value) ≤ frames
+    → came t.plan Requests all_over + came t.plan Back all_over ≡ frames → came t.plan Requests all_over ≡ requests → came t.plan Back all_over ≡ answers
+    → Kind s (block_frames (length t.plan.value)) frames requests answers t.given (t.left all_over)
+in_blocks {s = s} t m x frames requests answers few all r q = record {
+  few = few;
+  goes = λ later calm. goes_in_blocks t m x frames (world_after s later) few all (stands later calm);
+  ends = λ later calm is. record {
+    gives = (over later calm is).0.gives;
+    leaves = is_left t m (world_after s later) (inl x) is (stands later calm);
+    sends = all_sent t m x requests answers (world_after s later) (all_there s later calm) r q (over later calm is).1;
+  };
+  closes = λ later calm is none. closed t m x (world_after s later) (over later calm is).1 none;
+}
+  where
+    stands : (later : List WorldEvent) → AreCalm s later → Stands t (world_after s later)
+    stands later calm = all_events t m later (once s later calm) (λ y. calm)
+
+    over : (later : List WorldEvent) → AreCalm s later → outcome s.call (world_after s later).events ≡ Done → Is t client_done (world_after s later).events × Alive t client_done (world_after s later)
+    over later calm is = over_when_done t (world_after s later) is (stands later calm)
+
 pub sent_in_blocks : (s : Setup) (events : List WorldEvent) → IsUndisturbed s events → is_block_download s.call.mode s.call.job ≡ true
     → Kind s (block_frames (length (bytes_of s.call.job))) (block_frames (length (bytes_of s.call.job)))
     (block_download_requests (length (bytes_of s.call.job))) (block_download_answers (length (bytes_of s.call.job)))
     [] (written s.contents s.call.key (bytes_of s.call.job))
-sent_in_blocks s events u t = record {
-  few = omega arith;
-  goes = λ later calm. blocks_outcome.goes_in_blocks s (world_after s later) (at later calm);
-  ends = λ later calm done. record {
-    gives = (over later calm done).done.gives;
-    leaves = ((over later calm done).set.closed tt).sets;
-    sends = blocks_outcome.all_sent s (world_after s later) (all_there s later calm) (over later calm done);
-  };
-  closes = λ later calm done none. unopened s.description.rows (world_after s later).log ((over later calm done).set.closed tt).serves;
-}
-  where
-    at : (later : List WorldEvent) → AreCalm s later → sent.Stands s (Unit {0}) (world_after s later)
-    at later calm =
-        sent_blocks s (Unit {0}) (sends s events _ u (protocols.in_blocks s.call.mode s.call.job t)) later (once s later calm) (λ x. calm)
+sent_in_blocks s events u t = in_blocks (sent.parts s (Unit {0})) (sent.theory s (Unit {0}) (sends s events _ u (protocols.in_blocks s.call.mode s.call.job t))) tt _ _ _
+    (omega arith) (omega arith) (omega arith) (omega arith)
 
-    over : (later : List WorldEvent) → AreCalm s later → outcome s.call (world_after s later).events ≡ Done → sent.IsOver s (Unit {0}) (world_after s later)
-    over later calm done = once_done s (Unit {0}) _ _ (world_after s later) (at later calm) done
-
-fetched_at : (s : Setup) (events later : List WorldEvent) → IsUndisturbed s events → is_block_upload s.call.mode s.call.job ≡ true
-    → length (value_at s.contents s.call.key) ≤ cap_of s.call.job → AreCalm s later → fetched.Stands s (Unit {0}) (world_after s later)
-fetched_at s events later u t room calm =
-    fetched_blocks s (Unit {0}) (reads s events _ u (protocols.block_upload s.call.mode s.call.job t) room) later (once s later calm) (λ x. calm)
+fetches : (s : Setup) (events : List WorldEvent) → IsUndisturbed s events → is_block_upload s.call.mode s.call.job ≡ true
+    → length (value_at s.contents s.call.key) ≤ cap_of s.call.job → Theory (fetched.parts s (Unit {0}))
+fetches s events u t room = fetched.theory s (Unit {0}) (reads s events _ u (protocols.block_upload s.call.mode s.call.job t) room)
 
 pub fetched_in_blocks : (s : Setup) (events : List WorldEvent) → IsUndisturbed s events → is_block_upload s.call.mode s.call.job ≡ true → length (value_at s.contents s.call.key) ≤ cap_of s.call.job
     → Kind s (block_frames (length (value_at s.contents s.call.key))) (block_upload_frames (length (value_at s.contents s.call.key)))
     (block_upload_requests (length (value_at s.contents s.call.key))) (block_upload_answers (length (value_at s.contents s.call.key)))
     (value_at s.contents s.call.key) s.contents
-fetched_in_blocks s events u t room = record {
-  few = omega arith;
-  goes = λ later calm. (fetched_outcome.view s (world_after s later) (fetched_at s events later u t room calm)).goes;
-  ends = λ later calm done. record {
-    gives = (over later calm done).done.gives;
-    leaves = (fetched_outcome.view s (world_after s later) (fetched_at s events later u t room calm)).same;
-    sends = fetched_outcome.all_sent s (world_after s later) (all_there s later calm) ((over later calm done).last tt);
-  };
-  closes = λ later calm done none. unopened s.description.rows (world_after s later).log
-      (fetched_outcome.closed s (world_after s later) ((over later calm done).last tt) none);
-}
-  where
-    over : (later : List WorldEvent) → AreCalm s later → outcome s.call (world_after s later).events ≡ Done → fetched.IsOver s (Unit {0}) (world_after s later)
-    over later calm done = once_done s (Unit {0}) _ _ (world_after s later) (fetched_at s events later u t room calm) done
+fetched_in_blocks s events u t room = in_blocks (fetched.parts s (Unit {0})) (fetches s events u t room) tt _ _ _ (omega arith) (omega arith) (omega arith) (omega arith)
 
 pub block_upload_sets_nothing : (s : Setup) (events : List WorldEvent) → IsUndisturbed s events → is_block_upload s.call.mode s.call.job ≡ true → length (value_at s.contents s.call.key) ≤ cap_of s.call.job
     → (world_after s events).contents ≡ s.contents
-block_upload_sets_nothing s events u t room = (fetched_outcome.view s (world_after s events) (fetched_at s events events u t room u.calm)).same
+block_upload_sets_nothing s events u t room = unchanged (fetched.parts s (Unit {0})) tt (world_after s events) s.contents (λ k. refl)
+    (all_events (fetched.parts s (Unit {0})) (fetches s events u t room) events (once s events u.calm) (λ y. u.calm))

@@ -1,5 +1,5 @@
 -- What a transfer has done where its client is done, whatever disturbed it.
-use Rattle.std.proofs.Common.{◌≡◌, Bool, true, false, not, List, length, Some, refl, ◌⊎◌, inl, inr}
+use Rattle.std.proofs.Common.{◌≡◌, Bool, true, false, not, List, length, Some, refl, ap, ◌∙◌, ◌⊎◌, inl, inr}
 use Rattle.std.specs.List.{list_any}
 use Rattle.co_sdo_client.specs.declared.mode.Mode.{Mode}
 use Rattle.co_sdo_client.specs.declared.mode.Mode.TheVariants.{Plain, Segmented, Block}
@@ -7,6 +7,7 @@ use Rattle.co_sdo_client.specs.declared.state.ClientState.TheVariants.{Done}
 use Rattle.co_sdo_client.specs.Calls.{Job, Download, Upload}
 use Rattle.co_sdo_client.specs.Segments.{bytes_of}
 use Rattle.co_sdo_client.specs.Outcomes.{outcome, result}
+use Rattle.co_dict.specs.Rows.{Contents}
 use Rattle.co_sdo.specs.Uploads.{value_at}
 use Rattle.co_sdo_laws.specs.World.{Setup, WorldEvent, world_after}
 use Rattle.co_sdo_laws.specs.Undisturbed.{is_short, is_expedited_download, is_segmented_download, is_plain_upload, is_block_upload, is_block_download}
@@ -16,9 +17,9 @@ use Rattle.co_sdo_laws.proofs.Permits as protocols
 use Rattle.co_sdo_laws.proofs.StopAndWait.{Parts, IsOver, StopAndWait, always, when_done}
 use Rattle.co_sdo_laws.proofs.SegmentedDownloads as sending
 use Rattle.co_sdo_laws.proofs.Uploads as reading
-use Rattle.co_sdo_laws.proofs.BlockUploadEvents as read_in_blocks
-use Rattle.co_sdo_laws.proofs.Blocks.{once_done}
-use Rattle.co_sdo_laws.proofs.BlockDownloadEvents as written_in_blocks
+use Rattle.co_sdo_laws.proofs.BlockTransfers as blocks
+use Rattle.co_sdo_laws.proofs.BlockUploads as read_in_blocks
+use Rattle.co_sdo_laws.proofs.BlockDownloads as written_in_blocks
 
 -- ---- nothing is said of rights
 
@@ -85,12 +86,14 @@ pub block_upload_gives : (s : Setup) (events : List WorldEvent) → IsAlone s �
     → list_any is_repeat events ≡ false → outcome s.call (world_after s events).events ≡ Done
     → result s.call (world_after s events).events ≡ value_at s.contents s.call.key
 block_upload_gives s events alone t once done =
-    (once_done s ⊥ _ _ (world_after s events)
-    (read_in_blocks.always s ⊥ (uploads s _ alone (protocols.block_upload s.call.mode s.call.job t)) events once (λ x. absurd x)) done).done.gives
+    (blocks.when_done (read_in_blocks.parts s ⊥) (world_after s events) done (blocks.always (read_in_blocks.parts s ⊥)
+    (read_in_blocks.theory s ⊥ (uploads s _ alone (protocols.block_upload s.call.mode s.call.job t))) events once (λ x. absurd x))).0.gives
 
 pub block_download_sets : (s : Setup) (events : List WorldEvent) → IsAlone s → is_block_download s.call.mode s.call.job ≡ true
     → list_any is_repeat events ≡ false → outcome s.call (world_after s events).events ≡ Done
     → (world_after s events).contents s.call.key ≡ Some (bytes_of s.call.job)
 block_download_sets s events alone t once done =
-    (once_done s ⊥ _ _ (world_after s events)
-    (written_in_blocks.always s ⊥ (downloads s _ alone (protocols.in_blocks s.call.mode s.call.job t)) events once (λ x. absurd x)) done).set.entry
+    let m = written_in_blocks.theory s ⊥ (downloads s _ alone (protocols.in_blocks s.call.mode s.call.job t)) in
+    ap (λ (c : Contents). c s.call.key) (blocks.is_left (written_in_blocks.parts s ⊥) m (world_after s events) (inr refl) done
+    (blocks.always (written_in_blocks.parts s ⊥) m events once (λ x. absurd x)))
+    ∙ protocols.entry_is s.contents s.call.key (bytes_of s.call.job)
