@@ -9,7 +9,7 @@ use crate::format::Format;
 use crate::layout::{begin, place};
 use crate::meaning::{Meaning, push_said};
 use crate::pdos::pdo_name;
-use crate::phrase::push_phrase;
+use crate::phrase::{Piece, push_phrase};
 use crate::service::{Service, service_name};
 use crate::texts::property_text;
 use crate::values::{limits, push_default, push_value};
@@ -58,10 +58,10 @@ pub fn push_content(
     match *content {
         Content::Nothing => Ok(()),
         Content::Words(words) => text.push_str(words),
-        Content::Key(key) => text.push_str(key.text().as_str()),
+        Content::Key(key) => Piece::Key(key).push(text),
         Content::Index(index) => push_u16(text, index),
         Content::Property(name, section) => property_text(section, name).push(text),
-        Content::TypeOf(section) => push_phrase(text, &type_text(section)),
+        Content::TypeOf(section) => type_text(section).push(text),
         Content::Value(before, name, section) => push_value(text, node, before, section, name),
         Content::Default(section) => push_default(text, node, section),
         Content::Limits(section) => push_phrase(text, &limits(section)),

@@ -11,7 +11,7 @@ ghost use Rattle.conode_show_text.specs.Document.{
   head_of,
 };
 
-use crate::entries::{entries_head, put_section};
+use crate::entries::put_section;
 use crate::format::Format;
 use crate::page::Page;
 use crate::pdos::put_pdo;
@@ -33,7 +33,8 @@ fn head_of(chapter: Chapter, format: Format) -> &'static str
     ensures { result.now ≡ head_of chapter format }
 {
     match (chapter, format) {
-        (Chapter::Entries, Format::Text) => entries_head(Format::Text),
+        (Chapter::Entries, Format::Text) =>
+            "Entry   Name                          Type           Access PDO Default                Limits\n",
         (Chapter::Entries, Format::Markdown) => "## Objects\n",
         (Chapter::Pdos, Format::Text) =>
             "\nPDO     COB-ID, mapped                Transmission type, name           Inhibit    Event timer\n",

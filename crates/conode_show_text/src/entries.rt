@@ -30,14 +30,14 @@ ghost use Rattle.conode_text.specs.Appended.{Appended};
 ghost use Rattle.conode_show_text.specs.declared.format.Format.TheVariants.{Markdown};
 ghost use Rattle.conode_show_text.specs.Cells.{cell_text};
 ghost use Rattle.conode_show_text.specs.Layout.{line_of};
-ghost use Rattle.conode_show_text.specs.Phrases.{phrase_text};
+ghost use Rattle.conode_show_text.specs.Phrases.{piece_text};
 
 use crate::cells::{Cell, Content, fill_line, push_content, push_line};
 use crate::format::Format;
 use crate::layout::{columns, push_cell};
 use crate::numbers::words_if;
 use crate::page::Page;
-use crate::phrase::{Phrase, Piece, alone};
+use crate::phrase::Piece;
 use crate::sections::object_code;
 use crate::texts::property_text;
 use crate::type_names::type_name;
@@ -83,30 +83,30 @@ pub fn has_sub_indices(sections: &[TextSection], index: u16, section: &TextSecti
 
 // the type of an entry
 #[tactic(auto, unfolding(crate::specs::Entries::entry_type))]
-fn entry_type<'a>(section: &TextSection<'_, 'a>) -> Phrase<'a>
-    ensures { phrase_text result ≡ entry_type (section_view section.now) }
+fn entry_type<'a>(section: &TextSection<'_, 'a>) -> Piece<'a>
+    ensures { piece_text result ≡ entry_type (section_view section.now) }
 {
     let Some(property) = section.property(b"DataType") else {
         return match object_code(section) {
-            Some(2) => alone(Piece::Words("DOMAIN")),
-            Some(_) => alone(Piece::Nothing),
-            None => alone(property_text(section, b"ObjectType")),
+            Some(2) => Piece::Words("DOMAIN"),
+            Some(_) => Piece::Nothing,
+            None => property_text(section, b"ObjectType"),
         };
     };
     match property.number() {
         Some(code) => type_name(code),
-        None => alone(Piece::Plain(property.value)),
+        None => Piece::Plain(property.value),
     }
 }
 
 /// The type of an entry, also of one whose object code is that of an ARRAY or a RECORD.
 #[tactic(auto, unfolding(crate::specs::Entries::type_text))]
-pub(crate) fn type_text<'a>(section: &TextSection<'_, 'a>) -> Phrase<'a>
-    ensures { phrase_text result ≡ type_text (section_view section.now) }
+pub(crate) fn type_text<'a>(section: &TextSection<'_, 'a>) -> Piece<'a>
+    ensures { piece_text result ≡ type_text (section_view section.now) }
 {
     match object_code(section) {
-        Some(8) => alone(Piece::Words("ARRAY")),
-        Some(9) => alone(Piece::Words("RECORD")),
+        Some(8) => Piece::Words("ARRAY"),
+        Some(9) => Piece::Words("RECORD"),
         _ => entry_type(section),
     }
 }
@@ -220,17 +220,9 @@ pub(crate) fn push_entry_line<'p>(
     }
 }
 
-/// The head of a table of entries.
-pub(crate) fn entries_head(format: Format) -> &'static str
-    ensures { result.now ≡ entries_head format }
-{
-    match format {
-        Format::Text =>
-            "Entry   Name                          Type           Access PDO Default                Limits\n",
-        Format::Markdown =>
-            "| Entry | Name | Type | Access | PDO | Default | Limits |\n| --- | --- | --- | --- | --- | --- | --- |\n",
-    }
-}
+/// The head of an object's table in Markdown, after its heading.
+const TABLE_HEAD: &[u8] =
+    b"\n\n| Entry | Name | Type | Access | PDO | Default | Limits |\n| --- | --- | --- | --- | --- | --- | --- |\n";
 
 fn push_all(text: &mut Vec<u8>, parts: &[&str]) -> Result<(), AllocError>
     ensures { OnOk result
@@ -264,7 +256,7 @@ pub(crate) fn push_heading(
     let end = index_end(part.as_str());
     attempt!(push_all(text, &["\n### ", word_digits(index).as_str(), end]));
     attempt!(push_cell(text, part.as_bytes()));
-    push_all(text, &["\n\n", entries_head(Format::Markdown)])
+    text.extend_from_slice(TABLE_HEAD)
 }
 
 // in Markdown the heading of an object

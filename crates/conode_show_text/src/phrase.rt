@@ -1,7 +1,7 @@
 //! Words with values in them. Each function with a text appends to it. `Err`: out of memory; a part
 //! of the text may be there.
 
-ghost use Rattle.std.specs.Prelude.{◌≡◌, ◌++◌, ℕ, [], ◌∷◌, List, OnOk, decimal, string_bytes};
+ghost use Rattle.std.specs.Prelude.{◌≡◌, ◌++◌, ℕ, [], ◌∷◌, List, OnOk, codes, decimal, string_bytes};
 ghost use Rattle.std.specs.Fmt.{signed_decimal};
 ghost use Rattle.conode_text.specs.Filled.{filled};
 ghost use Rattle.conode_show_text.specs.Numbers.{hex_text};
@@ -26,6 +26,8 @@ pub(crate) enum Piece<'p> {
     /// A number in hexadecimal digits, as many as it needs, with `h`.
     Hexadecimal(u64),
     Key(Key),
+    /// The code of a data type without a name.
+    TypeCode(u64),
     /// A text of the sheet.
     Plain(&'p [u8]),
 }
@@ -44,6 +46,14 @@ fn push_hexadecimal(text: &mut String, number: u64) -> Result<(), AllocError>
     write!(text, "{number:X}h")
 }
 
+#[tactic(auto, unfolding(crate::specs::Numbers::hex_text))]
+fn push_type_code(text: &mut String, code: u64) -> Result<(), AllocError>
+    ensures { OnOk result (string_bytes text.new
+        ≡ string_bytes text.old ++ codes "type " ++ hex_text code) }
+{
+    write!(text, "type {code:X}h")
+}
+
 impl HasText for Piece<'_> {
     ghost text_of = { piece_text };
 
@@ -55,6 +65,7 @@ impl HasText for Piece<'_> {
             Piece::Signed(number) => push_signed(text, number),
             Piece::Hexadecimal(number) => push_hexadecimal(text, number),
             Piece::Key(key) => text.push_str(key.text().as_str()),
+            Piece::TypeCode(code) => push_type_code(text, code),
             Piece::Plain(bytes) => push_plain(text, bytes),
         }
     }

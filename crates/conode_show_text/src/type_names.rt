@@ -4,10 +4,10 @@ ghost use Rattle.std.specs.Prelude.{◌≡◌};
 ghost use Rattle.std.specs.Option.{option_copied};
 ghost use Rattle.conode_show_text.specs.Entries.{type_name, type_names};
 ghost use Rattle.conode_show_text.specs.Names.{name_among};
-ghost use Rattle.conode_show_text.specs.Phrases.{phrase_text};
+ghost use Rattle.conode_show_text.specs.Phrases.{piece_text};
 
 use crate::names::name_among;
-use crate::phrase::{Phrase, Piece, alone, with_one};
+use crate::phrase::Piece;
 
 /// Data types by their codes (CiA 301, 7.4.7.1).
 const TYPE_NAMES: [(u64, &str); 25] = [
@@ -45,12 +45,12 @@ fn known_name(code: u64) -> Option<&'static str>
 }
 
 /// The name of a data type, or its number if the code has no name.
-#[tactic(auto, unfolding(crate::specs::Entries::type_name, conode_text::specs::Filled::filled))]
-pub(crate) fn type_name(code: u64) -> Phrase<'static>
-    ensures { phrase_text result ≡ type_name code }
+#[tactic(auto, unfolding(crate::specs::Entries::type_name))]
+pub(crate) fn type_name(code: u64) -> Piece<'static>
+    ensures { piece_text result ≡ type_name code }
 {
     match known_name(code) {
-        Some(name) => alone(Piece::Words(name)),
-        None => with_one("type %", Piece::Hexadecimal(code)),
+        Some(name) => Piece::Words(name),
+        None => Piece::TypeCode(code),
     }
 }
