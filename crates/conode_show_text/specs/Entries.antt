@@ -179,12 +179,16 @@ sub_heading Markdown key sections =
     if begins_object key sections
     then heading_with key.index [] ++ codes "\n\n" ++ entries_head Markdown else []
 
--- the lines of a section: an object with sub-indices, or else its entry; or the entry of a sub-index
+-- an object with sub-indices, or else its entry
+abbrev pub lines_of : Format → Option ℕ → List TextSection → ℕ → TextSection → List ℕ
+lines_of format given sections index section =
+    if has_sub_indices sections index section then object_line format index section
+    else entry_line format given (record { index = index; sub = 0 }) section
+
+-- the lines of a section, also the entry of a sub-index
 abbrev pub described : Format → Option ℕ → List TextSection → TextSection → SectionKind → List ℕ
 described format given sections section (Object index) =
-    object_heading format index section
-    ++ (if has_sub_indices sections index section then object_line format index section
-    else entry_line format given (record { index = index; sub = 0 }) section)
+    object_heading format index section ++ lines_of format given sections index section
 described format given sections section (SubIndex key) =
     sub_heading format key sections ++ entry_line format given key section
 described format given sections section other = []

@@ -3,6 +3,7 @@ pub mod Numbers
 pub mod Texts
 pub mod Layout
 pub mod Values
+pub mod Phrases
 pub mod CobIds
 pub mod Meanings
 pub mod Entries

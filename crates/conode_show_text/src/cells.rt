@@ -4,18 +4,19 @@ ghost use Rattle.std.specs.Prelude.{◌≡◌, ◌++◌, map, OnOk, string_bytes
 ghost use Rattle.conode_show_text.specs.Cells.{cell_part, cell_text};
 ghost use Rattle.conode_show_text.specs.Layout.{line_of};
 
-use crate::entries::push_type;
+use crate::entries::type_text;
 use crate::format::Format;
 use crate::layout::{begin, place};
 use crate::meaning::{Meaning, push_said};
-use crate::numbers::push_words;
-use crate::pdos::push_pdo_name;
-use crate::service::{Service, push_service_name};
-use crate::texts::push_property;
-use crate::values::{push_default, push_limits, push_value};
+use crate::pdos::pdo_name;
+use crate::phrase::{Piece, push_phrase};
+use crate::service::{Service, service_name};
+use crate::texts::property_text;
+use crate::values::{limits, push_default, push_value};
 use co_sheet_text::TextSection;
 use co_text::push_u16;
 use co_value::Key;
+use conode_text::HasText;
 use std::alloc::AllocError;
 
 /// What a cell has.
@@ -56,16 +57,16 @@ pub fn push_content(
 {
     match *content {
         Content::Nothing => Ok(()),
-        Content::Words(words) => push_words(text, words),
-        Content::Key(key) => push_words(text, key.text().as_str()),
+        Content::Words(words) => text.push_str(words),
+        Content::Key(key) => Piece::Key(key).push(text),
         Content::Index(index) => push_u16(text, index),
-        Content::Property(name, section) => push_property(text, section, name),
-        Content::TypeOf(section) => push_type(text, section),
+        Content::Property(name, section) => property_text(section, name).push(text),
+        Content::TypeOf(section) => type_text(section).push(text),
         Content::Value(before, name, section) => push_value(text, node, before, section, name),
         Content::Default(section) => push_default(text, node, section),
-        Content::Limits(section) => push_limits(text, section),
-        Content::Pdo(index) => push_pdo_name(text, index),
-        Content::Service(service) => push_service_name(text, service),
+        Content::Limits(section) => push_phrase(text, &limits(section)),
+        Content::Pdo(index) => push_phrase(text, &pdo_name(index)),
+        Content::Service(service) => push_phrase(text, &service_name(service)),
         Content::Said(meaning, section) => push_said(text, meaning, node, section),
     }
 }

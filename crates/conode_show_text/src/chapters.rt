@@ -1,20 +1,21 @@
 //! The object dictionary of a sheet, as it is shown: its entries, its PDOs and its services.
 
-ghost use Rattle.std.specs.Prelude.{◌≡◌, ◌++◌, map, OnOk, IfOk};
+ghost use Rattle.std.specs.Prelude.{◌≡◌, map, IfOk};
 ghost use Rattle.co_sheet_text.specs.Views.{section_view};
+ghost use Rattle.conode_text.specs.Appended.{Appended};
 ghost use Rattle.conode_show_text.specs.Document.{
   chapter_lines,
   chapter_of,
   chapter_text,
   document,
   head_of,
-  with_head,
 };
 
-use crate::entries::{entries_head, push_section};
+use crate::entries::put_section;
 use crate::format::Format;
-use crate::pdos::push_pdo;
-use crate::service::push_service;
+use crate::page::Page;
+use crate::pdos::put_pdo;
+use crate::service::put_service;
 use co_sheet_text::TextSection;
 use std::alloc::{AllocError, Global};
 
@@ -32,7 +33,8 @@ fn head_of(chapter: Chapter, format: Format) -> &'static str
     ensures { result.now ≡ head_of chapter format }
 {
     match (chapter, format) {
-        (Chapter::Entries, Format::Text) => entries_head(Format::Text),
+        (Chapter::Entries, Format::Text) =>
+            "Entry   Name                          Type           Access PDO Default                Limits\n",
         (Chapter::Entries, Format::Markdown) => "## Objects\n",
         (Chapter::Pdos, Format::Text) =>
             "\nPDO     COB-ID, mapped                Transmission type, name           Inhibit    Event timer\n",
@@ -45,111 +47,75 @@ fn head_of(chapter: Chapter, format: Format) -> &'static str
 }
 
 // what a chapter has for a section
-fn push_text<'p>(
-    text: &mut Vec<u8>,
-    line: &mut Vec<u8>,
-    part: &mut String,
+fn put_text<'p>(
+    page: &mut Page,
     chapter: Chapter,
     format: Format,
     node: Option<u8>,
     sections: &'p [TextSection<'p, 'p>],
     section: &'p TextSection<'p, 'p>,
-) -> Result<(), AllocError>
-    ensures { OnOk result (text.new.items ≡ text.old.items
-        ++ chapter_text chapter format node (map section_view sections.entry.now)
-        (section_view section.entry.now)) }
+)
+    ensures { Appended page.old
+        (chapter_text chapter format node (map section_view sections.entry.now)
+        (section_view section.entry.now)) page.new }
 {
     match chapter {
-        Chapter::Entries => push_section(text, line, part, format, node, sections, section),
-        Chapter::Pdos => push_pdo(text, line, part, format, node, sections, section),
-        Chapter::Services => push_service(text, line, part, format, node, section),
+        Chapter::Entries => put_section(page, format, node, sections, section),
+        Chapter::Pdos => put_pdo(page, format, node, sections, section),
+        Chapter::Services => put_service(page, format, node, section),
     }
 }
 
-fn push_lines<'p>(
-    text: &mut Vec<u8>,
-    line: &mut Vec<u8>,
-    part: &mut String,
+fn put_lines<'p>(
+    page: &mut Page,
     chapter: Chapter,
     format: Format,
     node: Option<u8>,
     sections: &'p [TextSection<'p, 'p>],
-) -> Result<(), AllocError>
-    ensures { OnOk result (text.new.items ≡ text.old.items
-        ++ chapter_lines chapter format node (map section_view sections.entry.now)) }
+)
+    ensures { Appended page.old
+        (chapter_lines chapter format node (map section_view sections.entry.now)) page.new }
 {
     for section in sections {
-        attempt!(push_text(text, line, part, chapter, format, node, sections, section));
+        put_text(page, chapter, format, node, sections, section);
     }
-    Ok(())
-}
-
-// lines after their head, nothing if there is none
-fn push_body(text: &mut Vec<u8>, head: &str, body: &[u8]) -> Result<(), AllocError>
-    ensures { OnOk result (text.new.items ≡ text.old.items ++ with_head head.now body.now) }
-{
-    if body.is_empty() {
-        return Ok(());
-    }
-    attempt!(text.extend_from_slice(head.as_bytes()));
-    text.extend_from_slice(body)
 }
 
 // a chapter with its head, nothing if it has no line
-fn push_chapter<'p>(
+fn put_chapter<'p>(
     alloc: Global,
-    text: &mut Vec<u8>,
-    line: &mut Vec<u8>,
-    part: &mut String,
+    page: &mut Page,
     chapter: Chapter,
     format: Format,
     node: Option<u8>,
     sections: &'p [TextSection<'p, 'p>],
-) -> Result<(), AllocError>
-    ensures { OnOk result (text.new.items ≡ text.old.items
-        ++ chapter_of chapter format node (map section_view sections.entry.now)) }
+)
+    ensures { Appended page.old
+        (chapter_of chapter format node (map section_view sections.entry.now)) page.new }
 {
-    let mut body = Vec::new(alloc);
-    attempt!(push_lines(&mut body, line, part, chapter, format, node, sections));
-    push_body(text, head_of(chapter, format), body.as_slice())
+    let mut body = Page::new(alloc);
+    put_lines(&mut body, chapter, format, node, sections);
+    match body.into_text() {
+        Ok(lines) => page.put_body(head_of(chapter, format), lines.as_slice()),
+        Err(_) => page.fail(),
+    }
 }
 
 // all chapters
-#[tactic(auto, unfolding(crate::specs::Document::document))]
-fn push_chapters<'p>(
+fn put_chapters<'p>(
     alloc: Global,
-    text: &mut Vec<u8>,
-    line: &mut Vec<u8>,
-    part: &mut String,
+    page: &mut Page,
     format: Format,
     node: Option<u8>,
     sections: &'p [TextSection<'p, 'p>],
-) -> Result<(), AllocError>
-    ensures { OnOk result (text.new.items
-        ≡ text.old.items ++ document format node (map section_view sections.entry.now)) }
+)
+    ensures { Appended page.old (document format node (map section_view sections.entry.now))
+        page.new }
 {
-    attempt!(text.extend_from_slice(head_of(Chapter::Entries, format).as_bytes()));
-    attempt!(push_lines(text, line, part, Chapter::Entries, format, node, sections));
-    attempt!(push_chapter(
-        alloc,
-        text,
-        line,
-        part,
-        Chapter::Pdos,
-        format,
-        node,
-        sections,
-    ));
-    push_chapter(
-        alloc,
-        text,
-        line,
-        part,
-        Chapter::Services,
-        format,
-        node,
-        sections,
-    )
+    page.put(head_of(Chapter::Entries, format).as_bytes());
+    put_lines(page, Chapter::Entries, format, node, sections);
+    put_chapter(alloc, page, Chapter::Pdos, format, node, sections);
+    put_chapter(alloc, page, Chapter::Services, format, node, sections);
 }
 
 /// The object dictionary of sections in order: its entries, its PDOs, and its services. `Err`: out
@@ -163,11 +129,7 @@ pub fn document(
     ensures { IfOk result
         (λ text. text.items ≡ document format node (map section_view sections.now)) }
 {
-    let mut text = Vec::new(alloc);
-    let mut line = Vec::new(alloc);
-    let mut part = String::new(alloc);
-    attempt!(push_chapters(
-        alloc, &mut text, &mut line, &mut part, format, node, sections,
-    ));
-    Ok(text)
+    let mut page = Page::new(alloc);
+    put_chapters(alloc, &mut page, format, node, sections);
+    page.into_text()
 }

@@ -1,7 +1,6 @@
-//! COB-IDs in words (CiA 301, 7.2.2.7 and 7.5.2). Each function with a text appends to it. `Err`:
-//! out of memory; a part of the text may be there.
+//! COB-IDs in words (CiA 301, 7.2.2.7 and 7.5.2).
 
-ghost use Rattle.std.specs.Prelude.{◌≡◌, ◌++◌, OnOk, string_bytes};
+ghost use Rattle.std.specs.Prelude.{◌≡◌, ◌++◌};
 ghost use Rattle.conode_show_text.specs.CobIds.{
   frame_name,
   identifier_text,
@@ -11,10 +10,11 @@ ghost use Rattle.conode_show_text.specs.CobIds.{
   time_name,
   use_name,
 };
+ghost use Rattle.conode_show_text.specs.Phrases.{phrase_text};
 
-use crate::numbers::{push_words, words_if};
+use crate::numbers::words_if;
+use crate::phrase::{Phrase, Piece};
 use crate::values::Word;
-use std::alloc::AllocError;
 
 /// Bit 31: the object isn't enabled; the device consumes TIME.
 const DISABLED: u64 = 0x8000_0000;
@@ -41,15 +41,18 @@ fn frame_name(number: u64) -> &'static str
     }
 }
 
-/// Appends an identifier, and words after it.
-#[tactic(auto, unfolding(crate::specs::CobIds::identifier_text, crate::specs::Numbers::hex_text))]
-pub(crate) fn push_identifier(text: &mut String, number: u64, end: &str) -> Result<(), AllocError>
-    ensures { OnOk result (string_bytes text.new
-        ≡ string_bytes text.old ++ identifier_text number ++ end.now) }
+/// A COB-ID: its identifier, whether it is used, and words after that.
+#[tactic(auto, unfolding(crate::specs::CobIds::identifier_text, conode_text::specs::Filled::filled))]
+pub(crate) fn cob_id(number: u64, used: &'static str, rtr: &'static str) -> Phrase<'static>
+    ensures { phrase_text result ≡ identifier_text number ++ used.now ++ rtr.now }
 {
-    let identifier = number % EXTENDED;
-    let frame = frame_name(number);
-    write!(text, "{identifier:X}h{frame}{end}")
+    Phrase {
+        words: "%%%%",
+        first: Piece::Hexadecimal(number % EXTENDED),
+        second: Piece::Words(frame_name(number)),
+        third: Piece::Words(used),
+        fourth: Piece::Words(rtr),
+    }
 }
 
 // whether it is identifier 0 of 11 bits, which is that of NMT
@@ -72,16 +75,13 @@ pub(crate) fn use_name(word: Word) -> &'static str
     }
 }
 
-/// Appends the COB-ID of a PDO in words.
+/// The COB-ID of a PDO in words.
 #[tactic(auto, unfolding(crate::specs::CobIds::pdo_cob_id_text, crate::specs::CobIds::cob_id_text))]
-pub(crate) fn push_pdo_cob_id(text: &mut String, word: Word) -> Result<(), AllocError>
-    ensures { OnOk result (string_bytes text.new ≡ string_bytes text.old ++ pdo_cob_id_text word) }
+pub(crate) fn pdo_cob_id(word: Word) -> Phrase<'static>
+    ensures { phrase_text result ≡ pdo_cob_id_text word }
 {
     let rtr = words_if(word.number / BIT_30 % 2 == 1, ", no RTR");
-    match push_identifier(text, word.number, use_name(word)) {
-        Ok(()) => push_words(text, rtr),
-        Err(fault) => Err(fault),
-    }
+    cob_id(word.number, use_name(word), rtr)
 }
 
 /// Whether the device produces SYNC, in words.

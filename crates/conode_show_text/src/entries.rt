@@ -1,6 +1,6 @@
 //! The lines of entries and objects (CiA 306, object description).
 
-ghost use Rattle.std.specs.Prelude.{◌≡◌, ◌++◌, ℕ, Option, OnOk, flat_map, map, string_bytes};
+ghost use Rattle.std.specs.Prelude.{◌≡◌, ◌++◌, ℕ, None, Option, OnOk, codes, flat_map, map};
 ghost use Rattle.co_sheet_text.specs.Views.{section_view};
 ghost use Rattle.conode_show_text.specs.Entries.{
   begins_object,
@@ -11,12 +11,14 @@ ghost use Rattle.conode_show_text.specs.Entries.{
   entry_type,
   has_sub_index,
   has_sub_indices,
+  heading_with,
   index_end,
   is_mappable,
   is_of_key,
   is_of_object,
   is_split,
   is_sub_index,
+  lines_of,
   object_heading,
   object_line,
   section_text,
@@ -24,16 +26,21 @@ ghost use Rattle.conode_show_text.specs.Entries.{
   two_lines,
   type_text,
 };
+ghost use Rattle.conode_text.specs.Appended.{Appended};
+ghost use Rattle.conode_show_text.specs.declared.format.Format.TheVariants.{Markdown};
 ghost use Rattle.conode_show_text.specs.Cells.{cell_text};
 ghost use Rattle.conode_show_text.specs.Layout.{line_of};
+ghost use Rattle.conode_show_text.specs.Phrases.{piece_text};
 
-use crate::cells::{Cell, Content, fill_line, push_line};
+use crate::cells::{Cell, Content, fill_line, push_content, push_line};
 use crate::format::Format;
 use crate::layout::{columns, push_cell};
-use crate::numbers::{push_words, words_if};
+use crate::numbers::words_if;
+use crate::page::Page;
+use crate::phrase::Piece;
 use crate::sections::object_code;
-use crate::texts::{push_plain, push_property};
-use crate::type_names::push_type_name;
+use crate::texts::property_text;
+use crate::type_names::type_name;
 use crate::values::has_both;
 use co_sheet_text::{SectionKind, TextSection};
 use co_text::word_digits;
@@ -76,34 +83,31 @@ pub fn has_sub_indices(sections: &[TextSection], index: u16, section: &TextSecti
 
 // the type of an entry
 #[tactic(auto, unfolding(crate::specs::Entries::entry_type))]
-fn push_entry_type(text: &mut String, section: &TextSection<'_, '_>) -> Result<(), AllocError>
-    ensures { OnOk result (string_bytes text.new
-        ≡ string_bytes text.old ++ entry_type (section_view section.now)) }
+fn entry_type<'a>(section: &TextSection<'_, 'a>) -> Piece<'a>
+    ensures { piece_text result ≡ entry_type (section_view section.now) }
 {
     let Some(property) = section.property(b"DataType") else {
         return match object_code(section) {
-            Some(2) => push_words(text, "DOMAIN"),
-            Some(_) => Ok(()),
-            None => push_property(text, section, b"ObjectType"),
+            Some(2) => Piece::Words("DOMAIN"),
+            Some(_) => Piece::Nothing,
+            None => property_text(section, b"ObjectType"),
         };
     };
     match property.number() {
-        Some(code) => push_type_name(text, code),
-        None => push_plain(text, property.value),
+        Some(code) => type_name(code),
+        None => Piece::Plain(property.value),
     }
 }
 
-/// Appends the type of an entry, also of one whose object code is that of an ARRAY or a RECORD. `Err`:
-/// out of memory; a part of the text may be there.
+/// The type of an entry, also of one whose object code is that of an ARRAY or a RECORD.
 #[tactic(auto, unfolding(crate::specs::Entries::type_text))]
-pub(crate) fn push_type(text: &mut String, section: &TextSection<'_, '_>) -> Result<(), AllocError>
-    ensures { OnOk result (string_bytes text.new
-        ≡ string_bytes text.old ++ type_text (section_view section.now)) }
+pub(crate) fn type_text<'a>(section: &TextSection<'_, 'a>) -> Piece<'a>
+    ensures { piece_text result ≡ type_text (section_view section.now) }
 {
     match object_code(section) {
-        Some(8) => push_words(text, "ARRAY"),
-        Some(9) => push_words(text, "RECORD"),
-        _ => push_entry_type(text, section),
+        Some(8) => Piece::Words("ARRAY"),
+        Some(9) => Piece::Words("RECORD"),
+        _ => entry_type(section),
     }
 }
 
@@ -186,8 +190,9 @@ fn push_two_lines<'p>(
     push_line(text, line, part, Format::Text, node, &[Cell(64, default)])
 }
 
+/// Appends the lines of an entry. `Err`: out of memory; a part of them may be there.
 #[tactic(auto, unfolding(crate::specs::Entries::entry_line, crate::specs::Entries::one_line))]
-fn push_entry_line<'p>(
+pub(crate) fn push_entry_line<'p>(
     text: &mut Vec<u8>,
     line: &mut Vec<u8>,
     part: &mut String,
@@ -215,17 +220,9 @@ fn push_entry_line<'p>(
     }
 }
 
-/// The head of a table of entries.
-pub(crate) fn entries_head(format: Format) -> &'static str
-    ensures { result.now ≡ entries_head format }
-{
-    match format {
-        Format::Text =>
-            "Entry   Name                          Type           Access PDO Default                Limits\n",
-        Format::Markdown =>
-            "| Entry | Name | Type | Access | PDO | Default | Limits |\n| --- | --- | --- | --- | --- | --- | --- |\n",
-    }
-}
+/// The head of an object's table in Markdown, after its heading.
+const TABLE_HEAD: &[u8] =
+    b"\n\n| Entry | Name | Type | Access | PDO | Default | Limits |\n| --- | --- | --- | --- | --- | --- | --- |\n";
 
 fn push_all(text: &mut Vec<u8>, parts: &[&str]) -> Result<(), AllocError>
     ensures { OnOk result
@@ -243,27 +240,35 @@ fn index_end(name: &str) -> &'static str
     if name.is_empty() { "h" } else { "h " }
 }
 
-// in Markdown the heading of an object, and the head of its table
-#[tactic(auto, unfolding(crate::specs::Entries::object_heading))]
-fn push_heading(
+/// Appends the heading of an object in Markdown, with this name, and the head of its table. `Err`:
+/// out of memory; a part of it may be there.
+pub(crate) fn push_heading(
     text: &mut Vec<u8>,
     part: &mut String,
-    format: Format,
     index: u16,
-    section: &TextSection<'_, '_>,
+    name: &Content<'_>,
 ) -> Result<(), AllocError>
-    ensures { OnOk result (text.new.items
-        ≡ text.old.items ++ object_heading format index (section_view section.now)) }
+    ensures { OnOk result (text.new.items ≡ text.old.items
+        ++ heading_with index (cell_text None name.now) ++ codes "\n\n" ++ entries_head Markdown) }
 {
-    let Format::Markdown = format else {
-        return Ok(());
-    };
     part.clear();
-    attempt!(push_property(part, section, b"ParameterName"));
+    attempt!(push_content(part, None, name));
     let end = index_end(part.as_str());
     attempt!(push_all(text, &["\n### ", word_digits(index).as_str(), end]));
     attempt!(push_cell(text, part.as_bytes()));
-    push_all(text, &["\n\n", entries_head(Format::Markdown)])
+    text.extend_from_slice(TABLE_HEAD)
+}
+
+// in Markdown the heading of an object
+#[tactic(auto, using(conode_text::proofs::Appending::nothing), unfolding(crate::specs::Entries::object_heading))]
+fn put_heading<'p>(page: &mut Page, format: Format, index: u16, section: &'p TextSection<'p, 'p>)
+    ensures { Appended page.old (object_heading format index (section_view section.entry.now))
+        page.new }
+{
+    let Format::Markdown = format else {
+        return;
+    };
+    page.put_heading(index, &Content::Property(b"ParameterName", section));
 }
 
 fn is_of_object(index: u16, kind: SectionKind) -> bool
@@ -297,45 +302,31 @@ fn begins_object(key: Key, sections: &[TextSection]) -> bool
 }
 
 // in Markdown the heading of an object without a section, before its first sub-index
-fn push_sub_heading(
-    text: &mut Vec<u8>,
-    format: Format,
-    key: Key,
-    sections: &[TextSection],
-) -> Result<(), AllocError>
-    ensures { OnOk result (text.new.items
-        ≡ text.old.items ++ sub_heading format key (map section_view sections.now)) }
+#[tactic(auto, using(conode_text::proofs::Appending::nothing))]
+fn put_sub_heading(page: &mut Page, format: Format, key: Key, sections: &[TextSection])
+    ensures { Appended page.old (sub_heading format key (map section_view sections.now)) page.new }
 {
     let Format::Markdown = format else {
-        return Ok(());
+        return;
     };
     if !begins_object(key, sections) {
-        return Ok(());
+        return;
     }
-    let head = entries_head(Format::Markdown);
-    push_all(
-        text,
-        &["\n### ", word_digits(key.index).as_str(), "h", "\n\n", head],
-    )
+    page.put_heading(key.index, &Content::Nothing);
 }
 
 // an object with sub-indices
 #[tactic(auto, unfolding(crate::specs::Entries::object_line))]
-fn push_object_line<'p>(
-    text: &mut Vec<u8>,
-    line: &mut Vec<u8>,
-    part: &mut String,
+fn put_object_line<'p>(
+    page: &mut Page,
     format: Format,
     index: u16,
     section: &'p TextSection<'p, 'p>,
-) -> Result<(), AllocError>
-    ensures { OnOk result (text.new.items
-        ≡ text.old.items ++ object_line format index (section_view section.entry.now)) }
+)
+    ensures { Appended page.old (object_line format index (section_view section.entry.now))
+        page.new }
 {
-    push_line(
-        text,
-        line,
-        part,
+    page.put_line(
         format,
         None,
         &[
@@ -347,36 +338,50 @@ fn push_object_line<'p>(
             Cell(64, Content::Nothing),
             Cell(87, Content::Nothing),
         ],
-    )
+    );
+}
+
+// an object with sub-indices, or else its entry
+fn put_lines<'p>(
+    page: &mut Page,
+    format: Format,
+    node: Option<u8>,
+    sections: &'p [TextSection<'p, 'p>],
+    index: u16,
+    section: &'p TextSection<'p, 'p>,
+)
+    ensures { Appended page.old (lines_of format node (map section_view sections.entry.now) index
+        (section_view section.entry.now)) page.new }
+{
+    if has_sub_indices(sections, index, section) {
+        put_object_line(page, format, index, section);
+    } else {
+        page.put_entry(format, node, Key { index, sub: 0 }, section);
+    }
 }
 
 /// Appends the lines of a section: an object with sub-indices, or else its entry; or the entry of a
 /// sub-index.
-pub(crate) fn push_section<'p>(
-    text: &mut Vec<u8>,
-    line: &mut Vec<u8>,
-    part: &mut String,
+#[tactic(auto, using(conode_text::proofs::Appending::nothing))]
+pub(crate) fn put_section<'p>(
+    page: &mut Page,
     format: Format,
     node: Option<u8>,
     sections: &'p [TextSection<'p, 'p>],
     section: &'p TextSection<'p, 'p>,
-) -> Result<(), AllocError>
-    ensures { OnOk result (text.new.items ≡ text.old.items ++ section_text format node
-        (map section_view sections.entry.now) (section_view section.entry.now)) }
+)
+    ensures { Appended page.old (section_text format node
+        (map section_view sections.entry.now) (section_view section.entry.now)) page.new }
 {
-    let key = match section.kind {
+    match section.kind {
         SectionKind::Object(index) => {
-            attempt!(push_heading(text, part, format, index, section));
-            if has_sub_indices(sections, index, section) {
-                return push_object_line(text, line, part, format, index, section);
-            }
-            Key { index, sub: 0 }
+            put_heading(page, format, index, section);
+            put_lines(page, format, node, sections, index, section);
         }
         SectionKind::SubIndex(key) => {
-            attempt!(push_sub_heading(text, format, key, sections));
-            key
+            put_sub_heading(page, format, key, sections);
+            page.put_entry(format, node, key, section);
         }
-        _ => return Ok(()),
-    };
-    push_entry_line(text, line, part, format, node, key, section)
+        _ => {}
+    }
 }

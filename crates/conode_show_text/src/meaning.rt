@@ -1,7 +1,20 @@
-//! What the numbers of the communication profile mean, in words (CiA 301, 7.5.2). Each function
-//! appends a text. `Err`: out of memory; a part of the text may be there.
+//! What the numbers of the communication profile mean, in words (CiA 301, 7.5.2). Each function with
+//! a text appends to it. `Err`: out of memory; a part of the text may be there.
 
-ghost use Rattle.std.specs.Prelude.{◌≡◌, ◌++◌, OnOk, string_bytes};
+ghost use Rattle.std.specs.Prelude.{
+  ◌≡◌,
+  ◌++◌,
+  ◌/◌,
+  ◌%◌,
+  [],
+  ◌∷◌,
+  OnOk,
+  codes,
+  decimal,
+  string_bytes,
+};
+ghost use Rattle.conode_text.specs.Filled.{filled};
+ghost use Rattle.conode_show_text.specs.Phrases.{phrase_text};
 ghost use Rattle.std.specs.Option.{option_copied};
 ghost use Rattle.co_sheet_text.specs.Views.{section_view};
 ghost use Rattle.conode_show_text.specs.Meanings.{
@@ -27,11 +40,11 @@ ghost use Rattle.conode_show_text.specs.Meanings.{
   word_text,
 };
 
-use crate::cob_ids::{push_identifier, push_pdo_cob_id, sync_name, time_name, use_name};
+use crate::cob_ids::{cob_id, pdo_cob_id, sync_name, time_name, use_name};
 use crate::names::name_among;
-use crate::numbers::{push_between, push_words};
+use crate::phrase::{Phrase, Piece, alone, push_phrase, with_number};
 use crate::texts::push_plain;
-use crate::values::{Word, push_addend, value_of, word_of};
+use crate::values::{Word, sum, value_of, word_of};
 use co_sheet_text::TextSection;
 use co_value::Key;
 use std::alloc::AllocError;
@@ -88,33 +101,37 @@ fn transmission_name(number: u64) -> Option<&'static str>
 }
 
 // the transmission type of a TPDO: by name, by a number of SYNCs, or reserved
-#[tactic(auto, unfolding(crate::specs::Meanings::transmission_text, crate::specs::Meanings::counted_syncs))]
-fn push_transmission(text: &mut String, number: u64) -> Result<(), AllocError>
-    ensures { OnOk result
-        (string_bytes text.new ≡ string_bytes text.old ++ transmission_text number) }
+#[tactic(auto, unfolding(crate::specs::Meanings::transmission_text, crate::specs::Meanings::counted_syncs, conode_text::specs::Filled::filled))]
+fn transmission(number: u64) -> Phrase<'static>
+    ensures { phrase_text result ≡ transmission_text number }
 {
     if let Some(name) = transmission_name(number) {
-        return push_words(text, name);
+        return alone(Piece::Words(name));
     }
     if 240 < number {
-        return push_between(text, "", number, ": reserved");
+        return with_number("%: reserved", number);
     }
-    write!(text, "{number}: every {number} SYNCs")
+    Phrase {
+        words: "%: every % SYNCs",
+        first: Piece::Number(number),
+        second: Piece::Number(number),
+        third: Piece::Nothing,
+        fourth: Piece::Nothing,
+    }
 }
 
 // the transmission type of an RPDO: up to 240 the next SYNC brings what was received
-#[tactic(auto, unfolding(crate::specs::Meanings::reception_text))]
-fn push_reception(text: &mut String, number: u64) -> Result<(), AllocError>
-    ensures { OnOk result
-        (string_bytes text.new ≡ string_bytes text.old ++ reception_text number) }
+#[tactic(auto, unfolding(crate::specs::Meanings::reception_text, conode_text::specs::Filled::filled))]
+fn reception(number: u64) -> Phrase<'static>
+    ensures { phrase_text result ≡ reception_text number }
 {
     if number <= 240 {
-        return push_between(text, "", number, ": with the next SYNC");
+        return with_number("%: with the next SYNC", number);
     }
     if number == 254 || number == 255 {
-        return push_transmission(text, number);
+        return transmission(number);
     }
-    push_between(text, "", number, ": reserved")
+    with_number("%: reserved", number)
 }
 
 // the words for a time of 0, and those before another one
@@ -145,49 +162,79 @@ fn is_in_tenths(meaning: Meaning) -> bool
 }
 
 // a time in ms, with tenths if the number is in 100 µs
-#[tactic(auto, unfolding(crate::specs::Meanings::time_text, crate::specs::Meanings::millis_text))]
-fn push_time(text: &mut String, meaning: Meaning, number: u64) -> Result<(), AllocError>
-    ensures { OnOk result (string_bytes text.new ≡ string_bytes text.old
-        ++ time_text (off_words meaning) (before_words meaning) (is_in_tenths meaning) number) }
+#[tactic(auto, unfolding(crate::specs::Meanings::time_text, crate::specs::Meanings::millis_text, conode_text::specs::Filled::filled))]
+fn time(meaning: Meaning, number: u64) -> Phrase<'static>
+    ensures { phrase_text result
+        ≡ time_text (off_words meaning) (before_words meaning) (is_in_tenths meaning) number }
 {
     if number == 0 {
-        return push_words(text, off_words(meaning));
+        return alone(Piece::Words(off_words(meaning)));
     }
-    let before = before_words(meaning);
+    let before = Piece::Words(before_words(meaning));
     if is_in_tenths(meaning) {
-        let whole = number / 10;
-        let tenths = number % 10;
-        write!(text, "{before}{whole}.{tenths} ms")
+        Phrase {
+            words: "%%.% ms",
+            first: before,
+            second: Piece::Number(number / 10),
+            third: Piece::Number(number % 10),
+            fourth: Piece::Nothing,
+        }
     } else {
-        push_between(text, before, number, " ms")
+        Phrase {
+            words: "%% ms",
+            first: before,
+            second: Piece::Number(number),
+            third: Piece::Nothing,
+            fourth: Piece::Nothing,
+        }
     }
 }
 
-// a time in µs, printed in ms after the words `before`
-#[tactic(auto, unfolding(crate::specs::Meanings::micros_text))]
-fn push_micros(text: &mut String, before: &str, number: u64) -> Result<(), AllocError>
-    ensures { OnOk result
-        (string_bytes text.new ≡ string_bytes text.old ++ micros_text before.now number) }
+// a time in µs, printed in ms, in these words
+fn millis(words: &'static str, number: u64) -> Phrase<'static>
+    ensures { phrase_text result ≡ filled words.now (decimal (number / 1000)
+        ∷ decimal (number / 100 % 10) ∷ decimal (number / 10 % 10) ∷ decimal (number % 10) ∷ []) }
+{
+    Phrase {
+        words,
+        first: Piece::Number(number / 1000),
+        second: Piece::Number(number / 100 % 10),
+        third: Piece::Number(number / 10 % 10),
+        fourth: Piece::Number(number % 10),
+    }
+}
+
+// the SYNC period
+#[tactic(auto, unfolding(crate::specs::Meanings::micros_text, conode_text::specs::Filled::filled))]
+fn period(number: u64) -> Phrase<'static>
+    ensures { phrase_text result ≡ micros_text (codes "every ") number }
 {
     if number == 0 {
-        return push_words(text, "none");
+        return alone(Piece::Words("none"));
     }
-    let whole = number / 1000;
-    let tenths = number / 100 % 10;
-    let hundredths = number / 10 % 10;
-    let thousandths = number % 10;
-    write!(text, "{before}{whole}.{tenths}{hundredths}{thousandths} ms")
+    millis("every %.%%% ms", number)
+}
+
+// the SYNC window
+#[tactic(auto, unfolding(crate::specs::Meanings::micros_text, conode_text::specs::Filled::filled))]
+fn window(number: u64) -> Phrase<'static>
+    ensures { phrase_text result ≡ micros_text [] number }
+{
+    if number == 0 {
+        return alone(Piece::Words("none"));
+    }
+    millis("%.%%% ms", number)
 }
 
 // the SYNC counter overflow value
-#[tactic(auto, unfolding(crate::specs::Meanings::overflow_text))]
-fn push_overflow(text: &mut String, number: u64) -> Result<(), AllocError>
-    ensures { OnOk result (string_bytes text.new ≡ string_bytes text.old ++ overflow_text number) }
+#[tactic(auto, unfolding(crate::specs::Meanings::overflow_text, conode_text::specs::Filled::filled))]
+fn overflow(number: u64) -> Phrase<'static>
+    ensures { phrase_text result ≡ overflow_text number }
 {
     match number {
-        0 => push_words(text, "no counter"),
-        2..=240 => push_between(text, "counter from 1 to ", number, ""),
-        _ => push_between(text, "", number, ": reserved"),
+        0 => alone(Piece::Words("no counter")),
+        2..=240 => with_number("counter from 1 to %", number),
+        _ => with_number("%: reserved", number),
     }
 }
 
@@ -210,17 +257,20 @@ fn consumer_reserved(number: u64) -> &'static str
     }
 }
 
-#[tactic(auto, unfolding(crate::specs::Meanings::consumer_text))]
-fn push_consumer(text: &mut String, number: u64) -> Result<(), AllocError>
-    ensures { OnOk result (string_bytes text.new ≡ string_bytes text.old ++ consumer_text number) }
+#[tactic(auto, unfolding(crate::specs::Meanings::consumer_text, conode_text::specs::Filled::filled))]
+fn consumer(number: u64) -> Phrase<'static>
+    ensures { phrase_text result ≡ consumer_text number }
 {
     if !is_consumer_used(number) {
-        return push_words(text, "not used");
+        return alone(Piece::Words("not used"));
     }
-    let node = number / 0x1_0000 % 0x100;
-    let time = number % 0x1_0000;
-    let reserved = consumer_reserved(number);
-    write!(text, "node {node}, within {time} ms{reserved}")
+    Phrase {
+        words: "node %, within % ms%",
+        first: Piece::Number(number / 0x1_0000 % 0x100),
+        second: Piece::Number(number % 0x1_0000),
+        third: Piece::Words(consumer_reserved(number)),
+        fourth: Piece::Nothing,
+    }
 }
 
 /// The key that a word of a mapping names (CiA 301, 7.5.2.36).
@@ -239,36 +289,39 @@ fn bits_name(bits: u64) -> &'static str
     if bits == 1 { " bit" } else { " bits" }
 }
 
-#[tactic(auto, unfolding(crate::specs::Meanings::mapped_text))]
-fn push_mapped(text: &mut String, number: u64) -> Result<(), AllocError>
-    ensures { OnOk result (string_bytes text.new ≡ string_bytes text.old ++ mapped_text number) }
+#[tactic(auto, unfolding(crate::specs::Meanings::mapped_text, conode_text::specs::Filled::filled))]
+fn mapped(number: u64) -> Phrase<'static>
+    ensures { phrase_text result ≡ mapped_text number }
 {
-    let key = mapped_key(number).text();
-    let key = key.as_str();
     let bits = number % 0x100;
-    let unit = bits_name(bits);
-    write!(text, "{key}, {bits}{unit}")
+    Phrase {
+        words: "%, %%",
+        first: Piece::Key(mapped_key(number)),
+        second: Piece::Number(bits),
+        third: Piece::Words(bits_name(bits)),
+        fourth: Piece::Nothing,
+    }
 }
 
+// the meaning of a word
 #[tactic(auto, unfolding(crate::specs::CobIds::cob_id_text, crate::specs::CobIds::sync_text, crate::specs::CobIds::time_cob_id_text))]
-fn push_meaning(text: &mut String, meaning: Meaning, word: Word) -> Result<(), AllocError>
-    ensures { OnOk result
-        (string_bytes text.new ≡ string_bytes text.old ++ meaning_text meaning word) }
+fn meaning_of(meaning: Meaning, word: Word) -> Phrase<'static>
+    ensures { phrase_text result ≡ meaning_text meaning word }
 {
     match meaning {
-        Meaning::PdoCobId => push_pdo_cob_id(text, word),
-        Meaning::CobId => push_identifier(text, word.number, use_name(word)),
-        Meaning::SyncCobId => push_identifier(text, word.number, sync_name(word)),
-        Meaning::SyncPeriod => push_micros(text, "every ", word.number),
-        Meaning::SyncWindow => push_micros(text, "", word.number),
-        Meaning::SyncOverflow => push_overflow(text, word.number),
-        Meaning::TimeCobId => push_identifier(text, word.number, time_name(word)),
-        Meaning::Transmission => push_transmission(text, word.number),
-        Meaning::Reception => push_reception(text, word.number),
+        Meaning::PdoCobId => pdo_cob_id(word),
+        Meaning::CobId => cob_id(word.number, use_name(word), ""),
+        Meaning::SyncCobId => cob_id(word.number, sync_name(word), ""),
+        Meaning::SyncPeriod => period(word.number),
+        Meaning::SyncWindow => window(word.number),
+        Meaning::SyncOverflow => overflow(word.number),
+        Meaning::TimeCobId => cob_id(word.number, time_name(word), ""),
+        Meaning::Transmission => transmission(word.number),
+        Meaning::Reception => reception(word.number),
         Meaning::PdoInhibit | Meaning::EventTimer | Meaning::EmcyInhibit | Meaning::Producer =>
-            push_time(text, meaning, word.number),
-        Meaning::Consumer => push_consumer(text, word.number),
-        Meaning::Mapped => push_mapped(text, word.number),
+            time(meaning, word.number),
+        Meaning::Consumer => consumer(word.number),
+        Meaning::Mapped => mapped(word.number),
     }
 }
 
@@ -283,17 +336,16 @@ fn is_cob_id(meaning: Meaning) -> bool
 }
 
 // a sum with a node-ID that isn't known: only a COB-ID has words
+#[tactic(auto, unfolding(crate::specs::Values::sum_text))]
 fn push_relative(text: &mut String, meaning: Meaning, word: Word) -> Result<(), AllocError>
     ensures { OnOk result
         (string_bytes text.new ≡ string_bytes text.old ++ relative_text meaning word) }
 {
     if !is_cob_id(meaning) {
-        return push_addend(text, word.number);
+        return push_phrase(text, &sum(None, word.number));
     }
-    match push_words(text, "$NODEID+") {
-        Ok(()) => push_meaning(text, meaning, word),
-        Err(fault) => Err(fault),
-    }
+    attempt!(text.push_str("$NODEID+"));
+    push_phrase(text, &meaning_of(meaning, word))
 }
 
 // a number of the communication profile in words
@@ -305,7 +357,7 @@ fn push_word(text: &mut String, meaning: Meaning, word: Word) -> Result<(), Allo
     if word.relative {
         push_relative(text, meaning, word)
     } else {
-        push_meaning(text, meaning, word)
+        push_phrase(text, &meaning_of(meaning, word))
     }
 }
 

@@ -1,9 +1,11 @@
 //! PDOs in words: COB-ID, transmission type, timers, what they map (CiA 301, 7.5.2.35 to 7.5.2.38).
 
-ghost use Rattle.std.specs.Prelude.{◌≡◌, ◌≤◌, ◌++◌, ℕ, Option, map, option_map, OnOk, string_bytes};
+ghost use Rattle.std.specs.Prelude.{◌≡◌, ◌≤◌, ℕ, Option, map, option_map};
 ghost use Rattle.std.specs.Option.{option_copied};
 ghost use Rattle.co_sheet_text.specs.Views.{section_view};
+ghost use Rattle.conode_text.specs.Appended.{Appended};
 ghost use Rattle.conode_show_text.specs.Cells.{cell_text};
+ghost use Rattle.conode_show_text.specs.Phrases.{phrase_text};
 ghost use Rattle.conode_show_text.specs.Pdos.{
   counted_line,
   entry_section,
@@ -18,6 +20,7 @@ ghost use Rattle.conode_show_text.specs.Pdos.{
   mapping_size,
   multiplexed_line,
   multiplexed_words,
+  pdo_line,
   pdo_lines,
   pdo_name,
   pdo_text,
@@ -26,16 +29,16 @@ ghost use Rattle.conode_show_text.specs.Pdos.{
   type_meaning,
 };
 
-use crate::cells::{Cell, Content, push_line};
+use crate::cells::{Cell, Content};
 use crate::format::Format;
 use crate::meaning::{Meaning, mapped_key};
-use crate::numbers::push_between;
+use crate::page::Page;
+use crate::phrase::{Phrase, with_number};
 use crate::values::{Word, value_of, word_of};
 use co_profile::IndexRange;
 use co_sheet::section_at;
 use co_sheet_text::{SectionKind, TextSection};
 use co_value::Key;
-use std::alloc::AllocError;
 
 /// Whether an entry is the COB-ID of a PDO.
 pub fn is_pdo_cob_id(key: Key) -> bool
@@ -46,16 +49,15 @@ pub fn is_pdo_cob_id(key: Key) -> bool
             || IndexRange::TPDO_COMMUNICATION.contains(key.index))
 }
 
-/// Appends a PDO's name with its number, from 1, by the index of its communication parameter.
-/// `Err`: out of memory; a part of the text may be there.
-#[tactic(auto, unfolding(crate::specs::Pdos::pdo_name))]
-pub(crate) fn push_pdo_name(text: &mut String, index: u16) -> Result<(), AllocError>
-    ensures { OnOk result (string_bytes text.new ≡ string_bytes text.old ++ pdo_name index) }
+/// A PDO's name with its number, from 1, by the index of its communication parameter.
+#[tactic(auto, unfolding(crate::specs::Pdos::pdo_name, conode_text::specs::Filled::filled))]
+pub(crate) fn pdo_name(index: u16) -> Phrase<'static>
+    ensures { phrase_text result ≡ pdo_name index }
 {
     if IndexRange::RPDO_COMMUNICATION.contains(index) {
-        push_between(text, "RPDO ", index.saturating_sub(0x13FF) as u64, "")
+        with_number("RPDO %", index.saturating_sub(0x13FF) as u64)
     } else {
-        push_between(text, "TPDO ", index.saturating_sub(0x17FF) as u64, "")
+        with_number("TPDO %", index.saturating_sub(0x17FF) as u64)
     }
 }
 
@@ -201,23 +203,14 @@ pub fn multiplexed_words(node: Option<u8>, sections: &[TextSection], index: u16)
 }
 
 // the line of a multiplexed PDO's mapping; nothing if there are no words
-fn push_multiplexed(
-    text: &mut Vec<u8>,
-    line: &mut Vec<u8>,
-    part: &mut String,
-    format: Format,
-    words: &'static str,
-) -> Result<(), AllocError>
-    ensures { OnOk result
-        (text.new.items ≡ text.old.items ++ multiplexed_line format words.now) }
+#[tactic(auto, using(conode_text::proofs::Appending::nothing))]
+fn put_multiplexed(page: &mut Page, format: Format, words: &'static str)
+    ensures { Appended page.old (multiplexed_line format words.now) page.new }
 {
     if words.is_empty() {
-        return Ok(());
+        return;
     }
-    push_line(
-        text,
-        line,
-        part,
+    page.put_line(
         format,
         None,
         &[
@@ -227,7 +220,7 @@ fn push_multiplexed(
             Cell(72, Content::Nothing),
             Cell(83, Content::Nothing),
         ],
-    )
+    );
 }
 
 /// Whether a section is one of the words that count in the mapping of this index.
@@ -243,28 +236,23 @@ pub fn is_counted(index: u16, count: u64, kind: SectionKind) -> bool
 }
 
 // the line of a section, if it is a word that counts in the mapping
-#[tactic(auto, unfolding(crate::specs::Pdos::mapped_line))]
-fn push_if_counted<'p>(
-    text: &mut Vec<u8>,
-    line: &mut Vec<u8>,
-    part: &mut String,
+#[tactic(auto, using(conode_text::proofs::Appending::nothing), unfolding(crate::specs::Pdos::mapped_line))]
+fn put_if_counted<'p>(
+    page: &mut Page,
     format: Format,
     node: Option<u8>,
     sections: &'p [TextSection<'p, 'p>],
     index: u16,
     count: u64,
     section: &'p TextSection<'p, 'p>,
-) -> Result<(), AllocError>
-    ensures { OnOk result (text.new.items ≡ text.old.items ++ counted_line format node
-        (map section_view sections.entry.now) index count (section_view section.entry.now)) }
+)
+    ensures { Appended page.old (counted_line format node
+        (map section_view sections.entry.now) index count (section_view section.entry.now)) page.new }
 {
     if !is_counted(index, count, section.kind) {
-        return Ok(());
+        return;
     }
-    push_line(
-        text,
-        line,
-        part,
+    page.put_line(
         format,
         node,
         &[
@@ -274,82 +262,89 @@ fn push_if_counted<'p>(
             Cell(72, Content::Nothing),
             Cell(83, Content::Nothing),
         ],
-    )
+    );
 }
 
 // the lines of what a mapping maps
-#[tactic(auto, unfolding(crate::specs::Pdos::mapped_lines))]
-fn push_mapped_lines<'p>(
-    text: &mut Vec<u8>,
-    line: &mut Vec<u8>,
-    part: &mut String,
+fn put_mapped_lines<'p>(
+    page: &mut Page,
     format: Format,
     node: Option<u8>,
     sections: &'p [TextSection<'p, 'p>],
     index: u16,
-    count: u64,
-) -> Result<(), AllocError>
-    ensures { OnOk result (text.new.items ≡ text.old.items ++ mapped_lines format node
-        (map section_view sections.entry.now) index count) }
+)
+    ensures { Appended page.old (mapped_lines format node (map section_view sections.entry.now) index
+        (mapping_count node (map section_view sections.entry.now) index)) page.new }
 {
+    let count = mapping_count(node, sections, index);
     for section in sections {
-        attempt!(push_if_counted(
-            text, line, part, format, node, sections, index, count, section,
-        ));
+        put_if_counted(page, format, node, sections, index, count, section);
     }
-    Ok(())
 }
 
-// a PDO, by the section of its COB-ID
-#[tactic(auto, unfolding(crate::specs::Pdos::pdo_lines, crate::specs::Pdos::pdo_line))]
-fn push_pdo_lines<'p>(
-    text: &mut Vec<u8>,
-    line: &mut Vec<u8>,
-    part: &mut String,
+// the line of a PDO, by the section of its COB-ID
+#[tactic(auto, unfolding(crate::specs::Pdos::pdo_line))]
+fn put_pdo_line<'p>(
+    page: &mut Page,
     format: Format,
     node: Option<u8>,
     sections: &'p [TextSection<'p, 'p>],
     index: u16,
     section: &'p TextSection<'p, 'p>,
-) -> Result<(), AllocError>
-    requires { index ≤ 0x1BFF }
-    ensures { OnOk result (text.new.items ≡ text.old.items ++ pdo_lines format node
-        (map section_view sections.entry.now) index (section_view section.entry.now)) }
+)
+    ensures { Appended page.old (pdo_line format node (map section_view sections.entry.now) index
+        (section_view section.entry.now)) page.new }
 {
     let transmission = Key { index, sub: 2 };
     let timer = Key { index, sub: 5 };
-    let cells = [
-        Cell(0, Content::Pdo(index)),
-        Cell(8, Content::Said(Meaning::PdoCobId, section)),
-        Cell(38, said_at(type_meaning(index), sections, transmission)),
-        Cell(72, inhibit_time(sections, index)),
-        Cell(83, said_at(Meaning::EventTimer, sections, timer)),
-    ];
-    attempt!(push_line(text, line, part, format, node, &cells));
+    page.put_line(
+        format,
+        node,
+        &[
+            Cell(0, Content::Pdo(index)),
+            Cell(8, Content::Said(Meaning::PdoCobId, section)),
+            Cell(38, said_at(type_meaning(index), sections, transmission)),
+            Cell(72, inhibit_time(sections, index)),
+            Cell(83, said_at(Meaning::EventTimer, sections, timer)),
+        ],
+    );
+}
+
+// a PDO, by the section of its COB-ID
+fn put_pdo_lines<'p>(
+    page: &mut Page,
+    format: Format,
+    node: Option<u8>,
+    sections: &'p [TextSection<'p, 'p>],
+    index: u16,
+    section: &'p TextSection<'p, 'p>,
+)
+    requires { index ≤ 0x1BFF }
+    ensures { Appended page.old (pdo_lines format node (map section_view sections.entry.now) index
+        (section_view section.entry.now)) page.new }
+{
+    put_pdo_line(page, format, node, sections, index, section);
     let mapping = index + 0x200;
-    let words = multiplexed_words(node, sections, mapping);
-    attempt!(push_multiplexed(text, line, part, format, words));
-    let count = mapping_count(node, sections, mapping);
-    push_mapped_lines(text, line, part, format, node, sections, mapping, count)
+    put_multiplexed(page, format, multiplexed_words(node, sections, mapping));
+    put_mapped_lines(page, format, node, sections, mapping);
 }
 
 /// Appends the lines of a PDO, by the section of its COB-ID; nothing for any other section.
-pub(crate) fn push_pdo<'p>(
-    text: &mut Vec<u8>,
-    line: &mut Vec<u8>,
-    part: &mut String,
+#[tactic(auto, using(conode_text::proofs::Appending::nothing))]
+pub(crate) fn put_pdo<'p>(
+    page: &mut Page,
     format: Format,
     node: Option<u8>,
     sections: &'p [TextSection<'p, 'p>],
     section: &'p TextSection<'p, 'p>,
-) -> Result<(), AllocError>
-    ensures { OnOk result (text.new.items ≡ text.old.items ++ pdo_text format node
-        (map section_view sections.entry.now) (section_view section.entry.now)) }
+)
+    ensures { Appended page.old (pdo_text format node (map section_view sections.entry.now)
+        (section_view section.entry.now)) page.new }
 {
     match section.kind {
         SectionKind::SubIndex(key) if is_pdo_cob_id(key) => {
-            push_pdo_lines(text, line, part, format, node, sections, key.index, section)
+            put_pdo_lines(page, format, node, sections, key.index, section);
         }
-        _ => Ok(()),
+        _ => {}
     }
 }

@@ -1,10 +1,13 @@
 //! SYNC, TIME, EMCY, heartbeats and SDO channels in words (CiA 301, 7.5.2).
 
-ghost use Rattle.std.specs.Prelude.{◌≡◌, ◌++◌, OnOk, string_bytes};
+ghost use Rattle.std.specs.Prelude.{◌≡◌};
 ghost use Rattle.co_sheet_text.specs.Views.{section_view};
+ghost use Rattle.conode_text.specs.Appended.{Appended};
+ghost use Rattle.conode_show_text.specs.Phrases.{phrase_text};
 ghost use Rattle.conode_show_text.specs.Services.{
   channel_of,
   key_of,
+  service_line,
   service_meaning,
   service_name,
   service_of,
@@ -13,13 +16,13 @@ ghost use Rattle.conode_show_text.specs.Services.{
   way_of,
 };
 
-use crate::cells::{Cell, Content, push_line};
+use crate::cells::{Cell, Content};
 use crate::format::Format;
 use crate::meaning::Meaning;
-use crate::numbers::push_between;
+use crate::page::Page;
+use crate::phrase::{Phrase, Piece, alone};
 use co_sheet_text::{SectionKind, TextSection};
 use co_value::Key;
-use std::alloc::AllocError;
 
 /// The service of an entry in the communication profile.
 #[derive(Clone, Copy)]
@@ -133,19 +136,21 @@ fn way_of(service: Service) -> &'static str
     }
 }
 
-/// Appends the name of a service. `Err`: out of memory; a part of the text may be there.
-#[tactic(auto, unfolding(crate::specs::Services::service_name))]
-pub(crate) fn push_service_name(text: &mut String, service: Service) -> Result<(), AllocError>
-    ensures { OnOk result (string_bytes text.new ≡ string_bytes text.old ++ service_name service) }
+/// The name of a service.
+#[tactic(auto, unfolding(crate::specs::Services::service_name, conode_text::specs::Filled::filled))]
+pub(crate) fn service_name(service: Service) -> Phrase<'static>
+    ensures { phrase_text result ≡ service_name service }
 {
+    let words = Piece::Words(service_words(service));
     match channel_of(service) {
-        Some(channel) => push_between(
-            text,
-            service_words(service),
-            channel as u64,
-            way_of(service),
-        ),
-        None => text.push_str(service_words(service)),
+        Some(channel) => Phrase {
+            words: "%%%",
+            first: words,
+            second: Piece::Number(channel as u64),
+            third: Piece::Words(way_of(service)),
+            fourth: Piece::Nothing,
+        },
+        None => alone(words),
     }
 }
 
@@ -160,29 +165,20 @@ pub fn key_of(kind: SectionKind) -> Option<Key>
     }
 }
 
-/// Appends the line of an entry of a service; nothing for any other section.
+// the line of an entry of a service
 #[tactic(auto, unfolding(crate::specs::Services::service_line))]
-pub(crate) fn push_service<'p>(
-    text: &mut Vec<u8>,
-    line: &mut Vec<u8>,
-    part: &mut String,
+fn put_line<'p>(
+    page: &mut Page,
     format: Format,
     node: Option<u8>,
+    key: Key,
+    service: Service,
     section: &'p TextSection<'p, 'p>,
-) -> Result<(), AllocError>
-    ensures { OnOk result (text.new.items
-        ≡ text.old.items ++ service_text format node (section_view section.entry.now)) }
+)
+    ensures { Appended page.old
+        (service_line format node key service (section_view section.entry.now)) page.new }
 {
-    let Some(key) = key_of(section.kind) else {
-        return Ok(());
-    };
-    let Some(service) = Service::of(key) else {
-        return Ok(());
-    };
-    push_line(
-        text,
-        line,
-        part,
+    page.put_line(
         format,
         node,
         &[
@@ -190,5 +186,23 @@ pub(crate) fn push_service<'p>(
             Cell(8, Content::Service(service)),
             Cell(38, Content::Said(service.meaning(), section)),
         ],
-    )
+    );
+}
+
+/// Appends the line of an entry of a service; nothing for any other section.
+#[tactic(auto, using(conode_text::proofs::Appending::nothing))]
+pub(crate) fn put_service<'p>(
+    page: &mut Page,
+    format: Format,
+    node: Option<u8>,
+    section: &'p TextSection<'p, 'p>,
+)
+    ensures { Appended page.old (service_text format node (section_view section.entry.now)) page.new }
+{
+    let Some(key) = key_of(section.kind) else {
+        return;
+    };
+    if let Some(service) = Service::of(key) {
+        put_line(page, format, node, key, service, section);
+    }
 }

@@ -1,8 +1,9 @@
-//! Texts of a sheet. Each function appends a text. `Err`: out of memory; a part of the text may be
-//! there.
+//! Texts of a sheet. Each function with a text appends to it. `Err`: out of memory; a part of the
+//! text may be there.
 
 ghost use Rattle.std.specs.Prelude.{◌≡◌, ◌++◌, OnOk, string_bytes};
 ghost use Rattle.co_sheet_text.specs.Views.{section_view};
+ghost use Rattle.conode_show_text.specs.Phrases.{piece_text};
 ghost use Rattle.conode_show_text.specs.Texts.{
   is_escaped,
   plain_text,
@@ -11,6 +12,7 @@ ghost use Rattle.conode_show_text.specs.Texts.{
   shown_characters,
 };
 
+use crate::phrase::Piece;
 use co_sheet_text::TextSection;
 use co_text::push_byte;
 use conode_json::characters_of;
@@ -56,18 +58,13 @@ pub(crate) fn push_plain(text: &mut String, bytes: &[u8]) -> Result<(), AllocErr
     push_characters(text, characters.as_slice())
 }
 
-/// Appends the text of a property, nothing if the section has none.
+/// The text of a property, nothing if the section has none.
 #[tactic(auto, unfolding(crate::specs::Texts::property_text))]
-pub(crate) fn push_property(
-    text: &mut String,
-    section: &TextSection<'_, '_>,
-    name: &[u8],
-) -> Result<(), AllocError>
-    ensures { OnOk result (string_bytes text.new
-        ≡ string_bytes text.old ++ property_text name.now (section_view section.now)) }
+pub(crate) fn property_text<'a>(section: &TextSection<'_, 'a>, name: &[u8]) -> Piece<'a>
+    ensures { piece_text result ≡ property_text name.now (section_view section.now) }
 {
     match section.property(name) {
-        Some(property) => push_plain(text, property.value),
-        None => Ok(()),
+        Some(property) => Piece::Plain(property.value),
+        None => Piece::Nothing,
     }
 }

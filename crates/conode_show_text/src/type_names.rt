@@ -1,13 +1,13 @@
 //! The names of data types.
 
-ghost use Rattle.std.specs.Prelude.{◌≡◌, ◌++◌, OnOk, string_bytes};
+ghost use Rattle.std.specs.Prelude.{◌≡◌};
 ghost use Rattle.std.specs.Option.{option_copied};
 ghost use Rattle.conode_show_text.specs.Entries.{type_name, type_names};
 ghost use Rattle.conode_show_text.specs.Names.{name_among};
+ghost use Rattle.conode_show_text.specs.Phrases.{piece_text};
 
 use crate::names::name_among;
-use crate::numbers::{push_hex_between, push_words};
-use std::alloc::AllocError;
+use crate::phrase::Piece;
 
 /// Data types by their codes (CiA 301, 7.4.7.1).
 const TYPE_NAMES: [(u64, &str); 25] = [
@@ -44,13 +44,13 @@ fn known_name(code: u64) -> Option<&'static str>
     name_among(code, &TYPE_NAMES)
 }
 
-/// Appends the name of a data type, or its number if the code has no name.
+/// The name of a data type, or its number if the code has no name.
 #[tactic(auto, unfolding(crate::specs::Entries::type_name))]
-pub(crate) fn push_type_name(text: &mut String, code: u64) -> Result<(), AllocError>
-    ensures { OnOk result (string_bytes text.new ≡ string_bytes text.old ++ type_name code) }
+pub(crate) fn type_name(code: u64) -> Piece<'static>
+    ensures { piece_text result ≡ type_name code }
 {
     match known_name(code) {
-        Some(name) => push_words(text, name),
-        None => push_hex_between(text, "type ", code, ""),
+        Some(name) => Piece::Words(name),
+        None => Piece::TypeCode(code),
     }
 }

@@ -14,8 +14,8 @@ ghost use Rattle.std.specs.Prelude.{
 ghost use Rattle.co_sheet_text.specs.Views.{property_view, section_view};
 ghost use Rattle.co_sheet.specs.Views.{default_view};
 ghost use Rattle.conode_show_text.specs.Numbers.{if_small};
+ghost use Rattle.conode_show_text.specs.Phrases.{phrase_text, piece_text};
 ghost use Rattle.conode_show_text.specs.Values.{
-  addend_text,
   default_text,
   has_both,
   known_text,
@@ -36,8 +36,8 @@ ghost use Rattle.conode_show_text.specs.Values.{
   word_of,
 };
 
-use crate::numbers::{push_decimal_of, push_hex_between, push_number, push_words, words_if};
-use crate::texts::push_plain;
+use crate::numbers::{number_of, words_if};
+use crate::phrase::{Phrase, Piece, alone, push_phrase, with_one};
 use co_sheet::{data_type_with, numeric_default};
 use co_sheet_rows::Preset;
 use co_sheet_text::{Property, TextSection, signed_numeral};
@@ -73,61 +73,52 @@ fn sum_of(node: Option<u8>, addend: u64) -> Option<u64>
     }
 }
 
-/// Appends a sum with the node-ID as it is written.
-pub(crate) fn push_addend(text: &mut String, addend: u64) -> Result<(), AllocError>
-    ensures { OnOk result (string_bytes text.new ≡ string_bytes text.old ++ addend_text addend) }
+/// A sum with the node-ID as it is written, and its value for a given node.
+#[tactic(auto, unfolding(crate::specs::Values::sum_text, conode_text::specs::Filled::filled))]
+pub(crate) fn sum(node: Option<u8>, addend: u64) -> Phrase<'static>
+    ensures { phrase_text result ≡ sum_text node addend }
 {
+    let sum = sum_of(node, addend);
     if addend == 0 {
-        push_words(text, "$NODEID")
-    } else {
-        push_hex_between(text, "$NODEID+", addend, "")
+        return match sum {
+            None => alone(Piece::Words("$NODEID")),
+            Some(sum) => with_one("$NODEID = %", Piece::Hexadecimal(sum)),
+        };
+    }
+    match sum {
+        None => with_one("$NODEID+%", Piece::Hexadecimal(addend)),
+        Some(sum) => Phrase {
+            words: "$NODEID+% = %",
+            first: Piece::Hexadecimal(addend),
+            second: Piece::Hexadecimal(sum),
+            third: Piece::Nothing,
+            fourth: Piece::Nothing,
+        },
     }
 }
 
-#[tactic(auto, unfolding(crate::specs::Values::sum_text))]
-fn push_sum(text: &mut String, node: Option<u8>, addend: u64) -> Result<(), AllocError>
-    ensures { OnOk result (string_bytes text.new ≡ string_bytes text.old ++ sum_text node addend) }
-{
-    match (push_addend(text, addend), sum_of(node, addend)) {
-        (Ok(()), Some(sum)) => push_hex_between(text, " = ", sum, ""),
-        (added, _) => added,
-    }
-}
-
+// a numeric value of so many bytes
 #[tactic(auto, unfolding(crate::specs::Values::known_text))]
-fn push_known(
-    text: &mut String,
-    node: Option<u8>,
-    width: usize,
-    value: &[u8],
-    known: Preset<'static>,
-) -> Result<(), AllocError>
+fn known<'p>(node: Option<u8>, width: usize, value: &'p [u8], known: Preset<'static>) -> Phrase<'p>
     requires { width ≤ 8 }
-    ensures { OnOk result (string_bytes text.new
-        ≡ string_bytes text.old ++ known_text node width value.now (default_view known.entry)) }
+    ensures { phrase_text result ≡ known_text node width value.now (default_view known.entry) }
 {
     match known {
-        Preset::Number(number) => push_number(text, width, number),
-        Preset::NodeId(addend) => push_sum(text, node, addend),
-        Preset::Absent | Preset::Text(_) | Preset::Pairs(_) => push_plain(text, value),
+        Preset::Number(number) => number_of(width, number),
+        Preset::NodeId(addend) => sum(node, addend),
+        Preset::Absent | Preset::Text(_) | Preset::Pairs(_) => alone(Piece::Plain(value)),
     }
 }
 
-/// The code of VISIBLE_STRING (CiA 301, 7.4.7.1).
-const VISIBLE_STRING: u16 = 0x09;
-
 // a value of a type that isn't numeric
-#[tactic(auto, unfolding(crate::specs::Values::unnumbered_text, crate::specs::Values::quoted))]
-fn push_unnumbered(text: &mut String, data_type: DataType, value: &[u8]) -> Result<(), AllocError>
-    ensures { OnOk result (string_bytes text.new
-        ≡ string_bytes text.old ++ unnumbered_text data_type value.now) }
+#[tactic(auto, unfolding(crate::specs::Values::unnumbered_text, crate::specs::Values::quoted, conode_text::specs::Filled::filled))]
+fn unnumbered<'p>(data_type: DataType, value: &'p [u8]) -> Phrase<'p>
+    ensures { phrase_text result ≡ unnumbered_text data_type value.now }
 {
-    if data_type.code() == VISIBLE_STRING {
-        attempt!(push_words(text, "\""));
-        attempt!(push_plain(text, value));
-        push_words(text, "\"")
+    if data_type.code() == DataType::VisibleString.code() {
+        with_one("\"%\"", Piece::Plain(value))
     } else {
-        push_plain(text, value)
+        alone(Piece::Plain(value))
     }
 }
 
@@ -165,25 +156,24 @@ pub fn type_of(section: &TextSection<'_, '_>) -> Option<DataType>
 
 // the value of a property, nothing if there is none
 #[tactic(auto, unfolding(crate::specs::Values::property_value, crate::specs::Values::value_text))]
-fn push_value_of(
-    text: &mut String,
+fn value_in<'p>(
     node: Option<u8>,
     data_type: Option<DataType>,
-    property: Option<Property<'_>>,
-) -> Result<(), AllocError>
-    ensures { OnOk result (string_bytes text.new ≡ string_bytes text.old
-        ++ property_value node data_type (option_map property_view property.entry)) }
+    property: Option<Property<'p>>,
+) -> Phrase<'p>
+    ensures { phrase_text result
+        ≡ property_value node data_type (option_map property_view property.entry) }
 {
     let Some(property) = property else {
-        return Ok(());
+        return alone(Piece::Nothing);
     };
     let value = property.value;
     let Some(data_type) = data_type else {
-        return push_plain(text, value);
+        return alone(Piece::Plain(value));
     };
     match data_type.width() {
-        Some(width) => push_known(text, node, width, value, numeric_value(data_type, value)),
-        None => push_unnumbered(text, data_type, value),
+        Some(width) => known(node, width, value, numeric_value(data_type, value)),
+        None => unnumbered(data_type, value),
     }
 }
 
@@ -198,8 +188,11 @@ pub(crate) fn push_value(
     ensures { OnOk result (string_bytes text.new ≡ string_bytes text.old ++ before.now
         ++ value_at node name.now (section_view section.now)) }
 {
-    attempt!(push_words(text, before));
-    push_value_of(text, node, type_of(section), section.property(name))
+    attempt!(text.push_str(before));
+    push_phrase(
+        text,
+        &value_in(node, type_of(section), section.property(name)),
+    )
 }
 
 /// Whether a section has the value of a device configuration file, and a default too.
@@ -236,39 +229,38 @@ pub fn limit_number(data_type: Option<DataType>, value: &[u8]) -> Option<i128>
 }
 
 #[tactic(auto, unfolding(crate::specs::Values::limit_text))]
-fn push_limit(
-    text: &mut String,
-    data_type: Option<DataType>,
-    limit: Option<Property<'_>>,
-) -> Result<(), AllocError>
-    ensures { OnOk result (string_bytes text.new ≡ string_bytes text.old
-        ++ limit_text data_type (option_map property_view limit.entry)) }
+fn limit<'p>(data_type: Option<DataType>, limit: Option<Property<'p>>) -> Piece<'p>
+    ensures { piece_text result ≡ limit_text data_type (option_map property_view limit.entry) }
 {
     let Some(limit) = limit else {
-        return Ok(());
+        return Piece::Nothing;
     };
     match limit_number(data_type, limit.value) {
-        Some(number) => push_decimal_of(text, number),
-        None => push_plain(text, limit.value),
+        Some(number) => Piece::Signed(number),
+        None => Piece::Plain(limit.value),
     }
 }
 
-/// Appends both limits, as `0..100`, nothing if there is neither.
-#[tactic(auto, unfolding(crate::specs::Values::limits_text))]
-pub(crate) fn push_limits(
-    text: &mut String,
-    section: &TextSection<'_, '_>,
-) -> Result<(), AllocError>
-    ensures { OnOk result (string_bytes text.new
-        ≡ string_bytes text.old ++ limits_text (section_view section.now)) }
+/// Both limits, as `0..100`, nothing if there is neither.
+#[tactic(auto, unfolding(crate::specs::Values::limits_text, conode_text::specs::Filled::filled))]
+pub(crate) fn limits<'a>(section: &TextSection<'_, 'a>) -> Phrase<'a>
+    ensures { phrase_text result ≡ limits_text (section_view section.now) }
 {
     let data_type = type_of(section);
     let low = section.property(b"LowLimit");
     let high = section.property(b"HighLimit");
     let between = words_if(low.is_some() | high.is_some(), "..");
-    attempt!(push_limit(text, data_type, low));
-    attempt!(push_words(text, between));
-    push_limit(text, data_type, high)
+    let first = limit(data_type, low);
+    let second: Piece<'a> = Piece::Words(between);
+    let third = limit(data_type, high);
+    let fourth: Piece<'a> = Piece::Nothing;
+    Phrase {
+        words: "%%%",
+        first,
+        second,
+        third,
+        fourth,
+    }
 }
 
 /// The greatest number of the communication profile, of 32 bits.
