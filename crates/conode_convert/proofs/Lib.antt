@@ -1,4 +1,5 @@
 pub mod Converting
+mod CutExamples
 mod Examples
 pub mod Seconds
 pub mod SheetWordLemmas

@@ -1,4 +1,5 @@
 pub mod Converted
+pub mod CutOff
 pub mod Printed
 pub mod SheetTexts
 pub mod SheetWords

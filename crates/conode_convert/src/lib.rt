@@ -15,6 +15,7 @@ macro_rules! attempt {
 
 mod bad_lines;
 mod converted;
+mod cut_off;
 mod log_file;
 mod sheet_text;
 mod sheet_word;
@@ -24,6 +25,7 @@ mod text;
 pub use bad_lines::{TOO_LONG, name_bad_line, read_fault};
 pub use conode_logs::Form;
 pub use converted::convert;
+pub use cut_off::name_cut;
 pub use log_file::convert_file;
 pub use sheet_text::{SheetText, bad_sheet, bad_sheet_word, texts_of};
 pub use sheet_word::{SheetPart, SheetWord, SheetWordFault, sheet_words};

@@ -11,6 +11,7 @@ ghost use Rattle.conode_convert.specs.Printed.{line_text};
 ghost use Rattle.conode_convert.specs.Taking.{Takes};
 
 use crate::bad_lines::{TOO_LONG, name_bad_line, read_fault};
+use crate::cut_off::name_cut;
 use crate::text::add_line;
 use co_stream::{BoundedLines, Found};
 use conode_io::{CmdFault, flush, hand_over};
@@ -148,6 +149,7 @@ impl Converting {
             Ok(Found::Last) => {
                 let line = self.lines.line();
                 convert_line(&mut self.room, &mut self.log, number, line, out, err)?;
+                name_cut(self.log.form, number, line, err);
                 Ok(Some(0))
             }
             Err(fault) => Err(read_fault(fault)),

@@ -1,17 +1,14 @@
--- Which frames of error control say something new; and which last line may be cut off.
-use Rattle.std.proofs.Common.{◌≡◌, ℕ, Bool, true, false, List, [], ◌∷◌, Some, None, refl}
-use Rattle.std.specs.Prelude.{codes, map, replicate}
+-- Which frames of error control say something new.
+use Rattle.std.proofs.Common.{◌≡◌, ℕ, true, false, List, [], ◌∷◌, Some, None, refl}
+use Rattle.std.specs.Prelude.{codes, map}
 use Rattle.conode_record.specs.declared.content.Content.{Content}
-use Rattle.conode_record.specs.declared.content.Content.TheVariants.{Data, Remote, Fd}
-use Rattle.conode_record.specs.declared.content.Direction.TheVariants.{Received}
+use Rattle.conode_record.specs.declared.content.Content.TheVariants.{Data, Remote}
 use Rattle.conode_record.specs.declared.fields.Identifier.{Identifier}
 use Rattle.conode_record.specs.declared.fields.Identifier.TheVariants.{Base, Extended}
 use Rattle.conode_record.specs.declared.line.Record.{Record}
-use Rattle.conode_record.specs.declared.line.RecordLine.TheVariants.{Skipped, Frame}
 use Rattle.conode_explain_filter.specs.Changes.{Said, is_new, kept}
 use Rattle.conode_explain_filter.specs.declared.kind.Kind.TheVariants.{Heartbeat, Pdo}
 use Rattle.conode_explain_filter.specs.declared.subject.Subject.{Subject}
-use Rattle.conode_explain.specs.BadWords.{may_be_cut}
 use Rattle.conode_explain.specs.Filtered.{has_toggle, said_id, said_of}
 
 -- ---- guarding answers, and requests
@@ -83,17 +80,3 @@ no_toggle = refl
 ids : said_id 0x705 (Base 0x705) (Data []) ∷ said_id 0x705 (Base 0x705) (Remote 0) ∷ said_id 0x705 (Extended 0x705) (Remote 0) ∷ []
     ≡ 0x705 ∷ 0x40000705 ∷ 0x705 ∷ []
 ids = refl
-
--- ---- a last line without its line feed
-
-abbrev is_cut : Content → Bool
-is_cut content = may_be_cut (Some (Frame (frame (Base 0x185) content)))
-
-contents : map is_cut (Data [] ∷ Data (replicate 7 0) ∷ Data (replicate 8 0) ∷ Remote 0 ∷ Fd 0 (replicate 63 0) ∷ Fd 0 (replicate 64 0) ∷ [])
-    ≡ true ∷ true ∷ false ∷ false ∷ true ∷ false ∷ []
-contents = refl
-
--- a direction comes after the data; a bad line, and a comment
-other_lines : may_be_cut (Some (Frame (record (frame (Base 0x185) (Data [])) { direction = Some Received }))) ∷ may_be_cut (Some Skipped) ∷ may_be_cut None ∷ []
-    ≡ false ∷ false ∷ false ∷ []
-other_lines = refl

@@ -10,5 +10,6 @@ pub mod ServiceLemmas
 pub mod SheetExamples
 pub mod TellingLemmas
 mod WhoseExamples
+pub mod WhoseLemmas
 pub mod WriteLemmas
 pub mod WriteSets

@@ -1,9 +1,5 @@
--- What is wrong with a line, in words; and which last line may be cut off.
-use Rattle.std.specs.Prelude.{List, ℕ, nat_lt, Bool, false, ◌&&◌, length, codes, Option, Some, is_none}
-use Rattle.conode_record.specs.declared.content.Content.{Content}
-use Rattle.conode_record.specs.declared.content.Content.TheVariants.{Data, Remote, Fd}
-use Rattle.conode_record.specs.declared.line.RecordLine.{RecordLine}
-use Rattle.conode_record.specs.declared.line.RecordLine.TheVariants.{Frame}
+-- What is wrong with a line, in words.
+use Rattle.std.specs.Prelude.{List, ℕ, codes}
 use Rattle.conode_record.specs.declared.bad_line.BadLine.{BadLine}
 use Rattle.conode_record.specs.declared.bad_line.BadLine.TheVariants.{Stamp, Interface, Identifier, Flags, Length, Data, TooManyBytes, Ending}
 
@@ -16,16 +12,3 @@ bad_words Length = codes "the length of a remote frame is no digit up to 8"
 bad_words Data = codes "the data are no pairs of hexadecimal digits"
 bad_words TooManyBytes = codes "there are more than 8 data bytes, or in a CAN FD frame more than 64"
 bad_words Ending = codes "after the data comes something else than R (received) or T (sent)"
-
--- ---- a last line without its line feed
-
--- a data frame may have more bytes; a remote frame has none
-abbrev pub has_room : Content → Bool
-has_room (Data bytes) = nat_lt (length bytes) 8
-has_room (Remote count) = false
-has_room (Fd flags bytes) = nat_lt (length bytes) 64
-
--- where a line in the form of `candump -L` ends after its data, more of them may have come: a direction would stand after the last
-abbrev pub may_be_cut : Option RecordLine → Bool
-may_be_cut (Some (Frame frame)) = is_none frame.direction && has_room frame.content
-may_be_cut other = false

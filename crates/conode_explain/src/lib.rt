@@ -44,7 +44,6 @@ macro_rules! attempt_value_in_memory {
 
 mod abort_words;
 mod bad_words;
-mod cut_off;
 mod ends;
 mod explain_file;
 mod explained;

@@ -21,13 +21,12 @@ ghost use Rattle.conode_explain.specs.Taking.{Takes};
 ghost use Rattle.conode_explain.specs.Sheets.{sheets_of};
 
 use crate::bad_words::bad_words;
-use crate::cut_off::{CUT_OFF, may_be_cut};
 use crate::ends::{write_unfinished_default, write_unfinished_further};
 use crate::progress::Progress;
 use crate::settings::Settings;
 use crate::writes::{Room, write_frame};
 use co_stream::{BoundedLines, Found};
-use conode_convert::{TOO_LONG, add_frame, name_bad_line, read_fault};
+use conode_convert::{TOO_LONG, add_frame, name_bad_line, name_cut, read_fault};
 use conode_explain_pdo::Claim;
 use conode_io::{CmdFault, flush};
 use conode_logs::{Form, Log};
@@ -194,16 +193,6 @@ impl Explaining {
         }
     }
 
-    // Says so, if the last line, which no line feed ends, may be cut off within the data of its frame.
-    // A log of another form has their number.
-    fn name_cut<E: Write>(&self, number: u64, err: &mut E) {
-        if let Form::Candump = self.log.form {
-            if may_be_cut(self.lines.line()) {
-                name_bad_line(number, CUT_OFF, err);
-            }
-        }
-    }
-
     /// Takes the next line: writes the line of its frame, if it has one, or names a bad line.
     /// Returns 1 for a bad line that counts, and that ends it where that is asked for, else 0;
     /// `None` if no line is left.
@@ -242,7 +231,7 @@ impl Explaining {
             Ok(Found::Last) => {
                 let wrong = attempt_value!(self.explain_line(settings, out));
                 name_wrong(number, wrong, err);
-                self.name_cut(number, err);
+                name_cut(self.log.form, number, self.lines.line(), err);
                 Ok(Some(0))
             }
             Err(fault) => Err(read_fault(fault)),

@@ -1,6 +1,6 @@
 //! The lines of frames.
 
-ghost use Rattle.std.specs.Prelude.{◌≡◌, ◌++◌, OnOk, string_bytes};
+ghost use Rattle.std.specs.Prelude.{◌≡◌, ◌++◌, IfOk, OnOk, string_bytes};
 ghost use Rattle.conode_explain_pdo.specs.Buses.{bus_view};
 ghost use Rattle.conode_io.specs.Written.{WritesLines};
 ghost use Rattle.conode_record.specs.Grammar.{IsIdentifier};
@@ -23,6 +23,8 @@ ghost use Rattle.conode_explain.specs.Explained.{
 };
 ghost use Rattle.conode_explain.specs.Filtered.{lasts_told, subject_by};
 ghost use Rattle.conode_explain.specs.Sheets.{sheets_of};
+ghost use Rattle.conode_explain.specs.Whose.{whose_of};
+ghost use Rattle.conode_explain_forms.specs.Places.{read_as};
 
 use crate::ends::write_told_ends;
 use crate::filtered::{is_news, shows_frame, subject_by};
@@ -35,7 +37,7 @@ use conode_explain_filter::Lasts;
 use conode_explain_forms::{
     data_of, frame_tone, header, json_line, place_of, put_tone, read_as, set_signal_line,
 };
-use conode_explain_pdo::{Bus, Claim, add_claims};
+use conode_explain_pdo::{Bus, Claim, add_claims, is_unnamed};
 use conode_explain_services::Nodes;
 use conode_explain_text::{Seen, set_line};
 use conode_explain_transfers::Told;
@@ -83,6 +85,48 @@ fn set_claims(
     match id {
         Identifier::Base(id) => add_claims(claims, bus, id),
         _ => Ok(()),
+    }
+}
+
+// Sets `claims` to the PDOs that a frame is; whose it is, if it is none. Apart from most frames, which
+// no COB-ID names.
+#[inline(never)]
+fn set_named(
+    claims: &mut Vec<Claim>,
+    bus: Bus<'_, '_, '_, '_, '_>,
+    place: Option<Place>,
+    frame: &Record<'_>,
+) -> Result<Whose, AllocError>
+    requires { IsIdentifier frame.now.id }
+    ensures claims { OnOk result
+        (claims.new.items ≡ claims_at (bus_view bus.entry) (read_as place frame.now.id)) }
+    ensures whose { IfOk result
+        (λ whose. whose ≡ whose_of (bus_view bus.entry) place claims.new.items frame.now) }
+{
+    attempt!(set_claims(claims, bus, read_as(place, frame.id)));
+    Ok(whose_of(bus, place, claims.as_slice(), frame))
+}
+
+// The same; of most frames one look at their identifier is enough.
+#[inline(always)]
+fn set_whose(
+    claims: &mut Vec<Claim>,
+    bus: Bus<'_, '_, '_, '_, '_>,
+    place: Option<Place>,
+    frame: &Record<'_>,
+) -> Result<Whose, AllocError>
+    requires { IsIdentifier frame.now.id }
+    ensures claims { OnOk result
+        (claims.new.items ≡ claims_at (bus_view bus.entry) (read_as place frame.now.id)) }
+    ensures whose { IfOk result
+        (λ whose. whose ≡ whose_of (bus_view bus.entry) place claims.new.items frame.now) }
+{
+    match (place, frame.id) {
+        (None, Identifier::Base(id)) if is_unnamed(bus, id) => {
+            claims.clear();
+            Ok(Whose::Unnamed)
+        }
+        _ => set_named(claims, bus, place, frame),
     }
 }
 
@@ -328,8 +372,7 @@ fn write_by<W: Write>(
         (sheets_of settings.now) progress.old place frame.now told.now) }
 {
     let bus = bus_of(settings, &progress.entries, frame);
-    attempt_in_memory!(set_claims(claims, bus, read_as(place, frame.id)));
-    let whose = whose_of(bus, place, claims.as_slice(), frame);
+    let whose = attempt_value_in_memory!(set_whose(claims, bus, place, frame));
     attempt!(write_first(
         room,
         &settings.form,
@@ -378,8 +421,12 @@ fn write_heard<W: Write>(
         (sheets_of settings.now) (heard_at progress.old frame.now place) place frame.now
         (told_at progress.old frame.now place)) }
 {
-    let told = attempt_value_in_memory!(progress.tell_at(frame, place));
-    write_by(room, claims, progress, settings, place, frame, &told, out)
+    let told = progress.tell_at(frame, place);
+    // (by reference, since what is said is large)
+    match &told {
+        Ok(told) => write_by(room, claims, progress, settings, place, frame, told, out),
+        Err(_) => Err(CmdFault::Memory),
+    }
 }
 
 /// Writes the lines of a frame, and adds it to what the recording showed; `claims` is scratch space

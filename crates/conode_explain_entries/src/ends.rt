@@ -2,6 +2,7 @@
 //! a part of it may be there.
 
 ghost use Rattle.std.specs.Prelude.{◌≡◌, ◌++◌, OnOk, string_bytes};
+ghost use Rattle.conode_explain_entries.specs.Numbers.{grouped, plural};
 ghost use Rattle.conode_explain_entries.specs.Ends.{
   aborted_text,
   count_text,
@@ -13,6 +14,7 @@ ghost use Rattle.conode_explain_entries.specs.Ends.{
   transfer_text,
 };
 
+use crate::numbers::{plural, push_grouped, push_seconds};
 use crate::part::{Part, direction_text, push_entry};
 use conode_explain_transfers::{Ended, Ending, Side};
 use conode_text::push_filled;
@@ -119,23 +121,29 @@ pub fn push_transfer(text: &mut String, ended: &Ended, name: &str) -> Result<(),
     push_entry(text, ended.key, name)
 }
 
-// how much was transferred
-#[tactic(auto, unfolding(crate::specs::Ends::count_text))]
+// so many of a thing
+fn push_amount(text: &mut String, number: u64, thing: &str) -> Result<(), AllocError>
+    ensures { OnOk result (string_bytes text.new
+        ≡ string_bytes text.old ++ (grouped number ++ (thing.now ++ plural number))) }
+{
+    attempt!(push_grouped(text, number));
+    attempt!(text.push_str(thing));
+    text.push_str(plural(number))
+}
+
+// how much was transferred; each line of a transfer has it, so it is written part by part
+#[tactic(auto, unfolding(crate::specs::Ends::count_text, conode_text::specs::Filled::filled))]
 fn push_counts(text: &mut String, ended: &Ended) -> Result<(), AllocError>
     ensures { OnOk result
         (string_bytes text.new ≡ string_bytes text.old ++ count_text ended.now) }
 {
-    push_filled(
-        text,
-        " % byte% in % frame%, %: ",
-        &[
-            Part::Grouped(ended.bytes),
-            Part::Plural(ended.bytes),
-            Part::Grouped(ended.frames),
-            Part::Plural(ended.frames),
-            Part::Seconds(ended.begun, ended.end),
-        ],
-    )
+    attempt!(text.push_str(" "));
+    attempt!(push_amount(text, ended.bytes, " byte"));
+    attempt!(text.push_str(" in "));
+    attempt!(push_amount(text, ended.frames, " frame"));
+    attempt!(text.push_str(", "));
+    attempt!(push_seconds(text, ended.begun, ended.end));
+    text.push_str(": ")
 }
 
 /// Appends what follows it, or the value of the entry after it, without a line feed: ` 1,024 bytes

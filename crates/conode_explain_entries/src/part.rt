@@ -10,7 +10,7 @@ ghost use Rattle.conode_explain_entries.specs.Ends.{
 };
 ghost use Rattle.conode_explain_entries.specs.Parts.{part_text};
 
-use crate::numbers::{plural, push_grouped, push_seconds};
+use crate::numbers::{push_grouped, push_seconds};
 use co_text::{push_u16, push_u32};
 use co_value::Key;
 use conode_explain_transfers::{Direction, Side};
@@ -26,8 +26,6 @@ pub(crate) enum Part<'a> {
     InBrackets(&'a str),
     /// A number with commas between its digits.
     Grouped(u64),
-    /// What comes after a thing of which there are so many.
-    Plural(u64),
     /// The time from one stamp to another, in seconds.
     Seconds(u64, u64),
     /// A CRC.
@@ -94,7 +92,6 @@ impl HasText for Part<'_> {
             Part::Sender(side) => text.push_str(side_text(side)),
             Part::InBrackets(words) => push_in_brackets(text, words),
             Part::Grouped(number) => push_grouped(text, number),
-            Part::Plural(number) => text.push_str(plural(number)),
             Part::Seconds(from, to) => push_seconds(text, from, to),
             Part::Crc(crc) => push_u16(text, crc),
             Part::Code(code) => push_u32(text, code),

@@ -16,6 +16,7 @@ ghost use Rattle.std.specs.Prelude.{
 };
 ghost use Rattle.std.specs.Option.{option_copied};
 ghost use Rattle.co_sheet.specs.SheetViews.{row_view};
+ghost use Rattle.co_value.specs.Types.{is_boolean};
 ghost use Rattle.co_sheet_changes.specs.Names.{names_view};
 ghost use Rattle.conode_explain_pdo.specs.Buses.{bus_view};
 ghost use Rattle.conode_explain_values.specs.Types.{is_boolean_type};
@@ -47,14 +48,17 @@ use conode_explain_transfers::{Direction, Ended, Ending, Protocol, Told};
 use conode_explain_values::{ValueType, push_value};
 use std::alloc::AllocError;
 
-/// The code of BOOLEAN (CiA 301, 7.4.7.1).
-const BOOLEAN: u16 = 0x01;
+pub(crate) fn is_boolean(data_type: DataType) -> bool
+    ensures { result ≡ is_boolean data_type }
+{
+    data_type.code() == DataType::Boolean.code()
+}
 
-fn is_boolean(value_type: ValueType) -> bool
+fn is_boolean_type(value_type: ValueType) -> bool
     ensures { result ≡ is_boolean_type value_type }
 {
     match value_type {
-        ValueType::Plain(data_type) => data_type.code() == BOOLEAN,
+        ValueType::Plain(data_type) => is_boolean(data_type),
         _ => false,
     }
 }
@@ -64,7 +68,7 @@ fn is_zero_or_one(value_type: ValueType, bits: usize, bytes: &[u8]) -> bool
     requires { HasBits bits bytes.now }
     ensures { result ≡ is_zero_or_one value_type bits bytes.now }
 {
-    is_boolean(value_type) && (bits == 1 || bits == 8) && unsigned_of(bytes) < 2
+    is_boolean_type(value_type) && (bits == 1 || bits == 8) && unsigned_of(bytes) < 2
 }
 
 fn push_value_field(

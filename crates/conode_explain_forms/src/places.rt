@@ -1,6 +1,6 @@
 //! Which SDO channel other than the default ones a frame is of.
 
-ghost use Rattle.std.specs.Prelude.{◌≡◌, ◌++◌, IfOk, IfSome, OnOk, filter_map, map};
+ghost use Rattle.std.specs.Prelude.{◌≡◌, ◌++◌, ℕ, true, None, IfOk, IfSome, OnOk, filter_map, map};
 ghost use Rattle.std.specs.Option.{option_to_list};
 ghost use Rattle.co_sheet.specs.SheetViews.{row_view};
 ghost use Rattle.conode_record.specs.Grammar.{IsIdentifier};
@@ -31,7 +31,7 @@ use co_sheet::EntryRow;
 use co_value::Key;
 use conode_explain_entries::{ChannelIds, Place, ShownPdo};
 use conode_explain_pdo::{
-    Bus, KnownSheet, SheetCobId, channel_word, cob_id_of, has_identifier, may_be_pdo,
+    Bus, KnownSheet, SheetCobId, channel_word, cob_id_of, has_identifier, may_be_pdo, shows_more,
 };
 use conode_explain_transfers::Side;
 use conode_record::{Content, Identifier};
@@ -267,6 +267,8 @@ fn place_in_shown(bus: Bus<'_, '_, '_, '_, '_>, id: u16) -> Option<Place>
     None
 }
 
+// apart from most recordings, which have none of these channels
+#[inline(never)]
 #[tactic(auto, unfolding(crate::specs::Places::place_in))]
 fn place_in(bus: Bus<'_, '_, '_, '_, '_>, id: u16, channels: &[SheetChannel]) -> Option<Place>
     requires { channels.now ≡ channels_of (bus_view bus).sheets }
@@ -281,8 +283,21 @@ fn place_in(bus: Bus<'_, '_, '_, '_, '_>, id: u16, channels: &[SheetChannel]) ->
     }
 }
 
+// whether nothing gives an SDO channel another COB-ID, as for most recordings
+#[inline(always)]
+fn are_default(bus: Bus<'_, '_, '_, '_, '_>, channels: &[SheetChannel]) -> bool
+    requires { channels.now ≡ channels_of (bus_view bus).sheets }
+    ensures { result ≡ true → (id : ℕ) → place_in (bus_view bus.entry) id ≡ None }
+{
+    if channels.len() > 0 {
+        return false;
+    }
+    !shows_more(bus.entries.shown())
+}
+
 /// The SDO channel other than a default one that a frame with this identifier is of, and its end.
 /// `channels` are those of the data sheets.
+#[inline(always)]
 pub fn place_of(
     bus: Bus<'_, '_, '_, '_, '_>,
     id: Identifier,
@@ -293,7 +308,9 @@ pub fn place_of(
     ensures { result ≡ place_of (bus_view bus.entry) id content.now }
 {
     match (id, content) {
-        (Identifier::Base(id), Content::Data(_)) => place_in(bus, id, channels),
+        (Identifier::Base(id), Content::Data(_)) if !are_default(bus, channels) => {
+            place_in(bus, id, channels)
+        }
         _ => None,
     }
 }

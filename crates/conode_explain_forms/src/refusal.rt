@@ -25,7 +25,7 @@ ghost use Rattle.conode_explain_forms.specs.Refusals.{
   value_refusal,
 };
 
-use crate::fields::{first_bytes, is_done, is_expedited};
+use crate::fields::{first_bytes, is_boolean, is_done, is_expedited};
 use co_profile::{Access, IndexRange};
 use co_sheet::EntryRow;
 use co_sheet_changes::Names;
@@ -33,9 +33,6 @@ use co_value::{DataType, from_bytes};
 use conode_explain_transfers::{Direction, Ended};
 use conode_text::{Value, push_filled};
 use std::alloc::AllocError;
-
-/// The code of BOOLEAN (CiA 301, 7.4.7.1).
-const BOOLEAN: u16 = 0x01;
 
 /// Why our own server would have refused a download, by the data sheet of the device.
 #[derive(Clone, Copy)]
@@ -87,7 +84,7 @@ fn is_below(limit: Option<i128>, value: i128) -> bool
 fn is_no_boolean(data_type: DataType, value: i128) -> bool
     ensures { result ≡ is_no_boolean data_type value }
 {
-    data_type.code() == BOOLEAN && 1 < value
+    is_boolean(data_type) && 1 < value
 }
 
 fn limit_refusal(row: &EntryRow<'_>, value: i128) -> Option<Refusal>

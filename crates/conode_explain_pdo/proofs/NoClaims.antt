@@ -47,7 +47,7 @@ no_sheet bus earlier sheet range id is =
     if_nothing (is_on bus.interface sheet) (filter_map (sheet_claim bus earlier sheet.names.only range id) sheet.pdos)
     (no_pdos bus earlier sheet.names.only range id sheet.pdos is)
 
-no_sheets : (bus : Bus) (range : IndexRange) (id : ℕ) (earlier sheets : List KnownSheet)
+pub no_sheets : (bus : Bus) (range : IndexRange) (id : ℕ) (earlier sheets : List KnownSheet)
     → list_any (sheet_may_have id) sheets ≡ false → sheets_claims bus range id earlier sheets ≡ []
 unfolding sheets_claims
 no_sheets bus range id earlier [] is = refl

@@ -3,6 +3,7 @@
 use Rattle.std.specs.Prelude.{ℕ, ◌%◌, ◌==◌, Bool, false, ◌&&◌, if◌then◌else◌, List, ◌++◌, Option, Some, None, option_and_then}
 use Rattle.std.specs.Option.{option_map_or}
 use Rattle.co_value.specs.declared.key.Key.{Key}
+use Rattle.co_profile.specs.Keys.{device_type_key}
 use Rattle.co_sheet.specs.Content.{Row}
 use Rattle.co_sheet_changes.specs.Names.{Names, entry_of, names_view, shown_name}
 use Rattle.conode_explain_services.specs.Drives.{drive_words, has_meaning, is_drive}
@@ -22,14 +23,10 @@ pub record Device : Type 0 where
 abbrev pub device_view : DeviceOfCode → Device
 device_view device = record { names = names_view device.names; shown_type = device.shown_type }
 
--- the device type (CiA 301, 7.5.2.1)
-abbrev pub device_type : Key
-device_type = record { index = 0x1000; sub = 0 }
-
--- the one that the recording shows; else the one that the sheet begins with
+-- the device type (CiA 301, 7.5.2.1) that the recording shows; else the one that the sheet begins with
 abbrev pub type_of_device : Option ℕ → Names → ℕ → Option ℕ
 type_of_device (Some shown) names node = Some shown
-type_of_device None names node = option_and_then (λ row. number_of row.default) (entry_of names node device_type)
+type_of_device None names node = option_and_then (λ row. number_of row.default) (entry_of names node device_type_key)
 
 -- a node is a drive, by its device type
 unfoldable pub is_node_drive : Device → ℕ → Bool

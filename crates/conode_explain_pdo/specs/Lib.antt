@@ -15,4 +15,5 @@ pub mod Pdos
 pub mod ServiceIds
 pub mod SheetServices
 pub mod Sheets
+pub mod Shown
 pub mod Types

@@ -1,6 +1,7 @@
 -- Which of SYNC, TIME and the emergencies a frame is, by the COB-IDs of data sheets and of the
 -- recording: 1005h, 1012h and 1014h (CiA 301, 7.5.2.5, 7.5.2.15 and 7.5.2.17).
 use Rattle.std.specs.Prelude.{ℕ, ◌==◌, Bool, false, not, ◌&&◌, if◌then◌else◌, List, [], ◌∷◌, filter_map, find, Option, Some, None, is_none, option_map}
+use Rattle.std.specs.List.{list_any}
 use Rattle.std.specs.Option.{option_map_or}
 use Rattle.std.specs.Str.{bytes_eq}
 use Rattle.conode_explain_entries.specs.declared.entries.ShownPdo.{ShownPdo}
@@ -62,6 +63,10 @@ first_service (service ∷ services) = Some service
 abbrev pub service_on : Bus → ℕ → KnownSheet → Option NamedService
 service_on bus id sheet =
     if is_on bus.interface sheet then first_service (filter_map (service_by_sheet bus id sheet.names.only) sheet.services) else None
+
+-- a look before: most identifiers are of no service
+abbrev pub sheet_may_serve : ℕ → KnownSheet → Bool
+sheet_may_serve id sheet = list_any (may_name sheet.names.only id) sheet.services
 
 -- ---- by the recording
 

@@ -404,12 +404,12 @@ fn add_unsent(
     Ok(())
 }
 
-// whether one may have a PDO with an identifier, or names it otherwise
+// whether one may have a PDO with an identifier
 fn sheets_may_have(sheets: &[KnownSheet<'_, '_>], id: u16) -> bool
     ensures { result ≡ false → list_any (sheet_may_have id) (map known_view sheets.now) ≡ false }
 {
     for sheet in sheets {
-        if sheet.may_name(id) {
+        if sheet.may_have(id) {
             return true;
         }
     }

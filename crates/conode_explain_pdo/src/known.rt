@@ -44,12 +44,20 @@ impl<'s, 'a> KnownSheet<'s, 'a> {
             services.as_slice(),
             IDENTIFIERS,
         ));
+        let had = attempt_value!(named_below(
+            alloc,
+            names.only,
+            pdos.as_slice(),
+            &[],
+            IDENTIFIERS,
+        ));
         Ok(KnownSheet {
             interface,
             names,
             pdos,
             services,
             named,
+            had,
         })
     }
 

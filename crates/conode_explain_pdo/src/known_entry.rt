@@ -18,18 +18,13 @@ use crate::device::Device;
 use crate::entry_words::push_entry_words;
 use crate::sheet::number_of;
 use crate::value_type::type_in;
+use co_profile::keys;
 use co_sheet::EntryRow;
 use co_sheet_changes::{Names, shown_name};
 use co_value::Key;
 use conode_explain_services::{has_meaning, is_drive, push_drive};
 use conode_explain_values::push_entry;
 use std::alloc::AllocError;
-
-/// The device type (CiA 301, 7.5.2.1).
-const DEVICE_TYPE: Key = Key {
-    index: 0x1000,
-    sub: 0,
-};
 
 // the device type that the recording shows, else the one that the sheet begins with
 fn type_of_device(shown: Option<u32>, names: Names<'_, '_>, node: u8) -> Option<u32>
@@ -38,7 +33,7 @@ fn type_of_device(shown: Option<u32>, names: Names<'_, '_>, node: u8) -> Option<
     if let Some(shown) = shown {
         return Some(shown);
     }
-    match names.entry(node, DEVICE_TYPE) {
+    match names.entry(node, keys::DEVICE_TYPE) {
         Some(row) => number_of(row.default),
         None => None,
     }

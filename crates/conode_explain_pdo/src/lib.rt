@@ -40,6 +40,7 @@ mod pdo;
 mod service_ids;
 mod sheet;
 mod sheet_services;
+mod unnamed;
 mod value_type;
 
 pub use bus::Bus;
@@ -56,4 +57,5 @@ pub use pdo::push_pdos;
 pub use service_ids::{NamedService, service_with};
 pub use sheet::{SheetPdo, sheet_pdos};
 pub use sheet_services::SheetService;
+pub use unnamed::{is_unnamed, shows_more};
 pub use value_type::type_in;

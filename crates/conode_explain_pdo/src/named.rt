@@ -125,4 +125,16 @@ impl KnownSheet<'_, '_> {
             true
         }
     }
+
+    /// Whether one of its PDOs may have an identifier. `false` for most, and for those of its services.
+    pub(crate) fn may_have(&self, id: u16) -> bool
+        ensures { result ≡ false → sheet_may_have id (known_view self.now) ≡ false }
+    {
+        let place = id as usize;
+        if place < self.had.len() {
+            self.had[place]
+        } else {
+            true
+        }
+    }
 }

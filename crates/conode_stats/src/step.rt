@@ -13,7 +13,7 @@ ghost use Rattle.conode_stats.specs.Frames.{counts_after, faults_in, good, line_
 ghost use Rattle.conode_stats.specs.Taking.{Takes};
 
 use co_stream::{BoundedLines, Found};
-use conode_convert::{TOO_LONG, add_frame, name_bad_line, read_fault};
+use conode_convert::{TOO_LONG, add_frame, name_bad_line, name_cut, read_fault};
 use conode_io::CmdFault;
 use conode_logs::{Form, Log};
 use conode_record::{BadLogLine, LogLine, RecordLine};
@@ -172,6 +172,7 @@ impl Counting {
                     line,
                     err,
                 )?;
+                name_cut(self.log.form, number, line, err);
                 Ok(Some(0))
             }
             Err(fault) => Err(read_fault(fault)),
