@@ -68,10 +68,6 @@ assumed_front step =
 unfoldable pub assumed_words : ℕ → List ℕ
 assumed_words id = assumed_front (id / 128) ++ decimal (id % 128)
 
--- SYNC without a counter; whether a COB-ID names it
-abbrev pub sync_words : Bool → List ℕ
-sync_words named = assumed_mark named 0x080 ++ codes "SYNC"
-
 -- what data say, by the identifier
 abbrev pub data_words : Bus → List Claim → Bool → Last → Identifier → List ℕ → List ℕ
 data_words bus claims named last (Base id) bytes = frame_words bus claims named last (record { id = id; bytes = bytes })

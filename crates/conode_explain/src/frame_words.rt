@@ -18,7 +18,6 @@ ghost use Rattle.conode_explain.specs.FrameWords.{
   other_words,
   plain_words,
   served_words,
-  sync_words,
   words_of_content,
 };
 
@@ -36,9 +35,6 @@ use conode_explain_services::{
 };
 use conode_record::{Content, Identifier, Record};
 use std::alloc::AllocError;
-
-/// The identifier of SYNC (CiA 301, 7.3.3).
-const SYNC: u16 = 0x080;
 
 fn is_default_pdo(id: u16) -> bool
     ensures { result ≡ is_default_pdo id }
@@ -171,14 +167,6 @@ fn push_assumed_words(said: &mut String, id: u16) -> Result<(), AllocError>
     push_decimal(said, (id % 128) as u64)
 }
 
-// SYNC without a counter
-fn push_sync(said: &mut String, named: bool) -> Result<(), AllocError>
-    ensures { OnOk result (string_bytes said.new ≡ string_bytes said.old ++ sync_words named) }
-{
-    attempt!(said.push_str(assumed_mark(named, SYNC)));
-    said.push_str("SYNC")
-}
-
 // what data with an identifier of 11 bits say, of this frame
 fn push_base_words(
     said: &mut String,
@@ -199,7 +187,6 @@ fn push_base_words(
     match claims {
         // most frames of most recordings
         [] if is_default_pdo(id) => push_assumed_words(said, id),
-        [] if id == SYNC && bytes.len() == 0 => push_sync(said, named),
         _ => {
             let last = last_of(nodes, Identifier::Base(id), frame);
             push_frame_words(said, bus, claims, named, &last, &Frame::packed(id, bytes))

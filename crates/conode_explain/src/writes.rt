@@ -109,6 +109,7 @@ fn set_named(
 
 // The same; of most frames one look at their identifier is enough.
 #[inline(always)]
+#[tactic(auto, using(crate::proofs::WhoseLemmas::no_claims, crate::proofs::WhoseLemmas::nobody))]
 fn set_whose(
     claims: &mut Vec<Claim>,
     bus: Bus<'_, '_, '_, '_, '_>,
@@ -421,12 +422,8 @@ fn write_heard<W: Write>(
         (sheets_of settings.now) (heard_at progress.old frame.now place) place frame.now
         (told_at progress.old frame.now place)) }
 {
-    let told = progress.tell_at(frame, place);
-    // (by reference, since what is said is large)
-    match &told {
-        Ok(told) => write_by(room, claims, progress, settings, place, frame, told, out),
-        Err(_) => Err(CmdFault::Memory),
-    }
+    let told = attempt_value_in_memory!(progress.tell_at(frame, place));
+    write_by(room, claims, progress, settings, place, frame, &told, out)
 }
 
 /// Writes the lines of a frame, and adds it to what the recording showed; `claims` is scratch space

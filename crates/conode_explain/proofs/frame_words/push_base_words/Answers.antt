@@ -2,7 +2,7 @@ use Rattle.std.proofs.Common.{◌≡◌, [], sym, ◌∙◌, arith}
 use Rattle.conode_record.specs.declared.fields.Identifier.TheVariants.{Base}
 use Rattle.conode_explain_pdo.specs.Buses.{bus_view}
 use Rattle.conode_explain.specs.Nodes.{last_at}
-use Rattle.conode_explain.proofs.AssumedLemmas.{assumed, none_there, sync_alone}
+use Rattle.conode_explain.proofs.AssumedLemmas.{assumed, none_there}
 use Rattle.conode_explain.proofs.frame_words.push_base_words.Goals as goal
 
 pub returns-in-empty : goal.returns-in-empty
@@ -10,9 +10,3 @@ returns-in-empty c =
     let none : c.args.claims.now ≡ [] = none_there c.args.claims.now (omega (arith, c.in-empty.len_below)) in
     let same = assumed (bus_view c.args.bus) c.args.named (last_at c.args.nodes.now (Base c.args.id) c.args.frame.now) c.args.id c.args.bytes.now (sym c.is_default_pdo.ensures ∙ c.if-is_default_pdo.true) in
     rw (none, ← same) c.push_assumed_words.ensures
-
-pub returns-in-empty-2 : goal.returns-in-empty-2
-returns-in-empty-2 c =
-    let none : c.args.claims.now ≡ [] = none_there c.args.claims.now (omega (arith, c.in-empty-2.len_below)) in
-    let same = sync_alone (bus_view c.args.bus) c.args.named (last_at c.args.nodes.now (Base c.args.id) c.args.frame.now) c.args.id c.args.bytes.now (omega arith) (omega arith) in
-    rw (none, ← same) c.push_sync.ensures
