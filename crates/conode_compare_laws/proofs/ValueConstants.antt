@@ -41,7 +41,7 @@ use Rattle.conode_explain_transfers.specs.declared.kinds.Direction.TheVariants.{
 use Rattle.conode_compare_pdos.specs.SheetNumbers.{number_of}
 use Rattle.conode_compare_values.specs.declared.mismatch.Mismatch.{Mismatch}
 use Rattle.conode_compare_values.specs.declared.mismatch.Mismatch.TheVariants.{AboveLimit, BelowLimit, BeyondRoom, ConstText, ReadRefused, ValueConst, Written}
-use Rattle.conode_compare_values.specs.SheetValues.{begins_with, byte_of, constant_mismatch, held_number, is_boolean, is_comparable, is_constant, is_held, is_held_text, is_its_own, is_other_boolean, is_other_number, is_other_text, is_version, is_visible, shown_number, text_mismatch, text_with, value_by, value_mismatch}
+use Rattle.conode_compare_values.specs.SheetValues.{begins_with, byte_of, constant_mismatch, held_number, is_boolean, is_comparable, is_constant, is_held, is_held_text, is_its_own, is_other_boolean, is_other_number, is_other_text, is_other_value, is_version, is_visible, profile_in, shown_number, text_mismatch, text_with, value_by, value_mismatch}
 use Rattle.conode_compare_rules.specs.declared.finding.Finding.{Finding}
 use Rattle.conode_compare_rules.specs.declared.finding.Finding.TheVariants.{Value}
 use Rattle.conode_compare_rules.specs.declared.limits.Subject.{Subject}
@@ -201,12 +201,22 @@ other_boolean : (n : ℕ) (b : Bool) → (n == 0) ≡ b → (if b then n % 2 == 
 other_boolean n true is = ap (λ x. x % 2 == 1) (eqb-true n 0 is)
 other_boolean n false is = is
 
+self : (n : ℕ) → (n == n) ≡ true
+self n = grind (arith, nat_tests)
+
 same_number : (t : DataType) (n : ℕ) → is_other_number t n n ≡ false
 same_number t n = by (is_boolean t)
   where
     by : (b : Bool) → (if b then is_other_boolean n n else not (n == n)) ≡ false
     by true = other_boolean n (n == 0) refl
-    by false = let same : (n == n) ≡ true = grind (arith, nat_tests) in ap not same
+    by false = ap not (self n)
+
+same_value : (row : Row) (n : ℕ) → is_other_value row n n ≡ false
+same_value row n = by (row.key.index == 0x1000)
+  where
+    by : (b : Bool) → (if b then not (profile_in n == profile_in n) else is_other_number row.data_type n n) ≡ false
+    by true = ap not (self (profile_in n))
+    by false = same_number row.data_type n
 
 constant_none : (row : Row) (shown held : Option ℕ) → ((n : ℕ) → held ≡ Some n → shown ≡ Some n) → constant_mismatch row shown held ≡ None
 constant_none row None held h = refl
@@ -214,7 +224,7 @@ constant_none row (Some s) None h = refl
 constant_none row (Some s) (Some n) h =
     let some : Some s ≡ Some n = h n refl in
     let same : s ≡ n = cc in
-    ap (λ b. if b then Some (ValueConst row.key s n) else None) (ap (λ x. is_other_number row.data_type x n) same ∙ same_number row.data_type n)
+    ap (λ b. if b then Some (ValueConst row.key s n) else None) (ap (λ x. is_other_value row x n) same ∙ same_value row n)
 
 shown_whole : (w : ℕ) (bytes : List ℕ) → w ≤ 8 → length bytes ≡ w → shown_number w bytes ≡ Some (unsigned_of bytes)
 shown_whole w bytes few long =

@@ -23,7 +23,7 @@ use Rattle.conode_explain_transfers.specs.declared.kinds.Side.TheVariants.{Clien
 use Rattle.conode_compare_values.specs.declared.mismatch.Mismatch.{Mismatch}
 use Rattle.conode_compare_values.specs.declared.mismatch.Mismatch.TheVariants.{AboveLimit, BelowLimit, BeyondRoom, ConstText, ReadRefused, ValueConst, ValueLength, Written}
 use Rattle.conode_compare_values.specs.declared.rooms.Rooms.{Rooms}
-use Rattle.conode_compare_values.specs.SheetValues.{beyond_mismatch, constant_mismatch, denies, download_mismatch, has_limits, has_room, has_width, held_number, is_above, is_below, is_comparable, is_held_text, is_number, is_other_number, is_other_text, is_read_only, is_readable, least_bytes, limit_mismatch, long_mismatch, mismatch_at, mismatch_by, over_room, refused_mismatch, room_mismatch, room_of, row_mismatch, shown_number, text_mismatch, text_with, value_by, value_mismatch, width_mismatch, written_bytes, written_mismatch}
+use Rattle.conode_compare_values.specs.SheetValues.{beyond_mismatch, constant_mismatch, denies, download_mismatch, has_limits, has_room, has_width, held_number, is_above, is_below, is_by_modules, is_comparable, is_held_text, is_number, is_other_text, is_other_value, is_read_only, is_readable, least_bytes, limit_mismatch, long_mismatch, mismatch_at, mismatch_by, over_room, read_mismatch, refused_mismatch, room_mismatch, room_of, row_mismatch, shown_number, text_mismatch, text_with, unless_modules, value_by, value_mismatch, width_mismatch, written_bytes, written_mismatch}
 use Rattle.conode_compare_rules.specs.declared.finding.Finding.{Finding}
 use Rattle.conode_compare_rules.specs.declared.finding.Finding.TheVariants.{Value}
 use Rattle.conode_compare_rules.specs.declared.limits.Subject.{Subject}
@@ -98,7 +98,7 @@ rooms_write _ h = absurd (false≢true h)
 pub constants_only : (row : Row) (shown held : Option ℕ) → AreOnly is_const (constant_mismatch row shown held)
 constants_only row None held = tt
 constants_only row (Some shown) None = tt
-constants_only row (Some shown) (Some held) = only_if is_const (is_other_number row.data_type shown held) (Some (ValueConst row.key shown held)) None refl tt
+constants_only row (Some shown) (Some held) = only_if is_const (is_other_value row shown held) (Some (ValueConst row.key shown held)) None refl tt
 
 pub texts_only : (row : Row) (exact : Bool) (default : Default) (shown : List ℕ) → AreOnly is_const (text_with row exact default shown)
 texts_only row exact (text bytes) shown = only_if is_const (is_held_text row && (is_comparable bytes && is_other_text exact bytes shown)) (Some (ConstText row.key)) None refl tt
@@ -181,6 +181,15 @@ module _ (only : Option Finding → List Finding) (nothing : only None ≡ []) w
   if_none true x y p q = p refl
   if_none false x y p q = q refl
 
+  -- modules take differences away
+  modules_none : (modular : Bool) (m : Option Mismatch) → only (value_finding m) ≡ [] → only (value_finding (unless_modules modular m)) ≡ []
+  modules_none modular None h = nothing
+  modules_none modular (Some m) h = by (modular && is_by_modules m)
+    where
+      by : (b : Bool) → only (value_finding (if b then None else Some m)) ≡ []
+      by true = nothing
+      by false = h
+
   -- of an entry of the sheet
   pub known_none : (subject : Subject) (rows : List Row) (frame : FrameContent) (e : Ended)
       → ((row : Row) → row_at rows e.key ≡ Some row → only (value_finding (row_mismatch subject.node subject.facts.modular subject.rooms row (is_exact e.protocol frame) e)) ≡ [])
@@ -222,7 +231,7 @@ module _ (only : Option Finding → List Finding) (nothing : only None ≡ []) w
   downloads_none node modular rooms row exact e values refusals h = by e.direction e.ending refl refl
     where
       by : (direction : Direction) (ending : Ending) → e.direction ≡ direction → e.ending ≡ ending → only (value_finding (mismatch_by node modular rooms row exact e direction ending)) ≡ []
-      by Upload (Done crc) d s = passed is_data values (value_mismatch node row exact e) (values_only node row exact e)
+      by Upload (Done crc) d s = modules_none modular (value_mismatch node row exact e) (passed is_data values (value_mismatch node row exact e) (values_only node row exact e))
       by Download (Done crc) d s = h crc d s
       by Upload (Aborted Server code) d s = passed is_refusal refusals (refused_mismatch modular row code) (refusals_only modular row code)
       by Upload (Aborted Client code) d s = nothing
@@ -236,7 +245,7 @@ module _ (only : Option Finding → List Finding) (nothing : only None ≡ []) w
   uploads_none node modular rooms row exact e writes refusals h = by e.direction e.ending refl refl
     where
       by : (direction : Direction) (ending : Ending) → e.direction ≡ direction → e.ending ≡ ending → only (value_finding (mismatch_by node modular rooms row exact e direction ending)) ≡ []
-      by Upload (Done crc) d s = h crc d s
+      by Upload (Done crc) d s = modules_none modular (value_mismatch node row exact e) (h crc d s)
       by Download (Done crc) d s = passed is_write writes (download_mismatch rooms row e) (writes_only rooms row e)
       by Upload (Aborted Server code) d s = passed is_refusal refusals (refused_mismatch modular row code) (refusals_only modular row code)
       by Upload (Aborted Client code) d s = nothing
@@ -250,7 +259,7 @@ module _ (only : Option Finding → List Finding) (nothing : only None ≡ []) w
   refusals_none node modular rooms row exact e values writes h = by e.direction e.ending refl refl
     where
       by : (direction : Direction) (ending : Ending) → e.direction ≡ direction → e.ending ≡ ending → only (value_finding (mismatch_by node modular rooms row exact e direction ending)) ≡ []
-      by Upload (Done crc) d s = passed is_data values (value_mismatch node row exact e) (values_only node row exact e)
+      by Upload (Done crc) d s = modules_none modular (value_mismatch node row exact e) (passed is_data values (value_mismatch node row exact e) (values_only node row exact e))
       by Download (Done crc) d s = passed is_write writes (download_mismatch rooms row e) (writes_only rooms row e)
       by Upload (Aborted Server code) d s = h code d s
       by Upload (Aborted Client code) d s = nothing

@@ -39,7 +39,7 @@ use Rattle.co_dict_build.specs.EntryLimits.{row_in}
 use Rattle.co_sdo.specs.Refused.{completion_refusal, initiate_refusal, reading_refusal}
 use Rattle.co_sheet.specs.Content.{Row}
 use Rattle.co_sheet_changes.specs.Names.{row_at}
-use Rattle.conode_compare_values.specs.SheetValues.{denies, is_readable}
+use Rattle.conode_compare_values.specs.SheetValues.{denies, is_mandatory, is_readable}
 use Rattle.conode_compare_laws.proofs.ValueAllowed.{row_built}
 
 -- ---- codes that don't say so
@@ -86,7 +86,7 @@ pub plain_none : ArePlain None
 plain_none = no_code is_plain
 
 plain_denies : (key : Key) (code : ℕ) → is_plain code ≡ true → denies key (as_sent code) ≡ false
-plain_denies key code h = by (as_sent code == write_only) (as_sent code == object_missing) (as_sent code == sub_index_missing) (key.sub == 0) h
+plain_denies key code h = by (as_sent code == write_only) (as_sent code == object_missing) (as_sent code == sub_index_missing) (is_mandatory key) h
   where
     by : (a b c z : Bool) → (not a && (not b && not c)) ≡ true → (a || (z && (b || c))) ≡ false
     by true b c z h = absurd (false≢true h)
@@ -94,6 +94,15 @@ plain_denies key code h = by (as_sent code == write_only) (as_sent code == objec
     by false false true z h = absurd (false≢true h)
     by false false false true h = refl
     by false false false false h = refl
+
+-- the code of a write-only entry denies each, the others deny those that have to be there
+sub_denies : (key : Key) (code : ℕ) → (as_sent code == write_only) ≡ false → is_mandatory key ≡ false → denies key (as_sent code) ≡ false
+sub_denies key code other off = by (as_sent code == write_only) (is_mandatory key) ((as_sent code == object_missing) || (as_sent code == sub_index_missing)) other off
+  where
+    by : (a z missing : Bool) → a ≡ false → z ≡ false → (a || (z && missing)) ≡ false
+    by true z missing h g = absurd (false≢true (sym h))
+    by false true missing h g = absurd (false≢true (sym g))
+    by false false missing h g = refl
 
 -- ---- other codes than that of a write-only entry
 
@@ -125,6 +134,17 @@ not_first index sub range zero is = false≢true (sym (from_one sub zero) ∙ (a
   where
     from_one : (n : ℕ) → (n == 0) ≡ true → is_from_to 1 64 n ≡ false
     from_one n h = subst (λ x. is_from_to 1 64 x ≡ false) (sym (eqb-true n 0 h)) refl
+
+-- nor is the vendor-ID
+not_word : (key : Key) (range : IndexRange) → is_within range 0x1018 ≡ false → is_mandatory key ≡ true → (is_within range key.index && is_from_to 1 64 key.sub) ≡ true → ⊥
+not_word key range off must is = by (key.sub == 0) refl must
+  where
+    by : (b : Bool) → (key.sub == 0) ≡ b → (b || ((key.index == 0x1018) && (key.sub == 1))) ≡ true → ⊥
+    by true zero h = not_first key.index key.sub range zero is
+    by false more h =
+        let identity : (key.index == 0x1018) ≡ true = (and_parts (key.index == 0x1018) (key.sub == 1) h).0 in
+        let inside : is_within range key.index ≡ true = (and_parts (is_within range key.index) (is_from_to 1 64 key.sub) is).0 in
+        false≢true (sym off ∙ subst (λ i. is_within range i ≡ true) (eqb-true key.index 0x1018 identity) inside)
 
 found_such : {A : Type 0} (p : A → Bool) (Q : A → Type 0) (all : List A) → AllByRecursion (λ x. p x ≡ true → Q x) all → IfSome (find p all) Q
 found_such p Q [] h = tt
@@ -185,8 +205,8 @@ module _ (d : Description) (c : Contents) (key : Key) (number : ℕ) where
   weak : {o : Option ℕ} → ArePlain o → AreOther o
   weak h = weakened is_other plain_other h
 
-  at_first : (key.sub == 0) ≡ true → IfSome (find (λ r. is_within r.1 key.index && is_from_to r.2 r.3 key.sub) own_rules) (λ r. ArePlain (rule_refusal r.0 d c key number))
-  at_first zero =
+  at_mandatory : is_mandatory key ≡ true → IfSome (find (λ r. is_within r.1 key.index && is_from_to r.2 r.3 key.sub) own_rules) (λ r. ArePlain (rule_refusal r.0 d c key number))
+  at_mandatory must =
       found_such (λ r. is_within r.1 key.index && is_from_to r.2 r.3 key.sub) (λ r. ArePlain (rule_refusal r.0 d c key number)) own_rules (
         λ h. error_plain,
         (
@@ -208,7 +228,7 @@ module _ (d : Description) (c : Contents) (key : Key) (number : ℕ) where
                         (
                           λ h. count_plain Rpdo,
                           (
-                            λ h. absurd (not_first key.index key.sub rpdo_mapping zero h),
+                            λ h. absurd (not_word key rpdo_mapping refl must h),
                             (
                               λ h. word_plain,
                               (
@@ -220,7 +240,7 @@ module _ (d : Description) (c : Contents) (key : Key) (number : ℕ) where
                                     (
                                       λ h. count_plain Tpdo,
                                       (
-                                        λ h. absurd (not_first key.index key.sub tpdo_mapping zero h),
+                                        λ h. absurd (not_word key tpdo_mapping refl must h),
                                         tt,
                                       ),
                                     ),
@@ -295,8 +315,8 @@ module _ (d : Description) (c : Contents) (key : Key) (number : ℕ) where
         ),
       )
 
-own_plain : (d : Description) (c : Contents) (key : Key) (bytes : List ℕ) → (key.sub == 0) ≡ true → ArePlain (own_refusal d c key bytes)
-own_plain d c key bytes zero = and_such is_plain (λ r. r.0) (λ rule. rule_refusal rule d c key (unsigned_of bytes)) (find (λ r. is_within r.1 key.index && is_from_to r.2 r.3 key.sub) own_rules) (at_first d c key (unsigned_of bytes) zero)
+own_plain : (d : Description) (c : Contents) (key : Key) (bytes : List ℕ) → is_mandatory key ≡ true → ArePlain (own_refusal d c key bytes)
+own_plain d c key bytes must = and_such is_plain (λ r. r.0) (λ rule. rule_refusal rule d c key (unsigned_of bytes)) (find (λ r. is_within r.1 key.index && is_from_to r.2 r.3 key.sub) own_rules) (at_mandatory d c key (unsigned_of bytes) must)
 
 own_other : (d : Description) (c : Contents) (key : Key) (bytes : List ℕ) → AreOther (own_refusal d c key bytes)
 own_other d c key bytes = and_such is_other (λ r. r.0) (λ rule. rule_refusal rule d c key (unsigned_of bytes)) (find (λ r. is_within r.1 key.index && is_from_to r.2 r.3 key.sub) own_rules) (at_any d c key (unsigned_of bytes))
@@ -449,8 +469,8 @@ module _ (plan : Plan) where
     initiating_mild key indicated =
         entry_mild key _ (λ row is. are_mild plan.rows key _ (plain_first (plain_if (is_read_only row.access || is_sdo_parameter key.index) read_only refl) (plain_first (and_plain (size_refusal row) indicated (size_plain row)) plain_none)))
 
-    -- at another sub-index than 0 only a write-only entry is denied
-    sub_mild : (key : Key) (code : ℕ) → (key.sub == 0) ≡ false → is_other code ≡ true → Mild plan.rows key code
+    -- of one that may be missing only a write-only entry is denied
+    sub_mild : (key : Key) (code : ℕ) → is_mandatory key ≡ false → is_other code ≡ true → Mild plan.rows key code
     sub_mild key code off other = record { holds = by (row_at plan.rows key) refl }
       where
         at : (b : Bool) → not b ≡ true → b ≡ false
@@ -462,19 +482,19 @@ module _ (plan : Plan) where
 
         by : (o : Option Row) → row_at plan.rows key ≡ o → IfSome o (λ row. (denies row.key (as_sent code) && is_readable row.access) ≡ false)
         by None is = tt
-        by (Some row) is = rw (not_that, ap (λ (k : Key). k.sub == 0) (key_found plan.rows key row is) ∙ off) refl
+        by (Some row) is = ap (λ b. b && is_readable row.access) (sub_denies row.key code not_that (ap is_mandatory (key_found plan.rows key row is) ∙ off))
 
-    subs_mild : (key : Key) (o : Option ℕ) → (key.sub == 0) ≡ false → AreOther o → MildIn key o
+    subs_mild : (key : Key) (o : Option ℕ) → is_mandatory key ≡ false → AreOther o → MildIn key o
     subs_mild key None off h = mild_none plan.rows key
     subs_mild key (Some code) off h = mild_some plan.rows key code (sub_mild key code off h.holds)
 
     pub completing_mild : (c : Contents) (key : Key) (indicated : Option ℕ) (bytes : List ℕ) → MildIn key (completion_refusal d c key indicated bytes)
     unfolding completion_refusal
-    completing_mild c key indicated bytes = entry_mild key _ (λ row is. by row (key.sub == 0) refl)
+    completing_mild c key indicated bytes = entry_mild key _ (λ row is. by row (is_mandatory key) refl)
       where
-        by : (row : DictionaryRow) (b : Bool) → (key.sub == 0) ≡ b
+        by : (row : DictionaryRow) (b : Bool) → is_mandatory key ≡ b
             → MildIn key (first_refusal (refused_if (is_read_only row.access || is_sdo_parameter key.index) read_only ∷ option_and_then (size_refusal row) indicated ∷ option_and_then (λ size. total_refusal size (length bytes)) indicated ∷ value_refusal d c key row bytes ∷ []))
-        by row true zero = are_mild plan.rows key _ (writing_such is_plain (λ code h. h) d c key indicated bytes row (own_plain d c key bytes zero))
+        by row true must = are_mild plan.rows key _ (writing_such is_plain (λ code h. h) d c key indicated bytes row (own_plain d c key bytes must))
         by row false off = subs_mild key _ off (writing_such is_other plain_other d c key indicated bytes row (own_other d c key bytes))
 
 -- ---- all of them

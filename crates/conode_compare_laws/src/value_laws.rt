@@ -213,9 +213,9 @@ pub fn node_no_constant_differences()
 
 /// The recording of a device that is built from a data sheet, over whatever inputs with whatever
 /// stamps, has no `access-read` by that sheet: no upload of an entry that it has as readable is
-/// refused with 06010001, nor at sub-index 0 with 06020000 or 06090011 (CiA 301, 7.2.4.3.17), in
-/// whatever state, expedited, in segments and in blocks; nor is the last segment of a block upload
-/// taken for such an abort, whatever data it has. Conditions: those of
+/// refused with 06010001, nor at sub-index 0 or of 1018:01 with 06020000 or 06090011 (CiA 301,
+/// 7.2.4.3.17), in whatever state, expedited, in segments and in blocks; nor is the last segment of
+/// a block upload taken for such an abort, whatever data it has. Conditions: those of
 /// `built_no_write_differences`. This is a law: a call of it changes nothing.
 pub fn built_no_read_differences()
     ensures { (plan : Plan) (k : Constants) (subject : Subject) (inputs : List Stamped) →

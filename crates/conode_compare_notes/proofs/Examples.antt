@@ -321,14 +321,14 @@ first_stamp = refl
 
 -- ---- versions and codes
 
--- 1018:03 is 10002h, and 1008h a text of two bytes; 1009h has none, 100Bh isn't looked at
+-- 1000:00 is F0191h, 1018:03 is 10002h, and 1008h a text of two bytes; 1009h has none, 100Bh isn't looked at
 abbrev version_rows : List Row
 version_rows =
-    record (entry 0x1008 0 VisibleString Ro) { default = text (0x49 ∷ 0x4F ∷ []) } ∷ record (entry 0x1009 0 VisibleString Ro) { default = text [] }
+    record (entry 0x1000 0 Unsigned32 Ro) { default = number (pos 0xF0191) } ∷ record (entry 0x1008 0 VisibleString Ro) { default = text (0x49 ∷ 0x4F ∷ []) } ∷ record (entry 0x1009 0 VisibleString Ro) { default = text [] }
     ∷ record (entry 0x100B 0 VisibleString Ro) { default = text (0x49 ∷ 0x4F ∷ []) } ∷ record (entry 0x1018 3 Unsigned32 Ro) { default = number (pos 0x10002) } ∷ []
 
 abbrev read_by : Bool → Ending → Protocol → ℕ → ℕ → List ℕ → Option Warning
-read_by certain ending protocol index sub bytes = version_warning 5 version_rows certain (record (done index sub Upload bytes) { protocol = protocol; ending = ending; bytes = length bytes })
+read_by certain ending protocol index sub bytes = version_warning 5 false version_rows certain (record (done index sub Upload bytes) { protocol = protocol; ending = ending; bytes = length bytes })
 
 abbrev read : ℕ → ℕ → List ℕ → Option Warning
 read index sub bytes = read_by true (Done false) Segmented index sub bytes
@@ -338,6 +338,17 @@ revision = record { index = 0x1018; sub = 3 }
 
 revisions : map (read_by true (Done false) Expedited 0x1018 3) ((3 ∷ 0 ∷ 1 ∷ 0 ∷ []) ∷ (2 ∷ 0 ∷ 1 ∷ 0 ∷ []) ∷ (3 ∷ 0 ∷ 1 ∷ []) ∷ []) ≡ Some (OtherRevision revision 0x10003 0x10002) ∷ None ∷ None ∷ []
 revisions = refl
+
+-- other modules of the same device profile; the sheet's; another profile, which is a difference; of a modular device
+abbrev type_read : Bool → List ℕ → Option Warning
+type_read modular bytes = version_warning 5 modular version_rows true (record (done 0x1000 0 Upload bytes) { protocol = Expedited; ending = Done false; bytes = length bytes })
+
+types : map (type_read false) ((0x91 ∷ 1 ∷ 0xE ∷ 0 ∷ []) ∷ (0x91 ∷ 1 ∷ 0xF ∷ 0 ∷ []) ∷ (0x90 ∷ 1 ∷ 0xE ∷ 0 ∷ []) ∷ (0x91 ∷ 0x81 ∷ 0xF ∷ 0 ∷ []) ∷ [])
+    ≡ Some (OtherRevision (record { index = 0x1000; sub = 0 }) 0xE0191 0xF0191) ∷ None ∷ None ∷ None ∷ []
+types = refl
+
+type_of_modules : type_read true (0x91 ∷ 1 ∷ 0xE ∷ 0 ∷ []) ≡ None
+type_of_modules = refl
 
 -- another text, a longer one; the same; an empty text of the sheet; another entry; one that the sheet doesn't have
 texts : map (read 0x1008 0) ((0x49 ∷ 0x50 ∷ []) ∷ (0x49 ∷ 0x4F ∷ 0x20 ∷ []) ∷ (0x49 ∷ 0x4F ∷ []) ∷ []) ≡ Some (OtherText (record { index = 0x1008; sub = 0 })) ∷ Some (OtherText (record { index = 0x1008; sub = 0 })) ∷ None ∷ []
@@ -352,7 +363,7 @@ longer = refl
 
 -- in one frame, not done, in doubt, a download
 text_in_one_frame : read_by true (Done false) Expedited 0x1008 0 (0x49 ∷ []) ∷ read_by true Irregular Segmented 0x1008 0 (0x49 ∷ []) ∷ read_by false (Done false) Segmented 0x1008 0 (0x49 ∷ [])
-    ∷ version_warning 5 version_rows true (done 0x1018 3 Download (3 ∷ 0 ∷ 1 ∷ 0 ∷ [])) ∷ [] ≡ None ∷ None ∷ None ∷ None ∷ []
+    ∷ version_warning 5 false version_rows true (done 0x1018 3 Download (3 ∷ 0 ∷ 1 ∷ 0 ∷ [])) ∷ [] ≡ None ∷ None ∷ None ∷ None ∷ []
 text_in_one_frame = refl
 
 -- the classes of codes

@@ -1,6 +1,7 @@
--- What a device says of its version otherwise than its data sheet (CiA 301, 7.5.2.8 to 7.5.2.10 and
--- 7.5.2.21), and codes of EMCY without a class (CiA 301, 7.2.7.1).
+-- What a device says of its version otherwise than its data sheet (CiA 301, 7.5.2.1, 7.5.2.8 to 7.5.2.10
+-- and 7.5.2.21), and codes of EMCY without a class (CiA 301, 7.2.7.1).
 use Rattle.std.specs.Prelude.{ℕ, ◌==◌, nat_le, nat_lt, Bool, true, false, not, ◌&&◌, ◌||◌, if◌then◌else◌, List, length, bytes_eq, Option, Some, None, option_and_then}
+use Rattle.co_profile.specs.Indices.{device_type, identity}
 use Rattle.co_sheet.specs.Content.{Row}
 use Rattle.co_sheet.specs.Limits.{Default, text}
 use Rattle.co_value.specs.declared.key.Key.{Key}
@@ -13,7 +14,7 @@ use Rattle.conode_explain_transfers.specs.declared.kinds.Direction.TheVariants.{
 use Rattle.conode_explain_transfers.specs.declared.kinds.Protocol.{Protocol}
 use Rattle.conode_explain_transfers.specs.declared.kinds.Protocol.TheVariants.{Expedited}
 use Rattle.conode_compare_pdos.specs.SheetNumbers.{number_of as sheet_number}
-use Rattle.conode_compare_values.specs.SheetValues.{shown_number}
+use Rattle.conode_compare_values.specs.SheetValues.{profile_in, shown_number}
 use Rattle.conode_compare_notes.specs.declared.warning.Warning.{Warning}
 use Rattle.conode_compare_notes.specs.declared.warning.Warning.TheVariants.{OtherRevision, OtherText, OddCode}
 
@@ -21,7 +22,11 @@ use Rattle.conode_compare_notes.specs.declared.warning.Warning.TheVariants.{Othe
 
 -- 1018:03, the revision number
 abbrev pub is_revision : Key → Bool
-is_revision key = (key.index == 0x1018) && (key.sub == 3)
+is_revision key = (key.index == identity) && (key.sub == 3)
+
+-- 1000:00, the device type
+abbrev pub is_type : Key → Bool
+is_type key = (key.index == device_type) && (key.sub == 0)
 
 -- 1008h to 100Ah: the device's name, the versions of hardware and software
 abbrev pub is_text : Key → Bool
@@ -36,6 +41,16 @@ revision_shown node row shown = option_and_then (revision_with row.key shown) (s
 
 abbrev pub revision_warning : ℕ → Ended → Row → Option Warning
 revision_warning node ended row = option_and_then (revision_shown node row) (shown_number 4 ended.first.items)
+
+-- `other-version`, of the upper word of the device type; of its lower one `value-const` speaks
+abbrev pub type_with : Key → ℕ → ℕ → Option Warning
+type_with key shown sheet = if profile_in shown == profile_in sheet then revision_with key shown sheet else None
+
+abbrev pub type_shown : ℕ → Row → ℕ → Option Warning
+type_shown node row shown = option_and_then (type_with row.key shown) (sheet_number node row.default)
+
+abbrev pub type_warning : ℕ → Ended → Row → Option Warning
+type_warning node ended row = option_and_then (type_shown node row) (shown_number 4 ended.first.items)
 
 -- `other-version`, of a text that the data sheet has; of the bytes of a transfer 64 are kept
 abbrev pub has_text : Ended → List ℕ → Bool
@@ -53,19 +68,21 @@ abbrev pub is_expedited : Protocol → Bool
 is_expedited Expedited = true
 is_expedited protocol = false
 
-abbrev pub version_at : ℕ → Ended → Row → Option Warning
-version_at node ended row =
+-- modules decide what the device type of a modular device is
+abbrev pub version_at : ℕ → Bool → Ended → Row → Option Warning
+version_at node modular ended row =
     if is_revision row.key then revision_warning node ended row
-    else (if is_text row.key && not (is_expedited ended.protocol) then text_warning ended row.default else None)
+    else (if is_type row.key && not modular then type_warning node ended row
+    else (if is_text row.key && not (is_expedited ended.protocol) then text_warning ended row.default else None))
 
 abbrev pub is_read : Direction → Ending → Bool
 is_read Upload (Done crc) = true
 is_read direction ending = false
 
--- of an upload that is done, where no earlier request can be answered
-abbrev pub version_warning : ℕ → List Row → Bool → Ended → Option Warning
-version_warning node rows certain ended =
-    if certain && is_read ended.direction ended.ending then option_and_then (version_at node ended) (row_at rows ended.key) else None
+-- of an upload that is done, where no earlier request can be answered; whether the device is modular
+abbrev pub version_warning : ℕ → Bool → List Row → Bool → Ended → Option Warning
+version_warning node modular rows certain ended =
+    if certain && is_read ended.direction ended.ending then option_and_then (version_at node modular ended) (row_at rows ended.key) else None
 
 -- ---- codes of EMCY
 

@@ -210,7 +210,7 @@ other_warning emergencies kind remark = remark_warning remark
 -- by the end of a transfer
 abbrev pub end_warning : Subject → List Row → Watched → Bool → Ended → Option Warning
 end_warning subject rows watched certain ended =
-    option_or (ended_warning subject rows watched certain ended) (version_warning subject.node rows certain ended)
+    option_or (ended_warning subject rows watched certain ended) (version_warning subject.node subject.facts.modular rows certain ended)
 
 abbrev pub exchange_warning : Subject → List Row → Watched → Exchange → Option Warning
 exchange_warning subject rows watched exchange =

@@ -14,20 +14,24 @@ ghost use Rattle.conode_compare_notes.specs.Versions.{
   is_read,
   is_revision,
   is_text,
+  is_type,
   revision_shown,
   revision_warning,
   text_warning,
+  type_shown,
+  type_warning,
   version_at,
   version_warning,
 };
 
 use crate::warning::Warning;
+use co_profile::{DEVICE_TYPE, IDENTITY};
 use co_sheet::EntryRow;
 use co_sheet_changes::row_at;
 use co_sheet_rows::Preset;
 use co_value::Key;
 use conode_compare_pdos::number_of;
-use conode_compare_values::shown_number;
+use conode_compare_values::{profile_in, shown_number};
 use conode_explain_transfers::{Direction, Ended, Ending, Protocol};
 
 // of a transfer's bytes so many are kept
@@ -37,7 +41,14 @@ const KEPT: usize = 64;
 fn is_revision(key: Key) -> bool
     ensures { result ≡ is_revision key }
 {
-    key.index == 0x1018 && key.sub == 3
+    key.index == IDENTITY && key.sub == 3
+}
+
+// the device type (CiA 301, 7.5.2.1)
+fn is_type(key: Key) -> bool
+    ensures { result ≡ is_type key }
+{
+    key.index == DEVICE_TYPE && key.sub == 0
 }
 
 // the device's name, the versions of hardware and software (CiA 301, 7.5.2.8 to 7.5.2.10)
@@ -66,6 +77,28 @@ fn revision_warning(node: u8, ended: &Ended, row: &EntryRow<'_>) -> Option<Warni
     revision_shown(node, row, shown)
 }
 
+// another device type than the data sheet's, of the same device profile; of another profile it is
+// the difference `value-const`
+fn type_shown(node: u8, row: &EntryRow<'_>, shown: u64) -> Option<Warning>
+    ensures { result ≡ type_shown node (row_view row.now) shown }
+{
+    match number_of(node, row.default) {
+        Some(sheet) if profile_in(shown) == profile_in(sheet) && shown != sheet => {
+            Some(Warning::OtherRevision(row.key, shown, sheet))
+        }
+        _ => None,
+    }
+}
+
+fn type_warning(node: u8, ended: &Ended, row: &EntryRow<'_>) -> Option<Warning>
+    ensures { result ≡ type_warning node ended.now (row_view row.now) }
+{
+    let Some(shown) = shown_number(4, ended.first.as_slice()) else {
+        return None;
+    };
+    type_shown(node, row, shown)
+}
+
 // whether a transfer has these bytes
 fn has_text(ended: &Ended, bytes: &[u8]) -> bool
     ensures { result ≡ has_text ended.now bytes.now }
@@ -91,12 +124,16 @@ fn text_warning(ended: &Ended, default: Preset<'_>) -> Option<Warning>
     }
 }
 
-// by the entry of an upload; in one frame a text may come without its length
-fn version_at(node: u8, ended: &Ended, row: &EntryRow<'_>) -> Option<Warning>
-    ensures { result ≡ version_at node ended.now (row_view row.now) }
+// By the entry of an upload. Modules decide what the device type of a modular device is; in one
+// frame a text may come without its length.
+fn version_at(node: u8, modular: bool, ended: &Ended, row: &EntryRow<'_>) -> Option<Warning>
+    ensures { result ≡ version_at node modular ended.now (row_view row.now) }
 {
     if is_revision(row.key) {
         return revision_warning(node, ended, row);
+    }
+    if is_type(row.key) && !modular {
+        return type_warning(node, ended, row);
     }
     if is_text(row.key) && !matches!(ended.protocol, Protocol::Expedited) {
         return text_warning(ended, row.default);
@@ -115,15 +152,17 @@ fn is_read(ended: &Ended) -> bool
 }
 
 /// Whether an upload that is done shows another version than the data sheet, whose entries are in
-/// increasing key, where no earlier request can be answered.
+/// increasing key, where no earlier request can be answered. `modular`: modules decide which entries
+/// the device has.
 pub(crate) fn version_warning(
     node: u8,
+    modular: bool,
     rows: &[EntryRow<'_>],
     certain: bool,
     ended: &Ended,
 ) -> Option<Warning>
     requires { AllPairs (λ e f. is_key_before e.key f.key ≡ true) rows.now }
-    ensures { result ≡ version_warning node (map row_view rows.now) certain ended.now }
+    ensures { result ≡ version_warning node modular (map row_view rows.now) certain ended.now }
 {
     if !certain || !is_read(ended) {
         return None;
@@ -131,7 +170,7 @@ pub(crate) fn version_warning(
     let Some(row) = row_at(rows, ended.key) else {
         return None;
     };
-    version_at(node, ended, row)
+    version_at(node, modular, ended, row)
 }
 
 // Whether the code of an EMCY has a class: 00xxh; 1xxxh to 9xxxh, with those of device profiles;

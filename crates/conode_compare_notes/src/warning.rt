@@ -17,8 +17,8 @@ pub enum Warning {
     ChangedBytes(Key),
     /// `stepped-back`: the stamp of a frame is so many microseconds before that of the last one.
     SteppedBack(u64),
-    /// `other-version`: an upload of this entry shows the first number, and the data sheet has the
-    /// second.
+    /// `other-version`: an upload of 1018:03, or of 1000:00, shows the first number, and the data
+    /// sheet has the second.
     OtherRevision(Key, u64, u64),
     /// `other-version`: an upload of this entry shows another text than the data sheet has.
     OtherText(Key),

@@ -302,7 +302,8 @@ impl Watched {
         let warning = self.ended_warning(subject, rows, certain, ended);
         attempt!(self.note_end(rows, certain, ended));
         self.fresh = self.fresh && !is_stored(warning);
-        Ok(warning.or(version_warning(subject.node, rows, certain, ended)))
+        let modular = subject.facts.modular;
+        Ok(warning.or(version_warning(subject.node, modular, rows, certain, ended)))
     }
 
     // A download is requested.

@@ -6,7 +6,7 @@ use Rattle.co_profile.specs.declared.access.Access.TheVariants.{Ro, Wo, Rw, Cons
 use Rattle.co_sheet.specs.Content.{Row}
 use Rattle.co_sheet.specs.Limits.{Default, absent, number, node_id, text, pairs}
 use Rattle.co_value.specs.declared.data_type.DataType.{DataType}
-use Rattle.co_value.specs.declared.data_type.DataType.TheVariants.{Boolean, Integer16, Integer24, Integer64, Unsigned8, Unsigned16, Unsigned40, Unsigned64, VisibleString, OctetString, Domain}
+use Rattle.co_value.specs.declared.data_type.DataType.TheVariants.{Boolean, Integer16, Integer24, Integer64, Unsigned8, Unsigned16, Unsigned32, Unsigned40, Unsigned64, VisibleString, OctetString, Domain}
 use Rattle.co_value.specs.declared.key.Key.{Key}
 use Rattle.conode_explain_transfers.specs.declared.ended.Ended.{Ended}
 use Rattle.conode_explain_transfers.specs.declared.ended.Ending.{Ending}
@@ -110,6 +110,23 @@ node_added = refl
 device_type : upload (row 0x1000 0 Unsigned8 Ro (number (pos 1))) true (2 ∷ []) ≡ Some (ValueConst (key 0x1000 0) 2 1)
 unfolding value_mismatch
 device_type = refl
+
+-- Of F0191h in the sheet the lower 16 bits are compared: 10191h, 191h; F0190h, F8191h. Of another entry all are.
+abbrev profile : List ℕ → Option Mismatch
+profile bytes = upload (row 0x1000 0 Unsigned32 Ro (number (pos 0xF0191))) true bytes
+
+abbrev other_profile : ℕ → Option Mismatch
+other_profile shown = Some (ValueConst (key 0x1000 0) shown 0xF0191)
+
+profiles : map profile ((0x91 ∷ 1 ∷ 0xF ∷ 0 ∷ []) ∷ (0x91 ∷ 1 ∷ 1 ∷ 0 ∷ []) ∷ (0x91 ∷ 1 ∷ 0 ∷ 0xFF ∷ []) ∷ (0x90 ∷ 1 ∷ 0xF ∷ 0 ∷ []) ∷ (0x91 ∷ 0x81 ∷ 0xF ∷ 0 ∷ []) ∷ [])
+    ≡ None ∷ None ∷ None ∷ other_profile 0xF0190 ∷ other_profile 0xF8191 ∷ []
+unfolding value_mismatch
+profiles = refl
+
+other_words : map (λ index. upload (row index 0 Unsigned32 Constant (number (pos 0xF0191))) true (0x91 ∷ 1 ∷ 0xE ∷ 0 ∷ [])) (0x1000 ∷ 0x1002 ∷ [])
+    ≡ None ∷ Some (ValueConst (key 0x1002 0) 0xE0191 0xF0191) ∷ []
+unfolding value_mismatch
+other_words = refl
 
 product : upload (row 0x1018 2 Unsigned8 Ro (number (pos 1))) true (2 ∷ []) ≡ Some (ValueConst (key 0x1018 2) 2 1)
 unfolding value_mismatch
@@ -252,6 +269,17 @@ written = refl
 writeable : written_mismatch (row 0x2000 0 Unsigned8 Rw absent) (1 ∷ []) ≡ None
 writeable = refl
 
+-- 06020000 and 06090011 of the vendor-ID, which each identity has; of the product code, and of sub-index 1 of another object
+abbrev missing : ℕ → ℕ → ℕ → Option Mismatch
+missing index sub code = refused_mismatch false (row index sub Unsigned32 Ro absent) (record { 0 = code })
+
+vendor : map (missing 0x1018 1) (0x06020000 ∷ 0x06090011 ∷ 0x06010001 ∷ 0x06060000 ∷ 0x08000022 ∷ [])
+    ≡ Some (ReadRefused (key 0x1018 1) (record { 0 = 0x06020000 })) ∷ Some (ReadRefused (key 0x1018 1) (record { 0 = 0x06090011 })) ∷ Some (ReadRefused (key 0x1018 1) (record { 0 = 0x06010001 })) ∷ None ∷ None ∷ []
+vendor = refl
+
+no_vendor : missing 0x1018 2 0x06090011 ∷ missing 0x1017 1 0x06090011 ∷ missing 0x1019 1 0x06020000 ∷ [] ≡ None ∷ None ∷ None ∷ []
+no_vendor = refl
+
 -- ---- limits
 
 abbrev limited : ℕ → DataType → Option ℤ → Option ℤ → Row
@@ -342,6 +370,21 @@ transfer entry direction protocol count ending = record {
   end = 2;
   ending = ending;
 }
+
+-- modules decide about the device type alone, but not about its length
+abbrev read_of_modules : Bool → ℕ → ℕ → List ℕ → Option Mismatch
+read_of_modules modular index sub bytes =
+    row_mismatch 5 modular (given None None) (row index sub Unsigned32 Ro (number (pos 0xF0191))) true
+    (record (transfer (row index sub Unsigned32 Ro absent) Upload Expedited (length bytes) (Done false)) { first = record { items = bytes } })
+
+by_modules : map (λ modular. read_of_modules modular 0x1000 0 (0x92 ∷ 1 ∷ 0xF ∷ 0 ∷ [])) (true ∷ false ∷ []) ≡ None ∷ other_profile 0xF0192 ∷ []
+unfolding row_mismatch value_mismatch
+by_modules = refl
+
+not_by_modules : read_of_modules true 0x1018 2 (0x92 ∷ 1 ∷ 0xF ∷ 0 ∷ []) ∷ read_of_modules true 0x1000 0 (0x91 ∷ 1 ∷ []) ∷ []
+    ≡ Some (ValueConst (key 0x1018 2) 0xF0192 0xF0191) ∷ Some (ValueLength (key 0x1000 0) 2 4) ∷ []
+unfolding row_mismatch value_mismatch
+not_by_modules = refl
 
 -- a download of so many bytes is done, with this room of strings, and of DOMAINs
 abbrev write : Rooms → Row → Protocol → ℕ → Option Mismatch

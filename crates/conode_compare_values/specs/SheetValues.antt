@@ -7,7 +7,7 @@ use Rattle.co_frame.specs.declared.abort_code.AbortCode.{AbortCode}
 use Rattle.co_frame.specs.AbortCodes.{write_only, object_missing, sub_index_missing}
 use Rattle.co_profile.specs.declared.access.Access.{Access}
 use Rattle.co_profile.specs.declared.access.Access.TheVariants.{Ro, Wo, Constant}
-use Rattle.co_profile.specs.Indices.{device_type}
+use Rattle.co_profile.specs.Indices.{device_type, error_field, error_register, identity, sdo_server}
 use Rattle.co_sheet.specs.Content.{Row}
 use Rattle.co_sheet.specs.Limits.{Default, text, pairs}
 use Rattle.co_value.specs.declared.data_type.DataType.{DataType}
@@ -32,10 +32,6 @@ use Rattle.conode_compare_values.specs.declared.rooms.Rooms.{Rooms}
 
 -- ---- values
 
--- the identity object
-abbrev pub identity : ℕ
-identity = 0x1018
-
 abbrev pub is_constant : Access → Bool
 is_constant Constant = true
 is_constant other = false
@@ -43,7 +39,7 @@ is_constant other = false
 -- The error register and the errors, which the device changes, and the COB-IDs of its first SDO channel,
 -- which follow from its node-ID (CiA 301, 7.5.2.2, 7.5.2.4 and 7.5.2.33): its own, whatever the sheet says.
 abbrev pub is_its_own : ℕ → Bool
-is_its_own index = (index == 0x1001) || ((index == 0x1003) || (index == 0x1200))
+is_its_own index = (index == error_register) || ((index == error_field) || (index == sdo_server.0))
 
 -- Values that are compared with the data sheet: the device type, vendor-ID and product code, and
 -- what never changes. The revision and serial number of a device are its own.
@@ -78,12 +74,21 @@ is_other_boolean shown held = if held == 0 then shown % 2 == 1 else shown == 0
 abbrev pub is_other_number : DataType → ℕ → ℕ → Bool
 is_other_number type shown held = if is_boolean type then is_other_boolean shown held else not (shown == held)
 
+-- The device profile, the lower 16 bits of the device type. The upper ones are additional information of
+-- that profile, as which kinds of inputs are plugged in, or of which kind a drive is (CiA 301, 7.5.2.1).
+abbrev pub profile_in : ℕ → ℕ
+profile_in word = word % 0x10000
+
+abbrev pub is_other_value : Row → ℕ → ℕ → Bool
+is_other_value row shown held =
+    if row.key.index == device_type then not (profile_in shown == profile_in held) else is_other_number row.data_type shown held
+
 -- `value-const`: another number than the data sheet's
 abbrev pub constant_mismatch : Row → Option ℕ → Option ℕ → Option Mismatch
 constant_mismatch row None held = None
 constant_mismatch row (Some shown) None = None
 constant_mismatch row (Some shown) (Some held) =
-    if is_other_number row.data_type shown held then Some (ValueConst row.key shown held) else None
+    if is_other_value row shown held then Some (ValueConst row.key shown held) else None
 
 -- `value-length`: a number has as many bytes as its type, where their number is indicated; one of
 -- more than four isn't expedited
@@ -163,10 +168,14 @@ is_read_only Ro = true
 is_read_only Constant = true
 is_read_only other = false
 
--- A code that says that the entry can't be read at all. A sub-index may be missing where the number
--- of them varies; sub-index 0 is always there.
+-- Each object has its sub-index 0, and the identity a vendor-ID (CiA 301, 7.5.2.21). Another sub-index
+-- may be missing where the number of them varies.
+abbrev pub is_mandatory : Key → Bool
+is_mandatory key = (key.sub == 0) || ((key.index == identity) && (key.sub == 1))
+
+-- a code that says that the entry can't be read at all
 abbrev pub denies : Key → ℕ → Bool
-denies key code = (code == write_only) || ((key.sub == 0) && ((code == object_missing) || (code == sub_index_missing)))
+denies key code = (code == write_only) || (is_mandatory key && ((code == object_missing) || (code == sub_index_missing)))
 
 -- `access-read`: the data sheet has the entry as readable; modules decide which entries a modular
 -- device has
@@ -265,6 +274,19 @@ value_by node row exact ended None = text_mismatch row exact ended.first.items
 unfoldable pub value_mismatch : ℕ → Row → Bool → Ended → Option Mismatch
 value_mismatch node row exact ended = value_by node row exact ended (width_of row.data_type)
 
+-- Modules decide what the device type of a modular device is.
+abbrev pub is_by_modules : Mismatch → Bool
+is_by_modules (ValueConst key shown held) = key.index == device_type
+is_by_modules other = false
+
+abbrev pub unless_modules : Bool → Option Mismatch → Option Mismatch
+unless_modules modular None = None
+unless_modules modular (Some mismatch) = if modular && is_by_modules mismatch then None else Some mismatch
+
+-- of an upload that is done; whether the device is modular
+abbrev pub read_mismatch : ℕ → Bool → Row → Bool → Ended → Option Mismatch
+read_mismatch node modular row exact ended = unless_modules modular (value_mismatch node row exact ended)
+
 -- The bytes of a number that was written: in one frame there are four where their number isn't
 -- indicated, and as many count as the type has.
 abbrev pub first_bytes : ℕ → List ℕ → List ℕ
@@ -282,7 +304,7 @@ download_mismatch rooms row ended =
 -- of a device with a node-ID; whether it is modular; the rooms that are given; whether the number of
 -- bytes of an upload is known exactly
 abbrev pub mismatch_by : ℕ → Bool → Rooms → Row → Bool → Ended → Direction → Ending → Option Mismatch
-mismatch_by node modular rooms row exact ended Upload (Done crc) = value_mismatch node row exact ended
+mismatch_by node modular rooms row exact ended Upload (Done crc) = read_mismatch node modular row exact ended
 mismatch_by node modular rooms row exact ended Download (Done crc) = download_mismatch rooms row ended
 mismatch_by node modular rooms row exact ended Upload (Aborted Server code) = refused_mismatch modular row code
 mismatch_by node modular rooms row exact ended direction ending = None

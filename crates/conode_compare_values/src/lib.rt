@@ -17,6 +17,6 @@ pub use rooms::Rooms;
 pub use rpdo_writes::{Brought, RpdoValue, RpdoWrites, all_fit};
 pub use values::{
     beyond_mismatch, has_limits, is_held, is_read_only, is_readable, is_within, mismatch_at,
-    shown_number,
+    profile_in, shown_number,
 };
 pub use written::{HeldMismatch, Written, differs, is_done, is_restricted, number_written};

@@ -20,14 +20,17 @@ ghost use Rattle.conode_compare_values.specs.SheetValues.{
   is_above,
   is_below,
   is_boolean,
+  is_by_modules,
   is_comparable,
   is_first,
   is_held,
   is_its_own,
   is_held_text,
+  is_mandatory,
   is_other_boolean,
   is_other_number,
   is_other_text,
+  is_other_value,
   is_printed,
   is_readable,
   is_read_only,
@@ -38,10 +41,13 @@ ghost use Rattle.conode_compare_values.specs.SheetValues.{
   long_mismatch,
   mismatch_at,
   number_mismatch,
+  profile_in,
+  read_mismatch,
   refused_mismatch,
   row_mismatch,
   shown_number,
   text_mismatch,
+  unless_modules,
   value_mismatch,
   width_mismatch,
   written_bytes,
@@ -51,7 +57,7 @@ ghost use Rattle.conode_compare_values.specs.SheetValues.{
 use crate::mismatch::Mismatch;
 use crate::rooms::Rooms;
 use co_frame::AbortCode;
-use co_profile::{Access, DEVICE_TYPE, ERROR_FIELD, ERROR_REGISTER, IDENTITY};
+use co_profile::{Access, DEVICE_TYPE, ERROR_FIELD, ERROR_REGISTER, IDENTITY, IndexRange};
 use co_sheet::EntryRow;
 use co_sheet_changes::row_at;
 use co_sheet_rows::Preset;
@@ -61,9 +67,6 @@ use conode_explain_transfers::{Direction, Ended, Ending, Protocol, Side};
 
 // of a transfer's bytes so many are kept
 const KEPT: usize = 64;
-
-// the SDO server parameter of the default channel (CiA 301, 7.5.2.33)
-const FIRST_CHANNEL: u16 = 0x1200;
 
 /// Whether an entry with this access is read only.
 pub fn is_read_only(access: Access) -> bool
@@ -83,7 +86,7 @@ pub fn is_readable(access: Access) -> bool
 fn is_its_own(index: u16) -> bool
     ensures { result ≡ is_its_own index }
 {
-    index == ERROR_REGISTER || index == ERROR_FIELD || index == FIRST_CHANNEL
+    index == ERROR_REGISTER || index == ERROR_FIELD || index == IndexRange::SDO_SERVER.0
 }
 
 /// Whether the value of an entry is compared with the data sheet.
@@ -156,12 +159,31 @@ fn is_other_number(data_type: DataType, shown: u64, held: u64) -> bool
     }
 }
 
+/// The device profile of a device type: its lower 16 bits. The upper ones are additional information
+/// of that profile, as which kinds of inputs are plugged in, or of which kind a drive is (CiA 301,
+/// 7.5.2.1).
+pub fn profile_in(word: u64) -> u64
+    ensures { result ≡ profile_in word }
+{
+    word % 0x1_0000
+}
+
+fn is_other_value(row: &EntryRow<'_>, shown: u64, held: u64) -> bool
+    ensures { result ≡ is_other_value (row_view row.now) shown held }
+{
+    if row.key.index == DEVICE_TYPE {
+        profile_in(shown) != profile_in(held)
+    } else {
+        is_other_number(row.data_type, shown, held)
+    }
+}
+
 // the difference of a value that was uploaded
 fn constant_mismatch(row: &EntryRow<'_>, shown: Option<u64>, held: Option<u64>) -> Option<Mismatch>
     ensures { result ≡ constant_mismatch (row_view row.now) shown held }
 {
     match (shown, held) {
-        (Some(shown), Some(held)) if is_other_number(row.data_type, shown, held) => {
+        (Some(shown), Some(held)) if is_other_value(row, shown, held) => {
             Some(Mismatch::ValueConst(row.key, shown, held))
         }
         _ => None,
@@ -318,13 +340,20 @@ fn text_mismatch(row: &EntryRow<'_>, exact: bool, shown: &[u8]) -> Option<Mismat
     }
 }
 
-// A code that says that the entry can't be read at all. A sub-index may be missing where the number
-// of them varies; sub-index 0 is always there.
+// Each object has its sub-index 0, and the identity a vendor-ID (CiA 301, 7.5.2.21). Another
+// sub-index may be missing where the number of them varies.
+fn is_mandatory(key: Key) -> bool
+    ensures { result ≡ is_mandatory key }
+{
+    key.sub == 0 || (key.index == IDENTITY && key.sub == 1)
+}
+
+// a code that says that the entry can't be read at all
 fn denies(key: Key, code: AbortCode) -> bool
     ensures { result ≡ denies key code.0 }
 {
     code == AbortCode::WRITE_ONLY
-        || (key.sub == 0
+        || (is_mandatory(key)
             && (code == AbortCode::OBJECT_MISSING || code == AbortCode::SUB_INDEX_MISSING))
 }
 
@@ -467,6 +496,38 @@ fn value_mismatch(node: u8, row: &EntryRow<'_>, exact: bool, ended: &Ended) -> O
     }
 }
 
+// whether modules decide about a difference, as about the device type of a modular device
+fn is_by_modules(mismatch: Mismatch) -> bool
+    ensures { result ≡ is_by_modules mismatch }
+{
+    match mismatch {
+        Mismatch::ValueConst(key, _, _) => key.index == DEVICE_TYPE,
+        _ => false,
+    }
+}
+
+fn unless_modules(modular: bool, found: Option<Mismatch>) -> Option<Mismatch>
+    ensures { result ≡ unless_modules modular found }
+{
+    match found {
+        Some(mismatch) if modular && is_by_modules(mismatch) => None,
+        _ => found,
+    }
+}
+
+// the difference of an upload that is done, of a device that may be modular
+fn read_mismatch(
+    node: u8,
+    modular: bool,
+    row: &EntryRow<'_>,
+    exact: bool,
+    ended: &Ended,
+) -> Option<Mismatch>
+    ensures { result ≡ read_mismatch node modular (row_view row.now) exact ended.now }
+{
+    unless_modules(modular, value_mismatch(node, row, exact, ended))
+}
+
 // the difference of the end of a transfer of an entry
 #[tactic(auto, unfolding(crate::specs::SheetValues::row_mismatch))]
 fn row_mismatch(
@@ -480,7 +541,9 @@ fn row_mismatch(
     ensures { result ≡ row_mismatch node modular rooms (row_view row.now) exact ended.now }
 {
     match (ended.direction, ended.ending) {
-        (Direction::Upload, Ending::Done { crc: _ }) => value_mismatch(node, row, exact, ended),
+        (Direction::Upload, Ending::Done { crc: _ }) => {
+            read_mismatch(node, modular, row, exact, ended)
+        }
         (Direction::Download, Ending::Done { crc: _ }) => download_mismatch(rooms, row, ended),
         (
             Direction::Upload,
