@@ -224,8 +224,12 @@ frame_with c so_far frame =
 abbrev pub line_noted : Comparing → List ℕ → Comparing
 line_noted so_far line = record so_far { report = option_map (λ kept. with_line kept line) so_far.report }
 
+-- what a bad line had is unknown: with the next frame the recording begins anew, as with its first one
+abbrev pub broken_off : Progress → Progress
+broken_off progress = record progress { newest = None }
+
 abbrev pub bad_noted : Comparing → Comparing
-bad_noted so_far = record so_far { report = option_map with_bad_line so_far.report }
+bad_noted so_far = record so_far { progress = broken_off so_far.progress; report = option_map with_bad_line so_far.report }
 
 -- nothing but its number is kept of a line of more than 512 bytes
 abbrev pub long_noted : Comparing → Comparing
