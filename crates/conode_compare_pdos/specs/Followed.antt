@@ -1,5 +1,6 @@
 -- The first four TPDOs of a device, followed through a recording.
 use Rattle.std.specs.Prelude.{ℕ, Bool, false, ◌&&◌, ◌||◌, if◌then◌else◌, List, Option, Some, None, is_some, option_and_then}
+use Rattle.co_profile.specs.Indices.{nmt_startup}
 use Rattle.co_profile.specs.Keys.{sync_key}
 use Rattle.co_sheet.specs.Content.{Row}
 use Rattle.co_value.specs.declared.key.Key.{Key}
@@ -35,7 +36,7 @@ each change pdos = record {
 -- SYNCs are counted, unless the device may become operational by itself (1F80h, CiA 302-2): the
 -- recording doesn't show when its count begins then
 abbrev pub cycle_of : List Row → Option Cycle
-cycle_of rows = if is_some (row_at rows (key_of 0x1F80 0)) then None else Some new_cycle
+cycle_of rows = if is_some (row_at rows (key_of nmt_startup 0)) then None else Some new_cycle
 
 -- after a boot-up: what the data sheet has
 unfoldable pub pdos_of : List Row → ℕ → Pdos

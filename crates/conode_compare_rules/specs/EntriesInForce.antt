@@ -3,7 +3,7 @@
 use Rattle.std.specs.Prelude.{ℕ, ◌+◌, ◌==◌, Bool, true, false, not, ◌&&◌, ◌||◌, if◌then◌else◌, List, Option, Some, None, is_some}
 use Rattle.std.specs.Option.{option_map_or}
 use Rattle.co_frame.specs.FrameContent.{FrameContent}
-use Rattle.co_profile.specs.Indices.{store_parameters}
+use Rattle.co_profile.specs.Indices.{module_list, nmt_startup, store_parameters}
 use Rattle.co_profile.specs.Keys.{producer_key, emergency_key, emergency_inhibit_key}
 use Rattle.co_sheet.specs.Content.{Row}
 use Rattle.co_value.specs.declared.key.Key.{Key}
@@ -65,14 +65,6 @@ initial_entries rows sheet = record {
   inhibit = if is_constant rows emergency_inhibit_key then sheet.inhibit else None;
   inhibit_shown = None;
 }
-
--- NMT startup (CiA 302-2)
-abbrev pub nmt_startup : ℕ
-nmt_startup = 0x1F80
-
--- the module list
-abbrev pub module_list : ℕ
-module_list = 0x1027
 
 -- Before a boot-up only what never changes is known. After one what the data sheet has is; but
 -- where the device can store parameters, it may have stored others, the values of a configuration

@@ -490,6 +490,10 @@ is_idle starts_itself PreOperational = not starts_itself
 is_idle starts_itself Stopped = true
 is_idle starts_itself state = false
 
+-- when the newest command came; else when the recording began
+abbrev pub newest_command : Progress → Option ℕ
+newest_command progress = Some (option_map_or (λ c. c.micros) progress.nmt.commanded progress.started)
+
 unfoldable pub moment_at : Subject → Progress → ℕ → Moment
 moment_at subject progress micros = record {
   micros = micros;
@@ -498,6 +502,7 @@ moment_at subject progress micros = record {
   drift = subject.limits.drift;
   idle = steady_when_free subject progress && is_idle subject.facts.starts_itself (judged_state progress.nmt);
   known = steady_when_free subject progress && is_known progress.nmt.state;
+  commanded = newest_command progress;
 }
 
 abbrev pub sighting_findings : Option Finding → Option Sighting → Findings

@@ -27,7 +27,7 @@ ghost use Rattle.conode_compare_rules.specs.EntriesInForce.{
 use crate::clients::{OtherClients, has_hidden_channel, is_channel};
 use co_frame::Frame;
 use co_profile::keys::{EMERGENCY_COB_ID, EMERGENCY_INHIBIT_TIME, PRODUCER_HEARTBEAT};
-use co_profile::{Access, STORE_PARAMETERS};
+use co_profile::{Access, MODULE_LIST, NMT_STARTUP, STORE_PARAMETERS};
 use co_sheet::EntryRow;
 use co_sheet_changes::row_at;
 use co_value::Key;
@@ -76,12 +76,6 @@ pub struct Facts {
     /// the sheet is no configuration.
     pub as_sheet: bool,
 }
-
-// NMT startup (CiA 302-2)
-const NMT_STARTUP: u16 = 0x1F80;
-
-// the module list (CiA 301, 7.5.2.30)
-const MODULES: u16 = 0x1027;
 
 fn has_object(rows: &[EntryRow<'_>], index: u16) -> bool
     requires { AllPairs (λ e f. is_key_before e.key f.key ≡ true) rows.now }
@@ -164,7 +158,7 @@ pub fn facts_of(rows: &[EntryRow<'_>], node: u8, configured: bool) -> Facts
             pdos_of(rows, node)
         },
         clients: OtherClients::of(rows, node),
-        modular: has_object(rows, MODULES),
+        modular: has_object(rows, MODULE_LIST),
         starts_itself: has_object(rows, NMT_STARTUP),
         stores: stores && !configured,
         as_sheet: !stores && !configured,
