@@ -7,8 +7,7 @@ use Rattle.conode_logs.proofs.OnLines.{logs_on_lines}
 use Rattle.conode_logs.specs.declared.log.Form.TheVariants.{Unknown}
 use Rattle.conode_compare_rules.specs.declared.limits.Limits.{Limits}
 use Rattle.conode_compare_rules.specs.declared.progress.Progress.{Progress}
-use Rattle.conode_compare_rules.specs.Progresses.{begins_anew}
-use Rattle.conode_compare.specs.Compared.{broken_off}
+use Rattle.conode_compare_rules.specs.Progresses.{begins_anew, with_bad_line}
 use Rattle.conode_compare.specs.ComparedFrames.{AreAllOn, BadLine, FrameIn, LineRead, compared_frames, frames_from, frames_read, line_frames, records_of}
 
 -- a comment, a bad line, frames of two interfaces, and a last line without its line feed
@@ -53,7 +52,7 @@ one_interface = (refl, (tt, (refl, tt)))
 
 -- ---- after a bad line the recording begins anew, whatever is known, and however soon a frame comes
 
-bad_line : (limits : Limits) (progress : Progress) (micros : ℕ) → begins_anew limits (broken_off progress) micros ≡ true
+bad_line : (limits : Limits) (progress : Progress) (micros : ℕ) → begins_anew limits (with_bad_line progress) micros ≡ true
 bad_line limits progress micros = refl
 
 -- without one it goes on with a frame 1 ms later

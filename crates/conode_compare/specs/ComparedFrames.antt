@@ -15,7 +15,7 @@ use Rattle.conode_compare_rules.specs.declared.finding.Finding.{Finding}
 use Rattle.conode_compare_rules.specs.declared.kind.FrameKind.{FrameKind}
 use Rattle.conode_compare_rules.specs.declared.progress.Progress.{Progress}
 use Rattle.conode_compare_rules.specs.declared.verdict.Findings.{Findings}
-use Rattle.conode_compare_rules.specs.Progresses.{before_recording, findings_at, progress_with}
+use Rattle.conode_compare_rules.specs.Progresses.{before_recording, findings_at, progress_with, with_bad_line}
 use Rattle.conode_compare_receptions.specs.declared.receptions.Receptions.{Receptions}
 use Rattle.conode_compare_receptions.specs.AllFrames.{progress_after, receptions_after}
 use Rattle.conode_compare_receptions.specs.Receptions.{no_receptions}
@@ -23,7 +23,7 @@ use Rattle.conode_compare_text.specs.declared.tally.Tally.{Tally}
 use Rattle.conode_compare_text.specs.Tallies.{tally_with}
 use Rattle.conode_compare.specs.declared.notes.Noted.{Noted}
 use Rattle.conode_compare.specs.declared.notes.Notes.{Notes}
-use Rattle.conode_compare.specs.Compared.{Comparison, broken_off, counts, first_with, is_compared, kind_at, shown_lines}
+use Rattle.conode_compare.specs.Compared.{Comparison, counts, first_with, is_compared, kind_at, shown_lines}
 use Rattle.conode_compare.specs.Noted.{noted_at, nothing_noted, notes_with}
 
 -- ---- which frames
@@ -110,7 +110,7 @@ shown_from c progress receptions notes (FrameIn number frame ∷ later) =
     }
     ∷ shown_from c (progress_after c.subject c.rows progress receptions frame) (receptions_after c.subject c.rows progress receptions frame)
     (notes_with c.choices c.learned c.subject c.rows notes (kind_at c frame) (progress_with c.subject progress frame.micros (kind_at c frame))) later
-shown_from c progress receptions notes (BadLine ∷ later) = shown_from c (broken_off progress) receptions notes later
+shown_from c progress receptions notes (BadLine ∷ later) = shown_from c (with_bad_line progress) receptions notes later
 
 -- of a text
 abbrev pub shown_in : Comparison → Form → List ℕ → List FrameShown

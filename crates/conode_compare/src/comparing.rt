@@ -170,7 +170,7 @@ impl Comparing {
     pub(crate) fn note_bad_line(&mut self)
         ensures { self.new ≡ bad_noted self.old }
     {
-        self.progress.newest = None;
+        self.progress.note_bad_line();
         if let Some(report) = &mut self.report {
             report.note_bad_line();
         }

@@ -5,8 +5,10 @@ ghost use Rattle.conode_compare_rules.specs.Progresses.{
   after_fault,
   begins_anew,
   begun,
+  client_since,
   free_at,
   was_quiet,
+  with_bad_line,
   with_gap,
 };
 
@@ -50,9 +52,25 @@ impl Progress {
         }
     }
 
+    // Whether the client of another SDO channel may have sent: a bad line may have had its frame.
+    fn client_since(&self, subject: &Subject) -> bool
+        ensures { result ≡ client_since subject.now self.now }
+    {
+        self.other_client || self.damaged && subject.facts.clients.are_any()
+    }
+
+    /// A line of the recording is bad: what it had is unknown, so with the next frame the recording
+    /// begins anew.
+    pub fn note_bad_line(&mut self)
+        ensures { self.new ≡ with_bad_line self.old }
+    {
+        self.damaged = self.damaged || self.newest.is_some();
+        self.newest = None;
+    }
+
     /// A frame comes. Where the recording begins anew, nothing is known, but that an answer which
     /// may take long is awaited, and that a sub-block may be open; where it was quiet, no request is
-    /// known.
+    /// known. After a bad line a client may have asked to write until now.
     #[tactic(auto, unfolding(crate::specs::Progresses::begun))]
     pub(crate) fn begin(&mut self, subject: &Subject, micros: u64)
         ensures { self.new ≡ begun subject.now self.old micros }
@@ -61,9 +79,11 @@ impl Progress {
             self.dialogue.interrupt(micros);
             let slow = self.dialogue.slow;
             let sub_block = self.dialogue.sub_block;
-            let other_client = self.other_client;
+            let other_client = self.client_since(subject);
+            let damaged = self.damaged;
             *self = Progress::new(subject);
             self.started = micros;
+            self.asked_at = if damaged { Some(micros) } else { None };
             self.begins = true;
             self.dialogue.slow = slow;
             self.dialogue.sub_block = sub_block;
