@@ -48,6 +48,10 @@ pdos_of rows node = record {
   fourth = booted_tpdo (cycle_of rows) (parameters_of rows node 3);
 }
 
+-- SYNCs aren't counted
+abbrev pub uncounted : Pdos → Pdos
+uncounted pdos = each (λ number pdo. record pdo { cycle = None }) pdos
+
 -- an NMT command came, or a heartbeat shows another state than operational
 abbrev pub commanded : Pdos → Pdos
 commanded pdos = each (λ number. after_command) pdos

@@ -19,6 +19,7 @@ ghost use Rattle.conode_compare_pdos.specs.Followed.{
   sighting,
   synced,
   transferred,
+  uncounted,
   unjudged,
   unknown_pdos,
 };
@@ -139,6 +140,19 @@ impl Pdos {
             second: Tpdo::unknown(),
             third: Tpdo::unknown(),
             fourth: Tpdo::unknown(),
+        }
+    }
+
+    /// With SYNCs that aren't counted, as of a device that may become operational by itself.
+    pub fn uncounted(self) -> Pdos
+        ensures { result ≡ uncounted self }
+    {
+        Pdos {
+            sync: self.sync,
+            first: self.first.uncounted(),
+            second: self.second.uncounted(),
+            third: self.third.uncounted(),
+            fourth: self.fourth.uncounted(),
         }
     }
 

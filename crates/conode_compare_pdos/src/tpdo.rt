@@ -1,7 +1,7 @@
 //! A TPDO in a recording: its parameters, its newest frame, and the SYNCs that it may answer (CiA
 //! 301, 7.2.2).
 
-ghost use Rattle.std.specs.Prelude.{◌≡◌};
+ghost use Rattle.std.specs.Prelude.{◌≡◌, None};
 ghost use Rattle.conode_compare_pdos.specs.Tpdos.{
   after_command,
   after_frame,
@@ -103,6 +103,20 @@ impl Tpdo {
             cycle: None,
             changed: None,
             odd: None,
+        }
+    }
+
+    /// Its SYNCs aren't counted.
+    pub(crate) fn uncounted(self) -> Tpdo
+        ensures { result ≡ record self { cycle = None } }
+    {
+        Tpdo {
+            parameters: self.parameters,
+            sent: self.sent,
+            syncs: self.syncs,
+            cycle: None,
+            changed: self.changed,
+            odd: self.odd,
         }
     }
 

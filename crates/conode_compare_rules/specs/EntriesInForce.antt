@@ -16,7 +16,7 @@ use Rattle.conode_explain_transfers.specs.declared.kinds.Protocol.{Protocol}
 use Rattle.conode_explain_transfers.specs.declared.kinds.Protocol.TheVariants.{Expedited}
 use Rattle.conode_explain_transfers.specs.declared.kinds.Side.{Side}
 use Rattle.conode_explain_transfers.specs.declared.kinds.Side.TheVariants.{Client, Server}
-use Rattle.conode_compare_pdos.specs.Followed.{pdos_of, unknown_pdos}
+use Rattle.conode_compare_pdos.specs.Followed.{pdos_of, uncounted, unknown_pdos}
 use Rattle.conode_compare_pdos.specs.Identifiers.{is_constant_access, may_change, may_get, may_have}
 use Rattle.conode_compare_pdos.specs.SheetNumbers.{first_word, number_of, preset_at, small}
 use Rattle.conode_compare_transfers.specs.Breaches.{key_in}
@@ -83,6 +83,11 @@ facts_of rows node configured =
       stores = has_object rows store_parameters && not configured;
       as_sheet = not (has_object rows store_parameters || configured);
     }
+
+-- A device whose sheet has SimpleBootUpMaster=1 (CiA 306-1) may be the NMT master and start itself, as one with NMT
+-- startup.
+abbrev pub with_master : Bool → Facts → Facts
+with_master master facts = if master then record facts { starts_itself = true; pdos = uncounted facts.pdos } else facts
 
 -- ---- a recording
 

@@ -21,6 +21,7 @@ ghost use Rattle.conode_compare_rules.specs.EntriesInForce.{
   shares_id,
   shown_inhibit,
   shown_period,
+  with_master,
   with_sharing,
 };
 
@@ -65,7 +66,8 @@ pub struct Facts {
     /// The clients of its other SDO channels: once one sends, what it may have written is unknown.
     pub clients: OtherClients,
     /// Whether it may enter operational by itself, and may be the NMT master, which needn't follow
-    /// its own commands: it has the entry NMT startup, 1F80h (CiA 302-2).
+    /// its own commands: it has the entry NMT startup, 1F80h (CiA 302-2), or the sheet names it as the
+    /// boot-up master.
     pub starts_itself: bool,
     /// Whether modules decide which entries it has: it has the module list, 1027h.
     pub modular: bool,
@@ -162,6 +164,22 @@ pub fn facts_of(rows: &[EntryRow<'_>], node: u8, configured: bool) -> Facts
         starts_itself: has_object(rows, NMT_STARTUP),
         stores: stores && !configured,
         as_sheet: !stores && !configured,
+    }
+}
+
+impl Facts {
+    /// Those of a device whose sheet says whether it may be the boot-up master: then it may be the NMT
+    /// master and start itself, as one with 1F80h.
+    pub fn with_master(self, master: bool) -> Facts
+        ensures { result ≡ with_master master self }
+    {
+        if !master {
+            return self;
+        }
+        let mut facts = self;
+        facts.starts_itself = true;
+        facts.pdos = self.pdos.uncounted();
+        facts
     }
 }
 
