@@ -16,7 +16,7 @@ use Rattle.conode_compare_pdos.specs.Cycles.{new_cycle}
 use Rattle.conode_compare_pdos.specs.Deviations.{deviation_at, is_judged}
 use Rattle.conode_compare_pdos.specs.PdoParameters.{identifier_of, key_of, parameters_of}
 use Rattle.conode_compare_pdos.specs.SheetNumbers.{preset_at}
-use Rattle.conode_compare_pdos.specs.Tpdos.{after_command, after_frame, after_gap, after_poll, after_request, after_sync, after_transfer, booted_tpdo, is_id, unknown_tpdo}
+use Rattle.conode_compare_pdos.specs.Tpdos.{after_command, after_frame, after_gap, after_poll, after_request, after_sync, after_transfer, booted_tpdo, is_id, unknown_tpdo, without_cycle}
 
 abbrev pub four : Option ℕ → Tpdo → Pdos
 four sync pdo = record { sync = sync; first = pdo; second = pdo; third = pdo; fourth = pdo }
@@ -50,7 +50,7 @@ pdos_of rows node = record {
 
 -- SYNCs aren't counted
 abbrev pub uncounted : Pdos → Pdos
-uncounted pdos = each (λ number pdo. record pdo { cycle = None }) pdos
+uncounted pdos = each (λ number. without_cycle) pdos
 
 -- an NMT command came, or a heartbeat shows another state than operational
 abbrev pub commanded : Pdos → Pdos

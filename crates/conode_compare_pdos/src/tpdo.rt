@@ -1,7 +1,7 @@
 //! A TPDO in a recording: its parameters, its newest frame, and the SYNCs that it may answer (CiA
 //! 301, 7.2.2).
 
-ghost use Rattle.std.specs.Prelude.{◌≡◌, None};
+ghost use Rattle.std.specs.Prelude.{◌≡◌};
 ghost use Rattle.conode_compare_pdos.specs.Tpdos.{
   after_command,
   after_frame,
@@ -17,6 +17,7 @@ ghost use Rattle.conode_compare_pdos.specs.Tpdos.{
   shows_bytes,
   unknown_tpdo,
   with_parameters,
+  without_cycle,
 };
 
 use crate::cycle::{Cycle, anew, cycle_sent, cycle_synced};
@@ -108,7 +109,7 @@ impl Tpdo {
 
     /// Its SYNCs aren't counted.
     pub(crate) fn uncounted(self) -> Tpdo
-        ensures { result ≡ record self { cycle = None } }
+        ensures { result ≡ without_cycle self }
     {
         Tpdo {
             parameters: self.parameters,

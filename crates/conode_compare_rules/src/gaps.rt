@@ -3,6 +3,7 @@
 ghost use Rattle.std.specs.Prelude.{◌≡◌};
 ghost use Rattle.conode_compare_rules.specs.Progresses.{
   after_fault,
+  asked_since,
   begins_anew,
   begun,
   client_since,
@@ -59,6 +60,13 @@ impl Progress {
         self.other_client || self.damaged && subject.facts.clients.are_any()
     }
 
+    // When a client may have asked to write last: a bad line may have had its request.
+    fn asked_since(&self, micros: u64) -> Option<u64>
+        ensures { result ≡ asked_since self.now micros }
+    {
+        if self.damaged { Some(micros) } else { None }
+    }
+
     /// A line of the recording is bad: what it had is unknown, so with the next frame the recording
     /// begins anew.
     pub fn note_bad_line(&mut self)
@@ -80,10 +88,10 @@ impl Progress {
             let slow = self.dialogue.slow;
             let sub_block = self.dialogue.sub_block;
             let other_client = self.client_since(subject);
-            let damaged = self.damaged;
+            let asked_at = self.asked_since(micros);
             *self = Progress::new(subject);
             self.started = micros;
-            self.asked_at = if damaged { Some(micros) } else { None };
+            self.asked_at = asked_at;
             self.begins = true;
             self.dialogue.slow = slow;
             self.dialogue.sub_block = sub_block;
