@@ -41,11 +41,6 @@ with_last_line = refl
 too_long : line_frames 1 (at_start Unknown) (codes "(1.000000) can0 705#00" ++ replicate 491 32) ≡ BadLine ∷ []
 too_long = refl
 
--- the longest line that is read
-at_most : numbers (line_frames 1 (at_start Unknown) (codes "(1.000000) can0 705#00" ++ replicate 490 32)) ≡ 1 ∷ []
-unfolding logs_on_lines line_at
-at_most = refl
-
 one_interface : AreAllOn (codes "can0") (compared_frames None Unknown text)
 unfolding logs_on_lines line_at frames_from
 one_interface = (refl, (tt, (refl, tt)))
@@ -54,9 +49,3 @@ one_interface = (refl, (tt, (refl, tt)))
 
 bad_line : (limits : Limits) (progress : Progress) (micros : ℕ) → begins_anew limits (with_bad_line progress) micros ≡ true
 bad_line limits progress micros = refl
-
--- without one it goes on with a frame 1 ms later
-module _ (limits : Limits) (progress : Progress) where
-  no_bad_line : begins_anew limits (record progress { newest = Some 1000000; entries = record progress.entries { period = Some 1000 } }) 1001000 ≡ false
-  unfolding begins_anew
-  no_bad_line = refl
