@@ -1,6 +1,6 @@
 -- An entry without its defaults at fault.
 use Rattle.std.proofs.Common.{◌≡◌, ℕ, Bool, true, false, cond, not, ◌||◌, List, [], ◌++◌, Option, Some, None, refl, sym, ap, ◌∙◌, ℤ, Result, Ok, Err}
-use Rattle.std.specs.Prelude.{codes, unwrap_or}
+use Rattle.std.specs.Prelude.{◌&&◌, codes, unwrap_or}
 use Rattle.std.specs.List.{list_any}
 use Rattle.std.specs.Option.{option_map_or}
 use Rattle.std.specs.Result.{result_ok}
