@@ -77,6 +77,7 @@ use Rattle.conode_compare_rules.specs.Progresses.{
   sighted,
   sighting_findings,
   with_gap,
+  may_differ,
 }
 use Rattle.conode_compare_rules.specs.Times.{drift_of}
 use Rattle.conode_compare_transfers.specs.declared.dialogue.Asked.{Asked}
@@ -459,7 +460,7 @@ other_passes subject rows p micros _ period ago few is shows h = absurd (cc)
 boot_passes : (subject : Subject) (rows : List Row) (p : Progress) (micros period next ago after : ℕ) → KnowsPeriod next subject → Begun period micros ago p → Passes subject rows p micros (Control 0) next after
 unfolding found booted
 boot_passes subject rows p micros period next ago after knows h =
-    (let e : Beats period micros ago p = ended period micros ago p h in record { none = refl; beats = record { fresh = e.fresh; known = booted_known next subject p.other_client knows; since = always (if p.other_client then subject.facts.before else subject.facts.booted).period (λ n. inr (omega arith)) } })
+    (let e : Beats period micros ago p = ended period micros ago p h in record { none = refl; beats = record { fresh = e.fresh; known = booted_known next subject (may_differ subject p) knows; since = always (if may_differ subject p then subject.facts.before else subject.facts.booted).period (λ n. inr (omega arith)) } })
 
 heartbeat_passes : (subject : Subject) (rows : List Row) (p : Progress) (micros byte period ago after : ℕ) → (byte == 0) ≡ false → (period ≡ 0) ⊎ (ago ≤ period * 1000) → Begun period micros ago p
     → Passes subject rows p micros (Control byte) period after

@@ -398,3 +398,9 @@ begins : (number_in (receptions_with subject rows booted (record (shows Operatio
     × (number_at (with_receptions subject operational booted).written (Some 0) ≡ Some 5)
 unfolding booted_receptions other_ids_of no_receptions no_writes nothing_written receptions_with with_receptions facts_of initial_entries sheet_entries
 begins = (refl, refl, refl, refl)
+
+-- where a client asked to write an entry of the communication profile within 10 ms before a boot-up, RPDOs aren't followed
+asked_before_boot_up : map (λ asked. (receptions_with subject rows booted (record operational { asked_at = asked }) 20000 (Control 0) (Base 0x705) (Data (0 ∷ []))).followed) (None ∷ Some 9999 ∷ Some 10000 ∷ [])
+    ≡ true ∷ true ∷ false ∷ []
+unfolding booted_receptions other_ids_of has_few_rpdos no_receptions no_writes nothing_written receptions_with facts_of initial_entries sheet_entries
+asked_before_boot_up = refl

@@ -368,6 +368,11 @@ sends_pdo : (moment_at device (later_in slow_start) 250000).idle ≡ false
 unfolding moment_at after_control after_other awaits_boot_up is_settled overdue_by
 sends_pdo = refl
 
+-- its inhibit time counts from the newest command, or from the begin of the recording
+counts_from_command : map (λ nmt. (moment_at device (record (later_in nmt) { started = 7 }) 250000).commanded) (slow_start ∷ nothing_commanded ∷ []) ≡ Some 100000 ∷ Some 7 ∷ []
+unfolding moment_at after_control after_other awaits_boot_up is_settled overdue_by
+counts_from_command = refl
+
 becomes_operational : control_finding device 0 false false slow_start 250000 250000 5 ≡ None
 unfolding control_finding state_finding after_control after_other awaits_boot_up is_settled
 becomes_operational = refl

@@ -38,7 +38,7 @@ use Rattle.conode_compare_transfers.specs.Breaches.{key_in}
 use Rattle.conode_compare_values.specs.HeldNumbers.{is_kept, nothing_written, unmapped, with_process, written_heard}
 use Rattle.conode_compare_rules.specs.EmergencyRules.{emergency_finding, is_stopped, length_finding}
 use Rattle.conode_compare_rules.specs.EntriesInForce.{asked_by, asked_to_write, ended_entries, overwritten, reset_entries, shares_id, with_sharing}
-use Rattle.conode_compare_rules.specs.OtherClients.{is_channel, may_send}
+use Rattle.conode_compare_rules.specs.OtherClients.{has_clients, is_channel, may_send}
 use Rattle.conode_compare_rules.specs.Heartbeats.{after_byte, after_transfer, early_remark, follows_closely, late_finding, no_heartbeat, is_gap, is_late_again, is_missing, overdue_by, slow_after, with_shown}
 use Rattle.conode_compare_rules.specs.States as states
 use Rattle.conode_compare_rules.specs.States.{boot_finding, control_finding, has_followed, is_operational, is_reset, is_same_byte, is_same_length, is_settled, is_steady, judged_state, nothing_commanded, after_turn, odd_after, odd_finding, restart_remark, with_followed, with_odd}
@@ -52,6 +52,7 @@ before_recording subject = record {
   newest = None;
   started = 0;
   begins = false;
+  damaged = false;
   free = 0;
   nmt = nothing_commanded;
   heartbeats = no_heartbeat;
@@ -60,6 +61,7 @@ before_recording subject = record {
   dialogue = nothing_asked;
   pdos = tpdos.unknown_pdos;
   other_client = false;
+  asked_at = None;
   written = nothing_written;
   exchange = None;
   remark = None;
@@ -93,6 +95,13 @@ pdos_with_quiet limits progress micros = if was_quiet limits progress micros the
 abbrev pub still_awaited : Dialogue → ℕ → Dialogue
 still_awaited dialogue micros = record nothing_asked { slow = (interrupted dialogue micros).slow; sub_block = (interrupted dialogue micros).sub_block }
 
+-- A bad line may have had a frame of any client: of another SDO channel's too, and a request to write.
+abbrev pub client_since : Subject → Progress → Bool
+client_since subject progress = progress.other_client || (progress.damaged && has_clients subject.facts.clients)
+
+abbrev pub asked_since : Progress → ℕ → Option ℕ
+asked_since progress micros = if progress.damaged then Some micros else None
+
 -- then nothing is known; where it was quiet, no request is
 unfoldable pub begun : Subject → Progress → ℕ → Progress
 begun subject progress micros =
@@ -102,7 +111,8 @@ begun subject progress micros =
       begins = true;
       free = micros;
       dialogue = still_awaited progress.dialogue micros;
-      other_client = progress.other_client;
+      other_client = client_since subject progress;
+      asked_at = asked_since progress micros;
     }
     else record progress {
       newest = Some micros;
@@ -113,6 +123,11 @@ begun subject progress micros =
       exchange = None;
       remark = None;
     }
+
+-- A line of the recording is bad: what it had is unknown, so with the next frame the recording begins anew.
+-- Before the first frame nothing is known anyway.
+abbrev pub with_bad_line : Progress → Progress
+with_bad_line progress = record progress { newest = None; damaged = progress.damaged || is_some progress.newest }
 
 -- what is open isn't known any more: after a reset, a boot-up, and an error frame
 unfoldable pub with_gap : Progress → ℕ → Progress
@@ -152,13 +167,22 @@ abbrev pub boot_findings : Subject → Progress → ℕ → Findings
 boot_findings subject progress micros =
     found None None None (control_finding subject progress.started progress.heartbeats.guarded false progress.nmt progress.free micros 0) true
 
--- what the data sheet says of the entries and the TPDOs, as far as that is known; once the client of another
--- SDO channel has sent, only what never changes: the device may take its request after the boot-up
+-- A client asked to write an entry of the communication profile within the tolerance before the boot-up frame,
+-- when the bus was free last: the device may have booted up by then, and its frame waited.
+abbrev pub was_asked : Subject → Progress → Bool
+was_asked subject progress = option_map_or (λ a. not (is_past a subject.limits.tolerance progress.free)) progress.asked_at false
+
+-- What the data sheet says of the entries and the TPDOs, as far as that is known: only what never changes, where
+-- a client may have written them since, and once that of another SDO channel has sent, whose request the device
+-- may take after the boot-up.
+abbrev pub may_differ : Subject → Progress → Bool
+may_differ subject progress = progress.other_client || was_asked subject progress
+
 abbrev pub booted_entries : Subject → Progress → Entries
-booted_entries subject progress = if progress.other_client then subject.facts.before else subject.facts.booted
+booted_entries subject progress = if may_differ subject progress then subject.facts.before else subject.facts.booted
 
 abbrev pub booted_pdos : Subject → Progress → Pdos
-booted_pdos subject progress = if progress.other_client then tpdos.unknown_pdos else subject.facts.pdos
+booted_pdos subject progress = if may_differ subject progress then tpdos.unknown_pdos else subject.facts.pdos
 
 -- the entries have that, and the next heartbeat is awaited; no earlier request is answered any more,
 -- however long it took
@@ -393,6 +417,14 @@ pdos_by Client frame pdos micros =
     if (length frame.bytes == 8) && asks_to_write frame then pdos_requested pdos (key_in frame) micros else pdos
 pdos_by Server frame pdos micros = pdos
 
+-- a client's frame that asks to write an entry of the communication profile, 1000h to 1FFFh (CiA 301, 7.4.2.1)
+abbrev pub asks_for_profile : Side → FrameContent → Bool
+asks_for_profile Client frame = asks_to_write frame && (nat_le 0x1000 (key_in frame).index && nat_lt (key_in frame).index 0x2000)
+asks_for_profile Server frame = false
+
+abbrev pub asked_then : Bool → Option ℕ → ℕ → Option ℕ
+asked_then asks before micros = if asks then Some micros else before
+
 unfoldable pub exchange_at : Subject → Progress → ℕ → Side → FrameContent → Exchange
 exchange_at subject progress micros side frame = exchange_in subject.limits.answer progress.started progress.dialogue micros side frame
 
@@ -424,6 +456,7 @@ channel_heard subject progress micros side frame =
       entries = with_sharing (shares_id subject.node side frame) (asked_by side frame (entries_heard progress.entries shown next.asked));
       pdos = pdos_by side frame (pdos_heard beside shown next.asked micros) micros;
       dialogue = next;
+      asked_at = asked_then (asks_for_profile side frame) progress.asked_at micros;
     }
 
 -- what the frame is, and what was written to the entries that are held
@@ -490,6 +523,10 @@ is_idle starts_itself PreOperational = not starts_itself
 is_idle starts_itself Stopped = true
 is_idle starts_itself state = false
 
+-- when the newest command came; else when the recording began
+abbrev pub newest_command : Progress → Option ℕ
+newest_command progress = Some (option_map_or (λ c. c.micros) progress.nmt.commanded progress.started)
+
 unfoldable pub moment_at : Subject → Progress → ℕ → Moment
 moment_at subject progress micros = record {
   micros = micros;
@@ -498,6 +535,7 @@ moment_at subject progress micros = record {
   drift = subject.limits.drift;
   idle = steady_when_free subject progress && is_idle subject.facts.starts_itself (judged_state progress.nmt);
   known = steady_when_free subject progress && is_known progress.nmt.state;
+  commanded = newest_command progress;
 }
 
 abbrev pub sighting_findings : Option Finding → Option Sighting → Findings
