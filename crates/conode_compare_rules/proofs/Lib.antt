@@ -1,6 +1,7 @@
 mod AnswerExamples
 mod ChannelExamples
 mod Examples
+mod LeavingExamples
 mod MissingExamples
 mod SheetExamples
 mod SilenceExamples

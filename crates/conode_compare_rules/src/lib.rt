@@ -13,6 +13,7 @@ mod gaps;
 mod heartbeats;
 mod kind;
 mod known;
+mod leaving;
 mod limits;
 mod nmt;
 mod process;

@@ -417,7 +417,8 @@ impl Progress {
         ensures progress { self.new ≡ emergency_noted subject.now self.old micros }
     {
         let steady = self.steady_when_free(subject);
-        let follows = self.follows_by_emergency(subject);
+        let shows = self.shows_by_emergency(subject);
+        let follows = self.nmt.has_left_stopped() && shows;
         let late = self.notice_late(subject, self.entries.emergencies, micros);
         let frame = emergency_finding(
             &subject.limits,
@@ -432,6 +433,7 @@ impl Progress {
         if follows {
             self.nmt.note_followed(micros);
         }
+        self.nmt.note_left(shows, micros);
         self.note_emergency();
         Findings::of(None, late, None, frame, self.entries.emergencies)
     }
