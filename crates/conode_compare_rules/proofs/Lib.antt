@@ -1,4 +1,5 @@
 mod AnswerExamples
+mod ChangedPeriodExamples
 mod ChannelExamples
 mod Examples
 mod LeavingExamples

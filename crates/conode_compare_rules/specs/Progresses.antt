@@ -39,7 +39,7 @@ use Rattle.conode_compare_values.specs.HeldNumbers.{is_kept, nothing_written, un
 use Rattle.conode_compare_rules.specs.EmergencyRules.{emergency_finding, is_stopped, length_finding}
 use Rattle.conode_compare_rules.specs.EntriesInForce.{asked_by, asked_to_write, ended_entries, overwritten, reset_entries, shares_id, with_sharing}
 use Rattle.conode_compare_rules.specs.OtherClients.{is_channel, may_send}
-use Rattle.conode_compare_rules.specs.Heartbeats.{after_byte, after_transfer, early_remark, follows_closely, late_finding, no_heartbeat, is_gap, is_late_again, is_missing, overdue_by, slow_after, with_shown}
+use Rattle.conode_compare_rules.specs.Heartbeats.{after_byte, after_transfer, early_remark, follows_closely, former_after, late_finding, no_heartbeat, is_gap, is_late_again, is_missing, overdue_by, slow_after, with_former, with_shown}
 use Rattle.conode_compare_rules.specs.States as states
 use Rattle.conode_compare_rules.specs.States.{boot_finding, control_finding, has_followed, is_operational, is_reset, is_same_byte, is_same_length, is_settled, is_steady, judged_state, nothing_commanded, after_turn, odd_after, odd_finding, restart_remark, with_followed, with_left, with_odd}
 use Rattle.conode_compare_transfers.specs.Times.{is_past}
@@ -165,7 +165,7 @@ booted_pdos subject progress = if progress.other_client then tpdos.unknown_pdos 
 unfoldable pub booted : Subject → Progress → ℕ → Progress
 booted subject progress micros = record progress {
   nmt = states.after_control subject.limits progress.started progress.nmt progress.free micros 0;
-  heartbeats = record progress.heartbeats { since = Some micros; sent = Some progress.free; slow = None };
+  heartbeats = record progress.heartbeats { since = Some micros; sent = Some progress.free; slow = None; former = None };
   entries = booted_entries subject progress;
   emergency = None;
   dialogue = record (interrupted progress.dialogue micros) { slow = nothing_left; sub_block = false };
@@ -262,12 +262,15 @@ control_findings subject progress micros byte = heartbeat_findings subject progr
 abbrev pub slow_then : Subject → Progress → ℕ → Option ℕ
 slow_then subject progress micros = slow_after subject.limits progress.entries.period progress.heartbeats progress.free micros
 
+abbrev pub former_then : Subject → Progress → Option ℕ
+former_then subject progress = former_after subject.limits progress.heartbeats.former progress.entries.period progress.heartbeats.since progress.free
+
 unfoldable pub after_control : Subject → Progress → ℕ → ℕ → Progress
 after_control subject progress micros byte = record progress {
   nmt = with_odd (odd_after (byte_finding subject progress micros byte) byte progress.nmt.odd)
       (after_turn subject progress.started progress.heartbeats.guarded (comes_early subject progress micros byte) progress.nmt progress.free byte
       (states.after_control subject.limits progress.started progress.nmt progress.free micros byte));
-  heartbeats = record (after_byte progress.heartbeats progress.free micros byte) { slow = slow_then subject progress micros };
+  heartbeats = record (after_byte progress.heartbeats progress.free micros byte) { slow = slow_then subject progress micros; former = former_then subject progress };
   pdos = if byte == 5 then progress.pdos else tpdos.commanded progress.pdos;
   dialogue = if is_some (silence_at subject progress micros byte) then given_up progress.dialogue micros else progress.dialogue;
   remark = early_remark subject.limits progress.entries.period progress.heartbeats micros byte;
@@ -423,10 +426,11 @@ channel_heard subject progress micros side frame =
     let ended = (exchange_at subject progress micros side frame).heard.ended in
     let shown = shown_beside (hides_end subject progress micros ended) ended in
     let beside = pdos_beside (leaves_unknown_at subject progress micros ended) ended progress.pdos in
+    let entries = with_sharing (shares_id subject.node side frame) (asked_by side frame (entries_heard progress.entries shown next.asked)) in
     record progress {
       nmt = nmt_heard subject.limits progress.started progress.nmt micros side (exchange_at subject progress micros side frame);
-      heartbeats = after_transfer progress.heartbeats ended micros;
-      entries = with_sharing (shares_id subject.node side frame) (asked_by side frame (entries_heard progress.entries shown next.asked));
+      heartbeats = with_former (after_transfer progress.heartbeats ended micros) progress.entries.period entries.period;
+      entries = entries;
       pdos = pdos_by side frame (pdos_heard beside shown next.asked micros) micros;
       dialogue = next;
     }

@@ -3,6 +3,7 @@
 #![tactic(auto)]
 
 mod answers;
+mod changed_period;
 mod channel;
 mod clients;
 mod emergencies;

@@ -173,6 +173,7 @@ impl Progress {
         self.pdos = self.booted_pdos(subject);
         self.heartbeats.since = Some(micros);
         self.heartbeats.sent = Some(self.free);
+        self.heartbeats.former = None;
         Findings::of(None, None, None, frame, true)
     }
 
@@ -349,6 +350,9 @@ impl Progress {
         let slow = self
             .heartbeats
             .slow_after(limits, &self.entries, self.free, micros);
+        let former = self
+            .heartbeats
+            .former_after(limits, self.entries.period, self.free);
         self.remark = self
             .heartbeats
             .early_remark(limits, &self.entries, micros, byte);
@@ -369,6 +373,7 @@ impl Progress {
         self.nmt.odd = odd;
         self.heartbeats = self.heartbeats.after_control(self.free, micros, byte);
         self.heartbeats.slow = slow;
+        self.heartbeats.former = former;
         if byte != 5 {
             self.pdos.command();
         }
