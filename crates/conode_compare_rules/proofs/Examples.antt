@@ -160,9 +160,16 @@ reset_error : emergency_finding limits entries PreOperational true None 0 0xFF 0
 unfolding emergency_finding inhibit_finding
 reset_error = refl
 
-code_alone : emergency_finding limits entries PreOperational true None 0 0x100 0 ≡ Some (EmergencyRegister 0x100 0)
-unfolding emergency_finding
+-- one that may have waited for the inhibit time, and one that can't have
+code_alone : map (λ inhibit. emergency_finding limits (record entries { inhibit = inhibit }) PreOperational true None 0 0x100 0) (Some 0 ∷ Some 1 ∷ None ∷ [])
+    ≡ Some (EmergencyRegister 0x100 0) ∷ None ∷ None ∷ []
+unfolding emergency_finding inhibit_finding
 code_alone = refl
+
+waited_without_bit_0 : map (λ inhibit. emergency_finding limits (record entries { inhibit = inhibit }) PreOperational true None 0 0x100 2) (Some 0 ∷ None ∷ [])
+    ≡ Some (EmergencyRegister 0x100 2) ∷ Some (EmergencyRegister 0x100 2) ∷ []
+unfolding emergency_finding
+waited_without_bit_0 = refl
 
 while_stopped : emergency_finding limits entries Stopped true None 0 0 0 ≡ Some EmergencyStopped
 unfolding emergency_finding
