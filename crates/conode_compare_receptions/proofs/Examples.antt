@@ -44,7 +44,7 @@ use Rattle.conode_compare_receptions.specs.declared.receptions.Receptions.{Recep
 use Rattle.conode_compare_receptions.specs.OtherIds.{other_ids_of}
 use Rattle.conode_compare_rules.specs.EntriesInForce.{facts_of, initial_entries, sheet_entries}
 use Rattle.conode_compare_rules.specs.Progresses.{before_recording}
-use Rattle.conode_compare_rules.specs.States.{is_settled}
+use Rattle.conode_compare_rules.specs.States.{is_settled, nothing_commanded}
 use Rattle.conode_compare_receptions.specs.Receptions.{booted_receptions, exchanged_by, is_sure, no_receptions, process_received, receptions_with, with_receptions, with_written}
 
 -- 10 ms, 1 %, 1 s and 10 s
@@ -83,7 +83,7 @@ subject = record {
 }
 
 abbrev nmt_in : NmtState → Nmt
-nmt_in state = record { state = state; commanded = None; reset = None; several = false; booted = None; due = Unknown; followed = None; changed = None; strayed = Unknown; mixed = false; odd = None }
+nmt_in state = record nothing_commanded { state = state }
 
 abbrev shows : NmtState → ℕ → Progress
 shows state micros = record (before_recording subject) { newest = Some micros; free = micros; nmt = nmt_in state }

@@ -186,6 +186,7 @@ impl Progress {
         ensures written { self.new.written ≡ self.old.written }
     {
         let doubtful = is_doubtful(subject.limits.answer, &self.dialogue, micros);
+        let period = self.entries.period;
         let exchange = self
             .dialogue
             .hear(subject.limits.answer, self.started, micros, side, frame);
@@ -203,7 +204,8 @@ impl Progress {
         let shares = shares_id(subject.node, side, frame);
         let entries = entries.with_sharing(shares);
         self.entries = entries;
-        self.heartbeats = self.heartbeats.heard(&exchange.heard.ended, micros);
+        let heartbeats = self.heartbeats.heard(&exchange.heard.ended, micros);
+        self.heartbeats = heartbeats.with_former(period, entries.period);
         leave_pdos(&mut self.pdos, unknown, &exchange.heard.ended);
         hear_pdos(
             &mut self.pdos,

@@ -111,9 +111,7 @@ impl Progress {
             self.is_overdue(subject),
             self.pdos.sighting(&moment, id, length),
         );
-        if self.follows_by_tpdo(subject, sighting.is_some()) {
-            self.nmt.note_followed(micros);
-        }
+        self.note_tpdo(subject, sighting.is_some(), micros);
         let late = self.notice_late(subject, sighting.is_some(), micros);
         if subject.facts.clients.may_send(id) {
             self.note_client();

@@ -200,6 +200,7 @@ impl Progress {
         self.pdos = self.booted_pdos(subject);
         self.heartbeats.since = Some(micros);
         self.heartbeats.sent = Some(self.free);
+        self.heartbeats.former = None;
         Findings::of(None, None, None, frame, true)
     }
 
@@ -376,6 +377,9 @@ impl Progress {
         let slow = self
             .heartbeats
             .slow_after(limits, &self.entries, self.free, micros);
+        let former = self
+            .heartbeats
+            .former_after(limits, self.entries.period, self.free);
         self.remark = self
             .heartbeats
             .early_remark(limits, &self.entries, micros, byte);
@@ -396,6 +400,7 @@ impl Progress {
         self.nmt.odd = odd;
         self.heartbeats = self.heartbeats.after_control(self.free, micros, byte);
         self.heartbeats.slow = slow;
+        self.heartbeats.former = former;
         if byte != 5 {
             self.pdos.command();
         }
@@ -444,7 +449,8 @@ impl Progress {
         ensures progress { self.new ≡ emergency_noted subject.now self.old micros }
     {
         let steady = self.steady_when_free(subject);
-        let follows = self.follows_by_emergency(subject);
+        let shows = self.shows_by_emergency(subject);
+        let follows = self.nmt.has_left_stopped() && shows;
         let late = self.notice_late(subject, self.entries.emergencies, micros);
         let frame = emergency_finding(
             &subject.limits,
@@ -459,6 +465,7 @@ impl Progress {
         if follows {
             self.nmt.note_followed(micros);
         }
+        self.nmt.note_left(shows, micros);
         self.note_emergency();
         Findings::of(None, late, None, frame, self.entries.emergencies)
     }
