@@ -232,8 +232,8 @@ pub(crate) fn answer_finding(
 
 /// The difference of a heartbeat while a request isn't answered in time: the device lives, and
 /// could have answered since it was asked. Not where the heartbeat shows stopped: the device may
-/// have stopped by itself (1029h) before it was asked. Nor where one showed since that it left stopped,
-/// or it may have been stopped still after a command that leads out of that.
+/// have stopped by itself (1029h) before it was asked. Nor where one showed since that it left
+/// stopped, or it may have been stopped still after a command that leads out of that.
 #[tactic(auto, unfolding(crate::specs::Answers::silence_finding))]
 pub(crate) fn silence_finding(
     limits: &Limits,

@@ -1,5 +1,5 @@
-//! A period of heartbeats that may still run once 1017:00 has another: CiA 301 doesn't say when a change
-//! takes effect.
+//! A period of heartbeats that may still run once 1017:00 has another: CiA 301 doesn't say when a
+//! change takes effect.
 
 ghost use Rattle.std.specs.Prelude.{◌≡◌};
 ghost use Rattle.conode_compare_rules.specs.Heartbeats.{
@@ -35,8 +35,8 @@ fn former_asked(before: Option<u16>, after: Option<u16>, former: Option<u16>) ->
 }
 
 impl Heartbeats {
-    /// A frame of the SDO channel came, and what is known of 1017:00 before it and after it: where it
-    /// is asked to be written, its period may still run.
+    /// A frame of the SDO channel came, and what is known of 1017:00 before it and after it: where
+    /// it is asked to be written, its period may still run.
     pub(crate) fn with_former(self, before: Option<u16>, after: Option<u16>) -> Heartbeats
         ensures { result ≡ with_former self before after }
     {

@@ -33,8 +33,8 @@ fn may_wait(inhibit: Option<u16>) -> bool
     !matches!(inhibit, Some(0))
 }
 
-// whether the error register of an EMCY is right: one that waited has that of the moment at which it
-// is sent
+// whether the error register of an EMCY is right: one that waited has that of the moment at which
+// it is sent
 fn fits_register(inhibit: Option<u16>, code: u16, register: u8) -> bool
     ensures { result ≡ fits_register inhibit code register }
 {

@@ -130,8 +130,8 @@ impl Nmt {
 }
 
 impl Progress {
-    /// Notes what a frame shows that is one of its TPDOs, if `own`: that the device isn't stopped, and has
-    /// followed a command.
+    /// Notes what a frame shows that is one of its TPDOs, if `own`: that the device isn't stopped,
+    /// and has followed a command.
     pub(crate) fn note_tpdo(&mut self, subject: &Subject, own: bool, micros: u64)
         ensures { self.new ≡ record self.old {
           nmt = with_left (with_followed self.old.nmt
