@@ -5,6 +5,7 @@ mod FoundLemmas
 pub mod MappingLemmas
 mod OrderLemmas
 mod PieceLemmas
+mod RangeLemmas
 mod ReasonCounts
 mod ReasonLemmas
 mod RowLemmas

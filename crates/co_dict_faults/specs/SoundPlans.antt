@@ -33,10 +33,13 @@ no_room = record { strings = 0; domains = 0; own = [] }
 abbrev pub sound_plan : Plan → Plan
 sound_plan plan = plan_with plan.node no_room (map (sound_row plan.node) plan.rows) plan.dummies
 
--- a COB-ID rests on a value at fault: its own, or a word of an SDO channel, by which identifiers
--- are free
+-- a COB-ID rests on a value: its own, or a word of an SDO channel, by which identifiers are free
+abbrev pub rests_on : Key → Key → Bool
+rests_on key other = same_key other key || is_channel_key other
+
+-- a COB-ID rests on a value at fault
 abbrev pub rests_word : List Key → Key → Bool
-rests_word outside key = list_any (λ other. same_key other key || is_channel_key other) outside
+rests_word outside key = list_any (rests_on key) outside
 
 -- a mapping rests on one: its count, or one of its words
 abbrev pub rests_mapping : List Key → ℕ → Bool

@@ -5,6 +5,7 @@ ghost use Rattle.co_sheet.specs.SheetViews.{row_view};
 ghost use Rattle.co_dict_faults.specs.SoundPlans.{
   sums_outside,
   sound_row,
+  rests_on,
   rests_word,
   rests_mapping,
 };
@@ -58,18 +59,32 @@ pub(crate) fn sound_rows<'a>(
     Ok(sound)
 }
 
+fn rests_on(key: Key, other: Key) -> bool
+    ensures { result ≡ rests_on key other }
+{
+    other == key || is_channel_key(other)
+}
+
 /// Whether a COB-ID rests on a value at fault.
 pub(crate) fn rests_word(outside: &[Key], key: Key) -> bool
     ensures { result ≡ rests_word outside.now key }
 {
-    outside
-        .iter()
-        .any(|other| *other == key || is_channel_key(*other))
+    for other in outside {
+        if rests_on(key, *other) {
+            return true;
+        }
+    }
+    false
 }
 
 /// Whether a mapping rests on a value at fault.
 pub(crate) fn rests_mapping(outside: &[Key], index: u16) -> bool
     ensures { result ≡ rests_mapping outside.now index }
 {
-    outside.iter().any(|other| other.index == index)
+    for other in outside {
+        if other.index == index {
+            return true;
+        }
+    }
+    false
 }

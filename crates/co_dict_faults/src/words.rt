@@ -74,11 +74,15 @@ fn word_reason<S: ObjectStore>(store: &S, side: Side, word: MappingWord) -> Opti
 }
 
 /// Whether a mapping has a word at a sub-index, or at a later one, up to 64.
-#[tactic(auto, unfolding(crate::specs::MappingReasons::has_from))]
 pub(crate) fn has_from<S: ObjectStore>(store: &S, index: u16, sub: u8) -> bool
     ensures { result ≡ has_from (S.description store.now).rows index sub }
 {
-    (sub..65u8).any(|later| has_sub(store, index, later))
+    for later in sub..65u8 {
+        if has_sub(store, index, later) {
+            return true;
+        }
+    }
+    false
 }
 
 /// Why a counted sub-index, 1 to 64, of a mapping can't count.
