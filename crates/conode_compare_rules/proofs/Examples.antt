@@ -1,6 +1,6 @@
 -- What is a difference of heartbeats and EMCY and what isn't, on both sides of each edge, computed from
 -- the definitions.
-use Rattle.std.proofs.Common.{◌≡◌, ℕ, true, false, [], ◌∷◌, Some, None, refl}
+use Rattle.std.proofs.Common.{map, ◌≡◌, ℕ, true, false, [], ◌∷◌, Some, None, refl}
 use Rattle.co_profile.specs.declared.access.Access.{Access}
 use Rattle.co_sheet.specs.Content.{Row}
 use Rattle.co_sheet.specs.Limits.{Default}
