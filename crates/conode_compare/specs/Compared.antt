@@ -33,7 +33,7 @@ use Rattle.conode_compare_rules.specs.declared.kind.FrameKind.{FrameKind}
 use Rattle.conode_compare_rules.specs.declared.progress.Progress.{Progress}
 use Rattle.conode_compare_receptions.specs.declared.receptions.Receptions.{Receptions}
 use Rattle.conode_compare_rules.specs.FrameKinds.{kind_of}
-use Rattle.conode_compare_rules.specs.Progresses.{before_recording, findings_at, is_number_kept, progress_with}
+use Rattle.conode_compare_rules.specs.Progresses.{before_recording, findings_at, is_number_kept, progress_with, with_bad_line}
 use Rattle.conode_compare_receptions.specs.Receptions.{no_receptions, receptions_with, with_receptions}
 use Rattle.conode_compare_text.specs.FindingTexts.{finding_line}
 use Rattle.conode_compare_text.specs.Tallies.{no_frames, tally_with}
@@ -220,12 +220,12 @@ frame_with c so_far frame =
 
 -- ---- lines of the recording
 
--- what is kept of a line, and of a bad one
+-- what is kept of a line, and of a bad one: what that had is unknown
 abbrev pub line_noted : Comparing → List ℕ → Comparing
 line_noted so_far line = record so_far { report = option_map (λ kept. with_line kept line) so_far.report }
 
 abbrev pub bad_noted : Comparing → Comparing
-bad_noted so_far = record so_far { report = option_map with_bad_line so_far.report }
+bad_noted so_far = record so_far { progress = with_bad_line so_far.progress; report = option_map with_bad_line so_far.report }
 
 -- nothing but its number is kept of a line of more than 512 bytes
 abbrev pub long_noted : Comparing → Comparing

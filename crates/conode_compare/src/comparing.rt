@@ -165,10 +165,12 @@ impl Comparing {
         }
     }
 
-    /// The newest line is bad.
+    /// The newest line is bad: what it had is unknown, so with the next frame the recording begins
+    /// anew.
     pub(crate) fn note_bad_line(&mut self)
         ensures { self.new ≡ bad_noted self.old }
     {
+        self.progress.note_bad_line();
         if let Some(report) = &mut self.report {
             report.note_bad_line();
         }

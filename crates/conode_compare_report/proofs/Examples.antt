@@ -1,5 +1,5 @@
 -- What is kept of small recordings, computed from the definitions.
-use Rattle.std.proofs.Common.{◌≡◌, ℕ, zero, suc, ◌+◌, ◌-◌, ◌/◌, ◌^◌, true, false, List, [], ◌∷◌, map, length, Option, Some, None, refl, codes}
+use Rattle.std.proofs.Common.{◌≡◌, ℕ, zero, suc, ◌+◌, ◌-◌, ◌/◌, ◌^◌, true, false, List, [], ◌∷◌, ◌++◌, map, length, Option, Some, None, refl, codes}
 use Rattle.std.specs.Prelude.{nat_lt, filter, replicate, pos}
 use Rattle.co_frame.specs.FrameContent.{FrameContent}
 use Rattle.co_frame.specs.declared.nmt.NmtService.TheVariants as nmt
@@ -48,7 +48,7 @@ use Rattle.conode_compare_report.specs.Kinds.{kind_number}
 use Rattle.conode_compare_report.specs.Occasions.{answer_passed, command_passed, control_passed, counts_found, counts_passed, emergency_passed, ended_passed, frame_passed, no_counts, side_passed, tpdo_passed, upload_passed}
 use Rattle.conode_compare_report.specs.Reports.{nothing_kept, with_bad_line, with_finding, with_frame, with_line}
 use Rattle.conode_compare_report.specs.Services.{service_number}
-use Rattle.conode_compare_report.specs.SheetNames.{info_in}
+use Rattle.conode_compare_report.specs.SheetNames.{info_in, is_boot_up_master}
 use Rattle.conode_compare_report.specs.Spans.{LanesView, bin_with, both_bins, empty_bin, joined, lanes_with, no_lanes, no_states, widened}
 use Rattle.conode_compare_report.specs.Views.{Kept}
 use Rattle.conode_compare_report.specs.Widths.{Seen, spans_of}
@@ -514,3 +514,11 @@ sheet =
 names_in_sheet : info_in (codes "VendorName") sheet ∷ info_in (codes "ProductName") sheet ∷ info_in (codes "VendorName") (0xEF ∷ 0xBB ∷ 0xBF ∷ codes "[DeviceInfo]\r\nVendorName=e\r\n") ∷ []
     ≡ Some (codes "<A&B>") ∷ None ∷ Some (codes "e") ∷ []
 names_in_sheet = refl
+
+-- a digit other than 0, in hexadecimal digits too; not without the key, nor outside DeviceInfo
+masters : map (λ value. is_boot_up_master (codes "[DeviceInfo]\nSimpleBootUpMaster=" ++ value ++ codes "\n")) (codes "1" ∷ codes "0x01" ∷ codes "9" ∷ codes "0" ∷ codes "0x00" ∷ codes "" ∷ [])
+    ≡ true ∷ true ∷ true ∷ false ∷ false ∷ false ∷ []
+masters = refl
+
+no_masters : map is_boot_up_master (codes "[DeviceInfo]\nSimpleBootUpSlave=1\n" ∷ codes "SimpleBootUpMaster=1\n" ∷ codes "[FileInfo]\nSimpleBootUpMaster=1\n" ∷ []) ≡ false ∷ false ∷ false ∷ []
+no_masters = refl
