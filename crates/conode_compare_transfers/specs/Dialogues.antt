@@ -36,7 +36,7 @@ abbrev pub nothing_left : Left
 nothing_left = record { count = 0; newest = 0 }
 
 abbrev pub nothing_asked : Dialogue
-nothing_asked = record { channel = nothing_heard; asked = None; doubted = None; slow = nothing_left; sub_block = false; newest = None; requested = 0 }
+nothing_asked = record { channel = nothing_heard; asked = None; entry = None; doubted = None; slow = nothing_left; sub_block = false; newest = None; requested = 0 }
 
 -- ---- initiate requests
 
@@ -65,19 +65,25 @@ asked_after Initiate micros frame = Some (record {
 })
 asked_after what micros frame = None
 
+-- the entry of the newest initiate request
+abbrev pub entry_after : What → FrameContent → Option Key → Option Key
+entry_after Initiate frame entry = Some (key_in frame)
+entry_after what frame entry = entry
+
 -- ---- doubts
 
--- A transfer that both ends know to have ended. An abort of another entry answers an earlier request.
--- Of a block transfer that isn't assumed, but where its initiate request, which came when no earlier one
--- could be answered (`owed`), is refused: then no segment and no acknowledge is on its way. An abort with
--- 05040000 may be of an earlier transfer of the entry.
+-- A transfer that both ends know to have ended. An abort of another entry answers an earlier request. One
+-- with 05040000 may be of an earlier transfer of the entry, or sent before the device took the client's
+-- frame, which it answers later. Of a block transfer it isn't assumed, but where its initiate request,
+-- which came when no earlier one could be answered (`owed`), is refused: then no segment and no
+-- acknowledge is on its way.
 abbrev pub is_block : Protocol → Bool
 is_block Block = true
 is_block other = false
 
 abbrev pub is_known_end : Bool → Bool → Ending → Key → FrameContent → Bool
 is_known_end owed block (Done crc) key frame = not block
-is_known_end owed block (Aborted Server code) key frame = ((owed && not (code.0 == timed_out)) || not block) && same_key (key_in frame) key
+is_known_end owed block (Aborted Server code) key frame = (owed || not block) && (not (code.0 == timed_out) && same_key (key_in frame) key)
 is_known_end owed block other key frame = false
 
 abbrev pub both_know_its_end : Bool → Ended → FrameContent → Bool
@@ -105,6 +111,12 @@ is_odd Client what = not (is_initiate what || continues what)
 -- with none.
 abbrev pub leaves_request_open : Bool → Side → Heard → FrameContent → Bool
 leaves_request_open owed side heard frame = is_odd side heard.what || ends_in_doubt owed heard.ended frame
+
+-- An initiate request of the same entry as the one before, while an earlier request may still be
+-- answered: the answer to that looks like its own, which comes later.
+abbrev pub asks_again : ℕ → Dialogue → ℕ → FrameContent → Bool
+asks_again answer dialogue micros frame =
+    option_map_or (same_key (key_in frame)) dialogue.entry false && option_map_or (λ d. not (is_past d answer micros)) dialogue.doubted false
 
 -- ---- sub-blocks that aren't followed
 
@@ -141,9 +153,12 @@ abbrev pub sub_block_after : Side → Bool → What → ℕ → Bool → Bool
 sub_block_after Client leaves what first awaits = awaits || leaves
 sub_block_after Server leaves what first awaits = server_sub_block leaves what first awaits
 
--- then a request may be a segment, which isn't answered
-abbrev pub may_be_segment : Bool → What → Bool
-may_be_segment awaits what = awaits && is_initiate what
+-- then a request may be a segment, which isn't answered; or it asks again
+abbrev pub doubts_request : ℕ → Dialogue → ℕ → FrameContent → Bool
+doubts_request answer dialogue micros frame = dialogue.sub_block || asks_again answer dialogue micros frame
+
+abbrev pub is_in_doubt : Bool → What → Bool
+is_in_doubt doubts what = doubts && is_initiate what
 
 -- ---- requests that may take long
 
@@ -297,10 +312,11 @@ exchange_in answer started dialogue micros side frame = record {
   awaited = awaited_for dialogue.newest dialogue.requested micros;
 }
 
--- `owed`: an answer is owed to the initiate request right before this frame
+-- `owed`: an answer is owed to the initiate request right before this frame; `doubts`: a request is in
+-- doubt
 abbrev pub doubted_after : Bool → Bool → Side → Heard → FrameContent → Option ℕ → ℕ → Option ℕ
-doubted_after owed awaits side heard frame doubted micros =
-    if leaves_request_open owed side heard frame || may_be_segment awaits heard.what then Some micros else doubted
+doubted_after owed doubts side heard frame doubted micros =
+    if leaves_request_open owed side heard frame || is_in_doubt doubts heard.what then Some micros else doubted
 
 -- A transfer isn't judged whose initiate request comes while an earlier request may still be answered.
 abbrev pub newest_heard : Bool → Side → What → FrameContent → Option Newest → Option Newest
@@ -309,7 +325,7 @@ newest_heard certain side what frame newest = if is_initiate what && not certain
 unfoldable pub dialogue_heard : ℕ → ℕ → Dialogue → ℕ → Side → FrameContent → Dialogue
 dialogue_heard answer started dialogue micros side frame =
     let f = followed dialogue.channel micros side frame.bytes in
-    let doubted = doubted_after (owes answer started dialogue) dialogue.sub_block side f.says frame dialogue.doubted micros in
+    let doubted = doubted_after (owes answer started dialogue) (doubts_request answer dialogue micros frame) side f.says frame dialogue.doubted micros in
     let other = names_other f.says.ended frame in
     let leaves = leaves_slow other dialogue.newest f.says.ended in
     let turns = is_in_turn answer started dialogue side f.says.what frame in
@@ -317,6 +333,7 @@ dialogue_heard answer started dialogue micros side frame =
     record {
       channel = f.next;
       asked = asked_after f.says.what micros frame;
+      entry = entry_after f.says.what frame dialogue.entry;
       doubted = doubted;
       slow = slow;
       sub_block = sub_block_after side (leaves_block other f.says.ended) f.says.what (byte_at frame 0) dialogue.sub_block;
@@ -334,6 +351,7 @@ abbrev pub interrupted : Dialogue → ℕ → Dialogue
 interrupted dialogue micros = record {
   channel = after_boot dialogue.channel;
   asked = None;
+  entry = dialogue.entry;
   doubted = if is_some dialogue.channel.transfer then Some micros else dialogue.doubted;
   slow = left_after (leaves_slow false dialogue.newest (broken_off dialogue.channel.transfer micros)) micros dialogue.slow;
   sub_block = dialogue.sub_block || leaves_block false (broken_off dialogue.channel.transfer micros);
