@@ -414,11 +414,12 @@ segments_awaited : (refused_download (record nothing_asked { sub_block = true })
 unfolding dialogue_heard is_certain newest_after newest_with request_row_in response_row_in
 segments_awaited = refl
 
--- with 05040000, which may be of an earlier transfer; of another entry; not at once
+-- with 05040000, which may be of an earlier transfer; of another entry; not at once, and with 05040000 though the device has answered all
 other_refusals : (asked_in_blocks nothing_asked 0xC6 2000000 (0x80 ∷ 0 ∷ 0x20 ∷ 1 ∷ 0 ∷ 0 ∷ 4 ∷ 5 ∷ [])).doubted
     ∷ (asked_in_blocks nothing_asked 0xC6 2000000 (0x80 ∷ 0 ∷ 0x20 ∷ 2 ∷ 2 ∷ 0 ∷ 1 ∷ 6 ∷ [])).doubted
-    ∷ (sent (asked_in_blocks nothing_asked 0xC6 2000000 (0xA4 ∷ 0 ∷ 0x20 ∷ 1 ∷ 30 ∷ 0 ∷ 0 ∷ 0 ∷ [])) 2002000 Server (0x80 ∷ 0 ∷ 0x20 ∷ 1 ∷ 2 ∷ 0 ∷ 1 ∷ 6 ∷ [])).doubted ∷ []
-    ≡ Some 2001000 ∷ Some 2001000 ∷ Some 2002000 ∷ []
+    ∷ (sent (asked_in_blocks nothing_asked 0xC6 2000000 (0xA4 ∷ 0 ∷ 0x20 ∷ 1 ∷ 30 ∷ 0 ∷ 0 ∷ 0 ∷ [])) 2002000 Server (0x80 ∷ 0 ∷ 0x20 ∷ 1 ∷ 2 ∷ 0 ∷ 1 ∷ 6 ∷ [])).doubted
+    ∷ (sent (asked_in_blocks nothing_asked 0xC6 2000000 (0xA4 ∷ 0 ∷ 0x20 ∷ 1 ∷ 30 ∷ 0 ∷ 0 ∷ 0 ∷ [])) 2002000 Server (0x80 ∷ 0 ∷ 0x20 ∷ 1 ∷ 0 ∷ 0 ∷ 4 ∷ 5 ∷ [])).doubted ∷ []
+    ≡ Some 2001000 ∷ Some 2001000 ∷ Some 2002000 ∷ Some 2002000 ∷ []
 unfolding dialogue_heard is_certain newest_after newest_with request_row_in response_row_in
 other_refusals = refl
 
@@ -432,7 +433,7 @@ asked_for micros answer = sent (sent nothing_asked micros Client (0x40 ∷ 0 ∷
 abbrev next_segment : Dialogue
 next_segment = sent (asked_for 2000000 (0x41 ∷ 0 ∷ 0x20 ∷ 1 ∷ 9 ∷ 0 ∷ 0 ∷ 0 ∷ [])) 2002000 Client (0x60 ∷ 0 ∷ 0 ∷ 0 ∷ 0 ∷ 0 ∷ 0 ∷ 0 ∷ [])
 
--- with 05040000 the request, or the segment, may be answered later; not with 05040001 and 08000022
+-- with 05040000 the request, or the segment, may be answered later; not with 05040001 and 08000022, nor where the device has answered all
 timed_out_in_doubt : (asked_for 2000000 (0x80 ∷ 0 ∷ 0x20 ∷ 1 ∷ 0 ∷ 0 ∷ 4 ∷ 5 ∷ [])).doubted
     ∷ (sent next_segment 2003000 Server (0x80 ∷ 0 ∷ 0x20 ∷ 1 ∷ 0 ∷ 0 ∷ 4 ∷ 5 ∷ [])).doubted ∷ []
     ≡ Some 2001000 ∷ Some 2003000 ∷ []
@@ -440,8 +441,9 @@ unfolding dialogue_heard is_certain newest_after newest_with request_row_in resp
 timed_out_in_doubt = refl
 
 refused_without_doubt : (asked_for 2000000 (0x80 ∷ 0 ∷ 0x20 ∷ 1 ∷ 1 ∷ 0 ∷ 4 ∷ 5 ∷ [])).doubted
-    ∷ (sent next_segment 2003000 Server (0x80 ∷ 0 ∷ 0x20 ∷ 1 ∷ 0x22 ∷ 0 ∷ 0 ∷ 8 ∷ [])).doubted ∷ []
-    ≡ None ∷ None ∷ []
+    ∷ (sent next_segment 2003000 Server (0x80 ∷ 0 ∷ 0x20 ∷ 1 ∷ 0x22 ∷ 0 ∷ 0 ∷ 8 ∷ [])).doubted
+    ∷ (sent (asked_for 2000000 (0x41 ∷ 0 ∷ 0x20 ∷ 1 ∷ 9 ∷ 0 ∷ 0 ∷ 0 ∷ [])) 3001000 Server (0x80 ∷ 0 ∷ 0x20 ∷ 1 ∷ 0 ∷ 0 ∷ 4 ∷ 5 ∷ [])).doubted ∷ []
+    ≡ None ∷ None ∷ None ∷ []
 unfolding dialogue_heard is_certain newest_after newest_with request_row_in response_row_in
 refused_without_doubt = refl
 

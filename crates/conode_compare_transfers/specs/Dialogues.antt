@@ -74,23 +74,24 @@ entry_after what frame entry = entry
 
 -- A transfer that both ends know to have ended. An abort of another entry answers an earlier request. One
 -- with 05040000 may be of an earlier transfer of the entry, or sent before the device took the client's
--- frame, which it answers later. Of a block transfer it isn't assumed, but where its initiate request,
--- which came when no earlier one could be answered (`owed`), is refused: then no segment and no
--- acknowledge is on its way.
+-- frame, which it answers later; not where it has answered all (`quiet`). Of a block transfer its end
+-- isn't taken as known, but where its initiate request, which came when no earlier one could be answered
+-- (`owed`), is refused: then no segment and no acknowledge is on its way.
 abbrev pub is_block : Protocol → Bool
 is_block Block = true
 is_block other = false
 
-abbrev pub is_known_end : Bool → Bool → Ending → Key → FrameContent → Bool
-is_known_end owed block (Done crc) key frame = not block
-is_known_end owed block (Aborted Server code) key frame = (owed || not block) && (not (code.0 == timed_out) && same_key (key_in frame) key)
-is_known_end owed block other key frame = false
+abbrev pub is_known_end : Bool → Bool → Bool → Ending → Key → FrameContent → Bool
+is_known_end owed quiet block (Done crc) key frame = not block
+is_known_end owed quiet block (Aborted Server code) key frame =
+    (owed || not block) && ((quiet || not (code.0 == timed_out)) && same_key (key_in frame) key)
+is_known_end owed quiet block other key frame = false
 
-abbrev pub both_know_its_end : Bool → Ended → FrameContent → Bool
-both_know_its_end owed ended frame = is_known_end owed (is_block ended.protocol) ended.ending ended.key frame
+abbrev pub both_know_its_end : Bool → Bool → Ended → FrameContent → Bool
+both_know_its_end owed quiet ended frame = is_known_end owed quiet (is_block ended.protocol) ended.ending ended.key frame
 
-abbrev pub ends_in_doubt : Bool → Option Ended → FrameContent → Bool
-ends_in_doubt owed ended frame = option_map_or (λ e. not (both_know_its_end owed e frame)) ended false
+abbrev pub ends_in_doubt : Bool → Bool → Option Ended → FrameContent → Bool
+ends_in_doubt owed quiet ended frame = option_map_or (λ e. not (both_know_its_end owed quiet e frame)) ended false
 
 -- a frame that goes on with the open transfer
 abbrev pub continues : What → Bool
@@ -109,8 +110,8 @@ is_odd Client what = not (is_initiate what || continues what)
 
 -- After a frame an earlier request may still be answered: a transfer was left, or the frame goes on
 -- with none.
-abbrev pub leaves_request_open : Bool → Side → Heard → FrameContent → Bool
-leaves_request_open owed side heard frame = is_odd side heard.what || ends_in_doubt owed heard.ended frame
+abbrev pub leaves_request_open : Bool → Bool → Side → Heard → FrameContent → Bool
+leaves_request_open owed quiet side heard frame = is_odd side heard.what || ends_in_doubt owed quiet heard.ended frame
 
 -- An initiate request of the same entry as the one before, while an earlier request may still be
 -- answered: the answer to that looks like its own, which comes later.
@@ -312,11 +313,11 @@ exchange_in answer started dialogue micros side frame = record {
   awaited = awaited_for dialogue.newest dialogue.requested micros;
 }
 
--- `owed`: an answer is owed to the initiate request right before this frame; `doubts`: a request is in
--- doubt
-abbrev pub doubted_after : Bool → Bool → Side → Heard → FrameContent → Option ℕ → ℕ → Option ℕ
-doubted_after owed doubts side heard frame doubted micros =
-    if leaves_request_open owed side heard frame || is_in_doubt doubts heard.what then Some micros else doubted
+-- `owed`: an answer is owed to the initiate request right before this frame; `quiet`: the device has
+-- answered all; `doubts`: a request is in doubt
+abbrev pub doubted_after : Bool → Bool → Bool → Side → Heard → FrameContent → Option ℕ → ℕ → Option ℕ
+doubted_after owed quiet doubts side heard frame doubted micros =
+    if leaves_request_open owed quiet side heard frame || is_in_doubt doubts heard.what then Some micros else doubted
 
 -- A transfer isn't judged whose initiate request comes while an earlier request may still be answered.
 abbrev pub newest_heard : Bool → Side → What → FrameContent → Option Newest → Option Newest
@@ -325,7 +326,8 @@ newest_heard certain side what frame newest = if is_initiate what && not certain
 unfoldable pub dialogue_heard : ℕ → ℕ → Dialogue → ℕ → Side → FrameContent → Dialogue
 dialogue_heard answer started dialogue micros side frame =
     let f = followed dialogue.channel micros side frame.bytes in
-    let doubted = doubted_after (owes answer started dialogue) (doubts_request answer dialogue micros frame) side f.says frame dialogue.doubted micros in
+    let doubts = doubts_request answer dialogue micros frame in
+    let doubted = doubted_after (owes answer started dialogue) (owes_nothing dialogue.newest) doubts side f.says frame dialogue.doubted micros in
     let other = names_other f.says.ended frame in
     let leaves = leaves_slow other dialogue.newest f.says.ended in
     let turns = is_in_turn answer started dialogue side f.says.what frame in

@@ -314,10 +314,11 @@ fn entry_after(what: What, frame: &Frame, entry: Option<Key>) -> Option<Key>
 
 // Whether both ends know the end of a transfer that a frame ended. An abort of another entry answers
 // an earlier request. One with 05040000 may be of an earlier transfer of the entry, or sent before the
-// device took the client's frame. Of a block transfer it isn't assumed, but where its initiate request
-// is refused, and an answer was owed to that (`owed`).
-fn both_know_its_end(owed: bool, ended: &Ended, frame: &Frame) -> bool
-    ensures { result ≡ both_know_its_end owed ended.now frame.now }
+// device took the client's frame; not where it has answered all (`quiet`). Of a block transfer its end
+// isn't taken as known, but where its initiate request is refused, and an answer was owed to that
+// (`owed`).
+fn both_know_its_end(owed: bool, quiet: bool, ended: &Ended, frame: &Frame) -> bool
+    ensures { result ≡ both_know_its_end owed quiet ended.now frame.now }
 {
     let is_block = matches!(ended.protocol, Protocol::Block);
     match ended.ending {
@@ -330,11 +331,11 @@ fn both_know_its_end(owed: bool, ended: &Ended, frame: &Frame) -> bool
     }
 }
 
-fn ends_in_doubt(owed: bool, ended: &Option<Ended>, frame: &Frame) -> bool
-    ensures { result ≡ ends_in_doubt owed ended.now frame.now }
+fn ends_in_doubt(owed: bool, quiet: bool, ended: &Option<Ended>, frame: &Frame) -> bool
+    ensures { result ≡ ends_in_doubt owed quiet ended.now frame.now }
 {
     match ended {
-        Some(ended) => !both_know_its_end(owed, ended, frame),
+        Some(ended) => !both_know_its_end(owed, quiet, ended, frame),
         None => false,
     }
 }
@@ -413,20 +414,22 @@ fn is_in_doubt(doubts: bool, what: What) -> bool
 }
 
 // whether after a frame an earlier request may still be answered
-fn leaves_request_open(owed: bool, side: Side, heard: &Heard, frame: &Frame) -> bool
-    ensures { result ≡ leaves_request_open owed side heard.now frame.now }
+fn leaves_request_open(owed: bool, quiet: bool, side: Side, heard: &Heard, frame: &Frame) -> bool
+    ensures { result ≡ leaves_request_open owed quiet side heard.now frame.now }
 {
     let odd = match side {
         Side::Server => !continues(heard.what),
         Side::Client => !(is_initiate(heard.what) || continues(heard.what)),
     };
-    odd || ends_in_doubt(owed, &heard.ended, frame)
+    odd || ends_in_doubt(owed, quiet, &heard.ended, frame)
 }
 
 // The stamp of the newest frame by which an earlier request may still be answered. `owed`: an answer
-// is owed to the initiate request right before this frame; `doubts`: a request is in doubt.
+// is owed to the initiate request right before this frame; `quiet`: the device has answered all;
+// `doubts`: a request is in doubt.
 fn doubted_after(
     owed: bool,
+    quiet: bool,
     doubts: bool,
     side: Side,
     heard: &Heard,
@@ -434,9 +437,9 @@ fn doubted_after(
     doubted: Option<u64>,
     micros: u64,
 ) -> Option<u64>
-    ensures { result ≡ doubted_after owed doubts side heard.now frame.now doubted micros }
+    ensures { result ≡ doubted_after owed quiet doubts side heard.now frame.now doubted micros }
 {
-    if leaves_request_open(owed, side, heard, frame) || is_in_doubt(doubts, heard.what) {
+    if leaves_request_open(owed, quiet, side, heard, frame) || is_in_doubt(doubts, heard.what) {
         Some(micros)
     } else {
         doubted
@@ -579,6 +582,7 @@ impl Dialogue {
         let known = self.is_certain(answer, started, micros);
         let asked = self.asked;
         let awaited = awaited_for(self.newest, self.requested, micros);
+        let quiet = owes_nothing(self.newest);
         let doubts = self.doubts_request(answer, micros, frame);
         let heard = self.channel.take(micros, side, frame);
         let breach = breach_at(self.newest, side, &heard, frame);
@@ -590,7 +594,16 @@ impl Dialogue {
         self.slow = self.slow.after_answer(late, turns).after(leaves, micros);
         self.asked = asked_after(heard.what, micros, frame);
         self.entry = entry_after(heard.what, frame, self.entry);
-        self.doubted = doubted_after(owed, doubts, side, &heard, frame, self.doubted, micros);
+        self.doubted = doubted_after(
+            owed,
+            quiet,
+            doubts,
+            side,
+            &heard,
+            frame,
+            self.doubted,
+            micros,
+        );
         let left = leaves_block(other, &heard.ended);
         self.sub_block = sub_block_after(side, left, heard.what, byte_at(frame, 0), self.sub_block);
         let judged = self.is_certain(answer, started, micros);
