@@ -63,7 +63,7 @@ open_after : (answer started : ℕ) (d : Dialogue) (micros : ℕ) (frame : Frame
     → ((dialogue_heard answer started d micros Server frame).doubted ≡ Some micros)
     ⊎ ((is_some (dialogue_heard answer started d micros Server frame).channel.transfer ≡ true) × IfSome (dialogue_heard answer started d micros Server frame).channel.transfer Lasts)
 open_after answer started d micros frame none l = elim l.lasts [
-  | inl doubt ↦ inl (doubted_by answer started d micros Server frame (ap (λ b. leaves_request_open b (owes_nothing d.newest) Server (reads d.channel micros Server frame.bytes).says frame) (none_owed answer started d none) ∙ doubt))
+  | inl doubt ↦ inl (doubted_by answer started d micros Server frame (ap (λ b. leaves_request_open b (owes_nothing d.newest) Server (reads d.channel micros Server frame.bytes).says frame) (none_owed answer started d none) ∙ doubt (owes_nothing d.newest)))
   | inr live ↦ inr (
     ap (λ (f : Following). is_some f.transfer) (channel_is answer started d micros Server frame) ∙ live,
     subst (λ (f : Following). IfSome f.transfer Lasts) (sym (channel_is answer started d micros Server frame)) l.blocks,
@@ -103,7 +103,7 @@ later_heard answer started d micros frame s n =
     let g : GoesOn d.channel.transfer f = goes_on d.channel.heard d.channel.transfer (reading_of d.channel.transfer Client micros frame.bytes) micros Client frame.bytes s n in
     let o : GoesOpen (asks_in (request_in frame.bytes)) f frame = client_open d.channel.heard d.channel.transfer micros frame s n in
     let channel : (dialogue_heard answer started d micros Client frame).channel ≡ f.next = channel_is answer started d micros Client frame in
-    let doubts : Leaves Client f frame → (dialogue_heard answer started d micros Client frame).doubted ≡ Some micros = λ h. doubted_by answer started d micros Client frame (h (owes answer started d)) in
+    let doubts : Leaves Client f frame → (dialogue_heard answer started d micros Client frame).doubted ≡ Some micros = λ h. doubted_by answer started d micros Client frame (h (owes answer started d) (owes_nothing d.newest)) in
     record {
       live = subst (λ (x : Following). IfSome x.transfer Live) (sym channel) g.live;
       asked = asked_is answer started d micros Client frame ∙ none_asked f.says.what micros frame g.what;

@@ -98,8 +98,8 @@ not_owed quiet (Done crc) key frame = refl
 not_owed quiet _ key frame = refl
 
 aborted_in_doubt : (heard : Bool) (t : Transfer) (code : AbortCode) (micros : ℕ) (side : Side) (frame : FrameContent) → is_block t.protocol ≡ true
-    → leaves_request_open false side (follows_by heard (Some t) (Abort code) micros side frame.bytes).says frame ≡ true
-aborted_in_doubt heard t code micros side frame p =
+    → (quiet : Bool) → leaves_request_open false quiet side (follows_by heard (Some t) (Abort code) micros side frame.bytes).says frame ≡ true
+aborted_in_doubt heard t code micros side frame p quiet =
     let ending = abort_ending side (not_followed_by side t frame.bytes) code in
     or_last (is_odd side what.Part) (ends_in_doubt false quiet (Some (ended (one_more t) micros ending)) frame)
     (ap (λ b. not (is_known_end false quiet b ending t.key frame)) (same_block t.protocol p) ∙ ap not (not_owed quiet ending t.key frame))
@@ -107,7 +107,7 @@ aborted_in_doubt heard t code micros side frame p =
 -- ---- the server's frames in blocks, after which no answer is owed: the transfer lasts, or its end leaves a doubt
 
 pub record LastsOn (f : Followed) (frame : FrameContent) : Type 0 where
-  pub lasts : (leaves_request_open false Server f.says frame ≡ true) ⊎ (is_some f.next.transfer ≡ true)
+  pub lasts : ((quiet : Bool) → leaves_request_open false quiet Server f.says frame ≡ true) ⊎ (is_some f.next.transfer ≡ true)
   pub blocks : IfSome f.next.transfer Lasts
 
 lasts_frame : (w : What) (u : Transfer) (micros : ℕ) (side : Side) → Lasts u → Lasts (with_frame w u micros side)
