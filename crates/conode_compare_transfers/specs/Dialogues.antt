@@ -3,6 +3,7 @@
 use Rattle.std.specs.Prelude.{ℕ, ◌+◌, ◌-◌, ◌/◌, ◌%◌, ◌==◌, nat_le, nat_lt, Bool, true, false, not, ◌&&◌, ◌||◌, if◌then◌else◌, [], ◌∷◌, Option, Some, None, is_some}
 use Rattle.std.specs.Option.{option_map_or}
 use Rattle.co_frame.specs.AbortCodes.{timed_out}
+use Rattle.co_frame.specs.declared.abort_code.AbortCode.{AbortCode}
 use Rattle.co_frame.specs.FrameContent.{FrameContent}
 use Rattle.co_profile.specs.Indices.{store_parameters, restore_parameters}
 use Rattle.co_value.specs.declared.key.Key.{Key}
@@ -72,19 +73,21 @@ entry_after what frame entry = entry
 
 -- ---- doubts
 
--- A transfer that both ends know to have ended. An abort of another entry answers an earlier request. One
--- with 05040000 may be of an earlier transfer of the entry, or sent before the device took the client's
--- frame, which it answers later; not where it has answered all (`quiet`). Of a block transfer its end
--- isn't taken as known, but where its initiate request, which came when no earlier one could be answered
--- (`owed`), is refused: then no segment and no acknowledge is on its way.
+-- An abort with 05040000 may be of an earlier transfer of the entry, or sent before the device took the
+-- client's frame, which it answers later; not where it has answered all (`quiet`).
+abbrev pub is_final : Bool → AbortCode → Bool
+is_final quiet code = quiet || not (code.0 == timed_out)
+
+-- A transfer that both ends know to have ended. An abort of another entry answers an earlier request. Of a
+-- block transfer it isn't assumed, but where its initiate request, which came when no earlier one could be
+-- answered (`owed`), is refused: then no segment and no acknowledge is on its way.
 abbrev pub is_block : Protocol → Bool
 is_block Block = true
 is_block other = false
 
 abbrev pub is_known_end : Bool → Bool → Bool → Ending → Key → FrameContent → Bool
 is_known_end owed quiet block (Done crc) key frame = not block
-is_known_end owed quiet block (Aborted Server code) key frame =
-    (owed || not block) && ((quiet || not (code.0 == timed_out)) && same_key (key_in frame) key)
+is_known_end owed quiet block (Aborted Server code) key frame = (owed || not block) && (is_final quiet code && same_key (key_in frame) key)
 is_known_end owed quiet block other key frame = false
 
 abbrev pub both_know_its_end : Bool → Bool → Ended → FrameContent → Bool

@@ -18,6 +18,7 @@ ghost use Rattle.conode_compare_transfers.specs.Dialogues.{
   given_up,
   interrupted,
   is_certain,
+  is_final,
   is_in_doubt,
   is_in_turn,
   is_initiate,
@@ -312,11 +313,18 @@ fn entry_after(what: What, frame: &Frame, entry: Option<Key>) -> Option<Key>
     }
 }
 
+// Whether nothing is answered after an abort of the device. One with 05040000 may be of an earlier
+// transfer of the entry, or sent before the device took the client's frame, which it answers later;
+// not where it has answered all (`quiet`).
+fn is_final(quiet: bool, code: AbortCode) -> bool
+    ensures { result ≡ is_final quiet code }
+{
+    quiet || code != AbortCode::TIMED_OUT
+}
+
 // Whether both ends know the end of a transfer that a frame ended. An abort of another entry answers
-// an earlier request. One with 05040000 may be of an earlier transfer of the entry, or sent before the
-// device took the client's frame; not where it has answered all (`quiet`). Of a block transfer its end
-// isn't taken as known, but where its initiate request is refused, and an answer was owed to that
-// (`owed`).
+// an earlier request. Of a block transfer it isn't assumed, but where its initiate request is refused,
+// and an answer was owed to that (`owed`).
 fn both_know_its_end(owed: bool, quiet: bool, ended: &Ended, frame: &Frame) -> bool
     ensures { result ≡ both_know_its_end owed quiet ended.now frame.now }
 {
@@ -326,7 +334,7 @@ fn both_know_its_end(owed: bool, quiet: bool, ended: &Ended, frame: &Frame) -> b
         Ending::Aborted {
             by: Side::Server,
             code,
-        } => { (owed || !is_block) && code != AbortCode::TIMED_OUT && key_in(frame) == ended.key }
+        } => (owed || !is_block) && is_final(quiet, code) && key_in(frame) == ended.key,
         _ => false,
     }
 }
