@@ -1,11 +1,13 @@
 -- A recording is compared frame by frame: over its lines, what is written and counted is what is found at the frames that they say.
 use Rattle.std.proofs.Common.{◌≡◌, ℕ, ◌+◌, Bool, true, false, List, [], ◌∷◌, ◌++◌, length, Option, None, Some, refl, sym, ap, ◌∙◌, append-nil}
 use Rattle.std.specs.Prelude.{◌&&◌, ◌||◌, if◌then◌else◌, is_none, nat_lt, option_map}
+use Rattle.std.specs.List.{AllByRecursion}
 use Rattle.std.specs.Str.{bytes_eq}
 use Rattle.std.specs.Str.Lines.{lines}
 use Rattle.std.proofs.lemmas.Bool.{false≢true}
 use Rattle.std.proofs.lemmas.Slice.Eq.{bytes_eq-Decides}
 use Rattle.arrayvec.specs.ArrayVec.{ArrayVec}
+use Rattle.co_sheet.specs.Content.{Row}
 use Rattle.co_stream.specs.Founds.{is_closed}
 use Rattle.conode_convert.specs.Converted.{log_after}
 use Rattle.conode_explain.specs.LogLines.{line_at}
@@ -15,15 +17,16 @@ use Rattle.conode_logs.specs.Logs.{says}
 use Rattle.conode_record.specs.declared.line.Record.{Record}
 use Rattle.conode_record.specs.declared.line.RecordLine.{RecordLine}
 use Rattle.conode_record.specs.declared.line.RecordLine.TheVariants.{Skipped, Frame}
-use Rattle.conode_compare_report.specs.Reports.{with_bad_line, with_line}
+use Rattle.conode_compare_report.specs.Reports.{with_bad_line as bad_line_kept, with_line}
 use Rattle.conode_compare_report.specs.Views.{Kept}
 use Rattle.conode_compare_rules.specs.declared.finding.Finding.{Finding}
 use Rattle.conode_compare_rules.specs.declared.kind.FrameKind.{FrameKind}
+use Rattle.conode_compare_rules.specs.declared.limits.Subject.{Subject}
 use Rattle.conode_compare_rules.specs.declared.progress.Progress.{Progress}
 use Rattle.conode_compare_rules.specs.declared.verdict.Findings.{Findings}
-use Rattle.conode_compare_rules.specs.Progresses.{before_recording, findings_at, progress_with}
+use Rattle.conode_compare_rules.specs.Progresses.{before_recording, findings_at, progress_with, with_bad_line}
 use Rattle.conode_compare_receptions.specs.declared.receptions.Receptions.{Receptions}
-use Rattle.conode_compare_receptions.specs.AllFrames.{program_from, program_over, progress_after, receptions_after}
+use Rattle.conode_compare_receptions.specs.AllFrames.{kind_at as what_is, program_from, program_over, progress_after, receptions_after}
 use Rattle.conode_compare_receptions.specs.Receptions.{no_receptions}
 use Rattle.conode_compare_text.specs.declared.tally.Tally.{Tally}
 use Rattle.conode_compare_text.specs.Tallies.{no_frames}
@@ -56,7 +59,7 @@ use Rattle.conode_compare.specs.Compared.{
   so_far_after,
   taken_lines,
 }
-use Rattle.conode_compare.specs.ComparedFrames.{AreAllOn, AreGood, FrameIn, BadLine, LineRead, chosen_frames, compared_frames, frames_from, frames_read, line_frames, lines_shown, picked, records_of, said_frames, shown_from, shown_in, tally_of}
+use Rattle.conode_compare.specs.ComparedFrames.{AreAllOn, BadLine, EndsWhole, FrameIn, IsBad, IsWhole, LineRead, chosen_frames, compared_frames, frames_from, frames_read, line_frames, lines_shown, picked, program_from_lines, program_over_lines, records_of, said_frames, shown_from, shown_in, tally_of}
 use Rattle.conode_compare.specs.Noted.{nothing_noted, notes_with}
 
 module _ (c : Comparison) where
@@ -87,7 +90,7 @@ module _ (c : Comparison) where
       → said_lines c number so_far said ++ more (said_with c so_far said) ≡ lines_after so_far (said_frames number said ++ rest)
   said_written number so_far (Some (Frame frame)) rest more silent h = frame_written number so_far frame rest more silent h
   said_written number so_far (Some Skipped) rest more silent h = h so_far silent
-  said_written number so_far None rest more silent h = h (bad_noted so_far) (ap (option_map with_bad_line) silent)
+  said_written number so_far None rest more silent h = h (bad_noted so_far) (ap (option_map bad_line_kept) silent)
 
   line_written : (number : ℕ) (s : SoFar) (line : List ℕ) (rest : Log → List LineRead) (more : SoFar → List (List ℕ)) → s.comparing.report ≡ None
       → ((after : SoFar) → after.comparing.report ≡ None → more after ≡ lines_after after.comparing (rest after.log))
@@ -98,7 +101,7 @@ module _ (c : Comparison) where
           → (if long then [] else said_lines c number (line_noted s.comparing line) (line_at s.log line))
           ++ more (if long then record s { comparing = long_noted s.comparing } else record { log = (says s.log line).0; comparing = said_with c (line_noted s.comparing line) (line_at s.log line) })
           ≡ lines_after s.comparing ((if long then BadLine ∷ [] else said_frames number (line_at s.log line)) ++ rest (if long then s.log else (says s.log line).0))
-      by true = h (record s { comparing = long_noted s.comparing }) (ap (λ (r : Option Kept). option_map with_bad_line (option_map (λ kept. with_line kept []) r)) silent)
+      by true = h (record s { comparing = long_noted s.comparing }) (ap (λ (r : Option Kept). option_map bad_line_kept (option_map (λ kept. with_line kept []) r)) silent)
       by false =
           said_written number (line_noted s.comparing line) (line_at s.log line) (rest (says s.log line).0) (λ after. more (record { log = (says s.log line).0; comparing = after })) (ap (option_map (λ kept. with_line kept line)) silent)
           (λ after quiet. h (record { log = (says s.log line).0; comparing = after }) quiet)
@@ -172,18 +175,47 @@ tally_is c form report text = all_counted c (is_closed text) 1 (at_first c form 
 
 -- ---- what is found at the frames
 
-found_from : (these : FrameKind → Findings → List Finding) (c : Comparison) (progress : Progress) (receptions : Receptions) (notes : Notes) (frames : List LineRead) → AreGood frames
-    → picked these (shown_from c progress receptions notes frames) ≡ program_from these c.subject c.rows progress receptions (records_of frames)
-found_from these c progress receptions notes [] good = refl
-found_from these c progress receptions notes (FrameIn number frame ∷ later) good =
-    ap (λ (l : List Finding). these (kind_at c frame) (findings_at c.subject c.rows progress frame.micros (kind_at c frame)) ++ l)
-    (found_from these c (progress_after c.subject c.rows progress receptions frame) (receptions_after c.subject c.rows progress receptions frame)
-    (notes_with c.choices c.learned c.subject c.rows notes (kind_at c frame) (progress_with c.subject progress frame.micros (kind_at c frame))) later good.1)
-found_from these c progress receptions notes (BadLine ∷ later) good = absurd good.0
+module _ (these : FrameKind → Findings → List Finding) where
+  found_from : (c : Comparison) (progress : Progress) (receptions : Receptions) (notes : Notes) (lines : List LineRead)
+      → picked these (shown_from c progress receptions notes lines) ≡ program_from_lines these c.subject c.rows progress receptions lines
+  found_from c progress receptions notes [] = refl
+  found_from c progress receptions notes (FrameIn number frame ∷ later) =
+      ap (λ (l : List Finding). these (kind_at c frame) (findings_at c.subject c.rows progress frame.micros (kind_at c frame)) ++ l)
+      (found_from c (progress_after c.subject c.rows progress receptions frame) (receptions_after c.subject c.rows progress receptions frame)
+      (notes_with c.choices c.learned c.subject c.rows notes (kind_at c frame) (progress_with c.subject progress frame.micros (kind_at c frame))) later)
+  found_from c progress receptions notes (BadLine ∷ later) = found_from c (with_bad_line progress) receptions notes later
 
-pub picked_are : (these : FrameKind → Findings → List Finding) (c : Comparison) (form : Form) (text : List ℕ) → AreGood (compared_frames c.interface form text)
-    → picked these (shown_in c form text) ≡ program_over these c.subject c.rows (records_of (compared_frames c.interface form text))
-picked_are these c form text good = found_from these c (before_recording c.subject) no_receptions nothing_noted (compared_frames c.interface form text) good
+  pub picked_are : (c : Comparison) (form : Form) (text : List ℕ) → picked these (shown_in c form text) ≡ program_over_lines these c.subject c.rows (compared_frames c.interface form text)
+  picked_are c form text = found_from c (before_recording c.subject) no_receptions nothing_noted (compared_frames c.interface form text)
+
+  -- where no line between two frames is bad
+  module _ (subject : Subject) (rows : List Row) where
+    all_bad : (progress other : Progress) (receptions : Receptions) (lines : List LineRead) → AllByRecursion IsBad lines
+        → program_from_lines these subject rows progress receptions lines ≡ program_from these subject rows other receptions (records_of lines)
+    all_bad progress other receptions [] bad = refl
+    all_bad progress other receptions (FrameIn number frame ∷ later) bad = absurd bad.0
+    all_bad progress other receptions (BadLine ∷ later) bad = all_bad (with_bad_line progress) other receptions later bad.1
+
+    frame_first : (progress : Progress) (receptions : Receptions) (frame : Record) (number : ℕ) (later : List LineRead)
+        → program_from_lines these subject rows (progress_after subject rows progress receptions frame) (receptions_after subject rows progress receptions frame) later
+        ≡ program_from these subject rows (progress_after subject rows progress receptions frame) (receptions_after subject rows progress receptions frame) (records_of later)
+        → program_from_lines these subject rows progress receptions (FrameIn number frame ∷ later) ≡ program_from these subject rows progress receptions (frame ∷ records_of later)
+    frame_first progress receptions frame number later h =
+        ap (λ (l : List Finding). these (what_is subject frame) (findings_at subject rows progress frame.micros (what_is subject frame)) ++ l) h
+
+    ends_whole : (progress : Progress) (receptions : Receptions) (lines : List LineRead) → EndsWhole lines
+        → program_from_lines these subject rows progress receptions lines ≡ program_from these subject rows progress receptions (records_of lines)
+    ends_whole progress receptions [] ends = refl
+    ends_whole progress receptions (FrameIn number frame ∷ later) ends =
+        frame_first progress receptions frame number later (ends_whole (progress_after subject rows progress receptions frame) (receptions_after subject rows progress receptions frame) later ends)
+    ends_whole progress receptions (BadLine ∷ later) ends = all_bad (with_bad_line progress) progress receptions later ends
+
+    pub whole_are : (lines : List LineRead) → IsWhole lines → program_over_lines these subject rows lines ≡ program_over these subject rows (records_of lines)
+    whole_are [] whole = refl
+    whole_are (FrameIn number frame ∷ later) whole =
+        frame_first (before_recording subject) no_receptions frame number later
+        (ends_whole (progress_after subject rows (before_recording subject) no_receptions frame) (receptions_after subject rows (before_recording subject) no_receptions frame) later whole)
+    whole_are (BadLine ∷ later) whole = whole_are later whole
 
 -- ---- where all frames are of one interface
 

@@ -1,14 +1,16 @@
 -- Which lines of a text are frames that are compared, which are bad, and what a bad one leaves known.
-use Rattle.std.proofs.Common.{◌≡◌, ℕ, Bool, true, false, List, [], ◌∷◌, ◌++◌, map, None, Some, refl}
+use Rattle.std.proofs.Common.{◌≡◌, ℕ, true, List, [], ◌∷◌, ◌++◌, map, None, Some, refl}
 use Rattle.std.specs.Prelude.{codes, replicate}
 use Rattle.conode_convert.specs.Converted.{at_start}
 use Rattle.conode_explain.specs.LogLines.{line_at}
 use Rattle.conode_logs.proofs.OnLines.{logs_on_lines}
 use Rattle.conode_logs.specs.declared.log.Form.TheVariants.{Unknown}
+use Rattle.conode_record.specs.declared.line.Record.{Record}
 use Rattle.conode_compare_rules.specs.declared.limits.Limits.{Limits}
+use Rattle.conode_compare_rules.specs.declared.limits.Subject.{Subject}
 use Rattle.conode_compare_rules.specs.declared.progress.Progress.{Progress}
-use Rattle.conode_compare_rules.specs.Progresses.{begins_anew, with_bad_line}
-use Rattle.conode_compare.specs.ComparedFrames.{AreAllOn, BadLine, FrameIn, LineRead, compared_frames, frames_from, frames_read, line_frames, records_of}
+use Rattle.conode_compare_rules.specs.Progresses.{before_recording, begins_anew, with_bad_line}
+use Rattle.conode_compare.specs.ComparedFrames.{AreAllOn, BadLine, FrameIn, IsWhole, LineRead, compared_frames, frames_from, frames_read, line_frames, records_of}
 
 -- a comment, a bad line, frames of two interfaces, and a last line without its line feed
 abbrev text : List ℕ
@@ -49,3 +51,14 @@ one_interface = (refl, (tt, (refl, tt)))
 
 bad_line : (limits : Limits) (progress : Progress) (micros : ℕ) → begins_anew limits (with_bad_line progress) micros ≡ true
 bad_line limits progress micros = refl
+
+-- before the first frame nothing is known anyway
+bad_first : (subject : Subject) → with_bad_line (before_recording subject) ≡ before_recording subject
+bad_first subject = refl
+
+-- bad lines before the first frame and after the last one; and between two
+whole : (frame : Record) → IsWhole (BadLine ∷ FrameIn 2 frame ∷ FrameIn 3 frame ∷ BadLine ∷ BadLine ∷ [])
+whole frame = (tt, tt)
+
+broken : (frame : Record) → IsWhole (FrameIn 1 frame ∷ BadLine ∷ FrameIn 3 frame ∷ []) → ⊥
+broken frame h = h.0

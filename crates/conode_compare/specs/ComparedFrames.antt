@@ -1,8 +1,9 @@
 -- A recording as its frames: which of its lines are frames that are compared, and what is found and noted at each, one after another.
-use Rattle.std.specs.Prelude.{◌≡◌, ℕ, ◌+◌, nat_lt, Bool, if◌then◌else◌, List, [], ◌∷◌, ◌++◌, length, Option, Some, None}
+use Rattle.std.specs.Prelude.{◌≡◌, ⊤, ℕ, ◌+◌, nat_lt, Bool, if◌then◌else◌, List, [], ◌∷◌, ◌++◌, length, Option, Some, None}
 use Rattle.std.specs.List.{AllByRecursion, flat_map}
 use Rattle.std.specs.Str.Lines.{lines}
 use Rattle.arrayvec.specs.ArrayVec.{ArrayVec}
+use Rattle.co_sheet.specs.Content.{Row}
 use Rattle.co_stream.specs.Founds.{is_closed}
 use Rattle.conode_convert.specs.Converted.{at_start, log_after}
 use Rattle.conode_explain.specs.LogLines.{line_at}
@@ -13,17 +14,19 @@ use Rattle.conode_record.specs.declared.line.RecordLine.{RecordLine}
 use Rattle.conode_record.specs.declared.line.RecordLine.TheVariants.{Skipped, Frame}
 use Rattle.conode_compare_rules.specs.declared.finding.Finding.{Finding}
 use Rattle.conode_compare_rules.specs.declared.kind.FrameKind.{FrameKind}
+use Rattle.conode_compare_rules.specs.declared.limits.Subject.{Subject}
 use Rattle.conode_compare_rules.specs.declared.progress.Progress.{Progress}
 use Rattle.conode_compare_rules.specs.declared.verdict.Findings.{Findings}
 use Rattle.conode_compare_rules.specs.Progresses.{before_recording, findings_at, progress_with, with_bad_line}
 use Rattle.conode_compare_receptions.specs.declared.receptions.Receptions.{Receptions}
-use Rattle.conode_compare_receptions.specs.AllFrames.{progress_after, receptions_after}
+use Rattle.conode_compare_receptions.specs.AllFrames.{kind_at as what_is, progress_after, receptions_after}
 use Rattle.conode_compare_receptions.specs.Receptions.{no_receptions}
+use Rattle.conode_compare_text.specs.declared.details.Details.{Details}
 use Rattle.conode_compare_text.specs.declared.tally.Tally.{Tally}
 use Rattle.conode_compare_text.specs.Tallies.{tally_with}
 use Rattle.conode_compare.specs.declared.notes.Noted.{Noted}
 use Rattle.conode_compare.specs.declared.notes.Notes.{Notes}
-use Rattle.conode_compare.specs.Compared.{Comparison, counts, first_with, is_compared, kind_at, shown_lines}
+use Rattle.conode_compare.specs.Compared.{Comparison, counts, details_for, first_with, is_compared, kind_at, shown_lines}
 use Rattle.conode_compare.specs.Noted.{noted_at, nothing_noted, notes_with}
 
 -- ---- which frames
@@ -73,30 +76,39 @@ records_of [] = []
 records_of (FrameIn number frame ∷ later) = frame ∷ records_of later
 records_of (BadLine ∷ later) = records_of later
 
--- no line is bad
-abbrev pub IsGood : LineRead → Type 0
-IsGood (FrameIn number frame) = Unit {0}
-IsGood BadLine = ⊥
+-- no bad line has a frame before it and one after it
+abbrev pub IsBad : LineRead → Type 0
+IsBad (FrameIn number frame) = ⊥
+IsBad BadLine = ⊤
 
-abbrev pub AreGood : List LineRead → Type 0
-AreGood lines = AllByRecursion IsGood lines
+abbrev pub EndsWhole : List LineRead → Type 0
+EndsWhole [] = ⊤
+EndsWhole (FrameIn number frame ∷ later) = EndsWhole later
+EndsWhole (BadLine ∷ later) = AllByRecursion IsBad later
+
+abbrev pub IsWhole : List LineRead → Type 0
+IsWhole [] = ⊤
+IsWhole (FrameIn number frame ∷ later) = EndsWhole later
+IsWhole (BadLine ∷ later) = IsWhole later
 
 -- all frames are of this interface
 abbrev pub IsOn : List ℕ → LineRead → Type 0
 IsOn name (FrameIn number frame) = frame.interface ≡ name
-IsOn name BadLine = Unit {0}
+IsOn name BadLine = ⊤
 
 abbrev pub AreAllOn : List ℕ → List LineRead → Type 0
 AreAllOn name lines = AllByRecursion (IsOn name) lines
 
 -- ---- what is found at them
 
--- a frame in the line with this number, by what it is to the device, with what is found and noted at it
+-- a frame in the line with this number, by what it is to the device, with what is found and noted at it, and what
+-- the line of its difference says beside it
 pub record FrameShown : Type 0 where
   pub number : ℕ
   pub kind : FrameKind
   pub found : Findings
   pub noted : Noted
+  pub details : Details
 
 -- where so much is known before them; with the first one after a bad line the recording begins anew
 abbrev pub shown_from : Comparison → Progress → Receptions → Notes → List LineRead → List FrameShown
@@ -107,6 +119,7 @@ shown_from c progress receptions notes (FrameIn number frame ∷ later) =
       kind = kind_at c frame;
       found = findings_at c.subject c.rows progress frame.micros (kind_at c frame);
       noted = noted_at c.choices c.subject c.rows notes (kind_at c frame) (progress_with c.subject progress frame.micros (kind_at c frame));
+      details = details_for c progress frame.micros (kind_at c frame);
     }
     ∷ shown_from c (progress_after c.subject c.rows progress receptions frame) (receptions_after c.subject c.rows progress receptions frame)
     (notes_with c.choices c.learned c.subject c.rows notes (kind_at c frame) (progress_with c.subject progress frame.micros (kind_at c frame))) later
@@ -118,7 +131,7 @@ shown_in c form text = shown_from c (before_recording c.subject) no_receptions n
 
 -- the lines of their differences, warnings and choices
 abbrev pub lines_shown : Comparison → List FrameShown → List (List ℕ)
-lines_shown c shown = flat_map (λ s. shown_lines c s.number s.found s.noted) shown
+lines_shown c shown = flat_map (λ s. shown_lines c s.number s.details s.found s.noted) shown
 
 -- of what is found at each these
 abbrev pub picked : (FrameKind → Findings → List Finding) → List FrameShown → List Finding
@@ -128,3 +141,18 @@ picked these shown = flat_map (λ s. these s.kind s.found) shown
 abbrev pub tally_of : Tally → List FrameShown → Tally
 tally_of tally [] = tally
 tally_of tally (s ∷ later) = tally_of (tally_with tally s.found.verdict) later
+
+-- ---- what the program finds
+
+-- As `program_from` of conode_compare_receptions has it of frames, of lines: with the first frame after a bad line the
+-- recording begins anew.
+abbrev pub program_from_lines : (FrameKind → Findings → List Finding) → Subject → List Row → Progress → Receptions → List LineRead → List Finding
+program_from_lines these subject rows progress receptions [] = []
+program_from_lines these subject rows progress receptions (FrameIn number frame ∷ later) =
+    these (what_is subject frame) (findings_at subject rows progress frame.micros (what_is subject frame))
+    ++ program_from_lines these subject rows (progress_after subject rows progress receptions frame) (receptions_after subject rows progress receptions frame) later
+program_from_lines these subject rows progress receptions (BadLine ∷ later) = program_from_lines these subject rows (with_bad_line progress) receptions later
+
+-- over all lines of a recording
+abbrev pub program_over_lines : (FrameKind → Findings → List Finding) → Subject → List Row → List LineRead → List Finding
+program_over_lines these subject rows lines = program_from_lines these subject rows (before_recording subject) no_receptions lines
