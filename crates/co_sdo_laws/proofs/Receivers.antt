@@ -5,7 +5,7 @@ use Rattle.std.specs.Prelude.{nat_lt}
 use Rattle.co_sdo_client.specs.Verdicts.{held_with}
 use Rattle.co_sdo_laws.proofs.BlockSegments.{total, size_after, segment_at, segments, InTurn, Goes, Completes, next_inside, next_ends, has_room}
 use Rattle.co_sdo_laws.proofs.Ends.{End}
-use Rattle.co_sdo_laws.proofs.Places.{Place, taking, acknowledging, finishing, Plan, OnWay, turns, keeps_on, Reacts, goes, gives_up, at_receiver, from_sender, one}
+use Rattle.co_sdo_laws.proofs.Places.{Place, taking, acknowledging, finishing, Plan, OnWay, turns, keeps_on, Reacts, goes, gives_up, by_receiver, by_sender, one}
 
 -- what it has, and says, after each segment
 pub record Receiver (d : Plan) (e : End) (At : Place → e.Knows → Type 0) : Type 0 where
@@ -41,8 +41,8 @@ sub_block_ends d e At Peer r peer a t n x h size turn g false room =
     let under = g.under in
     goes (acknowledging a g.u) (d.acknowledgement g.u ∷ []) (r.ends a t n x (segment_at d.value a n) h g room) (record {
       onward = turns refl refl (record { are = refl; under = under; whole = λ y. record { whole = (turn y).whole; size = g.next y ∙ size; within = omega arith } });
-      here = λ y. at_receiver d d.forward (taking a t) (acknowledging a g.u) (let u = g.next y in let k = (turn y).next in omega arith);
-      there = λ y. from_sender d d.forward (taking a t) (acknowledging a g.u) refl;
+      here = λ y. rw (by_receiver d.forward) (let u = g.next y in let k = (turn y).next in omega arith);
+      there = λ y. rw (by_sender d.forward) refl;
       narrows = λ xs same. same;
     }) (peer.ends a t g.u)
 
@@ -54,8 +54,8 @@ last_comes d e At Peer r peer a t n x h size turn g =
     let next = g.next in
     goes (finishing a n) (d.acknowledgement n ∷ []) (r.last a t n x (segment_at d.value a n) h g) (record {
       onward = turns refl refl (record { are = refl; under = omega arith; all = g.whole; whole = λ y. record { whole = (turn y).whole; size = size; within = omega arith } });
-      here = λ y. at_receiver d d.forward (taking a t) (finishing a n) (omega arith);
-      there = λ y. from_sender d d.forward (taking a t) (finishing a n) refl;
+      here = λ y. rw (by_receiver d.forward) (omega arith);
+      there = λ y. rw (by_sender d.forward) refl;
       narrows = λ xs same. same;
     }) (peer.last a t n)
 
@@ -78,8 +78,8 @@ segment_comes d e At Peer r peer a t n (suc more) x h under some size turn =
         size = omega arith;
         turn = λ y. record { whole = (turn y).whole; next = let u = g.next y in omega arith };
       });
-      here = λ y. at_receiver d d.forward (taking a t) (taking a g.u) (let u = g.next y in let k = (turn y).next in omega arith);
-      there = λ y. from_sender d d.forward (taking a t) (taking a g.u) refl;
+      here = λ y. rw (by_receiver d.forward) (let u = g.next y in let k = (turn y).next in omega arith);
+      there = λ y. rw (by_sender d.forward) refl;
       narrows = λ xs same. same;
     }) (peer.inside a t g.u)
 

@@ -5,7 +5,7 @@ use Rattle.std.specs.Prelude.{nat_lt}
 use Rattle.std.proofs.lemmas.Bool.Decides.{nat_tests}
 use Rattle.co_sdo_laws.proofs.BlockSegments.{total, size_after, segments, IsWhole, full, full_count, last_count}
 use Rattle.co_sdo_laws.proofs.Ends.{End}
-use Rattle.co_sdo_laws.proofs.Places.{Place, taking, acknowledging, finishing, ending, Plan, opposite, first, OnWay, turns, Reacts, goes, gives_up, at_sender, from_receiver, twice, one}
+use Rattle.co_sdo_laws.proofs.Places.{Place, begins_at, taking, acknowledging, finishing, ending, Plan, opposite, first, OnWay, turns, Reacts, goes, gives_up, by_sender, by_receiver, twice, one}
 
 -- what it sends after each acknowledgement
 pub record Sender (d : Plan) (e : End) (At : Place → e.Knows → Type 0) : Type 0 where
@@ -35,17 +35,9 @@ acknowledged : {Other : Type 0} (d : Plan) (e : End) (At : Place → e.Knows →
     → Reacts d e (opposite d.forward) At Peer (acknowledging a u) [] x (d.acknowledgement u)
 acknowledged d e At Peer r peer a u x h under whole true many = gives_up (λ y. not_above d.value a u many (whole y)) refl (r.too_many a u x h (omega arith) many)
 acknowledged d e At Peer r peer a u x h under whole false few = goes (taking (a + u) 0) _ (r.more a u x h under few) (record {
-  onward = turns refl (twice d.forward) (record {
-    n = 1;
-    more = size_after d.value (a + u) - 1;
-    are = refl;
-    under = omega arith;
-    some = omega arith;
-    size = omega arith;
-    turn = λ y. let g = whole y in record { whole = full a u (total d.value) g.whole g.size under; next = refl };
-  });
-  here = λ y. let g = whole y in at_sender d d.forward (acknowledging a u) (taking (a + u) 0) (full_count (first d.forward) a u (total d.value) g.whole g.size under);
-  there = λ y. from_receiver d d.forward (acknowledging a u) (taking (a + u) 0) (omega arith);
+  onward = turns refl (twice d.forward) (begins_at d.value (a + u) under (λ y. let g = whole y in full a u (total d.value) g.whole g.size under));
+  here = λ y. let g = whole y in rw (by_sender d.forward) (full_count (first d.forward) a u (total d.value) g.whole g.size under);
+  there = λ y. rw (← twice d.forward, by_receiver d.forward) (omega arith);
   narrows = λ xs same. same;
 }) (peer.more a u)
 
@@ -63,8 +55,8 @@ all_acknowledged d e At Peer r peer a u x h under all whole true many =
     gives_up (λ y. not_above d.value a u many (whole y)) refl (r.too_many a u x (r.same a u x h) under many)
 all_acknowledged d e At Peer r peer a u x h under all whole false few = goes ending _ (r.all a u x h under all few) (record {
   onward = turns refl (twice d.forward) refl;
-  here = λ y. let g = whole y in at_sender d d.forward (finishing a u) ending (last_count (first d.forward) a u (total d.value) g.whole g.size under all);
-  there = λ y. from_receiver d d.forward (finishing a u) ending (omega arith);
+  here = λ y. let g = whole y in rw (by_sender d.forward) (last_count (first d.forward) a u (total d.value) g.whole g.size under all);
+  there = λ y. rw (← twice d.forward, by_receiver d.forward) (omega arith);
   narrows = λ xs same. same;
 }) (peer.all a u)
 
