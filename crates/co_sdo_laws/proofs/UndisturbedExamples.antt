@@ -123,18 +123,15 @@ nine_undisturbed n = record { dictionary = is_dictionary; key = omega arith; job
 
 -- ---- what disturbs it
 
-over : true ≡ false → ⊥
-over e = cc
-
 -- a third tick of the client while it waits
 third_tick : IsCalm ten ClientTicked (world_after ten (ClientTicked ∷ ClientTicked ∷ r ∷ [])) → ⊥
 unfolding request_row_in response_row_in reading_refusal initiate_refusal completion_refusal has_object
-third_tick calm = over (calm refl)
+third_tick calm = let e : true ≡ false = calm refl in cc
 
 -- a second tick of the channel while the transfer is open
 second_tick : IsCalm ten ChannelTicked (world_after ten (ChannelTicked ∷ r ∷ [])) → ⊥
 unfolding request_row_in response_row_in reading_refusal initiate_refusal completion_refusal has_object
-second_tick calm = over calm
+second_tick calm = let e : true ≡ false = calm in cc
 
 -- a lost or a repeated frame
 lost_frame : IsCalm ten (Lost Requests) (world_after ten []) → ⊥
@@ -160,18 +157,15 @@ ten_ticks_later = ((λ waits. cc), ((λ waits. cc), ((λ waits. cc), ((λ waits.
 
 -- ---- what isn't permitted
 
-refused : (code : ℕ) → Some code ≡ None → ⊥
-refused code e = cc
-
 -- 17 bytes don't fit the string
 too_long : IsPermitted dictionary bytes_in string_key (Download (codes "0123456789ABCDEFG") true) → ⊥
 unfolding reading_refusal initiate_refusal completion_refusal has_object
-too_long h = refused 0x06070012 h
+too_long h = let e : Some 0x06070012 ≡ None = h in cc
 
 -- there is no entry 2002:00
 not_there : IsPermitted dictionary bytes_in (record { index = 0x2002; sub = 0 }) (Upload 9) → ⊥
 unfolding reading_refusal initiate_refusal completion_refusal has_object
-not_there h = refused 0x06020000 h
+not_there h = let e : Some 0x06020000 ≡ None = h in cc
 
 -- so that nothing is an undisturbed transfer of 17 bytes
 never_undisturbed : (events : List WorldEvent) → IsUndisturbed (setup string_key Segmented (Download (codes "0123456789ABCDEFG") true)) events → ⊥
@@ -344,8 +338,7 @@ long_index may = let key = may.key in omega arith
 
 -- a channel with a download open
 not_ready : IsReady (record server { past = (world_after ten (a ∷ r ∷ [])).log }) → ⊥
-unfolding request_row_in response_row_in reading_refusal initiate_refusal completion_refusal has_object
-not_ready ready = let idle = ready.idle in cc
+not_ready ready = open_before ready.idle
 
 -- a transfer that is left while a frame is on its way
 abbrev left_early : Transfer
@@ -376,7 +369,7 @@ nine_over = refl
 -- ---- how many frames a transfer takes
 
 -- of ten bytes to the string, of four, of its nine bytes and of none
-some_frames : map (λ x. map (λ mode. frames_needed mode bytes_in x.0 x.1) (Plain ∷ Segmented ∷ Block ∷ [])) (
+some_frames : map (λ (x : Key × Job). map (λ mode. frames_needed mode bytes_in x.0 x.1) (Plain ∷ Segmented ∷ Block ∷ [])) (
     (string_key, Download (codes "0123456789") true)
     ∷ (string_key, Download (codes "0123") true)
     ∷ (string_key, Upload 16)

@@ -19,11 +19,10 @@ use Rattle.co_sdo_loss_laws.proofs.Laws.{download_sets, upload_gives, block_uplo
 
 -- ---- which laws speak of which transfers
 
-which : map (λ mode. is_plain_download mode (Download (codes "a") true)) (Plain ∷ Segmented ∷ Block ∷ []) ≡ true ∷ true ∷ false ∷ []
+which : map (λ job. map (λ mode. is_plain_download mode job) (Plain ∷ Segmented ∷ Block ∷ []))
+    (Download (codes "a") true ∷ Upload 9 ∷ [])
+    ≡ (true ∷ true ∷ false ∷ []) ∷ (false ∷ false ∷ false ∷ []) ∷ []
 which = refl
-
-no_download : map (λ mode. is_plain_download mode (Upload 9)) (Plain ∷ Segmented ∷ Block ∷ []) ≡ false ∷ false ∷ false ∷ []
-no_download = refl
 
 -- each transfer that the laws of undisturbed ones speak of is alone
 alone : (s : Setup) (events : List WorldEvent) → IsUndisturbed s events → AreBytes (bytes_of s.call.job) → IsAlone s
