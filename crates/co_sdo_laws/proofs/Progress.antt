@@ -20,25 +20,19 @@ pub no_front : (s : Setup) (queue : Queue) (w : World) → on_way queue w ≡ []
 no_front s Requests w e = rw e refl
 no_front s Answers w e = rw e refl
 
-as_many : (w : World) → arrived w ≤ arrived w
-as_many w = omega arith
-
 at_most : {a b c : ℕ} → a ≤ b → b ≤ c → a ≤ c
 at_most p q = omega arith
 
 keeps : (s : Setup) (queue : Queue) (w : World) (xs : List (List ℕ)) → on_way queue w ≡ xs
     → arrived w ≤ arrived (after_event s (Delivered queue) w)
-keeps s queue w [] e = subst (λ (x : World). arrived w ≤ arrived x) (no_front s queue w e) (as_many w)
+keeps s queue w [] e = subst (λ (x : World). arrived w ≤ arrived x) (no_front s queue w e) (omega arith)
 keeps s queue w (frame ∷ later) e = let one = more s queue w frame later e in omega arith
 
 abbrev a_round : Setup → World → World
 a_round s w = after_event s (Delivered Answers) (after_event s (Delivered Requests) w)
 
 round_keeps : (s : Setup) (w : World) → arrived w ≤ arrived (a_round s w)
-round_keeps s w =
-    let first : arrived w ≤ arrived (after_event s (Delivered Requests) w) = keeps s Requests w w.requests refl in
-    let second : arrived (after_event s (Delivered Requests) w) ≤ arrived (a_round s w) = keeps s Answers (after_event s (Delivered Requests) w) _ refl in
-    at_most first second
+round_keeps s w = at_most (keeps s Requests w w.requests refl) (keeps s Answers (after_event s (Delivered Requests) w) _ refl)
 
 -- where a frame is on its way, a round brings one
 round_brings : (s : Setup) (w : World) (xs ys : List (List ℕ)) → w.requests ≡ xs → w.answers ≡ ys → 1 ≤ length xs + length ys → arrived w + 1 ≤ arrived (a_round s w)

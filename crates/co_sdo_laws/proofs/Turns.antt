@@ -176,9 +176,6 @@ either k n h = by (eqb k n) refl
     by true e = inr (eqb-true k n e)
     by false e = inl (grind (arith, nat_tests))
 
-pub not_last : (k last : ℕ) → k < last → k ≡ last → ⊥
-not_last k last h e = absurd (omega arith)
-
 step : (s : Setup) (t : Turns s) (event : WorldEvent) (w : World) → IsCalm s event w → InTurns s t w → InTurns s t (after_event s event w)
 step s t (Delivered Requests) w calm (asking k less h) = request_comes s t k w less h
 step s t (Delivered Requests) w calm (answering k less h) = subst (InTurns s t) (no_front s Requests w h.requests) (answering k less h)

@@ -20,12 +20,12 @@ use Rattle.co_sdo.specs.Refused.{reading_refusal}
 use Rattle.co_sdo.specs.Log.{Answer, Response, answer_bytes}
 use Rattle.co_sdo.specs.Uploads.{value_at}
 use Rattle.co_sdo.specs.Opened.{OpenTransfer}
-use Rattle.co_sdo.specs.Replies.{is_in_sub_block, toggle_refusal}
+use Rattle.co_sdo.specs.Replies.{is_in_sub_block}
 use Rattle.co_sdo.proofs.Continuations.{not_odd}
 use Rattle.co_sdo_laws.specs.World.{Setup}
 use Rattle.co_sdo_laws.specs.Undisturbed.{is_short}
 use Rattle.co_sdo_laws.proofs.Frames.{upload_read, next_read, upload_initiated_read, segment_sent_read, expedited_sent_read}
-use Rattle.co_sdo_laws.proofs.Segments.{same, joined, taken_all, part_small, not_end, is_end}
+use Rattle.co_sdo_laws.proofs.Segments.{same, other_toggle, joined, taken_all, part_small, not_end, is_end}
 use Rattle.co_sdo_laws.proofs.Permits.{value, reads_in_segments, small_value, IsUpload, lawful_of, none≢some, not_above, below_itself, short_bytes}
 use Rattle.co_sdo_laws.proofs.Client.{verdict_since}
 use Rattle.co_sdo_laws.proofs.Turns.{GoesOnWith}
@@ -98,28 +98,15 @@ begins : (s : Setup) (p : Type 0) → IsUpload s p reads_in_segments → (short 
 begins s p m true short current contents outside kept None e =
     let read = upload_read s.call.key m.key in
     let is : value_at contents s.call.key ≡ value s = ap (λ (c : Contents). value_at c s.call.key) kept in
-    takes_last refl (record {
-      replies = rw (outside, read, e, is, short) refl;
-      opens = rw (outside, read, e, is, short) refl;
-      sets = rw (outside, read) refl;
-    }) (λ sound. kept)
+    takes_last refl (rw (outside, read, e, is, short) refl) (λ sound. kept)
 begins s p m false long current contents outside kept None e =
     let read = upload_read s.call.key m.key in
     let is : value_at contents s.call.key ≡ value s = ap (λ (c : Contents). value_at c s.call.key) kept in
-    takes (omega arith) (record {
-      replies = rw (outside, read, e, is, long) refl;
-      opens = rw (outside, read, e, is, long) refl;
-      sets = rw (outside, read) refl;
-    })
+    takes (omega arith) (rw (outside, read, e, is, long) refl)
 begins s p m short n current contents outside kept (Some code) e =
     let read = upload_read s.call.key m.key in
-    refuses (λ x same. none≢some _ code (m.may_read x) (ap (λ (c : Contents). reading_refusal s.description c s.call.key) (sym kept) ∙ e)) (record {
-      key = s.call.key;
-      code = code;
-      replies = rw (outside, read, e) refl;
-      opens = rw (outside, read, e) refl;
-      sets = rw (outside, read) refl;
-    })
+    refuses (λ x same. none≢some _ code (m.may_read x) (ap (λ (c : Contents). reading_refusal s.description c s.call.key) (sym kept) ∙ e))
+    (record { key = s.call.key; code = code; step = rw (outside, read, e) refl })
 
 is_long : (s : Setup) (k : ℕ) → length (request s k) ≡ 8
 is_long s zero = refl
@@ -128,42 +115,19 @@ is_long s (suc k) = refl
 goes_on : (s : Setup) (p : Type 0) (short : Bool) (k : ℕ) (contents : Contents) → k < last s short → contents ≡ s.contents
     → (end : Bool) → is_last s k ≡ end → Reacts s p (parts s short) (suc k) (Some (open_at s k)) contents
 goes_on s p true k contents more kept end l = absurd (omega arith)
-goes_on s p false k contents more kept true l = takes_last (grind (arith, nat_tests)) (record {
-  replies = rw (next_read (is_odd k), same (is_odd k)) refl;
-  opens = rw (next_read (is_odd k), same (is_odd k), l) refl;
-  sets = rw (next_read (is_odd k)) refl;
-}) (λ sound. kept)
+goes_on s p false k contents more kept true l =
+    takes_last (grind (arith, nat_tests)) (rw (next_read (is_odd k), same (is_odd k), l) refl) (λ sound. kept)
 goes_on s p false k contents more kept false l =
     let one : k + 1 ≡ suc k = omega arith in
-    takes (grind (arith, nat_tests)) (record {
-      replies = rw (next_read (is_odd k), same (is_odd k)) refl;
-      opens = rw (next_read (is_odd k), same (is_odd k), l, one) refl;
-      sets = rw (next_read (is_odd k)) refl;
-    })
+    takes (grind (arith, nat_tests)) (rw (next_read (is_odd k), same (is_odd k), l, one) refl)
 
 refuses_idle : (s : Setup) (short : Bool) (k : ℕ) (contents : Contents) → IsRefused s (parts s short) (suc k) None contents
-refuses_idle s short k contents = record {
-  key = record { index = 0; sub = 0 };
-  code = 0x05040001;
-  replies = rw (next_read (is_odd k)) refl;
-  opens = rw (next_read (is_odd k)) refl;
-  sets = rw (next_read (is_odd k)) refl;
-}
-
-other_toggle : (b : Bool) → toggle_refusal b (not b) ≡ Some 0x05030000
-other_toggle true = refl
-other_toggle false = refl
+refuses_idle s short k contents =
+    record { key = record { index = 0; sub = 0 }; code = 0x05040001; step = rw (next_read (is_odd k)) refl }
 
 refuses_again : (s : Setup) (short : Bool) (k : ℕ) (contents : Contents) → IsRefused s (parts s short) (suc k) (Some (open_at s (suc k))) contents
 refuses_again s short k contents =
-    let wrong : toggle_refusal (is_odd k) (is_odd (suc k)) ≡ Some 0x05030000 = rw (not_odd k) (other_toggle (is_odd k)) in
-    record {
-      key = s.call.key;
-      code = 0x05030000;
-      replies = rw (next_read (is_odd k), wrong) refl;
-      opens = rw (next_read (is_odd k), wrong) refl;
-      sets = rw (next_read (is_odd k)) refl;
-    }
+    record { key = s.call.key; code = 0x05030000; step = rw (next_read (is_odd k), not_odd k, other_toggle (is_odd k)) refl }
 
 -- ---- the client
 
