@@ -1,7 +1,7 @@
 //! When TPDOs are due and the data of RPDOs take effect, over all inputs. Each function is a law: a
 //! call of it changes nothing.
 
-ghost use Rattle.std.specs.Prelude.{◌≡◌, ◌<◌, ◌+◌, ◌==◌, ◌&&◌, ◌∷◌, ◌++◌, ℕ, Option, [], Some, true, false};
+ghost use Rattle.std.specs.Prelude.{◌≡◌, ◌+◌, ◌==◌, ◌&&◌, ◌∷◌, ◌++◌, ℕ, Option, [], Some, true, false};
 ghost use Rattle.co_frame.specs.FrameContent.{FrameContent};
 ghost use Rattle.co_pdo.specs.declared.tpdo.Occasion.TheVariants as occasion;
 ghost use Rattle.co_pdo.specs.Due.{is_due, is_inhibit_over, event_waits};
@@ -30,41 +30,46 @@ ghost use Rattle.co_node_laws.specs.RpdoWaits.{
 };
 ghost use Rattle.co_node_laws.specs.TpdoDistances.{is_sent, ticks_of_timer, tpdo_log, turn_of_input};
 
-/// In operational, TPDO n is sent at a SYNC, a tick or one of its application events if and only if
-/// it is due (`is_due`) by its transmission type and its log of all inputs, with the entries at the
-/// end of the input. No other input sends one. An event-driven TPDO without a waiting event, whose
-/// inhibit time is over, is sent at exactly the tick at which its event timer has elapsed since it
-/// was started or sent (CiA 301, 7.2.2.2 to 7.2.2.4 and 7.5.2.37).
-pub fn tpdo_due()
-    ensures at_sync { (k : Constants) (n : ℕ) (inputs : Inputs) (input : InputView)
-        (counter : Option ℕ) → n < 512 → turn_of_input k inputs input ≡ turn.Sync counter →
-        is_sent k n inputs input ≡
-        is_due (settings_of (contents_of k (input ∷ inputs)) n) (tpdo_log k n inputs)
+use co_profile::PdoNumber;
+
+/// In operational, the TPDO with this number is sent at a SYNC, a tick or one of its application
+/// events if and only if it is due (`is_due`) by its transmission type and its log of all inputs,
+/// with the entries at the end of the input. No other input sends one. An event-driven TPDO without
+/// a waiting event, whose inhibit time is over, is sent at exactly the tick at which its event timer
+/// has elapsed since it was started or sent (CiA 301, 7.2.2.2 to 7.2.2.4 and 7.5.2.37).
+pub fn tpdo_due(number: PdoNumber)
+    ensures at_sync { (k : Constants) (inputs : Inputs) (input : InputView) (counter : Option ℕ) →
+        turn_of_input k inputs input ≡ turn.Sync counter →
+        is_sent k number inputs input ≡
+        is_due (settings_of (contents_of k (input ∷ inputs)) number) (tpdo_log k number inputs)
         (sync_with counter (contents_of k (input ∷ inputs))) }
-    ensures at_tick { (k : Constants) (n : ℕ) (inputs : Inputs) (input : InputView) →
-        n < 512 → turn_of_input k inputs input ≡ turn.Tick →
-        is_sent k n inputs input ≡
-        is_due (settings_of (contents_of k (input ∷ inputs)) n) (tpdo_log k n inputs)
+    ensures at_tick { (k : Constants) (inputs : Inputs) (input : InputView) →
+        turn_of_input k inputs input ≡ turn.Tick →
+        is_sent k number inputs input ≡
+        is_due (settings_of (contents_of k (input ∷ inputs)) number) (tpdo_log k number inputs)
         occasion.Tick }
-    ensures at_event { (k : Constants) (n : ℕ) (inputs : Inputs) (input : InputView)
-        (asked : Asked) → n < 512 → turn_of_input k inputs input ≡ turn.Asked asked →
-        is_sent k n inputs input ≡
-        is_among n (numbers_asked k.description (contents_of k (input ∷ inputs)) asked)
-        && is_due (settings_of (contents_of k (input ∷ inputs)) n) (tpdo_log k n inputs)
+    ensures at_event { (k : Constants) (inputs : Inputs) (input : InputView) (asked : Asked) →
+        turn_of_input k inputs input ≡ turn.Asked asked →
+        is_sent k number inputs input ≡
+        is_among number (numbers_asked k.description (contents_of k (input ∷ inputs)) asked)
+        && is_due (settings_of (contents_of k (input ∷ inputs)) number) (tpdo_log k number inputs)
         occasion.Event }
     ensures elsewhere { (k : Constants) (inputs : Inputs) (input : InputView) →
         is_asked (turn_of_input k inputs input) ≡ false →
         (moment_at k inputs input).due ≡ [] }
-    ensures at_timer { (k : Constants) (n : ℕ) (inputs : Inputs) →
+    ensures at_timer { (k : Constants) (inputs : Inputs) →
         let contents = contents_of k (Ticked ∷ inputs) in
-        let settings = settings_of contents n in
-        n < 512 → turn_of_input k inputs Ticked ≡ turn.Tick → is_active contents n ≡ true →
+        let settings = settings_of contents number in
+        turn_of_input k inputs Ticked ≡ turn.Tick → is_active contents number ≡ true →
         is_event_driven settings.transmission_type.0 ≡ true →
-        event_waits (tpdo_log k n inputs) ≡ false →
+        event_waits (tpdo_log k number inputs) ≡ false →
         is_inhibit_over settings.inhibit_time
-        (Happened occasion.Tick settings false ∷ tpdo_log k n inputs) ≡ true →
-        is_sent k n inputs Ticked ≡ (ticks_of_timer k n inputs + 1 == settings.event_timer) }
-{}
+        (Happened occasion.Tick settings false ∷ tpdo_log k number inputs) ≡ true →
+        is_sent k number inputs Ticked
+        ≡ (ticks_of_timer k number inputs + 1 == settings.event_timer) }
+{
+    number.get();
+}
 
 /// In operational, a frame of an RPDO of type 0 to 240 waits for a SYNC, unless it is too short
 /// (`waits`). It waits until a SYNC comes in operational, operational is left, the device is reset,
