@@ -175,10 +175,10 @@ fn is_bare_sync(id: u16, bytes: &PackedBytes) -> bool
     id == 0x080 && bytes.len() == 0
 }
 
-fn sync_words(named: bool) -> &'static str
-    ensures { result.now ≡ sync_words named }
+fn push_sync(said: &mut String, named: bool) -> Result<(), AllocError>
+    ensures { OnOk result (string_bytes said.new ≡ string_bytes said.old ++ sync_words named) }
 {
-    if named { "SYNC" } else { "~SYNC" }
+    said.push_str(if named { "SYNC" } else { "~SYNC" })
 }
 
 // what data with an identifier of 11 bits say that is no PDO of the pre-defined connection set, of
@@ -201,7 +201,7 @@ fn push_other_base_words(
         (record { id = id; bytes = bytes.now })) }
 {
     match claims {
-        [] if is_bare_sync(id, bytes) => said.push_str(sync_words(named)),
+        [] if is_bare_sync(id, bytes) => push_sync(said, named),
         _ => {
             let last = last_of(nodes, Identifier::Base(id), frame);
             push_frame_words(said, bus, claims, named, &last, &Frame::packed(id, bytes))
