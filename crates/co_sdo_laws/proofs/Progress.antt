@@ -48,16 +48,10 @@ rounds_calm s (suc n) events calm = (tt, (tt, rounds_calm s n events calm))
 brought : (s : Setup) (frames n : ℕ) (w : World) → min frames n ≤ arrived w → (less : Bool) → nat_lt (arrived w) frames ≡ less → (arrived w < frames → 1 ≤ on_their_way w) → min frames (suc n) ≤ arrived (a_round s w)
 brought s frames n w so_far true l moves =
     let under : arrived w < frames = grind (arith, nat_tests) in
-    reach (round_brings s w w.requests w.answers refl refl (moves under)) so_far
-  where
-    reach : {a b : ℕ} → a + 1 ≤ b → min frames n ≤ a → min frames (suc n) ≤ b
-    reach p q = omega arith
+    let more = round_brings s w w.requests w.answers refl refl (moves under) in omega arith
 brought s frames n w so_far false l moves =
     let over : frames ≤ arrived w = grind (arith, nat_tests) in
-    reach (round_keeps s w) over
-  where
-    reach : {a b : ℕ} → a ≤ b → frames ≤ a → min frames (suc n) ≤ b
-    reach p q = omega arith
+    let kept = round_keeps s w in omega arith
 
 all_brought : (s : Setup) (frames n : ℕ) (events : List WorldEvent) → AreCalm s events → ((later : List WorldEvent) → AreCalm s later → arrived (world_after s later) < frames → 1 ≤ on_their_way (world_after s later))
     → min frames n ≤ arrived (world_after s (rounds_after n events))
@@ -68,10 +62,7 @@ all_brought s frames (suc n) events calm moves =
 -- as many rounds as there are frames bring them all
 pub all_arrive : (s : Setup) (frames : ℕ) (events : List WorldEvent) → AreCalm s events → ((later : List WorldEvent) → AreCalm s later → arrived (world_after s later) < frames → 1 ≤ on_their_way (world_after s later))
     → frames ≤ arrived (world_after s (rounds_after frames events))
-all_arrive s frames events calm moves = whole (all_brought s frames frames events calm moves)
-  where
-    whole : {a : ℕ} → min frames frames ≤ a → frames ≤ a
-    whole p = omega arith
+all_arrive s frames events calm moves = let all = all_brought s frames frames events calm moves in omega arith
 
 -- ---- where no frame is lost or repeated, each that an end has sent has arrived or is on its way
 

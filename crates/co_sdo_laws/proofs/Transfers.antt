@@ -169,7 +169,7 @@ in_turns s t m = record {
     at events calm = always s (turns_of s t m tt) events calm
 
     goes : (events : List WorldEvent) → AreCalm s events → GoesInTurns s.call (1 + t.last) (world_after s events)
-    goes events calm = goes_in_turns s (turns_of s t m tt) (world_after s events) (at events calm)
+    goes events calm = goes_in_turns s (turns_of s t m tt) (world_after s events) (all_there s events calm) (at events calm)
 
     unchanged_at : {w : World} → t.left s.contents ≡ s.contents → Turned s (turns_of s t m tt) w → w.contents ≡ s.contents
     unchanged_at e (asking k less h) = h.channel.same less
