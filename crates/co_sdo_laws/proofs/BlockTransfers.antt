@@ -108,9 +108,15 @@ pub record Theory {s : Setup} (t : Parts s) : Type 0 where
 abbrev Moving : (p : Type 0) (test : List ℕ → Bool) (by : Queue) (frames : List (List ℕ)) (r q : ℕ) → World → Type 0
 Moving p test by frames r q w = Moment p (kept test) (on Requests by frames) (on Back by frames) r q w
 
+none_on : (queue by : Queue) → on queue by [] ≡ []
+none_on Requests Requests = refl
+none_on Requests Back = refl
+none_on Back Requests = refl
+none_on Back Back = refl
+
 nothing_left : (p : Type 0) (test : List ℕ → Bool) (by : Queue) (r q : ℕ) (w : World) → (p → ⊥) → w.requests ≡ [] → kept test w.answers ≡ [] → Moving p test by [] r q w
-nothing_left p test Requests r q w never e f = disturbed p (kept test) [] [] r q w never e f
-nothing_left p test Back r q w never e f = disturbed p (kept test) [] [] r q w never e f
+nothing_left p test by r q w never e f =
+    disturbed p (kept test) _ _ r q w never (e ∙ sym (none_on Requests by)) (f ∙ sym (none_on Back by))
 
 -- the oldest frame of a queue is lost: it was one of these or not
 falls_from : (queue : Queue) (p : Type 0) (test : List ℕ → Bool) (by : Queue) (xs : List (List ℕ)) (r q : ℕ) (w : World)
@@ -492,16 +498,8 @@ closes_at : {s : Setup} (t : Parts s) → t.plan.p → (k : Place) (xs : List (L
 closes_at t x k xs w o n h (inl is) =
     let none : xs ≡ [] = subst (λ (j : Place). OnWay t.plan j xs) is o in
     let n : At t all_over [] w = subst (λ (ys : List (List ℕ)). At t all_over ys w) none (subst (λ (j : Place). At t j xs w) is n) in
-    all_came (requests t.plan.forward n) (exact t.plan.forward n) (n.count x)
+    all_came (n.requests ∙ none_on Requests t.plan.forward) (n.exact x ∙ none_on Back t.plan.forward) (n.count x)
     (elim (subst (λ (j : Place). May t j (ends w)) is h) [ inl serving ↦ serving | inr gone ↦ absurd (gone.1 x) ])
-  where
-    requests : (by : Queue) → By t by all_over [] w → w.requests ≡ []
-    requests Requests m = m.requests
-    requests Back m = m.requests
-
-    exact : (by : Queue) → By t by all_over [] w → w.answers ≡ []
-    exact Requests m = m.exact x
-    exact Back m = m.exact x
 closes_at t x k xs w o n h (inr is) =
     let one : xs ≡ t.plan.frame ended ∷ [] = subst (λ (j : Place). OnWay t.plan j xs) is.0 o in
     let n : At t ended (t.plan.frame ended ∷ []) w = subst (λ (ys : List (List ℕ)). At t ended ys w) one (subst (λ (j : Place). At t j xs w) is.0 n) in

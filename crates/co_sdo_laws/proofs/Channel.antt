@@ -147,10 +147,13 @@ serving_ends s Lawful current log contents h = record { serves = serves_first s.
 -- ---- one request
 
 -- what a request makes of what is open: its answers, what is open then, and the contents
-abbrev pub Steps : Description → Contents → Option OpenTransfer → List ℕ → List Answer → Option OpenTransfer → Contents → Type 0
-Steps d contents current frame answers next after = ◌≡◌ {A = List Answer × Option OpenTransfer × Contents}
-    (answers_to d contents current frame, opened_next d contents current frame, contents_with contents (set_next d contents current frame))
-    (answers, next, after)
+abbrev pub Steps : Description → Contents → Option OpenTransfer → List ℕ
+    → List Answer → Option OpenTransfer → Contents → Type 0
+Steps d contents current frame answers next after = ◌≡◌ {A = List Answer × Option OpenTransfer × Contents} (
+    answers_to d contents current frame,
+    opened_next d contents current frame,
+    contents_with contents (set_next d contents current frame),
+) (answers, next, after)
 
 -- what a request makes of a channel
 pub record IsServed (s : Setup) (log : Log) (contents : Contents) (frame : List ℕ) (answers : List Answer) (next : Option OpenTransfer) (after : Contents) : Type 0 where

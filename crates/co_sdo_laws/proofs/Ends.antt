@@ -1,5 +1,5 @@
--- What the client and the channel have in common, as the two ends of a transfer: what an end knows, and what it makes of a frame that
--- comes.
+-- The two ends of a transfer, the client and the channel, as one notion: what an end knows, and
+-- what it makes of a frame that comes.
 use Rattle.std.proofs.Common.{◌≡◌, ℕ, true, List, ◌∷◌, length, map, Option, Some, None, ap, ◌∙◌}
 use Rattle.co_value.specs.declared.key.Key.{Key}
 use Rattle.co_sdo_client.specs.Calls.{Message, message_bytes, Answers, with_answer}

@@ -74,8 +74,9 @@ pub record InSubBlock (p : Type 0) (v : List ℕ) (a t : ℕ) (frames : List (Li
   pub size : n + more ≡ size_after v a
   pub turn : p → InTurn a t n
 
--- it begins
-pub begins_at : {p : Type 0} (v : List ℕ) (a : ℕ) → a < total v → (p → a % 127 ≡ 0) → InSubBlock p v a 0 (segments v a 1 (suc (size_after v a - 1)))
+-- all of a sub-block
+pub begins_at : {p : Type 0} (v : List ℕ) (a : ℕ) → a < total v → (p → a % 127 ≡ 0)
+    → InSubBlock p v a 0 (segments v a 1 (suc (size_after v a - 1)))
 begins_at v a under whole = record {
   n = 1;
   more = size_after v a - 1;

@@ -20,9 +20,6 @@ pub no_front : (s : Setup) (queue : Queue) (w : World) → on_way queue w ≡ []
 no_front s Requests w e = rw e refl
 no_front s Answers w e = rw e refl
 
-at_most : {a b c : ℕ} → a ≤ b → b ≤ c → a ≤ c
-at_most p q = omega arith
-
 keeps : (s : Setup) (queue : Queue) (w : World) (xs : List (List ℕ)) → on_way queue w ≡ xs
     → arrived w ≤ arrived (after_event s (Delivered queue) w)
 keeps s queue w [] e = subst (λ (x : World). arrived w ≤ arrived x) (no_front s queue w e) (omega arith)
@@ -32,12 +29,17 @@ abbrev a_round : Setup → World → World
 a_round s w = after_event s (Delivered Answers) (after_event s (Delivered Requests) w)
 
 round_keeps : (s : Setup) (w : World) → arrived w ≤ arrived (a_round s w)
-round_keeps s w = at_most (keeps s Requests w w.requests refl) (keeps s Answers (after_event s (Delivered Requests) w) _ refl)
+round_keeps s w =
+    let first = keeps s Requests w w.requests refl in
+    let second = keeps s Answers (after_event s (Delivered Requests) w) _ refl in
+    omega arith
 
 -- where a frame is on its way, a round brings one
 round_brings : (s : Setup) (w : World) (xs ys : List (List ℕ)) → w.requests ≡ xs → w.answers ≡ ys → 1 ≤ length xs + length ys → arrived w + 1 ≤ arrived (a_round s w)
 round_brings s w (frame ∷ later) ys e f some =
-    at_most (more s Requests w frame later e) (keeps s Answers (after_event s (Delivered Requests) w) _ refl)
+    let first = more s Requests w frame later e in
+    let second = keeps s Answers (after_event s (Delivered Requests) w) _ refl in
+    omega arith
 round_brings s w [] (frame ∷ later) e f some = subst (λ (x : World). arrived w + 1 ≤ arrived (after_event s (Delivered Answers) x)) (no_front s Requests w e) (more s Answers w frame later f)
 round_brings s w [] [] e f some = absurd (omega arith)
 

@@ -35,9 +35,11 @@ module _ {Other : Type 0} (d : Plan) (e : End) (At : Place → e.Knows → Type 
   acknowledged : (a u : ℕ) (x : e.Knows) → At (acknowledging a u) x → a + u < total d.value
       → (d.p → IsWhole d.value a u) → (many : Bool) → nat_lt (size_after d.value a) u ≡ many
       → Reacts d e (opposite d.forward) At Peer (acknowledging a u) [] x (d.acknowledgement u)
-  acknowledged a u x h under whole true many = gives_up (λ y. not_above d.value a u many (whole y)) refl (r.too_many a u x h (omega arith) many)
+  acknowledged a u x h under whole true many =
+      gives_up (λ y. not_above d.value a u many (whole y)) refl (r.too_many a u x h (omega arith) many)
   acknowledged a u x h under whole false few = goes (taking (a + u) 0) _ (r.more a u x h under few) (record {
-    onward = turns refl (twice d.forward) (begins_at d.value (a + u) under (λ y. let g = whole y in full a u (total d.value) g.whole g.size under));
+    onward = turns refl (twice d.forward) (begins_at d.value (a + u) under
+        (λ y. let g = whole y in full a u (total d.value) g.whole g.size under));
     here = λ y. let g = whole y in rw (by_sender d.forward) (full_count (first d.forward) a u (total d.value) g.whole g.size under);
     there = λ y. rw (← twice d.forward, by_receiver d.forward) (omega arith);
     narrows = λ xs same. same;

@@ -37,7 +37,8 @@ use Rattle.co_sdo_laws.proofs.Chains.{all_end, chain_in_rounds}
 
 -- what holds of both keys, and of each without an entry, holds of every key
 each_key : (P : Key → Type 0) → P string_key → P domain_key
-    → ((key : Key) → same_key key string_key ≡ false → same_key key domain_key ≡ false → P key) → (key : Key) → P key
+    → ((key : Key) → same_key key string_key ≡ false → same_key key domain_key ≡ false → P key)
+    → (key : Key) → P key
 each_key P first second others key = by (same_key key string_key) (same_key key domain_key) refl refl
   where
     by : (a b : Bool) → same_key key string_key ≡ a → same_key key domain_key ≡ b → P key
@@ -45,23 +46,23 @@ each_key P first second others key = by (same_key key string_key) (same_key key 
     by false true e f = subst P (sym (same_key-is key domain_key f)) second
     by false false e f = others key e f
 
+some_is : {A : Type 0} (x y : A) → Some x ≡ Some y → y ≡ x
+some_is x y e = cc
+
 -- what holds of both rows holds of each
 at_each : (P : Key → Row → Type 0) → P string_key (row VisibleString 16) → P domain_key (row Domain 20) → (key : Key) (held : Row)
     → row_in key ≡ Some held → P key held
 at_each P first second = each_key (λ k. (held : Row) → row_in k ≡ Some held → P k held)
-    (λ held h. let is : Some (row VisibleString 16) ≡ Some held = h in let same : held ≡ row VisibleString 16 = cc in rw same first)
-    (λ held h. let is : Some (row Domain 20) ≡ Some held = h in let same : held ≡ row Domain 20 = cc in rw same second)
+    (λ held h. rw (some_is (row VisibleString 16) held h) first) (λ held h. rw (some_is (row Domain 20) held h) second)
     (λ key e f held h. let none : row_in key ≡ None = rw (e, f) refl in cc)
 
 filled : IsFilled row_in bytes_in
 filled = record {
   present = each_key (λ k. is_some (bytes_in k) ≡ is_some (row_in k)) refl refl (λ key e f. rw (e, f) refl);
   fitting = λ key held bytes h g. at_each (λ k r. bytes_in k ≡ Some bytes → fits r (length bytes) ≡ true)
-      (λ e. let is : Some (codes "ABCDEFGHI") ≡ Some bytes = e in let same : bytes ≡ codes "ABCDEFGHI" = cc in rw same refl)
-      (λ e. let is : Some [] ≡ Some bytes = e in let same : bytes ≡ [] = cc in rw same refl) key held h g;
+      (λ e. rw (some_is (codes "ABCDEFGHI") bytes e) refl) (λ e. rw (some_is [] bytes e) refl) key held h g;
   bytes = λ key bytes. each_key (λ k. bytes_in k ≡ Some bytes → AreBytes bytes)
-      (λ e. let is : Some (codes "ABCDEFGHI") ≡ Some bytes = e in let same : bytes ≡ codes "ABCDEFGHI" = cc in rw same (omega arith))
-      (λ e. let is : Some [] ≡ Some bytes = e in let same : bytes ≡ [] = cc in rw same tt)
+      (λ e. rw (some_is (codes "ABCDEFGHI") bytes e) (omega arith)) (λ e. rw (some_is [] bytes e) tt)
       (λ other e f g. let none : bytes_in other ≡ None = rw (e, f) refl in cc) key;
 }
 
@@ -69,7 +70,8 @@ described : IsDescription dictionary
 described = record {
   first_node = omega arith;
   last_node = omega arith;
-  finite = each_key (λ k. is_some (row_in k) ≡ list_any (same_key k) (string_key ∷ domain_key ∷ [])) refl refl (λ key e f. rw (e, f) refl);
+  finite = each_key (λ k. is_some (row_in k) ≡ list_any (same_key k) (string_key ∷ domain_key ∷ []))
+      refl refl (λ key e f. rw (e, f) refl);
   width = λ key held width h g. at_each (λ k r. width_of r.data_type ≡ Some width → r.capacity ≡ width)
       (λ e. let none : None ≡ Some width = e in cc) (λ e. let none : None ≡ Some width = e in cc) key held h g;
   fixed = λ key held t h g. at_each (λ k r. fixed_type_of k ≡ Some t → r.data_type ≡ t)
@@ -291,7 +293,8 @@ by_the_entries : map (all_bytes_given bytes_in) (
     ≡ (codes "ABCDEFGHI" ∷ [] ∷ codes "0123456789" ∷ []) ∷ ([] ∷ [] ∷ codes "abc" ∷ []) ∷ ([] ∷ [] ∷ []) ∷ []
 by_the_entries = refl
 
-entries_after : map (contents_after_all bytes_in read_and_write) (string_key ∷ domain_key ∷ []) ≡ Some (codes "0123456789") ∷ Some [] ∷ []
+entries_after : map (contents_after_all bytes_in read_and_write) (string_key ∷ domain_key ∷ [])
+    ≡ Some (codes "0123456789") ∷ Some [] ∷ []
 entries_after = refl
 
 -- the same of the worlds
@@ -369,7 +372,8 @@ nine_over = refl
 -- ---- how many frames a transfer takes
 
 -- of ten bytes to the string, of four, of its nine bytes and of none
-some_frames : map (λ (x : Key × Job). map (λ mode. frames_needed mode bytes_in x.0 x.1) (Plain ∷ Segmented ∷ Block ∷ [])) (
+some_frames : map (λ (x : Key × Job).
+    map (λ mode. frames_needed mode bytes_in x.0 x.1) (Plain ∷ Segmented ∷ Block ∷ [])) (
     (string_key, Download (codes "0123456789") true)
     ∷ (string_key, Download (codes "0123") true)
     ∷ (string_key, Upload 16)
