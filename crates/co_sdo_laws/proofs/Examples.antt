@@ -156,21 +156,17 @@ worked = refl
 some_requests : map upload_requests (0 ∷ 1 ∷ 4 ∷ 5 ∷ 7 ∷ 8 ∷ []) ≡ 2 ∷ 1 ∷ 1 ∷ 2 ∷ 2 ∷ 3 ∷ []
 some_requests = refl
 
--- one sub-block up to 889 bytes, then two
-some_blocks : map block_frames (0 ∷ 7 ∷ 14 ∷ 889 ∷ 890 ∷ []) ≡ 6 ∷ 6 ∷ 7 ∷ 132 ∷ 134 ∷ []
-some_blocks = refl
-
--- how many frames each end sends: the client and the channel of a block download, then those of a block upload
+-- of a block download, the frames of the client, of the channel, and of both; then of a block upload
 abbrev counts : ℕ → List ℕ
-counts n = block_download_requests n ∷ block_download_answers n ∷ block_upload_requests n ∷ block_upload_answers n ∷ []
+counts n = block_download_requests n ∷ block_download_answers n ∷ block_frames n
+    ∷ block_upload_requests n ∷ block_upload_answers n ∷ block_upload_frames n ∷ []
 
+-- one sub-block up to 889 bytes, then two
 some_counts : map counts (0 ∷ 1 ∷ 7 ∷ 8 ∷ 889 ∷ 890 ∷ [])
-    ≡ (3 ∷ 3 ∷ 4 ∷ 3 ∷ []) ∷ (3 ∷ 3 ∷ 4 ∷ 3 ∷ []) ∷ (3 ∷ 3 ∷ 4 ∷ 3 ∷ [])
-    ∷ (4 ∷ 3 ∷ 4 ∷ 4 ∷ []) ∷ (129 ∷ 3 ∷ 4 ∷ 129 ∷ []) ∷ (130 ∷ 4 ∷ 5 ∷ 130 ∷ []) ∷ []
+    ≡ (3 ∷ 3 ∷ 6 ∷ 4 ∷ 3 ∷ 7 ∷ []) ∷ (3 ∷ 3 ∷ 6 ∷ 4 ∷ 3 ∷ 7 ∷ []) ∷ (3 ∷ 3 ∷ 6 ∷ 4 ∷ 3 ∷ 7 ∷ [])
+    ∷ (4 ∷ 3 ∷ 7 ∷ 4 ∷ 4 ∷ 8 ∷ []) ∷ (129 ∷ 3 ∷ 132 ∷ 4 ∷ 129 ∷ 133 ∷ [])
+    ∷ (130 ∷ 4 ∷ 134 ∷ 5 ∷ 130 ∷ 135 ∷ []) ∷ []
 some_counts = refl
-
-some_uploads_in_blocks : map block_upload_frames (9 ∷ 890 ∷ []) ≡ 8 ∷ 135 ∷ []
-some_uploads_in_blocks = refl
 
 -- a plain download is expedited from 1 to 4 bytes, and otherwise in segments; a segmented one is always
 expedited : map (λ bytes. is_expedited_download Plain (Download bytes false))
@@ -187,7 +183,8 @@ ten_in_rounds : map (λ n. arrived (world_after ten (rounds_after n []))) (0 ∷
 unfolding request_row_in response_row_in reading_refusal initiate_refusal completion_refusal has_object
 ten_in_rounds = refl
 
--- and of fourteen bytes in blocks; how many the channel sends then, also of nine bytes, and with an abort at the end of its time
+-- and of fourteen bytes in blocks; how many the channel sends then, also of nine bytes, and with an
+-- abort at the end of its time
 some_frames : arrived (world_after fourteen (rounds_after 7 []))
     ∷ map (λ w. answers_sent w.log) (world_after fourteen (rounds_after 7 []) ∷ world_after nine_in_blocks (rounds_after 8 [])
     ∷ world_after ten (ChannelTicked ∷ ChannelTicked ∷ r ∷ []) ∷ [])

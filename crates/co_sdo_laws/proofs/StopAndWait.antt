@@ -325,14 +325,19 @@ module _ (s : Setup) {p : Type 0} (t : Parts s) (m : StopAndWait s p t) (sound :
 
   -- request k again
   again_comes : (k : ℕ) (w : World) → k ≤ t.last → Seen s t k w
-      → Seen s t k (at_channel s (t.request k) w) × (Mixed s t k w.answers → Mixed s t k (at_channel s (t.request k) w).answers)
+      → Seen s t k (at_channel s (t.request k) w)
+      × (Mixed s t k w.answers → Mixed s t k (at_channel s (t.request k) w).answers)
   again_comes k w l h = elim (again k w.log w.contents l h.channel) [
     | inl took ↦ (
       record { requests = h.requests; channel = took.next.0; set = took.next.1 },
       λ mixed. rw took.replies (mixed_and s t k w.answers (answer s t k) mixed (inl refl)),
     )
     | inr refused ↦ (
-      record { requests = h.requests; channel = inl refused.takes.next; set = λ e. subst t.IsSet (sym refused.same) (h.set e) },
+      record {
+        requests = h.requests;
+        channel = inl refused.takes.next;
+        set = λ e. subst t.IsSet (sym refused.same) (h.set e);
+      },
       λ mixed. rw refused.takes.replies (mixed_and s t k w.answers refused.answer mixed (inr refused.is_abort)),
     )
   ]
@@ -382,7 +387,8 @@ module _ (s : Setup) {p : Type 0} (t : Parts s) (m : StopAndWait s p t) (sound :
   silent : (k : ℕ) (event : ClientEvent) (w : World) → asked s.call (event ∷ w.events) ≡ []
       → Seen s t k w → Seen s t k (at_client s event w)
   silent k event w e u =
-      subst (λ (xs : List (List ℕ)). SeenBy s t k xs w.log w.contents) (sym (same_requests w.requests _ (ap (map message_bytes) e))) u
+      subst (λ (xs : List (List ℕ)). SeenBy s t k xs w.log w.contents)
+      (sym (same_requests w.requests _ (ap (map message_bytes) e))) u
 
   -- the awaited answer, and others are left
   next_comes : (k : ℕ) (w : World) → k < t.last → Waits s t k w.events → Seen s t k w
@@ -432,7 +438,8 @@ module _ (s : Setup) {p : Type 0} (t : Parts s) (m : StopAndWait s p t) (sound :
   -- a client that is done stays as it is
   over_hears : (event : ClientEvent) (w : World) → IsDone s t.value w.events → Seen s t t.last w
       → Stands s t (at_client s event w)
-  over_hears event w d u = over (over_event s event w d) (silent t.last event w (stays s.call w.events event d.done).messages u)
+  over_hears event w d u =
+      over (over_event s event w d) (silent t.last event w (stays s.call w.events event d.done).messages u)
 
   over_answer : (w : World) → IsDone s t.value w.events → Seen s t t.last w → (xs : List (List ℕ))
       → Stands s t (front_arrives s Answers xs w)
@@ -503,7 +510,8 @@ module _ (s : Setup) {p : Type 0} (t : Parts s) (m : StopAndWait s p t) (sound :
   waits_tick k w false h (inl u) =
       waiting k h (inl (record { requests = u.requests; channel = before_ticks k w.log w.contents u.channel; answers = u.answers }))
   waits_tick k w true h (inr u) =
-      waiting k h (inr (seen_ends k (ticked w) (seen_ticks k w u.0), mixed_and s t k w.answers _ u.1 (inr (last_word (ticked w)))))
+      waiting k h (inr (seen_ends k (ticked w) (seen_ticks k w u.0),
+      mixed_and s t k w.answers _ u.1 (inr (last_word (ticked w)))))
   waits_tick k w false h (inr u) = waiting k h (inr (seen_ticks k w u.0, u.1))
 
   over_tick : (w : World) (ends : Bool) → IsDone s t.value w.events → Seen s t t.last w
@@ -516,13 +524,15 @@ module _ (s : Setup) {p : Type 0} (t : Parts s) (m : StopAndWait s p t) (sound :
   waits_event : (event : WorldEvent) (k : ℕ) (w : World) → Waits s t k w.events → Meanwhile s t k w
       → Stands s t (after_event s event w)
   waits_event (Delivered Requests) k w h (inl u) =
-      unseen_front k (without_front Requests w) h (unseen_loses k Requests w u) w.requests u.requests (newest_drop s t k w.requests)
+      unseen_front k (without_front Requests w) h (unseen_loses k Requests w u) w.requests u.requests
+      (newest_drop s t k w.requests)
   waits_event (Delivered Requests) k w h (inr u) =
       seen_front k (without_front Requests w) h (seen_loses k w u.0) u.1 w.requests u.0.requests
   waits_event (Delivered Answers) k w h (inl u) =
       unseen_answer k (without_front Answers w) h (unseen_loses k Answers w u) w.answers u.answers
   waits_event (Delivered Answers) k w h (inr u) =
-      seen_answer k (without_front Answers w) h u.0 (mixed_drop s t k w.answers u.1) w.answers u.1 (all_drop (IsLive s t k) w.answers)
+      seen_answer k (without_front Answers w) h u.0 (mixed_drop s t k w.answers u.1) w.answers u.1
+      (all_drop (IsLive s t k) w.answers)
   waits_event (Lost Requests) k w h (inl u) = waiting k h (inl (unseen_loses k Requests w u))
   waits_event (Lost Requests) k w h (inr u) = waiting k h (inr (seen_loses k w u.0, u.1))
   waits_event (Lost Answers) k w h (inl u) = waiting k h (inl (unseen_loses k Answers w u))
@@ -536,7 +546,8 @@ module _ (s : Setup) {p : Type 0} (t : Parts s) (m : StopAndWait s p t) (sound :
 
   over_world_event : (event : WorldEvent) (w : World) → IsDone s t.value w.events
       → Seen s t t.last w → Stands s t (after_event s event w)
-  over_world_event (Delivered Requests) w d u = over_front (without_front Requests w) d (seen_loses t.last w u) w.requests u.requests
+  over_world_event (Delivered Requests) w d u =
+      over_front (without_front Requests w) d (seen_loses t.last w u) w.requests u.requests
   over_world_event (Delivered Answers) w d u = over_answer (without_front Answers w) d u w.answers
   over_world_event (Lost Requests) w d u = over d (seen_loses t.last w u)
   over_world_event (Lost Answers) w d u = over d u

@@ -98,12 +98,9 @@ ten_calm : AreCalm ten ten_events
 unfolding request_row_in response_row_in reading_refusal initiate_refusal completion_refusal has_object
 ten_calm = (tt, (tt, (tt, (tt, (tt, (refl, ((λ waits. refl), ((λ waits. refl), (tt, tt)))))))))
 
-ten_permitted : IsPermitted dictionary bytes_in string_key ten.call.job
-unfolding reading_refusal initiate_refusal completion_refusal has_object
-ten_permitted = refl
-
 pub ten_undisturbed : IsUndisturbed ten ten_events
-ten_undisturbed = record { dictionary = is_dictionary; key = omega arith; job = omega arith; permitted = ten_permitted; idle = refl; calm = ten_calm }
+unfolding reading_refusal initiate_refusal completion_refusal has_object
+ten_undisturbed = record { dictionary = is_dictionary; key = omega arith; job = omega arith; permitted = refl; idle = refl; calm = ten_calm }
 
 ten_done : outcome ten.call (world_after ten ten_events).events ≡ Done
 unfolding request_row_in response_row_in reading_refusal initiate_refusal completion_refusal has_object
@@ -195,10 +192,6 @@ three_exchanges : length (exchanges read_again.past) ≡ 3
 unfolding request_row_in response_row_in reading_refusal initiate_refusal completion_refusal has_object
 three_exchanges = refl
 
-idle_again : open_transfer read_again.past ≡ None
-unfolding request_row_in response_row_in reading_refusal initiate_refusal completion_refusal has_object
-idle_again = refl
-
 read_dictionary : IsDictionary dictionary read_again.contents
 unfolding request_row_in response_row_in reading_refusal initiate_refusal completion_refusal has_object
 read_dictionary = record {
@@ -209,7 +202,7 @@ read_dictionary = record {
 
 read_undisturbed : (n : ℕ) → IsUndisturbed read_again (rounds_after n [])
 unfolding request_row_in response_row_in reading_refusal initiate_refusal completion_refusal has_object
-read_undisturbed n = record { dictionary = read_dictionary; key = omega arith; job = omega arith; permitted = refl; idle = idle_again; calm = rounds_calm read_again n [] tt }
+read_undisturbed n = record { dictionary = read_dictionary; key = omega arith; job = omega arith; permitted = refl; idle = refl; calm = rounds_calm read_again n [] tt }
 
 -- those that arrived before don't count
 read_arrived : map (λ n. arrived (world_after read_again (rounds_after n []))) (0 ∷ 1 ∷ 2 ∷ 3 ∷ 4 ∷ []) ≡ 0 ∷ 2 ∷ 4 ∷ 6 ∷ 6 ∷ []
