@@ -26,7 +26,7 @@ use Rattle.co_sdo_laws.specs.Undisturbed.{IsCalm, AreCalm, IsPermitted, IsUndist
 use Rattle.co_sdo_laws.proofs.Channel.{tick_opens, is_filled}
 use Rattle.co_sdo_laws.proofs.Progress.{rounds_calm}
 use Rattle.co_sdo_laws.proofs.Transfers.{segmented}
-use Rattle.co_sdo_laws.proofs.Examples.{string_key, domain_key, row, row_in, bytes_in, dictionary, r, a, ten, fourteen, nine_in_blocks, setup, AllShow, waits, is_done}
+use Rattle.co_sdo_laws.proofs.Examples.{string_key, domain_key, row, row_in, bytes_in, dictionary, r, a, ten, fourteen, nine_in_blocks, setup, after, AllShow, waits, is_done}
 use Rattle.co_sdo.specs.Log.{exchanges}
 use Rattle.co_sdo.specs.OpenTransfers.{open_transfer}
 use Rattle.co_sdo_client.specs.declared.mode.Mode.{Mode}
@@ -243,9 +243,9 @@ unfolding request_row_in response_row_in reading_refusal initiate_refusal comple
 still_open e = cc
 
 with_a_past : AllShow (
-    (read_again, r ∷ a ∷ r ∷ a ∷ r ∷ a ∷ [], is_done 3 [] [] (codes "0123456789") (codes "0123456789"))
-    ∷ (write_again, r ∷ a ∷ r ∷ a ∷ r ∷ a ∷ [], is_done 3 [] [] (codes "0123456789") [])
-    ∷ (inside_blocks, r ∷ [], waits 1 [] [] (codes "ABCDEFGHI"))
+    after read_again (r ∷ a ∷ r ∷ a ∷ r ∷ a ∷ []) (is_done 3 [] [] (codes "0123456789") (codes "0123456789"))
+    ∷ after write_again (r ∷ a ∷ r ∷ a ∷ r ∷ a ∷ []) (is_done 3 [] [] (codes "0123456789") [])
+    ∷ after inside_blocks (r ∷ []) (waits 1 [] [] (codes "ABCDEFGHI"))
     ∷ [])
 unfolding request_row_in response_row_in reading_refusal initiate_refusal completion_refusal has_object
 with_a_past = refl
