@@ -24,6 +24,7 @@ use Rattle.co_sdo.specs.Opened.{opened_after}
 use Rattle.co_sdo_laws.specs.World.{Setup, World, WorldEvent, Requests, Answers, Lost, Repeated, ClientTicked, ChannelTicked, world_after}
 use Rattle.co_sdo_laws.specs.Undisturbed.{IsCalm, AreCalm, IsPermitted, IsUndisturbed, rounds_after, GoesInTurns, arrived, IsOver}
 use Rattle.co_sdo_laws.proofs.Channel.{tick_opens, is_filled}
+use Rattle.co_sdo_laws.proofs.Permits.{none≢some}
 use Rattle.co_sdo_laws.proofs.Progress.{rounds_calm}
 use Rattle.co_sdo_laws.proofs.Transfers.{segmented}
 use Rattle.co_sdo_laws.proofs.Examples.{string_key, domain_key, row, row_in, bytes_in, dictionary, r, a, ten, fourteen, nine_in_blocks, setup, after, AllShow, waits, is_done}
@@ -159,12 +160,12 @@ ten_ticks_later = ((λ waits. cc), ((λ waits. cc), ((λ waits. cc), ((λ waits.
 -- 17 bytes don't fit the string
 too_long : IsPermitted dictionary bytes_in string_key (Download (codes "0123456789ABCDEFG") true) → ⊥
 unfolding reading_refusal initiate_refusal completion_refusal has_object
-too_long h = let e : Some 0x06070012 ≡ None = h in cc
+too_long h = none≢some _ 0x06070012 h refl
 
 -- there is no entry 2002:00
 not_there : IsPermitted dictionary bytes_in (record { index = 0x2002; sub = 0 }) (Upload 9) → ⊥
 unfolding reading_refusal initiate_refusal completion_refusal has_object
-not_there h = let e : Some 0x06020000 ≡ None = h in cc
+not_there h = none≢some _ 0x06020000 h refl
 
 -- so that nothing is an undisturbed transfer of 17 bytes
 never_undisturbed : (events : List WorldEvent) → IsUndisturbed (setup string_key Segmented (Download (codes "0123456789ABCDEFG") true)) events → ⊥
