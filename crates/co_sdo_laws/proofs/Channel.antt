@@ -150,9 +150,9 @@ serving_ends s Lawful current log contents h = record { serves = serves_first s.
 abbrev pub Steps : Description → Contents → Option OpenTransfer → List ℕ
     → List Answer → Option OpenTransfer → Contents → Type 0
 Steps d contents current frame answers next after = ◌≡◌ {A = List Answer × Option OpenTransfer × Contents} (
-    answers_to d contents current frame,
-    opened_next d contents current frame,
-    contents_with contents (set_next d contents current frame),
+  answers_to d contents current frame,
+  opened_next d contents current frame,
+  contents_with contents (set_next d contents current frame),
 ) (answers, next, after)
 
 -- what a request makes of a channel

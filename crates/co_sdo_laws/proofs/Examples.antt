@@ -101,7 +101,10 @@ a = Delivered Answers
 
 -- ---- worked transfers
 
--- each of these lists of events comes to this, the first event first
+-- a row: a client's setup, its events, the first one first, and what they come to
+abbrev pub after : Setup → List WorldEvent → Report → Setup × List WorldEvent × Report
+after s events expected = (s, events, expected)
+
 abbrev pub AllShow : List (Setup × List WorldEvent × Report) → Type 0
 AllShow rows = map (λ row. report row.0 row.1) rows ≡ map (λ row. row.2) rows
 
@@ -121,31 +124,31 @@ abbrev pub nine_in_blocks : Setup
 nine_in_blocks = setup string_key Block (Upload 9)
 
 worked : AllShow (
-    (ten, [], waits 1 (hex (codes "210120000A000000") ∷ []) [] (codes "ABCDEFGHI"))
-    ∷ (ten, r ∷ [], waits 1 [] (hex (codes "6001200000000000") ∷ []) (codes "ABCDEFGHI"))
-    ∷ (ten, r ∷ a ∷ [], waits 2 (hex (codes "0030313233343536") ∷ []) [] (codes "ABCDEFGHI"))
+    after ten [] (waits 1 (hex (codes "210120000A000000") ∷ []) [] (codes "ABCDEFGHI"))
+    ∷ after ten (r ∷ []) (waits 1 [] (hex (codes "6001200000000000") ∷ []) (codes "ABCDEFGHI"))
+    ∷ after ten (r ∷ a ∷ []) (waits 2 (hex (codes "0030313233343536") ∷ []) [] (codes "ABCDEFGHI"))
     -- nothing is on its way in the queue: nothing happens
-    ∷ (ten, a ∷ r ∷ r ∷ a ∷ [], waits 2 (hex (codes "0030313233343536") ∷ []) [] (codes "ABCDEFGHI"))
-    ∷ (ten, r ∷ a ∷ r ∷ a ∷ r ∷ [], waits 3 [] (hex (codes "3000000000000000") ∷ []) (codes "0123456789"))
-    ∷ (ten, r ∷ a ∷ r ∷ a ∷ r ∷ a ∷ [], is_done 3 [] [] (codes "0123456789") [])
+    ∷ after ten (a ∷ r ∷ r ∷ a ∷ []) (waits 2 (hex (codes "0030313233343536") ∷ []) [] (codes "ABCDEFGHI"))
+    ∷ after ten (r ∷ a ∷ r ∷ a ∷ r ∷ []) (waits 3 [] (hex (codes "3000000000000000") ∷ []) (codes "0123456789"))
+    ∷ after ten (r ∷ a ∷ r ∷ a ∷ r ∷ a ∷ []) (is_done 3 [] [] (codes "0123456789") [])
     -- the first segment is lost
-    ∷ (ten, r ∷ a ∷ Lost Requests ∷ r ∷ [], waits 2 [] [] (codes "ABCDEFGHI"))
+    ∷ after ten (r ∷ a ∷ Lost Requests ∷ r ∷ []) (waits 2 [] [] (codes "ABCDEFGHI"))
     -- the confirmation of its begin comes twice: the second isn't awaited
-    ∷ (ten, r ∷ Repeated Answers ∷ a ∷ [],
-        has_failed 0x05040001 3 (hex (codes "0030313233343536") ∷ hex (codes "8001200001000405") ∷ []) [] (codes "ABCDEFGHI"))
+    ∷ after ten (r ∷ Repeated Answers ∷ a ∷ [])
+    (has_failed 0x05040001 3 (hex (codes "0030313233343536") ∷ hex (codes "8001200001000405") ∷ []) [] (codes "ABCDEFGHI"))
     -- the first segment comes twice: the second has the wrong toggle
-    ∷ (ten, r ∷ a ∷ Repeated Requests ∷ r ∷ [],
-        waits 2 [] (hex (codes "2000000000000000") ∷ hex (codes "8001200000000305") ∷ []) (codes "ABCDEFGHI"))
+    ∷ after ten (r ∷ a ∷ Repeated Requests ∷ r ∷ [])
+    (waits 2 [] (hex (codes "2000000000000000") ∷ hex (codes "8001200000000305") ∷ []) (codes "ABCDEFGHI"))
     -- the channel's time is over after two of its ticks, the client's after three of its own
-    ∷ (ten, ChannelTicked ∷ ChannelTicked ∷ r ∷ ChannelTicked ∷ ChannelTicked ∷ [],
-        waits 1 [] (hex (codes "6001200000000000") ∷ hex (codes "8001200000000405") ∷ []) (codes "ABCDEFGHI"))
-    ∷ (ten, r ∷ ClientTicked ∷ ClientTicked ∷ ClientTicked ∷ [],
-        has_failed 0x05040000 2 (hex (codes "8001200000000405") ∷ []) (hex (codes "6001200000000000") ∷ []) (codes "ABCDEFGHI"))
-    ∷ (nine, r ∷ a ∷ r ∷ a ∷ r ∷ a ∷ [], is_done 3 [] [] (codes "ABCDEFGHI") (codes "ABCDEFGHI"))
-    ∷ (fourteen, r ∷ a ∷ [], waits 3 (hex (codes "0130313233343536") ∷ hex (codes "8237383941424344") ∷ []) [] [])
-    ∷ (fourteen, r ∷ a ∷ r ∷ r ∷ [], waits 3 [] (hex (codes "A2027F0000000000") ∷ []) [])
-    ∷ (fourteen, r ∷ a ∷ r ∷ r ∷ a ∷ r ∷ a ∷ [], is_done 4 [] [] (codes "0123456789ABCD") [])
-    ∷ (nine_in_blocks, r ∷ a ∷ r ∷ a ∷ a ∷ r ∷ a ∷ r ∷ [], is_done 4 [] [] (codes "ABCDEFGHI") (codes "ABCDEFGHI"))
+    ∷ after ten (ChannelTicked ∷ ChannelTicked ∷ r ∷ ChannelTicked ∷ ChannelTicked ∷ [])
+    (waits 1 [] (hex (codes "6001200000000000") ∷ hex (codes "8001200000000405") ∷ []) (codes "ABCDEFGHI"))
+    ∷ after ten (r ∷ ClientTicked ∷ ClientTicked ∷ ClientTicked ∷ [])
+    (has_failed 0x05040000 2 (hex (codes "8001200000000405") ∷ []) (hex (codes "6001200000000000") ∷ []) (codes "ABCDEFGHI"))
+    ∷ after nine (r ∷ a ∷ r ∷ a ∷ r ∷ a ∷ []) (is_done 3 [] [] (codes "ABCDEFGHI") (codes "ABCDEFGHI"))
+    ∷ after fourteen (r ∷ a ∷ []) (waits 3 (hex (codes "0130313233343536") ∷ hex (codes "8237383941424344") ∷ []) [] [])
+    ∷ after fourteen (r ∷ a ∷ r ∷ r ∷ []) (waits 3 [] (hex (codes "A2027F0000000000") ∷ []) [])
+    ∷ after fourteen (r ∷ a ∷ r ∷ r ∷ a ∷ r ∷ a ∷ []) (is_done 4 [] [] (codes "0123456789ABCD") [])
+    ∷ after nine_in_blocks (r ∷ a ∷ r ∷ a ∷ a ∷ r ∷ a ∷ r ∷ []) (is_done 4 [] [] (codes "ABCDEFGHI") (codes "ABCDEFGHI"))
     ∷ [])
 unfolding request_row_in response_row_in reading_refusal initiate_refusal completion_refusal has_object
 worked = refl
@@ -156,21 +159,17 @@ worked = refl
 some_requests : map upload_requests (0 ∷ 1 ∷ 4 ∷ 5 ∷ 7 ∷ 8 ∷ []) ≡ 2 ∷ 1 ∷ 1 ∷ 2 ∷ 2 ∷ 3 ∷ []
 some_requests = refl
 
--- one sub-block up to 889 bytes, then two
-some_blocks : map block_frames (0 ∷ 7 ∷ 14 ∷ 889 ∷ 890 ∷ []) ≡ 6 ∷ 6 ∷ 7 ∷ 132 ∷ 134 ∷ []
-some_blocks = refl
-
--- how many frames each end sends: the client and the channel of a block download, then those of a block upload
+-- of a block download, the frames of the client, of the channel, and of both; then of a block upload
 abbrev counts : ℕ → List ℕ
-counts n = block_download_requests n ∷ block_download_answers n ∷ block_upload_requests n ∷ block_upload_answers n ∷ []
+counts n = block_download_requests n ∷ block_download_answers n ∷ block_frames n
+    ∷ block_upload_requests n ∷ block_upload_answers n ∷ block_upload_frames n ∷ []
 
+-- one sub-block up to 889 bytes, then two
 some_counts : map counts (0 ∷ 1 ∷ 7 ∷ 8 ∷ 889 ∷ 890 ∷ [])
-    ≡ (3 ∷ 3 ∷ 4 ∷ 3 ∷ []) ∷ (3 ∷ 3 ∷ 4 ∷ 3 ∷ []) ∷ (3 ∷ 3 ∷ 4 ∷ 3 ∷ [])
-    ∷ (4 ∷ 3 ∷ 4 ∷ 4 ∷ []) ∷ (129 ∷ 3 ∷ 4 ∷ 129 ∷ []) ∷ (130 ∷ 4 ∷ 5 ∷ 130 ∷ []) ∷ []
+    ≡ (3 ∷ 3 ∷ 6 ∷ 4 ∷ 3 ∷ 7 ∷ []) ∷ (3 ∷ 3 ∷ 6 ∷ 4 ∷ 3 ∷ 7 ∷ []) ∷ (3 ∷ 3 ∷ 6 ∷ 4 ∷ 3 ∷ 7 ∷ [])
+    ∷ (4 ∷ 3 ∷ 7 ∷ 4 ∷ 4 ∷ 8 ∷ []) ∷ (129 ∷ 3 ∷ 132 ∷ 4 ∷ 129 ∷ 133 ∷ [])
+    ∷ (130 ∷ 4 ∷ 134 ∷ 5 ∷ 130 ∷ 135 ∷ []) ∷ []
 some_counts = refl
-
-some_uploads_in_blocks : map block_upload_frames (9 ∷ 890 ∷ []) ≡ 8 ∷ 135 ∷ []
-some_uploads_in_blocks = refl
 
 -- a plain download is expedited from 1 to 4 bytes, and otherwise in segments; a segmented one is always
 expedited : map (λ bytes. is_expedited_download Plain (Download bytes false))
@@ -187,7 +186,8 @@ ten_in_rounds : map (λ n. arrived (world_after ten (rounds_after n []))) (0 ∷
 unfolding request_row_in response_row_in reading_refusal initiate_refusal completion_refusal has_object
 ten_in_rounds = refl
 
--- and of fourteen bytes in blocks; how many the channel sends then, also of nine bytes, and with an abort at the end of its time
+-- and of fourteen bytes in blocks; how many the channel sends then, also of nine bytes, and with an
+-- abort at the end of its time
 some_frames : arrived (world_after fourteen (rounds_after 7 []))
     ∷ map (λ w. answers_sent w.log) (world_after fourteen (rounds_after 7 []) ∷ world_after nine_in_blocks (rounds_after 8 [])
     ∷ world_after ten (ChannelTicked ∷ ChannelTicked ∷ r ∷ []) ∷ [])

@@ -202,13 +202,11 @@ pub record Waits (s : Setup) (t : Parts s) (k : ℕ) (events : List ClientEvent)
   pub within : k ≤ t.last
   pub client : t.Client k events
 
--- and this holds of the channel and the queues
-abbrev pub Meanwhile : (s : Setup) → Parts s → ℕ → World → Type 0
-Meanwhile s t k w = Unseen s t k w ⊎ (Seen s t k w × Mixed s t k w.answers)
-
--- what holds after each list of events; of a client that has failed nothing
+-- what holds after each list of events: the channel hasn't seen request k, or it has, and the client
+-- waits for its answer, or is done; of a client that has failed nothing
 pub data Stands (s : Setup) (t : Parts s) (w : World) : Type 0 where
-  waiting : (k : ℕ) → Waits s t k w.events → Meanwhile s t k w → Stands s t w
+  unseen : (k : ℕ) → Waits s t k w.events → Unseen s t k w → Stands s t w
+  seen : (k : ℕ) → Waits s t k w.events → Seen s t k w → Mixed s t k w.answers → Stands s t w
   over : IsDone s t.value w.events → Seen s t t.last w → Stands s t w
   failed : has_failed (outcome s.call w.events) ≡ true → Stands s t w
 
@@ -315,24 +313,29 @@ module _ (s : Setup) {p : Type 0} (t : Parts s) (m : StopAndWait s p t) (sound :
   ]
 
   -- request k, for the first time
-  newer_comes : (k : ℕ) (w : World) → k ≤ t.last → Newest s t k w.requests → Unseen s t k w
-      → Meanwhile s t k (at_channel s (t.request k) w)
-  newer_comes k w h newest u = elim (first_time k w.log w.contents h u.channel) [
-    | inl took ↦ inr (record { requests = newest; channel = took.next.0; set = took.next.1 },
-        rw took.replies (then_live s t k w.answers (answer s t k) u.answers (inl refl)))
-    | inr refused ↦ inl (refused_unseen k (t.request k) w u refused)
+  newer_comes : (k : ℕ) (w : World) → Waits s t k w.events → Newest s t k w.requests → Unseen s t k w
+      → Stands s t (at_channel s (t.request k) w)
+  newer_comes k w h newest u = elim (first_time k w.log w.contents h.within u.channel) [
+    | inl took ↦ seen k h (record { requests = newest; channel = took.next.0; set = took.next.1 })
+        (rw took.replies (then_live s t k w.answers (answer s t k) u.answers (inl refl)))
+    | inr refused ↦ unseen k h (refused_unseen k (t.request k) w u refused)
   ]
 
   -- request k again
   again_comes : (k : ℕ) (w : World) → k ≤ t.last → Seen s t k w
-      → Seen s t k (at_channel s (t.request k) w) × (Mixed s t k w.answers → Mixed s t k (at_channel s (t.request k) w).answers)
+      → Seen s t k (at_channel s (t.request k) w)
+      × (Mixed s t k w.answers → Mixed s t k (at_channel s (t.request k) w).answers)
   again_comes k w l h = elim (again k w.log w.contents l h.channel) [
     | inl took ↦ (
       record { requests = h.requests; channel = took.next.0; set = took.next.1 },
       λ mixed. rw took.replies (mixed_and s t k w.answers (answer s t k) mixed (inl refl)),
     )
     | inr refused ↦ (
-      record { requests = h.requests; channel = inl refused.takes.next; set = λ e. subst t.IsSet (sym refused.same) (h.set e) },
+      record {
+        requests = h.requests;
+        channel = inl refused.takes.next;
+        set = λ e. subst t.IsSet (sym refused.same) (h.set e);
+      },
       λ mixed. rw refused.takes.replies (mixed_and s t k w.answers refused.answer mixed (inr refused.is_abort)),
     )
   ]
@@ -342,18 +345,18 @@ module _ (s : Setup) {p : Type 0} (t : Parts s) (m : StopAndWait s p t) (sound :
   unseen_front : (k : ℕ) (w : World) → Waits s t k w.events → Unseen s t k w → (xs : List (List ℕ))
       → Sent s t k xs → (Newest s t k xs → Newest s t k w.requests)
       → Stands s t (front_arrives s Requests xs w)
-  unseen_front k w h u xs (few (none e)) keeps = rw e (waiting k h (inl u))
-  unseen_front k w h u xs (few (one e)) keeps = rw e (waiting k h (newer_comes k w h.within (keeps (one e)) u))
+  unseen_front k w h u xs (few (none e)) keeps = rw e (unseen k h u)
+  unseen_front k w h u xs (few (one e)) keeps = rw e (newer_comes k w h (keeps (one e)) u)
   unseen_front k w h u xs (both j next e) keeps =
       let l = h.within in
-      rw e (waiting k h (inl (subst (λ (i : ℕ). Unseen s t i (at_channel s (t.request j) w)) (sym next)
-      (older_comes j w (omega arith) (subst (λ (i : ℕ). Unseen s t i w) next u)))))
+      rw e (unseen k h (subst (λ (i : ℕ). Unseen s t i (at_channel s (t.request j) w)) (sym next)
+      (older_comes j w (omega arith) (subst (λ (i : ℕ). Unseen s t i w) next u))))
 
   seen_front : (k : ℕ) (w : World) → Waits s t k w.events → Seen s t k w → Mixed s t k w.answers
       → (xs : List (List ℕ)) → Newest s t k xs → Stands s t (front_arrives s Requests xs w)
-  seen_front k w h u mixed xs (none e) = rw e (waiting k h (inr (u, mixed)))
+  seen_front k w h u mixed xs (none e) = rw e (seen k h u mixed)
   seen_front k w h u mixed xs (one e) =
-      let new = again_comes k w h.within u in rw e (waiting k h (inr (new.0, new.1 mixed)))
+      let new = again_comes k w h.within u in rw e (seen k h new.0 (new.1 mixed))
 
   over_front : (w : World) → IsDone s t.value w.events → Seen s t t.last w → (xs : List (List ℕ))
       → Newest s t t.last xs → Stands s t (front_arrives s Requests xs w)
@@ -382,7 +385,8 @@ module _ (s : Setup) {p : Type 0} (t : Parts s) (m : StopAndWait s p t) (sound :
   silent : (k : ℕ) (event : ClientEvent) (w : World) → asked s.call (event ∷ w.events) ≡ []
       → Seen s t k w → Seen s t k (at_client s event w)
   silent k event w e u =
-      subst (λ (xs : List (List ℕ)). SeenBy s t k xs w.log w.contents) (sym (same_requests w.requests _ (ap (map message_bytes) e))) u
+      subst (λ (xs : List (List ℕ)). SeenBy s t k xs w.log w.contents)
+      (sym (same_requests w.requests _ (ap (map message_bytes) e))) u
 
   -- the awaited answer, and others are left
   next_comes : (k : ℕ) (w : World) → k < t.last → Waits s t k w.events → Seen s t k w
@@ -390,11 +394,11 @@ module _ (s : Setup) {p : Type 0} (t : Parts s) (m : StopAndWait s p t) (sound :
       → Stands s t (at_client s (Answered (answer s t k)) w)
   next_comes k w more h u live = elim (m.client_goes_on k w.events more h.client) [
     | inl goes ↦ (let f = follows s.call w.events (Answered (answer s t k)) (GoesOn (goes.message ∷ [])) h.waits goes.goes_on in
-        waiting (suc k) (record { waits = f.state; within = omega arith; client = goes.next }) (inl (record {
+        unseen (suc k) (record { waits = f.state; within = omega arith; client = goes.next }) (record {
           requests = rw (f.messages, goes.asks) (sent_next s t k w.requests u.requests);
           channel = u.channel;
           answers = live;
-        })))
+        }))
     | inr fault ↦ failed (fails s w (answer s t k) h.waits fault.1)
   ]
 
@@ -417,14 +421,14 @@ module _ (s : Setup) {p : Type 0} (t : Parts s) (m : StopAndWait s p t) (sound :
 
   unseen_answer : (k : ℕ) (w : World) → Waits s t k w.events → Unseen s t k w → (xs : List (List ℕ))
       → AllByRecursion (IsStale s t k) xs → Stands s t (front_arrives s Answers xs w)
-  unseen_answer k w h u [] stale = waiting k h (inl u)
+  unseen_answer k w h u [] stale = unseen k h u
   unseen_answer k w h u (frame ∷ later) stale = failed (fails s w frame h.waits (stale_fails k w.events frame h.within h.client stale.0))
 
   seen_answer : (k : ℕ) (w : World) → Waits s t k w.events → Seen s t k w → Mixed s t k w.answers
       → (xs : List (List ℕ)) → Mixed s t k xs
       → (AllByRecursion (IsLive s t k) xs → AllByRecursion (IsLive s t k) w.answers)
       → Stands s t (front_arrives s Answers xs w)
-  seen_answer k w h u left [] mixed keeps = waiting k h (inr (u, left))
+  seen_answer k w h u left [] mixed keeps = seen k h u left
   seen_answer k w h u left (frame ∷ later) (inl live) keeps = live_comes k w frame h u (keeps (live.0, live.1)) live.0
   seen_answer k w h u left (frame ∷ later) (inr stale) keeps =
       failed (fails s w frame h.waits (stale_fails k w.events frame h.within h.client stale.0))
@@ -432,7 +436,8 @@ module _ (s : Setup) {p : Type 0} (t : Parts s) (m : StopAndWait s p t) (sound :
   -- a client that is done stays as it is
   over_hears : (event : ClientEvent) (w : World) → IsDone s t.value w.events → Seen s t t.last w
       → Stands s t (at_client s event w)
-  over_hears event w d u = over (over_event s event w d) (silent t.last event w (stays s.call w.events event d.done).messages u)
+  over_hears event w d u =
+      over (over_event s event w d) (silent t.last event w (stays s.call w.events event d.done).messages u)
 
   over_answer : (w : World) → IsDone s t.value w.events → Seen s t t.last w → (xs : List (List ℕ))
       → Stands s t (front_arrives s Answers xs w)
@@ -441,23 +446,22 @@ module _ (s : Setup) {p : Type 0} (t : Parts s) (m : StopAndWait s p t) (sound :
 
   -- ---- ticks
 
-  client_tick : (k : ℕ) (w : World) → Waits s t k w.events → Meanwhile s t k w → (ends : Bool)
+  client_tick : (k : ℕ) (w : World) → Waits s t k w.events → (ends : Bool)
       → is_client_over s.call.time (TickedAtClient ∷ w.events) ≡ ends
-      → Stands s t (at_client s TickedAtClient w)
-  client_tick k w h b true e = failed (let waits = h.waits in rw (waits, e) refl)
-  client_tick k w h b false e = waiting k
-      (record { waits = calm_waits s w.events e h.waits; within = h.within; client = m.client_ticks k w.events h.client }) (by b)
-    where
-      none : asked s.call (TickedAtClient ∷ w.events) ≡ []
-      none = calm_asks s w.events e
+      → (Waits s t k (TickedAtClient ∷ w.events) → asked s.call (TickedAtClient ∷ w.events) ≡ []
+      → Stands s t (at_client s TickedAtClient w)) → Stands s t (at_client s TickedAtClient w)
+  client_tick k w h true e goes = failed (let waits = h.waits in rw (waits, e) refl)
+  client_tick k w h false e goes = goes
+      (record { waits = calm_waits s w.events e h.waits; within = h.within; client = m.client_ticks k w.events h.client })
+      (calm_asks s w.events e)
 
-      by : Meanwhile s t k w → Meanwhile s t k (at_client s TickedAtClient w)
-      by (inl u) = inl (record {
-        requests = subst (Sent s t k) (sym (same_requests w.requests _ (ap (map message_bytes) none))) u.requests;
-        channel = u.channel;
-        answers = u.answers;
-      })
-      by (inr u) = inr (silent k TickedAtClient w none u.0, u.1)
+  unseen_still : (k : ℕ) (event : ClientEvent) (w : World) → asked s.call (event ∷ w.events) ≡ []
+      → Unseen s t k w → Unseen s t k (at_client s event w)
+  unseen_still k event w e u = record {
+    requests = subst (Sent s t k) (sym (same_requests w.requests _ (ap (map message_bytes) e))) u.requests;
+    channel = u.channel;
+    answers = u.answers;
+  }
 
   after_ticks : (k : ℕ) (log : Log) (contents : Contents)
       → Idle s t log contents ⊎ Open s t k log contents
@@ -493,75 +497,72 @@ module _ (s : Setup) {p : Type 0} (t : Parts s) (m : StopAndWait s p t) (sound :
   seen_ends : (k : ℕ) (w : World) → Seen s t k w → Seen s t k (timed_out w)
   seen_ends k w u = record { requests = u.requests; channel = inl (after_ends k w.log w.contents u.channel); set = u.set }
 
-  waits_tick : (k : ℕ) (w : World) (ends : Bool) → Waits s t k w.events → Meanwhile s t k w
+  channel_tick : (w : World) (ends : Bool) → Stands s t w
       → Stands s t (if ends then timed_out (ticked w) else ticked w)
-  waits_tick k w true h (inl u) = waiting k h (inl (record {
+  channel_tick w true (unseen k h u) = unseen k h (record {
     requests = u.requests;
     channel = idle_before k _ _ (before_ends k (Ticked ∷ w.log) w.contents (before_ticks k w.log w.contents u.channel));
     answers = all_and (IsStale s t k) w.answers _ u.answers (stale_abort s t k _ (last_word (ticked w)));
-  }))
-  waits_tick k w false h (inl u) =
-      waiting k h (inl (record { requests = u.requests; channel = before_ticks k w.log w.contents u.channel; answers = u.answers }))
-  waits_tick k w true h (inr u) =
-      waiting k h (inr (seen_ends k (ticked w) (seen_ticks k w u.0), mixed_and s t k w.answers _ u.1 (inr (last_word (ticked w)))))
-  waits_tick k w false h (inr u) = waiting k h (inr (seen_ticks k w u.0, u.1))
-
-  over_tick : (w : World) (ends : Bool) → IsDone s t.value w.events → Seen s t t.last w
-      → Stands s t (if ends then timed_out (ticked w) else ticked w)
-  over_tick w true d u = over d (seen_ends t.last (ticked w) (seen_ticks t.last w u))
-  over_tick w false d u = over d (seen_ticks t.last w u)
+  })
+  channel_tick w false (unseen k h u) = unseen k h
+      (record { requests = u.requests; channel = before_ticks k w.log w.contents u.channel; answers = u.answers })
+  channel_tick w true (seen k h u mixed) = seen k h (seen_ends k (ticked w) (seen_ticks k w u))
+      (mixed_and s t k w.answers _ mixed (inr (last_word (ticked w))))
+  channel_tick w false (seen k h u mixed) = seen k h (seen_ticks k w u) mixed
+  channel_tick w true (over d u) = over d (seen_ends t.last (ticked w) (seen_ticks t.last w u))
+  channel_tick w false (over d u) = over d (seen_ticks t.last w u)
+  channel_tick w true (failed h) = failed h
+  channel_tick w false (failed h) = failed h
 
   -- ---- every event
 
-  waits_event : (event : WorldEvent) (k : ℕ) (w : World) → Waits s t k w.events → Meanwhile s t k w
-      → Stands s t (after_event s event w)
-  waits_event (Delivered Requests) k w h (inl u) =
-      unseen_front k (without_front Requests w) h (unseen_loses k Requests w u) w.requests u.requests (newest_drop s t k w.requests)
-  waits_event (Delivered Requests) k w h (inr u) =
-      seen_front k (without_front Requests w) h (seen_loses k w u.0) u.1 w.requests u.0.requests
-  waits_event (Delivered Answers) k w h (inl u) =
-      unseen_answer k (without_front Answers w) h (unseen_loses k Answers w u) w.answers u.answers
-  waits_event (Delivered Answers) k w h (inr u) =
-      seen_answer k (without_front Answers w) h u.0 (mixed_drop s t k w.answers u.1) w.answers u.1 (all_drop (IsLive s t k) w.answers)
-  waits_event (Lost Requests) k w h (inl u) = waiting k h (inl (unseen_loses k Requests w u))
-  waits_event (Lost Requests) k w h (inr u) = waiting k h (inr (seen_loses k w u.0, u.1))
-  waits_event (Lost Answers) k w h (inl u) = waiting k h (inl (unseen_loses k Answers w u))
-  waits_event (Lost Answers) k w h (inr u) = waiting k h (inr (u.0, mixed_drop s t k w.answers u.1))
-  waits_event (Repeated Requests) k w h (inl u) = unseen_front k w h u w.requests u.requests (λ newest. newest)
-  waits_event (Repeated Requests) k w h (inr u) = seen_front k w h u.0 u.1 w.requests u.0.requests
-  waits_event (Repeated Answers) k w h (inl u) = unseen_answer k w h u w.answers u.answers
-  waits_event (Repeated Answers) k w h (inr u) = seen_answer k w h u.0 u.1 w.answers u.1 (λ live. live)
-  waits_event ClientTicked k w h u = client_tick k w h u _ refl
-  waits_event ChannelTicked k w h u = waits_tick k w (is_time_over s.time (Ticked ∷ w.log)) h u
-
-  over_world_event : (event : WorldEvent) (w : World) → IsDone s t.value w.events
-      → Seen s t t.last w → Stands s t (after_event s event w)
-  over_world_event (Delivered Requests) w d u = over_front (without_front Requests w) d (seen_loses t.last w u) w.requests u.requests
-  over_world_event (Delivered Answers) w d u = over_answer (without_front Answers w) d u w.answers
-  over_world_event (Lost Requests) w d u = over d (seen_loses t.last w u)
-  over_world_event (Lost Answers) w d u = over d u
-  over_world_event (Repeated Requests) w d u = over_front w d u w.requests u.requests
-  over_world_event (Repeated Answers) w d u = over_answer w d u w.answers
-  over_world_event ClientTicked w d u = over_hears TickedAtClient w d u
-  over_world_event ChannelTicked w d u = over_tick w (is_time_over s.time (Ticked ∷ w.log)) d u
-
   step : (event : WorldEvent) (w : World) → Stands s t w → Stands s t (after_event s event w)
-  step event w (waiting k h u) = waits_event event k w h u
-  step event w (over d u) = over_world_event event w d u
+  step (Delivered Requests) w (unseen k h u) =
+      unseen_front k (without_front Requests w) h (unseen_loses k Requests w u) w.requests u.requests
+      (newest_drop s t k w.requests)
+  step (Delivered Requests) w (seen k h u mixed) =
+      seen_front k (without_front Requests w) h (seen_loses k w u) mixed w.requests u.requests
+  step (Delivered Requests) w (over d u) =
+      over_front (without_front Requests w) d (seen_loses t.last w u) w.requests u.requests
+  step (Delivered Answers) w (unseen k h u) =
+      unseen_answer k (without_front Answers w) h (unseen_loses k Answers w u) w.answers u.answers
+  step (Delivered Answers) w (seen k h u mixed) =
+      seen_answer k (without_front Answers w) h u (mixed_drop s t k w.answers mixed) w.answers mixed
+      (all_drop (IsLive s t k) w.answers)
+  step (Delivered Answers) w (over d u) = over_answer (without_front Answers w) d u w.answers
+  step (Lost Requests) w (unseen k h u) = unseen k h (unseen_loses k Requests w u)
+  step (Lost Requests) w (seen k h u mixed) = seen k h (seen_loses k w u) mixed
+  step (Lost Requests) w (over d u) = over d (seen_loses t.last w u)
+  step (Lost Answers) w (unseen k h u) = unseen k h (unseen_loses k Answers w u)
+  step (Lost Answers) w (seen k h u mixed) = seen k h u (mixed_drop s t k w.answers mixed)
+  step (Lost Answers) w (over d u) = over d u
+  step (Repeated Requests) w (unseen k h u) = unseen_front k w h u w.requests u.requests (λ newest. newest)
+  step (Repeated Requests) w (seen k h u mixed) = seen_front k w h u mixed w.requests u.requests
+  step (Repeated Requests) w (over d u) = over_front w d u w.requests u.requests
+  step (Repeated Answers) w (unseen k h u) = unseen_answer k w h u w.answers u.answers
+  step (Repeated Answers) w (seen k h u mixed) = seen_answer k w h u mixed w.answers mixed (λ live. live)
+  step (Repeated Answers) w (over d u) = over_answer w d u w.answers
+  step ClientTicked w (unseen k h u) =
+      client_tick k w h _ refl (λ waits none. unseen k waits (unseen_still k TickedAtClient w none u))
+  step ClientTicked w (seen k h u mixed) =
+      client_tick k w h _ refl (λ waits none. seen k waits (silent k TickedAtClient w none u) mixed)
+  step ClientTicked w (over d u) = over_hears TickedAtClient w d u
+  step ChannelTicked w h = channel_tick w (is_time_over s.time (Ticked ∷ w.log)) h
   step event w (failed h) = failed (failed_event s event w h)
 
   pub always : (events : List WorldEvent) → Stands s t (world_after s events)
-  always [] = waiting 0 (record { waits = refl; within = omega arith; client = m.first_client }) (inl (record {
+  always [] = unseen 0 (record { waits = refl; within = omega arith; client = m.first_client }) (record {
     requests = few (one m.first_request);
     channel = record { serves = serves_first s.description.rows s.past m.idle; lawful = m.first_lawful };
     answers = tt;
-  }))
+  })
   always (event ∷ older) = step event (world_after s older) (always older)
 
 -- ---- what it says of a client that is done
 
 pub when_done : (s : Setup) (t : Parts s) (w : World) → Stands s t w → outcome s.call w.events ≡ Done
     → IsDone s t.value w.events × Seen s t t.last w
-when_done s t w (waiting k h u) done = absurd (waiting≢done (sym h.waits ∙ done))
+when_done s t w (unseen k h u) done = absurd (waiting≢done (sym h.waits ∙ done))
+when_done s t w (seen k h u mixed) done = absurd (waiting≢done (sym h.waits ∙ done))
 when_done s t w (over d u) done = (d, u)
 when_done s t w (failed h) done = absurd (false≢true (ap has_failed (sym done) ∙ h))

@@ -24,9 +24,10 @@ use Rattle.co_sdo.specs.Opened.{opened_after}
 use Rattle.co_sdo_laws.specs.World.{Setup, World, WorldEvent, Requests, Answers, Lost, Repeated, ClientTicked, ChannelTicked, world_after}
 use Rattle.co_sdo_laws.specs.Undisturbed.{IsCalm, AreCalm, IsPermitted, IsUndisturbed, rounds_after, GoesInTurns, arrived, IsOver}
 use Rattle.co_sdo_laws.proofs.Channel.{tick_opens, is_filled}
+use Rattle.co_sdo_laws.proofs.Permits.{none≢some}
 use Rattle.co_sdo_laws.proofs.Progress.{rounds_calm}
 use Rattle.co_sdo_laws.proofs.Transfers.{segmented}
-use Rattle.co_sdo_laws.proofs.Examples.{string_key, domain_key, row, row_in, bytes_in, dictionary, r, a, ten, fourteen, nine_in_blocks, setup, AllShow, waits, is_done}
+use Rattle.co_sdo_laws.proofs.Examples.{string_key, domain_key, row, row_in, bytes_in, dictionary, r, a, ten, fourteen, nine_in_blocks, setup, after, AllShow, waits, is_done}
 use Rattle.co_sdo.specs.Log.{exchanges}
 use Rattle.co_sdo.specs.OpenTransfers.{open_transfer}
 use Rattle.co_sdo_client.specs.declared.mode.Mode.{Mode}
@@ -98,12 +99,9 @@ ten_calm : AreCalm ten ten_events
 unfolding request_row_in response_row_in reading_refusal initiate_refusal completion_refusal has_object
 ten_calm = (tt, (tt, (tt, (tt, (tt, (refl, ((λ waits. refl), ((λ waits. refl), (tt, tt)))))))))
 
-ten_permitted : IsPermitted dictionary bytes_in string_key ten.call.job
-unfolding reading_refusal initiate_refusal completion_refusal has_object
-ten_permitted = refl
-
 pub ten_undisturbed : IsUndisturbed ten ten_events
-ten_undisturbed = record { dictionary = is_dictionary; key = omega arith; job = omega arith; permitted = ten_permitted; idle = refl; calm = ten_calm }
+unfolding reading_refusal initiate_refusal completion_refusal has_object
+ten_undisturbed = record { dictionary = is_dictionary; key = omega arith; job = omega arith; permitted = refl; idle = refl; calm = ten_calm }
 
 ten_done : outcome ten.call (world_after ten ten_events).events ≡ Done
 unfolding request_row_in response_row_in reading_refusal initiate_refusal completion_refusal has_object
@@ -162,12 +160,12 @@ ten_ticks_later = ((λ waits. cc), ((λ waits. cc), ((λ waits. cc), ((λ waits.
 -- 17 bytes don't fit the string
 too_long : IsPermitted dictionary bytes_in string_key (Download (codes "0123456789ABCDEFG") true) → ⊥
 unfolding reading_refusal initiate_refusal completion_refusal has_object
-too_long h = let e : Some 0x06070012 ≡ None = h in cc
+too_long h = none≢some _ 0x06070012 h refl
 
 -- there is no entry 2002:00
 not_there : IsPermitted dictionary bytes_in (record { index = 0x2002; sub = 0 }) (Upload 9) → ⊥
 unfolding reading_refusal initiate_refusal completion_refusal has_object
-not_there h = let e : Some 0x06020000 ≡ None = h in cc
+not_there h = none≢some _ 0x06020000 h refl
 
 -- so that nothing is an undisturbed transfer of 17 bytes
 never_undisturbed : (events : List WorldEvent) → IsUndisturbed (setup string_key Segmented (Download (codes "0123456789ABCDEFG") true)) events → ⊥
@@ -195,10 +193,6 @@ three_exchanges : length (exchanges read_again.past) ≡ 3
 unfolding request_row_in response_row_in reading_refusal initiate_refusal completion_refusal has_object
 three_exchanges = refl
 
-idle_again : open_transfer read_again.past ≡ None
-unfolding request_row_in response_row_in reading_refusal initiate_refusal completion_refusal has_object
-idle_again = refl
-
 read_dictionary : IsDictionary dictionary read_again.contents
 unfolding request_row_in response_row_in reading_refusal initiate_refusal completion_refusal has_object
 read_dictionary = record {
@@ -209,7 +203,7 @@ read_dictionary = record {
 
 read_undisturbed : (n : ℕ) → IsUndisturbed read_again (rounds_after n [])
 unfolding request_row_in response_row_in reading_refusal initiate_refusal completion_refusal has_object
-read_undisturbed n = record { dictionary = read_dictionary; key = omega arith; job = omega arith; permitted = refl; idle = idle_again; calm = rounds_calm read_again n [] tt }
+read_undisturbed n = record { dictionary = read_dictionary; key = omega arith; job = omega arith; permitted = refl; idle = refl; calm = rounds_calm read_again n [] tt }
 
 -- those that arrived before don't count
 read_arrived : map (λ n. arrived (world_after read_again (rounds_after n []))) (0 ∷ 1 ∷ 2 ∷ 3 ∷ 4 ∷ []) ≡ 0 ∷ 2 ∷ 4 ∷ 6 ∷ 6 ∷ []
@@ -250,9 +244,9 @@ unfolding request_row_in response_row_in reading_refusal initiate_refusal comple
 still_open e = cc
 
 with_a_past : AllShow (
-    (read_again, r ∷ a ∷ r ∷ a ∷ r ∷ a ∷ [], is_done 3 [] [] (codes "0123456789") (codes "0123456789"))
-    ∷ (write_again, r ∷ a ∷ r ∷ a ∷ r ∷ a ∷ [], is_done 3 [] [] (codes "0123456789") [])
-    ∷ (inside_blocks, r ∷ [], waits 1 [] [] (codes "ABCDEFGHI"))
+    after read_again (r ∷ a ∷ r ∷ a ∷ r ∷ a ∷ []) (is_done 3 [] [] (codes "0123456789") (codes "0123456789"))
+    ∷ after write_again (r ∷ a ∷ r ∷ a ∷ r ∷ a ∷ []) (is_done 3 [] [] (codes "0123456789") [])
+    ∷ after inside_blocks (r ∷ []) (waits 1 [] [] (codes "ABCDEFGHI"))
     ∷ [])
 unfolding request_row_in response_row_in reading_refusal initiate_refusal completion_refusal has_object
 with_a_past = refl

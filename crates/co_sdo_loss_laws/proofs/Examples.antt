@@ -12,7 +12,7 @@ use Rattle.co_sdo_client.specs.Outcomes.{result}
 use Rattle.co_sdo.specs.Refused.{reading_refusal, initiate_refusal, completion_refusal}
 use Rattle.co_sdo_laws.specs.Undisturbed.{IsUndisturbed}
 use Rattle.co_sdo_laws.specs.World.{Setup, WorldEvent, Requests, Answers, Delivered, Lost, Repeated, ClientTicked, ChannelTicked, world_after}
-use Rattle.co_sdo_laws.proofs.Examples.{hex, string_key, Report, report, waits, is_done, has_failed, r, a, ten, fourteen, nine, nine_in_blocks, AllShow}
+use Rattle.co_sdo_laws.proofs.Examples.{hex, string_key, Report, report, waits, is_done, has_failed, r, a, ten, fourteen, nine, nine_in_blocks, after, AllShow}
 use Rattle.co_sdo_laws.proofs.UndisturbedExamples.{is_dictionary, ten_events, ten_undisturbed, fourteen_undisturbed, nine_undisturbed}
 use Rattle.co_sdo_loss_laws.specs.Disturbed.{IsAlone, is_plain_download, is_repeat}
 use Rattle.co_sdo_loss_laws.proofs.Laws.{download_sets, upload_gives, block_upload_gives, block_download_sets}
@@ -39,29 +39,29 @@ is_repeat_rows = refl
 
 disturbed : AllShow (
     -- the first segment is lost, and the channel's time is over: the client fails, and the entry is as it was
-    (ten, r ∷ a ∷ Lost Requests ∷ ChannelTicked ∷ ChannelTicked ∷ a ∷ [], has_failed 0x05040000 2 [] [] (codes "ABCDEFGHI"))
+    after ten (r ∷ a ∷ Lost Requests ∷ ChannelTicked ∷ ChannelTicked ∷ a ∷ []) (has_failed 0x05040000 2 [] [] (codes "ABCDEFGHI"))
     -- the answer to the first segment comes again: its toggle isn't the awaited one
-    ∷ (ten, r ∷ a ∷ r ∷ Repeated Answers ∷ a ∷ [],
-        has_failed 0x05030000 4 (hex (codes "1937383900000000") ∷ hex (codes "8001200000000305") ∷ []) [] (codes "ABCDEFGHI"))
+    ∷ after ten (r ∷ a ∷ r ∷ Repeated Answers ∷ a ∷ [])
+    (has_failed 0x05030000 4 (hex (codes "1937383900000000") ∷ hex (codes "8001200000000305") ∷ []) [] (codes "ABCDEFGHI"))
     -- and where the last segment is lost as well, the repeated answer isn't taken for its answer: the abort arrives, and the
     -- entry is as it was
-    ∷ (ten, r ∷ a ∷ r ∷ Repeated Answers ∷ Lost Requests ∷ a ∷ r ∷ [], has_failed 0x05030000 4 [] [] (codes "ABCDEFGHI"))
+    ∷ after ten (r ∷ a ∷ r ∷ Repeated Answers ∷ Lost Requests ∷ a ∷ r ∷ []) (has_failed 0x05030000 4 [] [] (codes "ABCDEFGHI"))
     -- the last answer is lost, and the client's time is over: it fails, though the entry is set. So it is of a client that is
     -- done alone that the law can speak.
-    ∷ (ten, r ∷ a ∷ r ∷ a ∷ r ∷ Lost Answers ∷ ClientTicked ∷ ClientTicked ∷ ClientTicked ∷ [],
-        has_failed 0x05040000 4 (hex (codes "8001200000000405") ∷ []) [] (codes "0123456789"))
+    ∷ after ten (r ∷ a ∷ r ∷ a ∷ r ∷ Lost Answers ∷ ClientTicked ∷ ClientTicked ∷ ClientTicked ∷ [])
+    (has_failed 0x05040000 4 (hex (codes "8001200000000405") ∷ []) [] (codes "0123456789"))
     -- the request of the first segment comes twice: the second has the wrong toggle, and nothing is open after it
-    ∷ (nine, r ∷ a ∷ Repeated Requests ∷ r ∷ a ∷ r ∷ a ∷ [],
-        has_failed 0x05030000 3 [] (hex (codes "8000000001000405") ∷ []) (codes "ABCDEFGHI"))
+    ∷ after nine (r ∷ a ∷ Repeated Requests ∷ r ∷ a ∷ r ∷ a ∷ [])
+    (has_failed 0x05030000 3 [] (hex (codes "8000000001000405") ∷ []) (codes "ABCDEFGHI"))
     -- in blocks the first of two segments is lost: the second isn't taken, and the sub-block is acknowledged as of none
-    ∷ (nine_in_blocks, r ∷ a ∷ r ∷ Lost Answers ∷ a ∷ [], waits 3 (hex (codes "A2007F0000000000") ∷ []) [] (codes "ABCDEFGHI"))
-    ∷ (fourteen, r ∷ a ∷ Lost Requests ∷ r ∷ [], waits 3 [] (hex (codes "A2007F0000000000") ∷ []) [])
+    ∷ after nine_in_blocks (r ∷ a ∷ r ∷ Lost Answers ∷ a ∷ []) (waits 3 (hex (codes "A2007F0000000000") ∷ []) [] (codes "ABCDEFGHI"))
+    ∷ after fourteen (r ∷ a ∷ Lost Requests ∷ r ∷ []) (waits 3 [] (hex (codes "A2007F0000000000") ∷ []) [])
     -- the last segment is lost: the sub-block doesn't end, and the channel's time is over
-    ∷ (nine_in_blocks, r ∷ a ∷ r ∷ a ∷ Lost Answers ∷ ChannelTicked ∷ ChannelTicked ∷ a ∷ [],
-        has_failed 0x05040000 2 [] [] (codes "ABCDEFGHI"))
+    ∷ after nine_in_blocks (r ∷ a ∷ r ∷ a ∷ Lost Answers ∷ ChannelTicked ∷ ChannelTicked ∷ a ∷ [])
+    (has_failed 0x05040000 2 [] [] (codes "ABCDEFGHI"))
     -- the channel's time is over before the segments come: it hears them as requests, and none of its answers is awaited
-    ∷ (fourteen, r ∷ a ∷ ChannelTicked ∷ ChannelTicked ∷ Lost Answers ∷ r ∷ a ∷ [],
-        has_failed 0x05040001 3 (hex (codes "8237383941424344") ∷ []) [] [])
+    ∷ after fourteen (r ∷ a ∷ ChannelTicked ∷ ChannelTicked ∷ Lost Answers ∷ r ∷ a ∷ [])
+    (has_failed 0x05040001 3 (hex (codes "8237383941424344") ∷ []) [] [])
     ∷ [])
 unfolding request_row_in response_row_in reading_refusal initiate_refusal completion_refusal has_object
 disturbed = refl
