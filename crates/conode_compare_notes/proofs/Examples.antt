@@ -367,6 +367,7 @@ seven : List ℕ
 seven = 0x49 ∷ 0x4F ∷ 0x78 ∷ 0 ∷ 0 ∷ 0 ∷ 0 ∷ []
 
 whole_segments : map (λ protocol. read_by true (Done false) protocol 0x1008 0 seven) (Segmented ∷ Block ∷ []) ≡ None ∷ other_name ∷ []
+unfolding seven
 whole_segments = refl
 
 -- an empty text of the sheet; another entry; one that the sheet doesn't have
