@@ -280,9 +280,9 @@ fn values_of(fact: Fact) -> [Part; 3]
         | Fact::HighIndex(number)
         | Fact::LimitsCrossed(number)
         | Fact::NegativeHigh(number) => numbers(number as u64, 0, 0),
-        Fact::BelowLow(line, number)
-        | Fact::AboveHigh(line, number)
-        | Fact::AboveNegative(line, number) => bound(line, number),
+        Fact::BelowLow(line, number) => bound(line, number),
+        Fact::AboveHigh(line, number) => bound(line, number),
+        Fact::AboveNegative(line, number) => bound(line, number),
         Fact::ValueOutside(data_type) | Fact::LimitOutside(data_type) => range(data_type),
         Fact::Identity(number, other) => [
             Part::Hexadecimal(number),
