@@ -1,3 +1,4 @@
+pub mod CommandLemmas
 pub mod OnLiterals
 pub mod TaskExamples
 pub mod TaskLemmas

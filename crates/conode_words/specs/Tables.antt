@@ -28,7 +28,7 @@ abbrev pub with_words : App → List Word → App
 with_words app words = fold (λ a word. with_rule a (rule_by word)) app words
 
 abbrev pub app_by : Subcommand → App
-app_by row = with_words (new_app row.name.now) row.words.now
+app_by row = with_words (new_app row.texts.now.name.now) row.words.now
 
 -- a command with these subcommands
 abbrev pub with_commands : App → List Subcommand → App

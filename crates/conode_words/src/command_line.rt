@@ -152,8 +152,14 @@ fn word_error(
 ) -> Result<Error, AllocError>
     ensures { IfOk result (λ error. kind_of error ≡ InvalidValue) }
 {
-    let mut command = subcommand_alone(alloc, rows, matches.subcommand_name().unwrap_or(""))?;
-    command.error(ErrorKind::InvalidValue, text)
+    match subcommand_alone(alloc, rows, matches.subcommand_name().unwrap_or("")) {
+        Ok(mut command) => {
+            let error = command.error(ErrorKind::InvalidValue, text);
+            drop(command);
+            error
+        }
+        Err(error) => Err(error),
+    }
 }
 
 // what words that the command accepts ask for, unless one of them is none of the choices
@@ -168,9 +174,15 @@ fn task_of<'a>(
     ensures fault { FailsBy (word_fault (subcommand_rows_of matches.now)) result }
 {
     if let Some(text) = other_word(matches) {
-        return Err(word_error(alloc, rows, matches, text)?);
+        return match word_error(alloc, rows, matches, text) {
+            Ok(error) => Err(error),
+            Err(memory) => Err(Error::from(memory)),
+        };
     }
-    Ok(asked_of(alloc, matches)?)
+    match asked_of(alloc, matches) {
+        Ok(task) => Ok(task),
+        Err(memory) => Err(Error::from(memory)),
+    }
 }
 
 // what the words ask for, by the program's command
@@ -204,6 +216,12 @@ pub fn task<'a>(alloc: Global, words: &'a [&'a str]) -> Result<Option<Task<'a>>,
     ensures fault { FailsBy (task_fault (map (λ word. word.now) words.entry.now)) result }
 {
     let rows = &COMMANDS;
-    let mut command = conode_command(alloc, rows)?;
-    task_by(alloc, rows, &mut command, words)
+    match conode_command(alloc, rows) {
+        Ok(mut command) => {
+            let task = task_by(alloc, rows, &mut command, words);
+            drop(command);
+            task
+        }
+        Err(memory) => Err(Error::from(memory)),
+    }
 }

@@ -5,11 +5,12 @@ ghost use Rattle.clap.specs.Words.{new_app};
 ghost use Rattle.conode_words.specs.Commands.{IsCommand, versioned};
 ghost use Rattle.conode_words.specs.Tables.{with_commands};
 
+use crate::found::is;
 use crate::help;
 use crate::options::Kind::{
     Flag, Lettered, ManyWanted, Numbered, NumberedOr, Repeated, Valued, Wanted, Worded,
 };
-use crate::options::{Subcommand, Word, command_of, new_command, with_commands};
+use crate::options::{Subcommand, Texts, Word, command_of, new_command, with_commands};
 use clap::Command;
 use std::alloc::{AllocError, Global};
 
@@ -329,80 +330,102 @@ const COMPARE: [Word; 16] = [
 /// The subcommands.
 pub(crate) const COMMANDS: [Subcommand; 11] = [
     Subcommand {
-        name: "check",
-        usage: "conode check",
-        about: "Checks a data sheet: what it has, or its first fault and its line",
-        after_help: help::FAULTS,
+        texts: &Texts {
+            name: "check",
+            usage: "conode check",
+            about: "Checks a data sheet: what it has, or its first fault and its line",
+            after_help: help::FAULTS,
+        },
         words: &CHECK,
     },
     Subcommand {
-        name: "lint",
-        usage: "conode lint",
-        about: "Finds all faults of data sheets, and what is suspicious in them",
-        after_help: help::LINTED,
+        texts: &Texts {
+            name: "lint",
+            usage: "conode lint",
+            about: "Finds all faults of data sheets, and what is suspicious in them",
+            after_help: help::LINTED,
+        },
         words: &LINT,
     },
     Subcommand {
-        name: "decode",
-        usage: "conode decode",
-        about: "Decodes a CAN trace: each frame with what it says, by CiA 301",
-        after_help: help::DECODED,
+        texts: &Texts {
+            name: "decode",
+            usage: "conode decode",
+            about: "Decodes a CAN trace: each frame with what it says, by CiA 301",
+            after_help: help::DECODED,
+        },
         words: &DECODE,
     },
     Subcommand {
-        name: "replay",
-        usage: "conode replay",
-        about: "Plays a CAN trace to the device of a data sheet",
-        after_help: help::REPLAYED,
+        texts: &Texts {
+            name: "replay",
+            usage: "conode replay",
+            about: "Plays a CAN trace to the device of a data sheet",
+            after_help: help::REPLAYED,
+        },
         words: &REPLAY,
     },
     Subcommand {
-        name: "loop",
-        usage: "conode loop",
-        about: "Downloads bytes to the device of a data sheet by an SDO client",
-        after_help: help::LOOPED,
+        texts: &Texts {
+            name: "loop",
+            usage: "conode loop",
+            about: "Downloads bytes to the device of a data sheet by an SDO client",
+            after_help: help::LOOPED,
+        },
         words: &LOOP,
     },
     Subcommand {
-        name: "show",
-        usage: "conode show",
-        about: "Shows the object dictionary of a data sheet as people read it",
-        after_help: help::SHOWN,
+        texts: &Texts {
+            name: "show",
+            usage: "conode show",
+            about: "Shows the object dictionary of a data sheet as people read it",
+            after_help: help::SHOWN,
+        },
         words: &SHOW,
     },
     Subcommand {
-        name: "adapt",
-        usage: "conode adapt",
-        about: "Rewrites a vendor's data sheet to be accepted, and lists each change",
-        after_help: help::ADAPTED,
+        texts: &Texts {
+            name: "adapt",
+            usage: "conode adapt",
+            about: "Rewrites a vendor's data sheet to be accepted, and lists each change",
+            after_help: help::ADAPTED,
+        },
         words: &ADAPT,
     },
     Subcommand {
-        name: "explain",
-        usage: "conode explain",
-        about: "Explains a recording: each frame with its times and what it says",
-        after_help: help::EXPLAINED,
+        texts: &Texts {
+            name: "explain",
+            usage: "conode explain",
+            about: "Explains a recording: each frame with its times and what it says",
+            after_help: help::EXPLAINED,
+        },
         words: &EXPLAIN,
     },
     Subcommand {
-        name: "convert",
-        usage: "conode convert",
-        about: "Writes a log of another recorder as `candump -L` does",
-        after_help: help::CONVERTED,
+        texts: &Texts {
+            name: "convert",
+            usage: "conode convert",
+            about: "Writes a log of another recorder as `candump -L` does",
+            after_help: help::CONVERTED,
+        },
         words: &CONVERT,
     },
     Subcommand {
-        name: "stats",
-        usage: "conode stats",
-        about: "Prints bus statistics on one page, what looks wrong first",
-        after_help: help::COUNTED,
+        texts: &Texts {
+            name: "stats",
+            usage: "conode stats",
+            about: "Prints bus statistics on one page, what looks wrong first",
+            after_help: help::COUNTED,
+        },
         words: &STATS,
     },
     Subcommand {
-        name: "compare",
-        usage: "conode compare",
-        about: "Reports where a recorded device deviates from CiA 301",
-        after_help: help::COMPARED,
+        texts: &Texts {
+            name: "compare",
+            usage: "conode compare",
+            about: "Reports where a recorded device deviates from CiA 301",
+            after_help: help::COMPARED,
+        },
         words: &COMPARE,
     },
 ];
@@ -438,8 +461,11 @@ pub(crate) fn subcommand_alone<'a>(
     name: &str,
 ) -> Result<Command<'a>, AllocError> {
     for row in rows {
-        if row.name == name {
-            return command_of(alloc, row)?.bin_name(row.usage);
+        if is(row.texts.name, name) {
+            return match command_of(alloc, row) {
+                Ok(command) => command.bin_name(row.texts.usage),
+                Err(error) => Err(error),
+            };
         }
     }
     Ok(only_conode(alloc))

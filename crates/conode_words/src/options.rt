@@ -1,18 +1,8 @@
 //! The kinds of words and options, and commands built from tables of them.
 
-ghost use Rattle.std.specs.Prelude.{◌≡◌, ◌∷◌, [], false, IfOk};
-ghost use Rattle.clap.specs.Words.{App, Rule, new_app, rule_of, with_rule, with_subcommand};
-ghost use Rattle.conode_words.specs.Commands.{
-  IsCommand,
-  flag,
-  lettered,
-  many_wanted,
-  numbered,
-  repeated,
-  valued,
-  wanted,
-  worded,
-};
+ghost use Rattle.std.specs.Prelude.{◌≡◌, [], false, IfOk};
+ghost use Rattle.clap.specs.Words.{App, new_app, rule_of};
+ghost use Rattle.conode_words.specs.Commands.{IsCommand, flag, numbered, valued, wanted};
 ghost use Rattle.conode_words.specs.Tables.{app_by, rule_by, with_commands, with_words};
 
 use clap::builder::ValueParser;
@@ -50,14 +40,21 @@ pub(crate) struct Word(
     pub(crate) &'static str,
 );
 
-/// A subcommand: its name, the words that start it, its line in help, the text at the end of its help,
-/// and its words and options.
+/// The texts of a subcommand: its name, the words that start it, its line in help, and the text at the
+/// end of its help.
 #[derive(Clone, Copy)]
-pub(crate) struct Subcommand {
+pub(crate) struct Texts {
     pub(crate) name: &'static str,
     pub(crate) usage: &'static str,
     pub(crate) about: &'static str,
     pub(crate) after_help: &'static str,
+}
+
+/// A subcommand: its texts, and its words and options. The texts are a reference, so that all of them
+/// are one step of the code that uses a table of subcommands.
+#[derive(Clone, Copy)]
+pub(crate) struct Subcommand {
+    pub(crate) texts: &'static Texts,
     pub(crate) words: &'static [Word],
 }
 
@@ -75,34 +72,11 @@ pub(crate) fn new_command<'a>(
         .after_help(after_help)
 }
 
-// the command with one more word or option
-fn with_arg<'a>(command: Command<'a>, arg: Arg<'a>) -> Result<Command<'a>, AllocError>
-    ensures { IfOk result (λ r. (app : App) (rule : Rule) → IsCommand command.entry app
-        → rule_of arg.entry ≡ rule → arg.entry.global ≡ false → IsCommand r (with_rule app rule)) }
-{
-    command.arg(arg)
-}
-
-// the command with one more subcommand
-fn with_command<'a>(command: Command<'a>, below: Command<'a>) -> Result<Command<'a>, AllocError>
-    ensures { IfOk result (λ r. (app sub : App) → IsCommand command.entry app
-        → IsCommand below.entry sub → IsCommand r (with_subcommand app sub.top)) }
-{
-    command.subcommand(below)
-}
-
 fn wanted<'a>(alloc: Global, name: &'a str, help: &'a str) -> Arg<'a>
     ensures rule { rule_of result ≡ wanted name.entry.now }
     ensures local { result.global ≡ false }
 {
     Arg::new(alloc, name).required(true).help(help)
-}
-
-fn many_wanted<'a>(alloc: Global, name: &'a str, help: &'a str) -> Arg<'a>
-    ensures rule { rule_of result ≡ many_wanted name.entry.now }
-    ensures local { result.global ≡ false }
-{
-    wanted(alloc, name, help).num_args(1..)
 }
 
 fn flag<'a>(alloc: Global, name: &'a str, help: &'a str) -> Arg<'a>
@@ -125,59 +99,11 @@ fn valued<'a>(alloc: Global, name: &'a str, value: &'a str, help: &'a str) -> Ar
         .help(help)
 }
 
-fn repeated<'a>(alloc: Global, name: &'a str, value: &'a str, help: &'a str) -> Arg<'a>
-    ensures rule { rule_of result ≡ repeated name.entry.now }
-    ensures local { result.global ≡ false }
-{
-    valued(alloc, name, value, help).action(ArgAction::Append)
-}
-
-fn worded<'a>(
-    alloc: Global,
-    name: &'a str,
-    value: &'a str,
-    default: &'a str,
-    help: &'a str,
-) -> Arg<'a>
-    ensures rule { rule_of result ≡ worded name.entry.now default.entry.now }
-    ensures local { result.global ≡ false }
-{
-    valued(alloc, name, value, help).default_value(default)
-}
-
-fn lettered<'a>(
-    alloc: Global,
-    name: &'a str,
-    letter: char,
-    value: &'a str,
-    default: &'a str,
-    help: &'a str,
-) -> Arg<'a>
-    ensures rule { rule_of result ≡ lettered name.entry.now letter default.entry.now }
-    ensures local { result.global ≡ false }
-{
-    worded(alloc, name, value, default, help).short(letter)
-}
-
 fn numbered<'a>(alloc: Global, name: &'a str, low: u64, high: u64, help: &'a str) -> Arg<'a>
     ensures rule { rule_of result ≡ numbered name.entry.now low high [] }
     ensures local { result.global ≡ false }
 {
     valued(alloc, name, "N", help).value_parser(ValueParser::unsigned(low, high))
-}
-
-fn numbered_or<'a>(
-    alloc: Global,
-    name: &'a str,
-    high: u64,
-    default: &'a str,
-    help: &'a str,
-) -> Arg<'a>
-    ensures rule { rule_of result
-        ≡ numbered name.entry.now 0 high (default.entry.now ∷ []) }
-    ensures local { result.global ≡ false }
-{
-    numbered(alloc, name, 0, high, help).default_value(default)
 }
 
 // the word or option of a row in a table
@@ -189,16 +115,18 @@ fn arg_of<'a>(alloc: Global, word: &Word) -> Arg<'a>
     let Word(name, kind, help) = *word;
     match kind {
         Kind::Wanted => wanted(alloc, name, help),
-        Kind::ManyWanted => many_wanted(alloc, name, help),
+        Kind::ManyWanted => wanted(alloc, name, help).num_args(1..),
         Kind::Flag => flag(alloc, name, help),
         Kind::Valued(value) => valued(alloc, name, value, help),
-        Kind::Repeated(value) => repeated(alloc, name, value, help),
-        Kind::Worded(value, default) => worded(alloc, name, value, default, help),
-        Kind::Lettered(letter, value, default) => {
-            lettered(alloc, name, letter, value, default, help)
-        }
+        Kind::Repeated(value) => valued(alloc, name, value, help).action(ArgAction::Append),
+        Kind::Worded(value, default) => valued(alloc, name, value, help).default_value(default),
+        Kind::Lettered(letter, value, default) => valued(alloc, name, value, help)
+            .default_value(default)
+            .short(letter),
         Kind::Numbered(low, high) => numbered(alloc, name, low, high, help),
-        Kind::NumberedOr(high, default) => numbered_or(alloc, name, high, default, help),
+        Kind::NumberedOr(high, default) => {
+            numbered(alloc, name, 0, high, help).default_value(default)
+        }
     }
 }
 
@@ -213,7 +141,10 @@ fn with_words<'a>(
 {
     let mut command = command;
     for word in words {
-        command = with_arg(command, arg_of(alloc, word))?;
+        command = match command.arg(arg_of(alloc, word)) {
+            Ok(command) => command,
+            Err(error) => return Err(error),
+        };
     }
     Ok(command)
 }
@@ -222,7 +153,8 @@ fn with_words<'a>(
 pub(crate) fn command_of<'a>(alloc: Global, row: &Subcommand) -> Result<Command<'a>, AllocError>
     ensures { IfOk result (λ command. IsCommand command (app_by row.now)) }
 {
-    let command = new_command(alloc, row.name, row.about, row.after_help);
+    let texts = row.texts;
+    let command = new_command(alloc, texts.name, texts.about, texts.after_help);
     with_words(alloc, command, row.words)
 }
 
@@ -237,7 +169,17 @@ pub(crate) fn with_commands<'a>(
 {
     let mut command = command;
     for row in rows {
-        command = with_command(command, command_of(alloc, row)?)?;
+        let below = match command_of(alloc, row) {
+            Ok(below) => below,
+            Err(error) => {
+                drop(command);
+                return Err(error);
+            }
+        };
+        command = match command.subcommand(below) {
+            Ok(command) => command,
+            Err(error) => return Err(error),
+        };
     }
     Ok(command)
 }

@@ -1,9 +1,9 @@
-use Rattle.std.proofs.Common.{◌≡◌, ◌∙◌, Bool, Option, Some, None, IsSomeAnd, ap}
+use Rattle.std.proofs.Common.{◌≡◌, ◌∙◌, Option, Some, None, IsSomeAnd, ap}
 use Rattle.clap.specs.Lexer.{usize_max}
 use Rattle.clap.specs.Words.{Rule, rule_of}
-use Rattle.clap.specs.declared.builder.arg.Arg.{Arg}
 use Rattle.clap.specs.declared.builder.range.ValueRange.{ValueRange}
-use Rattle.conode_words.proofs.options.many_wanted.Goals as goal
+use Rattle.conode_words.specs.Tables.{rule_of_kind}
+use Rattle.conode_words.proofs.options.arg_of.Goals as goal
 
 abbrev one_or_more : ValueRange
 one_or_more = record { start_inclusive = 1; end_inclusive = usize_max }
@@ -16,13 +16,9 @@ some_range (Some r) range h = ap Some h
 abbrev in_range : Rule → Option ValueRange → Rule
 in_range rule range = record rule { range = range }
 
-abbrev is_global : Arg → Bool
-is_global a = a.global
-
-pub returns-clause-rule : goal.returns-clause-rule
-returns-clause-rule c =
+pub returns-in-ManyWanted-clause-rule : goal.returns-in-ManyWanted-clause-rule
+unfolding rule_of_kind
+returns-in-ManyWanted-clause-rule c =
     let range = some_range c.num_args.result.num_vals one_or_more c.num_args.ensures.1 in
-    ap rule_of c.num_args.ensures.0 ∙ ap (in_range (rule_of c.wanted.result)) range ∙ ap (λ (r : Rule). in_range r (Some one_or_more)) c.wanted.ensures.rule
-
-pub returns-clause-local : goal.returns-clause-local
-returns-clause-local c = ap is_global c.num_args.ensures.0 ∙ c.wanted.ensures.local
+    rw c.in-ManyWanted.is
+    (ap rule_of c.num_args.ensures.0 ∙ ap (in_range (rule_of c.wanted-in-ManyWanted.result)) range ∙ ap (λ (r : Rule). in_range r (Some one_or_more)) c.wanted-in-ManyWanted.ensures.rule)
