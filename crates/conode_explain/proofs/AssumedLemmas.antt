@@ -119,7 +119,7 @@ assumed bus named last id bytes is =
 
 no_bytes : (bytes : List ℕ) → eqb (length bytes) 0 ≡ true → bytes ≡ []
 no_bytes [] none = refl
-no_bytes (byte ∷ bytes) none = absurd cc
+no_bytes (byte ∷ bytes) none = absurd (omega (arith, eqb-true (length (byte ∷ bytes)) 0 none))
 
 at_sync : (bus : Bus) (named : Bool) (last : Last) → sync_words named ≡ frame_words bus [] named last (record { id = 0x080; bytes = [] })
 unfolding frame_words transfer_words transfer_in other_words served_words service_words fixed_at text_of_frame sync_text abort_words state_words
