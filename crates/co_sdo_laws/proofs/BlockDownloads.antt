@@ -35,7 +35,7 @@ use Rattle.co_sdo_laws.proofs.Blocks.{live, kept, cut_fails, cut_read, cons≢ni
 use Rattle.co_sdo_laws.proofs.BlockSegments.{unused, all_held, total, size_after, segments, frame_is, frame_with, frame_long, all_is}
 use Rattle.co_sdo_laws.proofs.GoneChannels.{is_awaited, is_awaited_frame, awaited, aborted_other, IsGone, idle, gone_answers, gone_goes_on, gone_ticks, gone_ends}
 use Rattle.co_sdo_laws.proofs.Ends.{client, channel, verdict_of, after_request, Serving, channel_takes, channel_refuses}
-use Rattle.co_sdo_laws.proofs.Places.{Place, asking, confirmed, starting, taking, acknowledging, finishing, ending, ended, all_over, Plan, way, may_await, OnWay, InSubBlock, turns, Reacts, goes, gives_up, one}
+use Rattle.co_sdo_laws.proofs.Places.{Place, begins_at, asking, confirmed, starting, taking, acknowledging, finishing, ending, ended, all_over, Plan, way, may_await, OnWay, InSubBlock, turns, Reacts, goes, gives_up, one}
 use Rattle.co_sdo_laws.proofs.Receivers.{Receiver, SenderStays, receives}
 use Rattle.co_sdo_laws.proofs.Senders.{Sender, ReceiverStays, sends_more, sends_end}
 use Rattle.co_sdo_laws.proofs.BlockTransfers.{requests≢back, Knows, waits, is_done, Parts, Channel, May, ClientReacts, reacts, finishes, Hears, GoneHears, IsWaiting, Theory}
@@ -133,18 +133,18 @@ receiver s p m = record {
   fits = m.room;
   inside = λ a t n x frame h g. let r = g.reads in channel_takes s m.dictionary x (Some (taken s (a + t) t)) frame [] [] _ _ x.1 s.contents h r.long
       refl (inside_is s.call.key (indicated s) _ _ _ _ g.taken g.held) h.lawful
-      (record { replies = rw r.ends refl; opens = rw (r.ends, r.other) refl; sets = refl });
+      (rw (r.ends, r.other) refl);
   ends = λ a t n x frame h g room. let r = g.reads in let more = g.more in
       channel_takes s m.dictionary x (Some (taken s (a + t) t)) frame (Response (BlockDownloadAcknowledge (taken_with t frame) 127) ∷ []) _ _ _ x.1 s.contents h r.long
       (ap (λ (u : ℕ). acknowledgement u ∷ []) g.taken) (inside_is s.call.key (indicated s) 0 0 _ _ refl g.held) h.lawful
-      (record { replies = rw (r.ends, more, room) refl; opens = rw (r.ends, r.other, more, room) refl; sets = refl });
+      (rw (r.ends, r.other, more, room) refl);
   is_full = λ a t n x frame h g room. let r = g.reads in let more = g.more in
       channel_refuses s m.dictionary x (Some (taken s (a + t) t)) frame s.call.key 0x06070012 h r.long
-      (record { replies = rw (r.ends, more, room) refl; opens = rw (r.ends, r.other, more, room) refl; sets = refl });
+      (rw (r.ends, r.other, more, room) refl);
   last = λ a t n x frame h g. let r = g.reads in let last = g.last in
       channel_takes s m.dictionary x (Some (taken s (a + t) t)) frame (Response (BlockDownloadAcknowledge (taken_with t frame) 127) ∷ []) _ _ _ x.1 s.contents h r.long
       (ap (λ (u : ℕ). acknowledgement u ∷ []) g.taken) (ap (λ (xs : List ℕ). Some (at_last s.call.key (indicated s) xs)) g.held) h.lawful
-      (record { replies = rw (r.ends, last) refl; opens = rw (r.ends, r.other, last) refl; sets = refl });
+      (rw (r.ends, r.other, last) refl);
 }
 
 receiver_stays : (s : Setup) (p : Type 0) → ReceiverStays (May (parts s p))
@@ -206,12 +206,12 @@ begins : (s : Setup) (p : Type 0) → IsDownload s p sends_in_blocks → (x : Lo
 begins s p m x h None e =
     let read = block_begin_read s.call.key (size_sent s.call.job) m.key in
     goes confirmed (confirmation s ∷ []) (channel_takes s m.dictionary x None (begin s) (Response (BlockDownloadInitiated s.call.key 127) ∷ []) _ (Some (taken s 0 0)) _ x.1 s.contents h
-    (block_begin_long s.call.key (size_sent s.call.job)) refl refl h.lawful (record { replies = rw (read, e) refl; opens = rw (read, e) refl; sets = rw read refl }))
+    (block_begin_long s.call.key (size_sent s.call.job)) refl refl h.lawful (rw (read, e) refl))
     (record { onward = turns refl refl refl; here = λ y. refl; there = λ y. refl; narrows = λ xs same. same }) (λ y c. c)
 begins s p m x h (Some code) e =
     let read = block_begin_read s.call.key (size_sent s.call.job) m.key in
     gives_up (λ y. none≢some _ code (m.may_begin y) e) refl (channel_refuses s m.dictionary x None (begin s) s.call.key code h
-    (block_begin_long s.call.key (size_sent s.call.job)) (record { replies = rw (read, e) refl; opens = rw (read, e) refl; sets = rw read refl }))
+    (block_begin_long s.call.key (size_sent s.call.job)) (rw (read, e) refl))
 
 -- frames that are aborts alone are none that is awaited
 cut_other : (r : Option SdoResponse) → is_aborted r ≡ true → is_awaited r ≡ false
@@ -245,15 +245,7 @@ is_confirmed s p m known c =
         size = ap block_size_by read;
       };
     }) (record {
-      onward = turns refl refl (record {
-        n = 1;
-        more = size_after (bytes s) 0 - 1;
-        are = refl;
-        under = omega arith;
-        some = omega arith;
-        size = omega arith;
-        turn = λ y. record { whole = refl; next = refl };
-      });
+      onward = turns refl refl (begins_at (bytes s) 0 (omega arith) (λ y. refl));
       here = λ y. refl;
       there = λ y. refl;
       narrows = λ xs none. live_none xs none;
@@ -269,7 +261,7 @@ ends s p m x h None e =
     let whole = all_is v (total v - 1) (omega arith) in
     let read = block_end_read (unused v) (omega arith) in
     goes ended (all_done ∷ []) (channel_takes s m.dictionary x (Some (complete s)) (client_end s) (Response BlockDownloadDone ∷ []) _ None _ (written x.1 s.call.key v) _ h refl
-    refl refl (ap (λ (y : Contents). written y s.call.key v) h.lawful) (record { replies = rw (read, whole, e) refl; opens = rw read refl; sets = rw (read, whole, e) refl }))
+    refl refl (ap (λ (y : Contents). written y s.call.key v) h.lawful) (rw (read, whole, e) refl))
     (record { onward = turns refl refl refl; here = λ y. omega arith; there = λ y. refl; narrows = λ xs same. same }) (λ y c. c)
 ends s p m x h (Some code) e =
     let v = bytes s in
@@ -277,7 +269,7 @@ ends s p m x h (Some code) e =
     let read = block_end_read (unused v) (omega arith) in
     gives_up (λ y. none≢some _ code (ap (λ (c : Contents). completion_refusal s.description c s.call.key (indicated s) v) h.lawful ∙ m.may_complete y) e) refl
     (channel_refuses s m.dictionary x (Some (complete s)) (client_end s) s.call.key code h refl
-    (record { replies = rw (read, whole, e) refl; opens = rw read refl; sets = rw (read, whole, e) refl }))
+    (rw (read, whole, e) refl))
 
 confirms : (s : Setup) (p : Type 0) → IsDownload s p sends_in_blocks → (known : Option Answers) → Took s (total (bytes s)) known
     → ClientReacts (parts s p) ended [] known all_done

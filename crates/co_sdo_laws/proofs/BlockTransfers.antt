@@ -108,21 +108,25 @@ pub record Theory {s : Setup} (t : Parts s) : Type 0 where
 abbrev Moving : (p : Type 0) (test : List ℕ → Bool) (by : Queue) (frames : List (List ℕ)) (r q : ℕ) → World → Type 0
 Moving p test by frames r q w = Moment p (kept test) (on Requests by frames) (on Back by frames) r q w
 
+none_on : (queue by : Queue) → on queue by [] ≡ []
+none_on Requests Requests = refl
+none_on Requests Back = refl
+none_on Back Requests = refl
+none_on Back Back = refl
+
 nothing_left : (p : Type 0) (test : List ℕ → Bool) (by : Queue) (r q : ℕ) (w : World) → (p → ⊥) → w.requests ≡ [] → kept test w.answers ≡ [] → Moving p test by [] r q w
-nothing_left p test Requests r q w never e f = disturbed p (kept test) [] [] r q w never e f
-nothing_left p test Back r q w never e f = disturbed p (kept test) [] [] r q w never e f
+nothing_left p test by r q w never e f =
+    disturbed p (kept test) _ _ r q w never (e ∙ sym (none_on Requests by)) (f ∙ sym (none_on Back by))
 
 -- the oldest frame of a queue is lost: it was one of these or not
-request_falls : (p : Type 0) (test : List ℕ → Bool) (by : Queue) (xs : List (List ℕ)) (r q : ℕ) (w : World) → (p → ⊥) → Moving p test by xs r q w
-    → Moving p test by xs r q (without_front Requests w) ⊎ Moving p test by (drop 1 xs) r q (without_front Requests w)
-request_falls p test Requests xs r q w never m = inr (disturbed p (kept test) (drop 1 xs) [] r q (without_front Requests w) never (ap (drop 1) m.requests) m.answers)
-request_falls p test Back xs r q w never m = inl (disturbed p (kept test) [] xs r q (without_front Requests w) never (ap (drop 1) m.requests) m.answers)
-
-answer_falls : (p : Type 0) (test : List ℕ → Bool) (by : Queue) (xs : List (List ℕ)) (r q : ℕ) (w : World) → (p → ⊥) → Moving p test by xs r q w
-    → Moving p test by xs r q (without_front Back w) ⊎ Moving p test by (drop 1 xs) r q (without_front Back w)
-answer_falls p test Requests xs r q w never m =
+falls_from : (queue : Queue) (p : Type 0) (test : List ℕ → Bool) (by : Queue) (xs : List (List ℕ)) (r q : ℕ) (w : World)
+    → (p → ⊥) → Moving p test by xs r q w
+    → Moving p test by xs r q (without_front queue w) ⊎ Moving p test by (drop 1 xs) r q (without_front queue w)
+falls_from Requests p test Requests xs r q w never m = inr (disturbed p (kept test) (drop 1 xs) [] r q (without_front Requests w) never (ap (drop 1) m.requests) m.answers)
+falls_from Requests p test Back xs r q w never m = inl (disturbed p (kept test) [] xs r q (without_front Requests w) never (ap (drop 1) m.requests) m.answers)
+falls_from Back p test Requests xs r q w never m =
     inl (disturbed p (kept test) xs [] r q (without_front Back w) never m.requests (elim (kept_drops test w.answers [] m.answers) [ inl e ↦ e | inr e ↦ e ]))
-answer_falls p test Back xs r q w never m = elim (kept_drops test w.answers xs m.answers) [
+falls_from Back p test Back xs r q w never m = elim (kept_drops test w.answers xs m.answers) [
   | inl e ↦ inl (disturbed p (kept test) [] xs r q (without_front Back w) never m.requests e)
   | inr e ↦ inr (disturbed p (kept test) [] (drop 1 xs) r q (without_front Back w) never m.requests e)
 ]
@@ -201,11 +205,11 @@ falls t k xs w never c (inr m) (some o h) = elim (fewer t.plan k xs never o) [
   | inr over ↦ at k (drop 1 xs) c m (nothing never over.0 over.1)
 ]
 
-request_lost : {s : Setup} {y : Knows} (t : Parts s) (w : World) → (t.plan.p → ⊥) → Alive t y w → Alive t y (without_front Requests w)
-request_lost t w never (at k xs c m h) = falls t k xs (without_front Requests w) never c (request_falls t.plan.p (may_await t.plan k) (way t.plan.forward k) xs _ _ w never m) h
-
-answer_lost : {s : Setup} {y : Knows} (t : Parts s) (w : World) → (t.plan.p → ⊥) → Alive t y w → Alive t y (without_front Back w)
-answer_lost t w never (at k xs c m h) = falls t k xs (without_front Back w) never c (answer_falls t.plan.p (may_await t.plan k) (way t.plan.forward k) xs _ _ w never m) h
+is_lost : {s : Setup} {y : Knows} (t : Parts s) (queue : Queue) (w : World) → (t.plan.p → ⊥) → Alive t y w → Alive t y (without_front queue w)
+is_lost t Requests w never (at k xs c m h) =
+    falls t k xs (without_front Requests w) never c (falls_from Requests t.plan.p (may_await t.plan k) (way t.plan.forward k) xs _ _ w never m) h
+is_lost t Back w never (at k xs c m h) =
+    falls t k xs (without_front Back w) never c (falls_from Back t.plan.p (may_await t.plan k) (way t.plan.forward k) xs _ _ w never m) h
 
 -- ---- an end took the oldest frame
 
@@ -410,8 +414,8 @@ step : {s : Setup} (t : Parts s) → Theory t → (event : WorldEvent) (w : Worl
 step {s = s} t m event w once calm (failed never h) = failed never (failed_event s event w h)
 step {s = s} t m (Delivered Requests) w once calm (alive y i h) = same_client t y w.requests (without_front Requests w) i (request_comes t m w h w.requests refl)
 step t m (Delivered Back) w once calm (alive y i h) = answer_comes t m w i h w.answers refl
-step t m (Lost Requests) w once calm (alive y i h) = alive y i (request_lost t w calm h)
-step t m (Lost Back) w once calm (alive y i h) = alive y i (answer_lost t w calm h)
+step t m (Lost Requests) w once calm (alive y i h) = alive y i (is_lost t Requests w calm h)
+step t m (Lost Back) w once calm (alive y i h) = alive y i (is_lost t Back w calm h)
 step t m (Repeated queue) w once calm (alive y i h) = absurd (false≢true (sym once))
 step t m ClientTicked w once calm (alive y i h) = client_ticks t m y w calm i h _ refl
 step t m ChannelTicked w once calm (alive y i h) = channel_ticks t m w _ calm i h
@@ -494,16 +498,8 @@ closes_at : {s : Setup} (t : Parts s) → t.plan.p → (k : Place) (xs : List (L
 closes_at t x k xs w o n h (inl is) =
     let none : xs ≡ [] = subst (λ (j : Place). OnWay t.plan j xs) is o in
     let n : At t all_over [] w = subst (λ (ys : List (List ℕ)). At t all_over ys w) none (subst (λ (j : Place). At t j xs w) is n) in
-    all_came (requests t.plan.forward n) (exact t.plan.forward n) (n.count x)
+    all_came (n.requests ∙ none_on Requests t.plan.forward) (n.exact x ∙ none_on Back t.plan.forward) (n.count x)
     (elim (subst (λ (j : Place). May t j (ends w)) is h) [ inl serving ↦ serving | inr gone ↦ absurd (gone.1 x) ])
-  where
-    requests : (by : Queue) → By t by all_over [] w → w.requests ≡ []
-    requests Requests m = m.requests
-    requests Back m = m.requests
-
-    exact : (by : Queue) → By t by all_over [] w → w.answers ≡ []
-    exact Requests m = m.exact x
-    exact Back m = m.exact x
 closes_at t x k xs w o n h (inr is) =
     let one : xs ≡ t.plan.frame ended ∷ [] = subst (λ (j : Place). OnWay t.plan j xs) is.0 o in
     let n : At t ended (t.plan.frame ended ∷ []) w = subst (λ (ys : List (List ℕ)). At t ended ys w) one (subst (λ (j : Place). At t j xs w) is.0 n) in

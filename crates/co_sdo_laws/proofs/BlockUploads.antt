@@ -32,7 +32,7 @@ use Rattle.co_sdo_laws.proofs.Channel.{Steps, serves_first, serving_ticks, servi
 use Rattle.co_sdo_laws.proofs.Blocks.{is_live, kept, cut_fails, cons≢nil, head_is, tail_is}
 use Rattle.co_sdo_laws.proofs.BlockSegments.{all_held, all_is, total, size_after, unused, segments, live_segments, in_block}
 use Rattle.co_sdo_laws.proofs.Ends.{client, channel, after_request, Serving, channel_takes, channel_refuses}
-use Rattle.co_sdo_laws.proofs.Places.{Place, asking, confirmed, starting, taking, acknowledging, finishing, ending, ended, all_over, Plan, way, may_await, OnWay, turns, Reacts, goes, gives_up, one}
+use Rattle.co_sdo_laws.proofs.Places.{Place, begins_at, asking, confirmed, starting, taking, acknowledging, finishing, ending, ended, all_over, Plan, way, may_await, OnWay, turns, Reacts, goes, gives_up, one}
 use Rattle.co_sdo_laws.proofs.Receivers.{Receiver, SenderStays, receives}
 use Rattle.co_sdo_laws.proofs.Senders.{Sender, ReceiverStays, sends_more, sends_end}
 use Rattle.co_sdo_laws.proofs.BlockTransfers.{requests≢back, Knows, waits, is_done, Parts, Channel, May, ClientReacts, reacts, finishes, Hears, GoneHears, IsWaiting, Theory}
@@ -139,15 +139,15 @@ sender : (s : Setup) (p : Type 0) → IsUpload s p reads_in_blocks → Sender (p
 sender s p m = record {
   too_many = λ a u x h under many. let read = acknowledge_read u 127 in
       channel_refuses s m.dictionary x (Some (sending s a)) (acknowledgement u) s.call.key 0x05040003 h refl
-      (record { replies = rw (read, many) refl; opens = rw (read, many) refl; sets = rw read refl });
+      (rw (read, many) refl);
   more = λ a u x h under few. let read = acknowledge_read u 127 in
       let more : eqb (a + u) (total (value s)) ≡ false = grind (arith, nat_tests) in
       channel_takes s m.dictionary x (Some (sending s a)) (acknowledgement u) (sub_block_sent (value s) (a + u) 127) _ (Some (sending s (a + u))) _ x.1 s.contents h refl
-      (burst (value s) (a + u) under) refl h.lawful (record { replies = rw (read, few, more) refl; opens = rw (read, few, more) refl; sets = rw read refl });
+      (burst (value s) (a + u) under) refl h.lawful (rw (read, few, more) refl);
   all = λ a u x h under whole few. let read = acknowledge_read u 127 in
       let all : eqb (a + u) (total (value s)) ≡ true = grind (arith, nat_tests) in
       channel_takes s m.dictionary x (Some (sending s a)) (acknowledgement u) (Response (EndSent (unused (value s))) ∷ []) _ (Some (at_end s)) _ x.1 s.contents h refl
-      refl refl h.lawful (record { replies = rw (read, few, all) refl; opens = rw (read, few, all) refl; sets = rw read refl });
+      refl refl h.lawful (rw (read, few, all) refl);
   same = λ a u x h. h;
 }
 
@@ -216,12 +216,12 @@ begins s p m x h None e =
     let read = block_upload_read s.call.key 127 0 m.key in
     let is : value_at x.1 s.call.key ≡ value s = ap (λ (c : Contents). value_at c s.call.key) h.lawful in
     goes confirmed (confirmation s ∷ []) (channel_takes s m.dictionary x None (begin s) (Response (BlockUploadInitiated s.call.key (Some (length (value s)))) ∷ []) _ (Some (begun s)) _ x.1 s.contents h refl
-    refl refl h.lawful (record { replies = rw (read, e, is) refl; opens = rw (read, e, is) refl; sets = rw read refl }))
+    refl refl h.lawful (rw (read, e, is) refl))
     (record { onward = turns refl refl refl; here = λ y. refl; there = λ y. refl; narrows = λ xs same. same }) (λ y c. c)
 begins s p m x h (Some code) e =
     let read = block_upload_read s.call.key 127 0 m.key in
     gives_up (λ y. none≢some _ code (ap (λ (c : Contents). reading_refusal s.description c s.call.key) h.lawful ∙ m.may_read y) e) refl
-    (channel_refuses s m.dictionary x None (begin s) s.call.key code h refl (record { replies = rw (read, e) refl; opens = rw (read, e) refl; sets = rw read refl }))
+    (channel_refuses s m.dictionary x None (begin s) s.call.key code h refl (rw (read, e) refl))
 
 confirmation_read : (s : Setup) (p : Type 0) → IsUpload s p reads_in_blocks → response_in (confirmation s) ≡ Some (BlockUploadInitiated s.call.key (Some (length (value s))))
 confirmation_read s p m = let small = small_value s m.dictionary in block_upload_initiated_read s.call.key (length (value s)) m.key (omega arith)
@@ -248,17 +248,9 @@ is_confirmed s p m known c false room = reacts (goes starting (start ∷ []) (re
 starts : (s : Setup) (p : Type 0) → IsUpload s p reads_in_blocks → (x : Log × Contents) → Serving s s.contents (Some (begun s)) x
     → Reacts (plan s p) (channel s) Requests (Channel (parts s p)) (Client s) starting [] x start
 starts s p m x h = goes (taking 0 0) _ (channel_takes s m.dictionary x (Some (begun s)) start (sub_block_sent (value s) 0 127) _ (Some (sending s 0)) _ x.1 s.contents h refl
-    (burst (value s) 0 (omega arith)) refl h.lawful (record { replies = rw start_read refl; opens = rw start_read refl; sets = rw start_read refl }))
+    (burst (value s) 0 (omega arith)) refl h.lawful (rw start_read refl))
     (record {
-      onward = turns refl refl (record {
-        n = 1;
-        more = size_after (value s) 0 - 1;
-        are = refl;
-        under = omega arith;
-        some = omega arith;
-        size = omega arith;
-        turn = λ y. record { whole = refl; next = refl };
-      });
+      onward = turns refl refl (begins_at (value s) 0 (omega arith) (λ y. refl));
       here = λ y. refl;
       there = λ y. refl;
       narrows = λ xs same. same;
@@ -283,7 +275,7 @@ finished s p m known c false room =
 ends : (s : Setup) (p : Type 0) → IsUpload s p reads_in_blocks → (x : Log × Contents) → Serving s s.contents (Some (at_end s)) x
     → Reacts (plan s p) (channel s) Requests (Channel (parts s p)) (Client s) ended [] x client_end
 ends s p m x h = goes all_over [] (channel_takes s m.dictionary x (Some (at_end s)) client_end [] [] None _ x.1 s.contents h refl
-    refl refl h.lawful (record { replies = rw client_end_read refl; opens = rw client_end_read refl; sets = rw client_end_read refl }))
+    refl refl h.lawful (rw client_end_read refl))
     (record { onward = turns refl refl refl; here = λ y. omega arith; there = λ y. refl; narrows = λ xs same. same }) over_too
   where
     over_too : (y : Knows) → Client s ended y → Client s all_over y
@@ -315,17 +307,17 @@ refused s p m x f frame later e long h step =
 not_acknowledged : (s : Setup) (p : Type 0) → IsUpload s p reads_in_blocks → (x : Log × Contents) (u : ℕ) (frame : List ℕ) (later : List (List ℕ)) → frame ∷ later ≡ acknowledgement u ∷ []
     → Serving s s.contents None x → (kept is_live (map answer_bytes (reply_to s.description x.1 x.0 frame)) ≡ []) × ((later ≡ []) ⊎ Serving s s.contents None (after_request s x frame))
 not_acknowledged s p m x u frame later e h = let read = acknowledge_read u 127 in
-    refused s p m x (acknowledgement u) frame later e refl h (record { replies = rw read refl; opens = rw read refl; sets = rw read refl })
+    refused s p m x (acknowledgement u) frame later e refl h (rw read refl)
 
 gone_hears : (s : Setup) (p : Type 0) → IsUpload s p reads_in_blocks → (k : Place) (x : Log × Contents) (frame : List ℕ) (later : List (List ℕ)) → OnWay (plan s p) k (frame ∷ later)
     → GoneHears (parts s p) (way Back k) k x frame later
 gone_hears s p m asking x frame later o = λ y c may h. absurd may
 gone_hears s p m starting x frame later o = λ y c may h. refused s p m x start frame later o refl h
-    (record { replies = rw start_read refl; opens = rw start_read refl; sets = rw start_read refl })
+    (rw start_read refl)
 gone_hears s p m (acknowledging a u) x frame later o = λ y c may h. not_acknowledged s p m x u frame later o.are h
 gone_hears s p m (finishing a u) x frame later o = λ y c may h. not_acknowledged s p m x u frame later o.are h
 gone_hears s p m ended x frame later o = λ y c may h. refused s p m x client_end frame later o refl h
-    (record { replies = rw client_end_read refl; opens = rw client_end_read refl; sets = rw client_end_read refl })
+    (rw client_end_read refl)
 gone_hears s p m _ x frame later o = tt
 
 closes : (s : Setup) (p : Type 0) (k : Place) (x : Log × Contents) → (p → ⊥) → Serving s s.contents None x → May (parts s p) k x

@@ -85,20 +85,19 @@ ends server t ready may whole = (call_passes server t.call ready may).ends t.eve
 -- ---- each of them
 
 -- after a transfer the next client finds what it asks for
-record GoesOn (server : Server) (t : Transfer) (later : List Transfer) : Type 0 where
+record GoesOn (server : Server) (t : Transfer) (later : List Call) : Type 0 where
   ends : Ends (initiate_at server t.call) (end_of server t)
   ready : IsReady (server_after server t)
-  may : MayCallAll server.description (end_of server t).contents (calls later)
+  may : MayCallAll server.description (end_of server t).contents later
 
-goes_on : (server : Server) (t : Transfer) (later : List Transfer) → IsReady server
-    → MayCallAll server.description server.contents (calls (t ∷ later)) → AreWhole server (t ∷ later)
-    → GoesOn server t later
+goes_on : (server : Server) (t : Transfer) (later : List Call) → IsReady server
+    → MayCallAll server.description server.contents (t.call ∷ later) → IsWhole server t → GoesOn server t later
 goes_on server t later ready may whole =
-    let e = ends server t ready may.0 whole.0 in
+    let e = ends server t ready may.0 whole in
     record {
       ends = e;
       ready = record { idle = e.over.idle; dictionary = e.over.dictionary };
-      may = subst (λ (c : Contents). MayCallAll server.description c (calls later)) (sym e.leaves) may.1;
+      may = subst (λ (c : Contents). MayCallAll server.description c later) (sym e.leaves) may.1;
     }
 
 -- what all of them come to
@@ -112,7 +111,7 @@ pub all_end : (server : Server) (transfers : List Transfer) → IsReady server
     → MayCallAll server.description server.contents (calls transfers) → AreWhole server transfers → AllEnd server transfers
 all_end server [] ready may whole = record { done = refl; contents = refl; values = refl; ready = ready }
 all_end server (t ∷ later) ready may whole =
-    let g = goes_on server t later ready may whole in
+    let g = goes_on server t (calls later) ready may whole.0 in
     let is_done = g.ends.over.done in
     let rest = all_end (server_after server t) later g.ready g.may whole.1 in
     let others_done = rest.done in
@@ -140,11 +139,9 @@ all_whole server [] ready may = tt
 all_whole server (call ∷ later) ready may =
     let t = in_rounds server.contents call in
     let whole = whole_in_rounds server call ready may.0 in
-    let e = ends server t ready may.0 whole in
-    let next : IsReady (server_after server t) = record { idle = e.over.idle; dictionary = e.over.dictionary } in
-    let may_next = subst (λ (c : Contents). MayCallAll server.description c later) (sym e.leaves) may.1 in
-    let others = all_whole (server_after server t) later next may_next in
-    (whole, subst (λ (c : Contents). AreWhole (server_after server t) (all_in_rounds c later)) e.leaves others)
+    let g = goes_on server t later ready may whole in
+    let others = all_whole (server_after server t) later g.ready g.may in
+    (whole, subst (λ (c : Contents). AreWhole (server_after server t) (all_in_rounds c later)) g.ends.leaves others)
 
 same_calls : (contents : Contents) (jobs : List Call) → calls (all_in_rounds contents jobs) ≡ jobs
 same_calls contents [] = refl

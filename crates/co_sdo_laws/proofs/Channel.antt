@@ -146,11 +146,14 @@ serving_ends s Lawful current log contents h = record { serves = serves_first s.
 
 -- ---- one request
 
--- what a request makes of what is open
-pub record Steps (d : Description) (contents : Contents) (current : Option OpenTransfer) (frame : List ℕ) (answers : List Answer) (next : Option OpenTransfer) (after : Contents) : Type 0 where
-  pub replies : answers_to d contents current frame ≡ answers
-  pub opens : opened_next d contents current frame ≡ next
-  pub sets : contents_with contents (set_next d contents current frame) ≡ after
+-- what a request makes of what is open: its answers, what is open then, and the contents
+abbrev pub Steps : Description → Contents → Option OpenTransfer → List ℕ
+    → List Answer → Option OpenTransfer → Contents → Type 0
+Steps d contents current frame answers next after = ◌≡◌ {A = List Answer × Option OpenTransfer × Contents} (
+  answers_to d contents current frame,
+  opened_next d contents current frame,
+  contents_with contents (set_next d contents current frame),
+) (answers, next, after)
 
 -- what a request makes of a channel
 pub record IsServed (s : Setup) (log : Log) (contents : Contents) (frame : List ℕ) (answers : List Answer) (next : Option OpenTransfer) (after : Contents) : Type 0 where
@@ -164,9 +167,9 @@ pub is_served : (s : Setup) (log : Log) (contents : Contents) (current : Option 
 is_served s log contents current frame answers next after h lawful long step =
     let one = served s.description contents log current frame h lawful long in
     record {
-      replies = one.replies ∙ step.replies;
-      serves = subst (Serves s.description.rows (Exchanged (exchange frame contents (reply_to s.description contents log frame)) ∷ log)) step.opens one.next;
-      sets = ap (contents_with contents) one.sets ∙ step.sets;
+      replies = one.replies ∙ ap (λ x. x.0) step;
+      serves = moved _ _ _ _ (ap (λ x. x.1) step) one.next;
+      sets = ap (contents_with contents) one.sets ∙ ap (λ x. x.2) step;
     }
 
 pub takes_it : (s : Setup) (log : Log) (contents : Contents) (frame : List ℕ) (answer : Answer) (next : Option OpenTransfer) (after : Contents) (Next : Log → Contents → Type 0)

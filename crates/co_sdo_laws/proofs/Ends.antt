@@ -1,4 +1,5 @@
--- The two ends of a transfer, the client and the channel, told alike: what an end knows, and what it makes of a frame that comes.
+-- The two ends of a transfer, the client and the channel, as one notion: what an end knows, and
+-- what it makes of a frame that comes.
 use Rattle.std.proofs.Common.{◌≡◌, ℕ, true, List, ◌∷◌, length, map, Option, Some, None, ap, ◌∙◌}
 use Rattle.co_value.specs.declared.key.Key.{Key}
 use Rattle.co_sdo_client.specs.Calls.{Message, message_bytes, Answers, with_answer}

@@ -99,80 +99,59 @@ r = Delivered Requests
 abbrev pub a : WorldEvent
 a = Delivered Answers
 
--- ---- ten bytes to the string, in segments
+-- ---- worked transfers
 
+-- a row: a client's setup, its events, the first one first, and what they come to
+abbrev pub after : Setup → List WorldEvent → Report → Setup × List WorldEvent × Report
+after s events expected = (s, events, expected)
+
+abbrev pub AllShow : List (Setup × List WorldEvent × Report) → Type 0
+AllShow rows = map (λ row. report row.0 row.1) rows ≡ map (λ row. row.2) rows
+
+-- ten bytes to the string, in segments
 abbrev pub ten : Setup
 ten = setup string_key Segmented (Download (codes "0123456789") true)
 
-ten_go : map (report ten) ([] ∷ (r ∷ []) ∷ (r ∷ a ∷ []) ∷ (r ∷ a ∷ r ∷ a ∷ r ∷ []) ∷ (r ∷ a ∷ r ∷ a ∷ r ∷ a ∷ []) ∷ [])
-    ≡ waits 1 (hex (codes "210120000A000000") ∷ []) [] (codes "ABCDEFGHI")
-    ∷ waits 1 [] (hex (codes "6001200000000000") ∷ []) (codes "ABCDEFGHI")
-    ∷ waits 2 (hex (codes "0030313233343536") ∷ []) [] (codes "ABCDEFGHI")
-    ∷ waits 3 [] (hex (codes "3000000000000000") ∷ []) (codes "0123456789")
-    ∷ is_done 3 [] [] (codes "0123456789") []
-    ∷ []
-unfolding request_row_in response_row_in reading_refusal initiate_refusal completion_refusal has_object
-ten_go = refl
-
--- nothing is on its way in the queue: nothing happens
-ten_waits : report ten (a ∷ r ∷ r ∷ a ∷ []) ≡ report ten (r ∷ a ∷ [])
-unfolding request_row_in response_row_in reading_refusal initiate_refusal completion_refusal has_object
-ten_waits = refl
-
--- the first segment is lost
-ten_loses : report ten (r ∷ a ∷ Lost Requests ∷ r ∷ []) ≡ waits 2 [] [] (codes "ABCDEFGHI")
-unfolding request_row_in response_row_in reading_refusal initiate_refusal completion_refusal has_object
-ten_loses = refl
-
--- the confirmation of its begin comes twice: the second isn't awaited
-ten_is_repeated : report ten (r ∷ Repeated Answers ∷ a ∷ [])
-    ≡ has_failed 0x05040001 3 (hex (codes "0030313233343536") ∷ hex (codes "8001200001000405") ∷ []) [] (codes "ABCDEFGHI")
-unfolding request_row_in response_row_in reading_refusal initiate_refusal completion_refusal has_object
-ten_is_repeated = refl
-
--- the first segment comes twice: the second has the wrong toggle
-ten_repeats : report ten (r ∷ a ∷ Repeated Requests ∷ r ∷ [])
-    ≡ waits 2 [] (hex (codes "2000000000000000") ∷ hex (codes "8001200000000305") ∷ []) (codes "ABCDEFGHI")
-unfolding request_row_in response_row_in reading_refusal initiate_refusal completion_refusal has_object
-ten_repeats = refl
-
--- the channel's time is over after two of its ticks, the client's after three of its own
-ten_at_the_channel : report ten (ChannelTicked ∷ ChannelTicked ∷ r ∷ ChannelTicked ∷ ChannelTicked ∷ [])
-    ≡ waits 1 [] (hex (codes "6001200000000000") ∷ hex (codes "8001200000000405") ∷ []) (codes "ABCDEFGHI")
-unfolding request_row_in response_row_in reading_refusal initiate_refusal completion_refusal has_object
-ten_at_the_channel = refl
-
-ten_at_the_client : report ten (r ∷ ClientTicked ∷ ClientTicked ∷ ClientTicked ∷ [])
-    ≡ has_failed 0x05040000 2 (hex (codes "8001200000000405") ∷ []) (hex (codes "6001200000000000") ∷ []) (codes "ABCDEFGHI")
-unfolding request_row_in response_row_in reading_refusal initiate_refusal completion_refusal has_object
-ten_at_the_client = refl
-
--- ---- the nine bytes of the string, read in segments
-
-nine_are_done : report (setup string_key Segmented (Upload 9)) (r ∷ a ∷ r ∷ a ∷ r ∷ a ∷ [])
-    ≡ is_done 3 [] [] (codes "ABCDEFGHI") (codes "ABCDEFGHI")
-unfolding request_row_in response_row_in reading_refusal initiate_refusal completion_refusal has_object
-nine_are_done = refl
-
--- ---- fourteen bytes to the domain, in blocks
-
+-- fourteen bytes to the domain, in blocks
 abbrev pub fourteen : Setup
 fourteen = setup domain_key Block (Download (codes "0123456789ABCD") true)
 
-fourteen_go : map (report fourteen) ((r ∷ a ∷ []) ∷ (r ∷ a ∷ r ∷ r ∷ []) ∷ (r ∷ a ∷ r ∷ r ∷ a ∷ r ∷ a ∷ []) ∷ [])
-    ≡ waits 3 (hex (codes "0130313233343536") ∷ hex (codes "8237383941424344") ∷ []) [] []
-    ∷ waits 3 [] (hex (codes "A2027F0000000000") ∷ []) []
-    ∷ is_done 4 [] [] (codes "0123456789ABCD") []
-    ∷ []
-unfolding request_row_in response_row_in reading_refusal initiate_refusal completion_refusal has_object
-fourteen_go = refl
+-- the nine bytes of the string, in segments and in blocks
+abbrev pub nine : Setup
+nine = setup string_key Segmented (Upload 9)
 
--- ---- and read in blocks
+abbrev pub nine_in_blocks : Setup
+nine_in_blocks = setup string_key Block (Upload 9)
 
-nine_in_blocks : report (setup string_key Block (Upload 9)) (r ∷ a ∷ r ∷ a ∷ a ∷ r ∷ a ∷ r ∷ [])
-    ≡ is_done 4 [] [] (codes "ABCDEFGHI") (codes "ABCDEFGHI")
+worked : AllShow (
+    after ten [] (waits 1 (hex (codes "210120000A000000") ∷ []) [] (codes "ABCDEFGHI"))
+    ∷ after ten (r ∷ []) (waits 1 [] (hex (codes "6001200000000000") ∷ []) (codes "ABCDEFGHI"))
+    ∷ after ten (r ∷ a ∷ []) (waits 2 (hex (codes "0030313233343536") ∷ []) [] (codes "ABCDEFGHI"))
+    -- nothing is on its way in the queue: nothing happens
+    ∷ after ten (a ∷ r ∷ r ∷ a ∷ []) (waits 2 (hex (codes "0030313233343536") ∷ []) [] (codes "ABCDEFGHI"))
+    ∷ after ten (r ∷ a ∷ r ∷ a ∷ r ∷ []) (waits 3 [] (hex (codes "3000000000000000") ∷ []) (codes "0123456789"))
+    ∷ after ten (r ∷ a ∷ r ∷ a ∷ r ∷ a ∷ []) (is_done 3 [] [] (codes "0123456789") [])
+    -- the first segment is lost
+    ∷ after ten (r ∷ a ∷ Lost Requests ∷ r ∷ []) (waits 2 [] [] (codes "ABCDEFGHI"))
+    -- the confirmation of its begin comes twice: the second isn't awaited
+    ∷ after ten (r ∷ Repeated Answers ∷ a ∷ [])
+    (has_failed 0x05040001 3 (hex (codes "0030313233343536") ∷ hex (codes "8001200001000405") ∷ []) [] (codes "ABCDEFGHI"))
+    -- the first segment comes twice: the second has the wrong toggle
+    ∷ after ten (r ∷ a ∷ Repeated Requests ∷ r ∷ [])
+    (waits 2 [] (hex (codes "2000000000000000") ∷ hex (codes "8001200000000305") ∷ []) (codes "ABCDEFGHI"))
+    -- the channel's time is over after two of its ticks, the client's after three of its own
+    ∷ after ten (ChannelTicked ∷ ChannelTicked ∷ r ∷ ChannelTicked ∷ ChannelTicked ∷ [])
+    (waits 1 [] (hex (codes "6001200000000000") ∷ hex (codes "8001200000000405") ∷ []) (codes "ABCDEFGHI"))
+    ∷ after ten (r ∷ ClientTicked ∷ ClientTicked ∷ ClientTicked ∷ [])
+    (has_failed 0x05040000 2 (hex (codes "8001200000000405") ∷ []) (hex (codes "6001200000000000") ∷ []) (codes "ABCDEFGHI"))
+    ∷ after nine (r ∷ a ∷ r ∷ a ∷ r ∷ a ∷ []) (is_done 3 [] [] (codes "ABCDEFGHI") (codes "ABCDEFGHI"))
+    ∷ after fourteen (r ∷ a ∷ []) (waits 3 (hex (codes "0130313233343536") ∷ hex (codes "8237383941424344") ∷ []) [] [])
+    ∷ after fourteen (r ∷ a ∷ r ∷ r ∷ []) (waits 3 [] (hex (codes "A2027F0000000000") ∷ []) [])
+    ∷ after fourteen (r ∷ a ∷ r ∷ r ∷ a ∷ r ∷ a ∷ []) (is_done 4 [] [] (codes "0123456789ABCD") [])
+    ∷ after nine_in_blocks (r ∷ a ∷ r ∷ a ∷ a ∷ r ∷ a ∷ r ∷ []) (is_done 4 [] [] (codes "ABCDEFGHI") (codes "ABCDEFGHI"))
+    ∷ [])
 unfolding request_row_in response_row_in reading_refusal initiate_refusal completion_refusal has_object
-nine_in_blocks = refl
+worked = refl
 
 -- ---- how many frames there are
 
@@ -180,60 +159,38 @@ nine_in_blocks = refl
 some_requests : map upload_requests (0 ∷ 1 ∷ 4 ∷ 5 ∷ 7 ∷ 8 ∷ []) ≡ 2 ∷ 1 ∷ 1 ∷ 2 ∷ 2 ∷ 3 ∷ []
 some_requests = refl
 
+-- of a block download, the frames of the client, of the channel, and of both; then of a block upload
+abbrev counts : ℕ → List ℕ
+counts n = block_download_requests n ∷ block_download_answers n ∷ block_frames n
+    ∷ block_upload_requests n ∷ block_upload_answers n ∷ block_upload_frames n ∷ []
+
 -- one sub-block up to 889 bytes, then two
-some_blocks : map block_frames (0 ∷ 7 ∷ 14 ∷ 889 ∷ 890 ∷ []) ≡ 6 ∷ 6 ∷ 7 ∷ 132 ∷ 134 ∷ []
-some_blocks = refl
+some_counts : map counts (0 ∷ 1 ∷ 7 ∷ 8 ∷ 889 ∷ 890 ∷ [])
+    ≡ (3 ∷ 3 ∷ 6 ∷ 4 ∷ 3 ∷ 7 ∷ []) ∷ (3 ∷ 3 ∷ 6 ∷ 4 ∷ 3 ∷ 7 ∷ []) ∷ (3 ∷ 3 ∷ 6 ∷ 4 ∷ 3 ∷ 7 ∷ [])
+    ∷ (4 ∷ 3 ∷ 7 ∷ 4 ∷ 4 ∷ 8 ∷ []) ∷ (129 ∷ 3 ∷ 132 ∷ 4 ∷ 129 ∷ 133 ∷ [])
+    ∷ (130 ∷ 4 ∷ 134 ∷ 5 ∷ 130 ∷ 135 ∷ []) ∷ []
+some_counts = refl
 
--- at the client of a block download, and at its server
-some_download_requests : map block_download_requests (0 ∷ 1 ∷ 7 ∷ 8 ∷ 889 ∷ 890 ∷ []) ≡ 3 ∷ 3 ∷ 3 ∷ 4 ∷ 129 ∷ 130 ∷ []
-some_download_requests = refl
+-- a plain download is expedited from 1 to 4 bytes, and otherwise in segments; a segmented one is always
+expedited : map (λ bytes. is_expedited_download Plain (Download bytes false))
+    ([] ∷ codes "a" ∷ codes "abcd" ∷ codes "abcde" ∷ []) ≡ false ∷ true ∷ true ∷ false ∷ []
+expedited = refl
 
-some_download_answers : map block_download_answers (0 ∷ 1 ∷ 7 ∷ 8 ∷ 889 ∷ 890 ∷ []) ≡ 3 ∷ 3 ∷ 3 ∷ 3 ∷ 3 ∷ 4 ∷ []
-some_download_answers = refl
-
--- at the client of a block upload, and at its server
-some_upload_requests : map block_upload_requests (0 ∷ 1 ∷ 7 ∷ 8 ∷ 889 ∷ 890 ∷ []) ≡ 4 ∷ 4 ∷ 4 ∷ 4 ∷ 4 ∷ 5 ∷ []
-some_upload_requests = refl
-
-some_upload_answers : map block_upload_answers (0 ∷ 1 ∷ 7 ∷ 8 ∷ 889 ∷ 890 ∷ []) ≡ 3 ∷ 3 ∷ 3 ∷ 4 ∷ 129 ∷ 130 ∷ []
-some_upload_answers = refl
-
-some_uploads_in_blocks : map block_upload_frames (9 ∷ 890 ∷ []) ≡ 8 ∷ 135 ∷ []
-some_uploads_in_blocks = refl
-
--- a plain download is expedited from 1 to 4 bytes
-plain_download : map (λ bytes. is_expedited_download Plain (Download bytes false)) ([] ∷ codes "a" ∷ codes "abcd" ∷ codes "abcde" ∷ []) ≡ false ∷ true ∷ true ∷ false ∷ []
-plain_download = refl
-
-in_segments : map (λ bytes. is_segmented_download Plain (Download bytes true)) ([] ∷ codes "a" ∷ codes "abcd" ∷ codes "abcde" ∷ []) ≡ true ∷ false ∷ false ∷ true ∷ []
+in_segments : map (λ mode. map (λ bytes. is_segmented_download mode (Download bytes true))
+    ([] ∷ codes "a" ∷ codes "abcd" ∷ codes "abcde" ∷ [])) (Plain ∷ Segmented ∷ [])
+    ≡ (true ∷ false ∷ false ∷ true ∷ []) ∷ (true ∷ true ∷ true ∷ true ∷ []) ∷ []
 in_segments = refl
 
-always_in_segments : is_segmented_download Segmented (Download (codes "a") true) ≡ true
-always_in_segments = refl
-
--- six rounds are more than enough for the three requests of ten bytes
-ten_in_rounds : outcome ten.call (world_after ten (rounds_after 6 [])).events ≡ Done
+-- three rounds are enough for the three requests of ten bytes
+ten_in_rounds : map (λ n. arrived (world_after ten (rounds_after n []))) (0 ∷ 1 ∷ 2 ∷ 3 ∷ 4 ∷ []) ≡ 0 ∷ 2 ∷ 4 ∷ 6 ∷ 6 ∷ []
 unfolding request_row_in response_row_in reading_refusal initiate_refusal completion_refusal has_object
 ten_in_rounds = refl
 
-ten_arrived : map (λ n. arrived (world_after ten (rounds_after n []))) (0 ∷ 1 ∷ 2 ∷ 3 ∷ 4 ∷ []) ≡ 0 ∷ 2 ∷ 4 ∷ 6 ∷ 6 ∷ []
+-- and of fourteen bytes in blocks; how many the channel sends then, also of nine bytes, and with an
+-- abort at the end of its time
+some_frames : arrived (world_after fourteen (rounds_after 7 []))
+    ∷ map (λ w. answers_sent w.log) (world_after fourteen (rounds_after 7 []) ∷ world_after nine_in_blocks (rounds_after 8 [])
+    ∷ world_after ten (ChannelTicked ∷ ChannelTicked ∷ r ∷ []) ∷ [])
+    ≡ block_frames 14 ∷ block_download_answers 14 ∷ block_upload_answers 9 ∷ 2 ∷ []
 unfolding request_row_in response_row_in reading_refusal initiate_refusal completion_refusal has_object
-ten_arrived = refl
-
-fourteen_arrived : arrived (world_after fourteen (rounds_after 7 [])) ≡ block_frames 14
-unfolding request_row_in response_row_in reading_refusal initiate_refusal completion_refusal has_object
-fourteen_arrived = refl
-
--- in which the channel sends three
-fourteen_sent : answers_sent (world_after fourteen (rounds_after 7 [])).log ≡ block_download_answers 14
-unfolding request_row_in response_row_in reading_refusal initiate_refusal completion_refusal has_object
-fourteen_sent = refl
-
--- an abort at the end of the channel's time counts too
-timed_out_sent : answers_sent (world_after ten (ChannelTicked ∷ ChannelTicked ∷ r ∷ [])).log ≡ 2
-unfolding request_row_in response_row_in reading_refusal initiate_refusal completion_refusal has_object
-timed_out_sent = refl
-
-nine_sent : answers_sent (world_after (setup string_key Block (Upload 9)) (rounds_after 8 [])).log ≡ block_upload_answers 9
-unfolding request_row_in response_row_in reading_refusal initiate_refusal completion_refusal has_object
-nine_sent = refl
+some_frames = refl

@@ -103,13 +103,13 @@ segment_long toggle items last h = let n = padded_length items 7 h in omega (ari
 -- ---- expedited transfers
 
 -- the command byte of expedited data with m unused bytes
-abbrev expedited_command : ℕ → ℕ → ℕ
+abbrev pub expedited_command : ℕ → ℕ → ℕ
 expedited_command top m = 32 * top + (4 * m + 3)
 
-expedited_top : (top m : ℕ) → m ≤ 3 → expedited_command top m / 32 ≡ top
+pub expedited_top : (top m : ℕ) → m ≤ 7 → expedited_command top m / 32 ≡ top
 expedited_top top m h = omega arith
 
-expedited_set : (top m : ℕ) → m ≤ 3 → (expedited_command top m / 2 % 2 == 1) ≡ true
+pub expedited_set : (top m : ℕ) → m ≤ 7 → (expedited_command top m / 2 % 2 == 1) ≡ true
 expedited_set top m h = grind (arith, nat_tests)
 
 expedited_indicated : (top m : ℕ) → m ≤ 3 → (expedited_command top m / 1 % 2 == 1) ≡ true
@@ -133,7 +133,7 @@ pub expedited_read : (key : Key) (items : List ℕ) → key.index < 65536 → 1 
 expedited_read key items k some few =
     let m : 4 - length items ≤ 3 = omega arith in
     request_expedited (request_bytes (DownloadExpedited key (Indicated (record { items = items })))) key items
-    (let n = padded_length items 4 few in omega (arith, n)) (expedited_top 1 (4 - length items) m) (expedited_set 1 (4 - length items) m) (expedited_indicated 1 (4 - length items) m)
+    (let n = padded_length items 4 few in omega (arith, n)) (expedited_top 1 (4 - length items) (omega arith)) (expedited_set 1 (4 - length items) (omega arith)) (expedited_indicated 1 (4 - length items) m)
     (rw (two_bytes key.index k) refl) (rw (expedited_unused 1 (4 - length items) m) (padded_taken items 4 few))
 
 pub expedited_long : (key : Key) (items : List ℕ) → length items ≤ 4 → length (request_bytes (DownloadExpedited key (Indicated (record { items = items })))) ≡ 8
@@ -144,7 +144,7 @@ pub expedited_sent_read : (key : Key) (items : List ℕ) → key.index < 65536 �
 expedited_sent_read key items k some few =
     let m : 4 - length items ≤ 3 = omega arith in
     response_expedited (response_bytes (UploadExpedited key (Indicated (record { items = items })))) key items
-    (let n = padded_length items 4 few in omega (arith, n)) (expedited_top 2 (4 - length items) m) (expedited_set 2 (4 - length items) m) (expedited_indicated 2 (4 - length items) m)
+    (let n = padded_length items 4 few in omega (arith, n)) (expedited_top 2 (4 - length items) (omega arith)) (expedited_set 2 (4 - length items) (omega arith)) (expedited_indicated 2 (4 - length items) m)
     (rw (two_bytes key.index k) refl) (rw (expedited_unused 2 (4 - length items) m) (padded_taken items 4 few))
 
 -- ---- uploads

@@ -1,7 +1,7 @@
 -- A channel that gave a block download up, or never heard of it, and hears its segments as requests: it answers nothing that the
 -- client awaits, and none of them but the last, with c, brings it back into a block transfer.
 use Rattle.std.proofs.Common.{◌≡◌, ℕ, ◌+◌, ◌-◌, ◌*◌, ◌/◌, ◌<◌, ◌≤◌, Bool, true, false, cond, not, List, [], ◌∷◌, length, map, Option, Some, None, refl, sym, ap, ◌∙◌, arith, eqb, subst}
-use Rattle.std.specs.Prelude.{◌%◌, ◌||◌, ◌&&◌, if◌then◌else◌, slice_index, nat_le}
+use Rattle.std.specs.Prelude.{◌||◌, ◌&&◌, if◌then◌else◌, slice_index, nat_le}
 use Rattle.std.specs.List.{list_any}
 use Rattle.std.specs.Option.{option_map_or}
 use Rattle.std.proofs.lemmas.Bool.{false≢true}
@@ -31,7 +31,7 @@ use Rattle.co_sdo.specs.Opened.{OpenTransfer, opened, opened_by, opened_after}
 use Rattle.co_sdo.specs.Replies.{aborted, unless_refused, toggle_refusal, block_size_refusal, segment_refusal, is_in_sub_block, request_answers, answers_to, reply_to}
 use Rattle.co_sdo.proofs.Initiations.{exchange}
 use Rattle.co_sdo.proofs.Logs.{after_initiates, after_open, after_nothing}
-use Rattle.co_sdo_laws.proofs.Frames.{command_of}
+use Rattle.co_sdo_laws.proofs.Frames.{command_of, expedited_top, expedited_set}
 use Rattle.co_sdo_laws.proofs.Channel.{tick_opens, ended}
 use Rattle.co_sdo_laws.proofs.Blocks.{kept}
 
@@ -70,10 +70,8 @@ segment_other toggle last part = rw (by_row (response_bytes (SegmentSent toggle 
 expedited_row : (key : Key) (part : ArrayVec ℕ) → is_awaited (response_row_in (response_bytes (UploadExpedited key (Indicated part)))) ≡ false
 unfolding response_row_in
 expedited_row key part =
-    let m : 4 - length part.items ≤ 4 = omega arith in
-    let top : (32 * 2 + (4 * (4 - length part.items) + 3)) / 32 ≡ 2 = omega arith in
-    let bit : eqb ((32 * 2 + (4 * (4 - length part.items) + 3)) / 2 % 2) 1 ≡ true = grind (arith, nat_tests) in
-    rw (top, bit) refl
+    let m : 4 - length part.items ≤ 7 = omega arith in
+    rw (expedited_top 2 (4 - length part.items) m, expedited_set 2 (4 - length part.items) m) refl
 
 expedited_other : (key : Key) (part : ArrayVec ℕ) → AreOthers (Response (UploadExpedited key (Indicated part)) ∷ [])
 expedited_other key part = rw (by_row (response_bytes (UploadExpedited key (Indicated part))) (expedited_row key part)) refl

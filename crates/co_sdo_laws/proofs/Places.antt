@@ -1,6 +1,6 @@
 -- How far a transfer in blocks is, and what is on its way then. One end sends the segments, the other takes them: the client and the
 -- channel in a download, the channel and the client in an upload.
-use Rattle.std.proofs.Common.{◌≡◌, ℕ, zero, suc, ◌+◌, ◌-◌, ◌/◌, ◌<◌, ◌≤◌, Bool, List, [], ◌∷◌, drop, refl, sym, ap, arith, subst, ◌⊎◌, inl, inr}
+use Rattle.std.proofs.Common.{◌≡◌, ℕ, zero, suc, ◌+◌, ◌-◌, ◌/◌, ◌%◌, ◌<◌, ◌≤◌, Bool, List, [], ◌∷◌, drop, refl, sym, ap, arith, subst, ◌⊎◌, inl, inr}
 use Rattle.co_sdo_laws.specs.World.{Queue, Requests, Answers as Back}
 use Rattle.co_sdo_laws.proofs.Blocks.{kept, is_live, head_is, tail_is}
 use Rattle.co_sdo_laws.proofs.BlockSegments.{total, size_after, blocks, segments, InTurn, IsWhole}
@@ -73,6 +73,19 @@ pub record InSubBlock (p : Type 0) (v : List ℕ) (a t : ℕ) (frames : List (Li
   pub some : 1 ≤ n
   pub size : n + more ≡ size_after v a
   pub turn : p → InTurn a t n
+
+-- all of a sub-block
+pub begins_at : {p : Type 0} (v : List ℕ) (a : ℕ) → a < total v → (p → a % 127 ≡ 0)
+    → InSubBlock p v a 0 (segments v a 1 (suc (size_after v a - 1)))
+begins_at v a under whole = record {
+  n = 1;
+  more = size_after v a - 1;
+  are = refl;
+  under = omega arith;
+  some = omega arith;
+  size = omega arith;
+  turn = λ y. record { whole = whole y; next = refl };
+}
 
 pub record OthersLeft (p : Type 0) (v : List ℕ) (a u : ℕ) (frame : List ℕ) (frames : List (List ℕ)) : Type 0 where
   pub are : frames ≡ frame ∷ []
@@ -177,25 +190,13 @@ pub data Reacts {Other : Type 0} (d : Plan) (e : End) (queue : Queue) (At : Plac
   gives_up : (d.p → ⊥) → later ≡ [] → e.GivesUp x frame → Reacts d e queue At Peer k later x frame
 
 -- what comes to the receiver, and to the sender
-pub at_receiver : (d : Plan) (forward : Queue) (k next : Place) → suc (to_receiver d k) ≡ to_receiver d next
-    → suc (came_by forward forward d k) ≡ came_by forward forward d next
-at_receiver d Requests k next e = e
-at_receiver d Back k next e = e
+pub by_receiver : (forward : Queue) → came_by forward forward ≡ to_receiver
+by_receiver Requests = refl
+by_receiver Back = refl
 
-pub from_receiver : (d : Plan) (forward : Queue) (k next : Place) → to_receiver d k ≡ to_receiver d next
-    → came_by forward (opposite (opposite forward)) d k ≡ came_by forward (opposite (opposite forward)) d next
-from_receiver d Requests k next e = e
-from_receiver d Back k next e = e
-
-pub at_sender : (d : Plan) (forward : Queue) (k next : Place) → suc (to_sender d k) ≡ to_sender d next
-    → suc (came_by forward (opposite forward) d k) ≡ came_by forward (opposite forward) d next
-at_sender d Requests k next e = e
-at_sender d Back k next e = e
-
-pub from_sender : (d : Plan) (forward : Queue) (k next : Place) → to_sender d k ≡ to_sender d next
-    → came_by forward (opposite forward) d k ≡ came_by forward (opposite forward) d next
-from_sender d Requests k next e = e
-from_sender d Back k next e = e
+pub by_sender : (forward : Queue) → came_by forward (opposite forward) ≡ to_sender
+by_sender Requests = refl
+by_sender Back = refl
 
 pub twice : (forward : Queue) → forward ≡ opposite (opposite forward)
 twice Requests = refl

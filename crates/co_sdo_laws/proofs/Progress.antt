@@ -20,15 +20,9 @@ pub no_front : (s : Setup) (queue : Queue) (w : World) → on_way queue w ≡ []
 no_front s Requests w e = rw e refl
 no_front s Answers w e = rw e refl
 
-as_many : (w : World) → arrived w ≤ arrived w
-as_many w = omega arith
-
-at_most : {a b c : ℕ} → a ≤ b → b ≤ c → a ≤ c
-at_most p q = omega arith
-
 keeps : (s : Setup) (queue : Queue) (w : World) (xs : List (List ℕ)) → on_way queue w ≡ xs
     → arrived w ≤ arrived (after_event s (Delivered queue) w)
-keeps s queue w [] e = subst (λ (x : World). arrived w ≤ arrived x) (no_front s queue w e) (as_many w)
+keeps s queue w [] e = subst (λ (x : World). arrived w ≤ arrived x) (no_front s queue w e) (omega arith)
 keeps s queue w (frame ∷ later) e = let one = more s queue w frame later e in omega arith
 
 abbrev a_round : Setup → World → World
@@ -36,14 +30,16 @@ a_round s w = after_event s (Delivered Answers) (after_event s (Delivered Reques
 
 round_keeps : (s : Setup) (w : World) → arrived w ≤ arrived (a_round s w)
 round_keeps s w =
-    let first : arrived w ≤ arrived (after_event s (Delivered Requests) w) = keeps s Requests w w.requests refl in
-    let second : arrived (after_event s (Delivered Requests) w) ≤ arrived (a_round s w) = keeps s Answers (after_event s (Delivered Requests) w) _ refl in
-    at_most first second
+    let first = keeps s Requests w w.requests refl in
+    let second = keeps s Answers (after_event s (Delivered Requests) w) _ refl in
+    omega arith
 
 -- where a frame is on its way, a round brings one
 round_brings : (s : Setup) (w : World) (xs ys : List (List ℕ)) → w.requests ≡ xs → w.answers ≡ ys → 1 ≤ length xs + length ys → arrived w + 1 ≤ arrived (a_round s w)
 round_brings s w (frame ∷ later) ys e f some =
-    at_most (more s Requests w frame later e) (keeps s Answers (after_event s (Delivered Requests) w) _ refl)
+    let first = more s Requests w frame later e in
+    let second = keeps s Answers (after_event s (Delivered Requests) w) _ refl in
+    omega arith
 round_brings s w [] (frame ∷ later) e f some = subst (λ (x : World). arrived w + 1 ≤ arrived (after_event s (Delivered Answers) x)) (no_front s Requests w e) (more s Answers w frame later f)
 round_brings s w [] [] e f some = absurd (omega arith)
 
@@ -54,16 +50,10 @@ rounds_calm s (suc n) events calm = (tt, (tt, rounds_calm s n events calm))
 brought : (s : Setup) (frames n : ℕ) (w : World) → min frames n ≤ arrived w → (less : Bool) → nat_lt (arrived w) frames ≡ less → (arrived w < frames → 1 ≤ on_their_way w) → min frames (suc n) ≤ arrived (a_round s w)
 brought s frames n w so_far true l moves =
     let under : arrived w < frames = grind (arith, nat_tests) in
-    reach (round_brings s w w.requests w.answers refl refl (moves under)) so_far
-  where
-    reach : {a b : ℕ} → a + 1 ≤ b → min frames n ≤ a → min frames (suc n) ≤ b
-    reach p q = omega arith
+    let more = round_brings s w w.requests w.answers refl refl (moves under) in omega arith
 brought s frames n w so_far false l moves =
     let over : frames ≤ arrived w = grind (arith, nat_tests) in
-    reach (round_keeps s w) over
-  where
-    reach : {a b : ℕ} → a ≤ b → frames ≤ a → min frames (suc n) ≤ b
-    reach p q = omega arith
+    let kept = round_keeps s w in omega arith
 
 all_brought : (s : Setup) (frames n : ℕ) (events : List WorldEvent) → AreCalm s events → ((later : List WorldEvent) → AreCalm s later → arrived (world_after s later) < frames → 1 ≤ on_their_way (world_after s later))
     → min frames n ≤ arrived (world_after s (rounds_after n events))
@@ -74,10 +64,7 @@ all_brought s frames (suc n) events calm moves =
 -- as many rounds as there are frames bring them all
 pub all_arrive : (s : Setup) (frames : ℕ) (events : List WorldEvent) → AreCalm s events → ((later : List WorldEvent) → AreCalm s later → arrived (world_after s later) < frames → 1 ≤ on_their_way (world_after s later))
     → frames ≤ arrived (world_after s (rounds_after frames events))
-all_arrive s frames events calm moves = whole (all_brought s frames frames events calm moves)
-  where
-    whole : {a : ℕ} → min frames frames ≤ a → frames ≤ a
-    whole p = omega arith
+all_arrive s frames events calm moves = let all = all_brought s frames frames events calm moves in omega arith
 
 -- ---- where no frame is lost or repeated, each that an end has sent has arrived or is on its way
 

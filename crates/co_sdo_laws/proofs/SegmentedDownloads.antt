@@ -1,6 +1,6 @@
 -- A download in segments or at once, whatever the dictionary permits: what its client and its channel make of each frame that may
 -- come.
-use Rattle.std.proofs.Common.{◌≡◌, ℕ, zero, suc, ◌+◌, ◌*◌, ◌<◌, ◌≤◌, Bool, true, false, cond, not, List, [], ◌∷◌, ◌++◌, length, map, take, Option, Some, None, refl, sym, ap, ◌∙◌, arith, length-take, inl}
+use Rattle.std.proofs.Common.{◌≡◌, ℕ, zero, suc, ◌+◌, ◌*◌, ◌<◌, ◌≤◌, Bool, true, false, cond, List, [], ◌∷◌, ◌++◌, length, map, take, Option, Some, None, refl, sym, ap, ◌∙◌, arith, length-take, inl}
 use Rattle.std.specs.Prelude.{nat_lt, if◌then◌else◌}
 use Rattle.std.proofs.lemmas.Bool.Decides.{nat_tests}
 use Rattle.arrayvec.specs.ArrayVec.{ArrayVec}
@@ -30,7 +30,7 @@ use Rattle.co_sdo.proofs.Continuations.{not_odd}
 use Rattle.co_sdo.proofs.RefusalLemmas.{first_none, second_none}
 use Rattle.co_sdo_laws.specs.World.{Setup}
 use Rattle.co_sdo_laws.proofs.Frames.{expedited_read, expedited_long, begin_read, begin_long, segment_read, segment_long, done_read, segment_done_read}
-use Rattle.co_sdo_laws.proofs.Segments.{same, joined, taken_all, part_small, not_end, is_end}
+use Rattle.co_sdo_laws.proofs.Segments.{same, other_toggle, joined, taken_all, part_small, not_end, is_end}
 use Rattle.co_sdo_laws.proofs.Permits.{Protocol, sends_at_once, sends_in_segments, bytes, indicated, IsDownload, none≢some, entry_is}
 use Rattle.co_sdo_laws.proofs.Channel.{stays_lawful}
 use Rattle.co_sdo_laws.proofs.Turns.{Turns, GoesOnWith}
@@ -101,41 +101,22 @@ begins : (s : Setup) (p : Type 0) → IsDownload s p sends_in_segments → (curr
     → initiate_refusal s.description s.call.key (indicated s) ≡ refusal → Reacts s p (parts s false) 0 current contents
 begins s p m current contents outside None e =
     let read = begin_read s.call.key (size_sent s.call.job) m.key in
-    takes (omega arith) (record {
-      replies = rw (outside, read, e) refl;
-      opens = rw (outside, read, e) refl;
-      sets = rw (outside, read) refl;
-    })
+    takes (omega arith) (rw (outside, read, e) refl)
 begins s p m current contents outside (Some code) e =
     let read = begin_read s.call.key (size_sent s.call.job) m.key in
-    refuses (λ x same. none≢some _ code (m.may_begin x) e) (record {
-      key = s.call.key;
-      code = code;
-      replies = rw (outside, read, e) refl;
-      opens = rw (outside, read, e) refl;
-      sets = rw (outside, read) refl;
-    })
+    refuses (λ x same. none≢some _ code (m.may_begin x) e)
+    (record { key = s.call.key; code = code; step = rw (outside, read, e) refl })
 
 at_once : (s : Setup) (p : Type 0) → IsDownload s p sends_at_once → IsShort s p → (current : Option OpenTransfer) (contents : Contents)
     → is_in_sub_block current ≡ false → IsDictionary s.description contents → (refusal : Option ℕ)
     → completion_refusal s.description contents s.call.key None (bytes s) ≡ refusal → Reacts s p (parts s true) 0 current contents
 at_once s p m n current contents outside lawful None e =
     let read = expedited_read s.call.key (bytes s) m.key n.few.0 n.few.1 in
-    takes_last refl (record {
-      replies = rw (outside, read, e) refl;
-      opens = rw (outside, read) refl;
-      sets = rw (outside, read, e) refl;
-    }) (λ small. stays_lawful s.description contents s.call.key None (bytes s) lawful small e)
+    takes_last refl (rw (outside, read, e) refl) (λ small. stays_lawful s.description contents s.call.key None (bytes s) lawful small e)
 at_once s p m n current contents outside lawful (Some code) e =
     let read = expedited_read s.call.key (bytes s) m.key n.few.0 n.few.1 in
     refuses (λ x same. none≢some _ code (ap (λ (c : Contents). completion_refusal s.description c s.call.key None (bytes s)) same ∙ n.may_complete x) e)
-    (record {
-      key = s.call.key;
-      code = code;
-      replies = rw (outside, read, e) refl;
-      opens = rw (outside, read) refl;
-      sets = rw (outside, read, e) refl;
-    })
+    (record { key = s.call.key; code = code; step = rw (outside, read, e) refl })
 
 begins_by : (s : Setup) (p : Type 0) (short : Bool) → IsDownload s p (protocol short) → Needs s p short → (current : Option OpenTransfer)
     (contents : Contents) → is_in_sub_block current ≡ false → IsDictionary s.description contents → Reacts s p (parts s short) 0 current contents
@@ -164,13 +145,7 @@ refusal_of s contents j k end =
 
 refused : (s : Setup) (contents : Contents) (j k : ℕ) (code : ℕ) → refusal_of s contents j k (is_last_after k (bytes s)) ≡ Some code
     → IsRefused s (parts s false) (suc k) (Some (open_at s j)) contents
-refused s contents j k code e = record {
-  key = s.call.key;
-  code = code;
-  replies = rw (is_read s k _ refl, e) refl;
-  opens = rw (is_read s k _ refl, e) refl;
-  sets = rw (is_read s k _ refl, e) refl;
-}
+refused s contents j k code e = record { key = s.call.key; code = code; step = rw (is_read s k _ refl, e) refl }
 
 has_room : (s : Setup) (p : Type 0) → IsDownload s p sends_in_segments → p → (k : ℕ)
     → nat_lt (capacity_at s.description.rows s.call.key) (length (take (7 * suc k) (bytes s))) ≡ false
@@ -201,42 +176,19 @@ goes_on s p false m k contents more lawful true l None e =
     let free : completion_refusal s.description contents s.call.key (indicated s) (bytes s) ≡ None =
     ap (completion_refusal s.description contents s.call.key (indicated s)) (sym all)
     ∙ completes s.description contents (open_at s k) (indicated s) (is_odd k) (is_odd k) (part_after k (bytes s)) e in
-    takes_last (grind (arith, nat_tests)) (record {
-      replies = rw (is_read s k true l, e) refl;
-      opens = rw (is_read s k true l, e) refl;
-      sets = rw (is_read s k true l, e) (ap (written contents s.call.key) all);
-    }) (λ small. stays_lawful s.description contents s.call.key (indicated s) (bytes s) lawful small free)
-goes_on s p false m k contents more lawful false l None e = takes (grind (arith, nat_tests)) (record {
-  replies = rw (is_read s k false l, e) refl;
-  opens = rw (is_read s k false l, e) (rw (joined (bytes s) k, not_odd k) refl);
-  sets = rw (is_read s k false l, e) refl;
-})
+    takes_last (grind (arith, nat_tests)) (rw (is_read s k true l, e, all) refl) (λ small. stays_lawful s.description contents s.call.key (indicated s) (bytes s) lawful small free)
+goes_on s p false m k contents more lawful false l None e =
+    takes (grind (arith, nat_tests)) (rw (is_read s k false l, e, joined (bytes s) k, not_odd k) refl)
 
 refuses_idle : (s : Setup) (short : Bool) (k : ℕ) (contents : Contents) → k < last_by s short → IsRefused s (parts s short) (suc k) None contents
 refuses_idle s true k contents more = absurd (omega arith)
-refuses_idle s false k contents more = record {
-  key = record { index = 0; sub = 0 };
-  code = 0x05040001;
-  replies = rw (is_read s k _ refl) refl;
-  opens = rw (is_read s k _ refl) refl;
-  sets = rw (is_read s k _ refl) refl;
-}
-
--- the toggle of the segment before
-other_toggle : (d : Description) (contents : Contents) (o : OpenTransfer) (size : Option ℕ) (toggle : Bool) (part : List ℕ)
-    (end : Bool) → segment_refusal d contents o size (not toggle) toggle part end ≡ Some 0x05030000
-other_toggle d contents o size true part end = refl
-other_toggle d contents o size false part end = refl
-
--- what is open after segment k + 1
-abbrev opened : Setup → ℕ → OpenTransfer
-opened s k = record { key = s.call.key; stage = Download (indicated s) (not (is_odd k)); bytes = take (7 * suc k) (bytes s) }
+refuses_idle s false k contents more =
+    record { key = record { index = 0; sub = 0 }; code = 0x05040001; step = rw (is_read s k _ refl) refl }
 
 refuses_again : (s : Setup) (short : Bool) (k : ℕ) (contents : Contents) → suc k < last_by s short
     → IsRefused s (parts s short) (suc k) (Some (open_at s (suc k))) contents
 refuses_again s true k contents more = absurd (omega arith)
-refuses_again s false k contents more = refused s contents (suc k) k 0x05030000
-    (rw (not_odd k) (other_toggle s.description contents (opened s k) (indicated s) (is_odd k) (part_after k (bytes s)) (is_last_after k (bytes s))))
+refuses_again s false k contents more = refused s contents (suc k) k 0x05030000 (rw (not_odd k, other_toggle (is_odd k)) refl)
 
 -- ---- the client
 

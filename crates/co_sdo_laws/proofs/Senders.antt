@@ -5,7 +5,7 @@ use Rattle.std.specs.Prelude.{nat_lt}
 use Rattle.std.proofs.lemmas.Bool.Decides.{nat_tests}
 use Rattle.co_sdo_laws.proofs.BlockSegments.{total, size_after, segments, IsWhole, full, full_count, last_count}
 use Rattle.co_sdo_laws.proofs.Ends.{End}
-use Rattle.co_sdo_laws.proofs.Places.{Place, taking, acknowledging, finishing, ending, Plan, opposite, first, OnWay, turns, Reacts, goes, gives_up, at_sender, from_receiver, twice, one}
+use Rattle.co_sdo_laws.proofs.Places.{Place, begins_at, taking, acknowledging, finishing, ending, Plan, opposite, first, OnWay, turns, Reacts, goes, gives_up, by_sender, by_receiver, twice, one}
 
 -- what it sends after each acknowledgement
 pub record Sender (d : Plan) (e : End) (At : Place → e.Knows → Type 0) : Type 0 where
@@ -29,47 +29,44 @@ pub record ReceiverStays {Other : Type 0} (Peer : Place → Other → Type 0) : 
 not_above : (v : List ℕ) (a u : ℕ) → nat_lt (size_after v a) u ≡ true → IsWhole v a u → ⊥
 not_above v a u many whole = let size = whole.size in absurd (grind (arith, nat_tests))
 
--- an acknowledgement comes, and others are left
-acknowledged : {Other : Type 0} (d : Plan) (e : End) (At : Place → e.Knows → Type 0) (Peer : Place → Other → Type 0) → Sender d e At → ReceiverStays Peer → (a u : ℕ) (x : e.Knows)
-    → At (acknowledging a u) x → a + u < total d.value → (d.p → IsWhole d.value a u) → (many : Bool) → nat_lt (size_after d.value a) u ≡ many
-    → Reacts d e (opposite d.forward) At Peer (acknowledging a u) [] x (d.acknowledgement u)
-acknowledged d e At Peer r peer a u x h under whole true many = gives_up (λ y. not_above d.value a u many (whole y)) refl (r.too_many a u x h (omega arith) many)
-acknowledged d e At Peer r peer a u x h under whole false few = goes (taking (a + u) 0) _ (r.more a u x h under few) (record {
-  onward = turns refl (twice d.forward) (record {
-    n = 1;
-    more = size_after d.value (a + u) - 1;
-    are = refl;
-    under = omega arith;
-    some = omega arith;
-    size = omega arith;
-    turn = λ y. let g = whole y in record { whole = full a u (total d.value) g.whole g.size under; next = refl };
-  });
-  here = λ y. let g = whole y in at_sender d d.forward (acknowledging a u) (taking (a + u) 0) (full_count (first d.forward) a u (total d.value) g.whole g.size under);
-  there = λ y. from_receiver d d.forward (acknowledging a u) (taking (a + u) 0) (omega arith);
-  narrows = λ xs same. same;
-}) (peer.more a u)
+module _ {Other : Type 0} (d : Plan) (e : End) (At : Place → e.Knows → Type 0)
+    (Peer : Place → Other → Type 0) (r : Sender d e At) (peer : ReceiverStays Peer) where
+  -- an acknowledgement comes, and others are left
+  acknowledged : (a u : ℕ) (x : e.Knows) → At (acknowledging a u) x → a + u < total d.value
+      → (d.p → IsWhole d.value a u) → (many : Bool) → nat_lt (size_after d.value a) u ≡ many
+      → Reacts d e (opposite d.forward) At Peer (acknowledging a u) [] x (d.acknowledgement u)
+  acknowledged a u x h under whole true many =
+      gives_up (λ y. not_above d.value a u many (whole y)) refl (r.too_many a u x h (omega arith) many)
+  acknowledged a u x h under whole false few = goes (taking (a + u) 0) _ (r.more a u x h under few) (record {
+    onward = turns refl (twice d.forward) (begins_at d.value (a + u) under
+        (λ y. let g = whole y in full a u (total d.value) g.whole g.size under));
+    here = λ y. let g = whole y in rw (by_sender d.forward) (full_count (first d.forward) a u (total d.value) g.whole g.size under);
+    there = λ y. rw (← twice d.forward, by_receiver d.forward) (omega arith);
+    narrows = λ xs same. same;
+  }) (peer.more a u)
 
-pub sends_more : {Other : Type 0} (d : Plan) (e : End) (At : Place → e.Knows → Type 0) (Peer : Place → Other → Type 0) → Sender d e At → ReceiverStays Peer → (a u : ℕ) (x : e.Knows)
-    (frame : List ℕ) (later : List (List ℕ)) → OnWay d (acknowledging a u) (frame ∷ later) → At (acknowledging a u) x
-    → Reacts d e (opposite d.forward) At Peer (acknowledging a u) later x frame
-sends_more d e At Peer r peer a u x frame later o h = one (λ f l. Reacts d e (opposite d.forward) At Peer (acknowledging a u) l x f) (d.acknowledgement u) [] frame later o.are
-    (acknowledged d e At Peer r peer a u x h o.under o.whole _ refl)
+  pub sends_more : (a u : ℕ) (x : e.Knows) (frame : List ℕ) (later : List (List ℕ))
+      → OnWay d (acknowledging a u) (frame ∷ later) → At (acknowledging a u) x
+      → Reacts d e (opposite d.forward) At Peer (acknowledging a u) later x frame
+  sends_more a u x frame later o h = one (λ f l. Reacts d e (opposite d.forward) At Peer (acknowledging a u) l x f) (d.acknowledgement u) [] frame later o.are
+      (acknowledged a u x h o.under o.whole _ refl)
 
--- none are left
-all_acknowledged : {Other : Type 0} (d : Plan) (e : End) (At : Place → e.Knows → Type 0) (Peer : Place → Other → Type 0) → Sender d e At → ReceiverStays Peer → (a u : ℕ) (x : e.Knows)
-    → At (finishing a u) x → a < total d.value → a + u ≡ total d.value → (d.p → IsWhole d.value a u) → (many : Bool) → nat_lt (size_after d.value a) u ≡ many
-    → Reacts d e (opposite d.forward) At Peer (finishing a u) [] x (d.acknowledgement u)
-all_acknowledged d e At Peer r peer a u x h under all whole true many =
-    gives_up (λ y. not_above d.value a u many (whole y)) refl (r.too_many a u x (r.same a u x h) under many)
-all_acknowledged d e At Peer r peer a u x h under all whole false few = goes ending _ (r.all a u x h under all few) (record {
-  onward = turns refl (twice d.forward) refl;
-  here = λ y. let g = whole y in at_sender d d.forward (finishing a u) ending (last_count (first d.forward) a u (total d.value) g.whole g.size under all);
-  there = λ y. from_receiver d d.forward (finishing a u) ending (omega arith);
-  narrows = λ xs same. same;
-}) (peer.all a u)
+  -- none are left
+  all_acknowledged : (a u : ℕ) (x : e.Knows) → At (finishing a u) x → a < total d.value
+      → a + u ≡ total d.value → (d.p → IsWhole d.value a u) → (many : Bool)
+      → nat_lt (size_after d.value a) u ≡ many
+      → Reacts d e (opposite d.forward) At Peer (finishing a u) [] x (d.acknowledgement u)
+  all_acknowledged a u x h under all whole true many =
+      gives_up (λ y. not_above d.value a u many (whole y)) refl (r.too_many a u x (r.same a u x h) under many)
+  all_acknowledged a u x h under all whole false few = goes ending _ (r.all a u x h under all few) (record {
+    onward = turns refl (twice d.forward) refl;
+    here = λ y. let g = whole y in rw (by_sender d.forward) (last_count (first d.forward) a u (total d.value) g.whole g.size under all);
+    there = λ y. rw (← twice d.forward, by_receiver d.forward) (omega arith);
+    narrows = λ xs same. same;
+  }) (peer.all a u)
 
-pub sends_end : {Other : Type 0} (d : Plan) (e : End) (At : Place → e.Knows → Type 0) (Peer : Place → Other → Type 0) → Sender d e At → ReceiverStays Peer → (a u : ℕ) (x : e.Knows)
-    (frame : List ℕ) (later : List (List ℕ)) → OnWay d (finishing a u) (frame ∷ later) → At (finishing a u) x
-    → Reacts d e (opposite d.forward) At Peer (finishing a u) later x frame
-sends_end d e At Peer r peer a u x frame later o h = one (λ f l. Reacts d e (opposite d.forward) At Peer (finishing a u) l x f) (d.acknowledgement u) [] frame later o.are
-    (all_acknowledged d e At Peer r peer a u x h o.under o.all o.whole _ refl)
+  pub sends_end : (a u : ℕ) (x : e.Knows) (frame : List ℕ) (later : List (List ℕ))
+      → OnWay d (finishing a u) (frame ∷ later) → At (finishing a u) x
+      → Reacts d e (opposite d.forward) At Peer (finishing a u) later x frame
+  sends_end a u x frame later o h = one (λ f l. Reacts d e (opposite d.forward) At Peer (finishing a u) l x f) (d.acknowledgement u) [] frame later o.are
+      (all_acknowledged a u x h o.under o.all o.whole _ refl)

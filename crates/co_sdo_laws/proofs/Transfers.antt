@@ -16,7 +16,7 @@ use Rattle.co_dict.specs.Stores.{Description, IsDictionary}
 use Rattle.co_sdo.specs.Log.{Log}
 use Rattle.co_sdo.specs.OpenTransfers.{open_transfer}
 use Rattle.co_sdo.specs.Uploads.{value_at}
-use Rattle.co_sdo_laws.specs.World.{Setup, World, Requests, Answers as Back, WorldEvent, Delivered, Lost, Repeated, ClientTicked, ChannelTicked, is_repeat, world_after}
+use Rattle.co_sdo_laws.specs.World.{Setup, World, Requests, Answers as Back, WorldEvent, Repeated, is_repeat, world_after}
 use Rattle.co_sdo_laws.specs.Undisturbed.{IsCalm, AreCalm, IsUndisturbed, arrived, on_their_way, rounds_after, IsOver, GoesInTurns, is_short, is_expedited_download, is_segmented_download, is_plain_upload, is_block_download, is_block_upload, GoesInBlocks, HaveSent, block_frames, block_upload_frames, upload_requests, block_download_requests, block_download_answers, block_upload_requests, block_upload_answers}
 use Rattle.co_sdo_laws.proofs.Permits.{value, Protocol, reads_in_segments, is_download, may_send, IsDownload, IsUpload, Goes, in_segments, at_once, at_once_few, short_bytes}
 use Rattle.co_sdo_laws.proofs.Permits as protocols
@@ -169,7 +169,7 @@ in_turns s t m = record {
     at events calm = always s (turns_of s t m tt) events calm
 
     goes : (events : List WorldEvent) → AreCalm s events → GoesInTurns s.call (1 + t.last) (world_after s events)
-    goes events calm = goes_in_turns s (turns_of s t m tt) (world_after s events) (at events calm)
+    goes events calm = goes_in_turns s (turns_of s t m tt) (world_after s events) (all_there s events calm) (at events calm)
 
     unchanged_at : {w : World} → t.left s.contents ≡ s.contents → Turned s (turns_of s t m tt) w → w.contents ≡ s.contents
     unchanged_at e (asking k less h) = h.channel.same less
@@ -242,11 +242,8 @@ uploaded s events u t room = uploads s (reads s events _ u (protocols.upload s.c
 -- ---- transfers in blocks
 
 not_repeated : (s : Setup) (event : WorldEvent) (w : World) → IsCalm s event w → is_repeat event ≡ false
-not_repeated s (Delivered queue) w calm = refl
-not_repeated s (Lost queue) w calm = refl
 not_repeated s (Repeated queue) w calm = absurd calm
-not_repeated s ClientTicked w calm = refl
-not_repeated s ChannelTicked w calm = refl
+not_repeated s _ w calm = refl
 
 once : (s : Setup) (events : List WorldEvent) → AreCalm s events → list_any is_repeat events ≡ false
 once s [] calm = refl

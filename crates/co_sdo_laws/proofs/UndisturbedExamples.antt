@@ -1,5 +1,5 @@
 -- Transfers that nothing disturbs over the dictionary of two entries: there are some, and what is none.
-use Rattle.std.proofs.Common.{◌≡◌, ℕ, ◌≤◌, Bool, true, false, List, [], ◌∷◌, length, codes, Some, None, refl, sym, ap, ◌∙◌, arith, map}
+use Rattle.std.proofs.Common.{◌≡◌, ℕ, ◌≤◌, Bool, true, false, List, [], ◌∷◌, length, codes, Some, None, refl, sym, subst, arith, map}
 use Rattle.std.proofs.lemmas.Int.{ints}
 use Rattle.std.specs.Prelude.{is_some}
 use Rattle.std.specs.List.{list_any}
@@ -24,9 +24,10 @@ use Rattle.co_sdo.specs.Opened.{opened_after}
 use Rattle.co_sdo_laws.specs.World.{Setup, World, WorldEvent, Requests, Answers, Lost, Repeated, ClientTicked, ChannelTicked, world_after}
 use Rattle.co_sdo_laws.specs.Undisturbed.{IsCalm, AreCalm, IsPermitted, IsUndisturbed, rounds_after, GoesInTurns, arrived, IsOver}
 use Rattle.co_sdo_laws.proofs.Channel.{tick_opens, is_filled}
+use Rattle.co_sdo_laws.proofs.Permits.{none≢some}
 use Rattle.co_sdo_laws.proofs.Progress.{rounds_calm}
 use Rattle.co_sdo_laws.proofs.Transfers.{segmented}
-use Rattle.co_sdo_laws.proofs.Examples.{string_key, domain_key, row, row_in, bytes_in, dictionary, setup, r, a, ten, fourteen, report, waits, is_done}
+use Rattle.co_sdo_laws.proofs.Examples.{string_key, domain_key, row, row_in, bytes_in, dictionary, r, a, ten, fourteen, nine_in_blocks, setup, after, AllShow, waits, is_done}
 use Rattle.co_sdo.specs.Log.{exchanges}
 use Rattle.co_sdo.specs.OpenTransfers.{open_transfer}
 use Rattle.co_sdo_client.specs.declared.mode.Mode.{Mode}
@@ -35,65 +36,43 @@ use Rattle.co_sdo_laws.proofs.Chains.{all_end, chain_in_rounds}
 
 -- ---- the example's dictionary is one
 
-data Entry (key : Key) : Type 0 where
-  is_string : key ≡ string_key → Entry key
-  is_domain : key ≡ domain_key → Entry key
-  is_none : row_in key ≡ None → bytes_in key ≡ None → Entry key
-
-entry_of : (key : Key) → Entry key
-entry_of key = by (same_key key string_key) (same_key key domain_key) refl refl
+-- what holds of both keys, and of each without an entry, holds of every key
+each_key : (P : Key → Type 0) → P string_key → P domain_key
+    → ((key : Key) → same_key key string_key ≡ false → same_key key domain_key ≡ false → P key)
+    → (key : Key) → P key
+each_key P first second others key = by (same_key key string_key) (same_key key domain_key) refl refl
   where
-    by : (first second : Bool) → same_key key string_key ≡ first → same_key key domain_key ≡ second → Entry key
-    by true second e f = is_string (same_key-is key string_key e)
-    by false true e f = is_domain (same_key-is key domain_key f)
-    by false false e f = is_none (rw (e, f) refl) (rw (e, f) refl)
+    by : (a b : Bool) → same_key key string_key ≡ a → same_key key domain_key ≡ b → P key
+    by true b e f = subst P (sym (same_key-is key string_key e)) first
+    by false true e f = subst P (sym (same_key-is key domain_key f)) second
+    by false false e f = others key e f
+
+some_is : {A : Type 0} (x y : A) → Some x ≡ Some y → y ≡ x
+some_is x y e = cc
 
 -- what holds of both rows holds of each
 at_each : (P : Key → Row → Type 0) → P string_key (row VisibleString 16) → P domain_key (row Domain 20) → (key : Key) (held : Row)
     → row_in key ≡ Some held → P key held
-at_each P first second key held h = by (entry_of key)
-  where
-    by : Entry key → P key held
-    by (is_string e) =
-        let is : Some (row VisibleString 16) ≡ Some held = ap row_in (sym e) ∙ h in
-        let same : held ≡ row VisibleString 16 = cc in
-        rw (e, same) first
-    by (is_domain e) =
-        let is : Some (row Domain 20) ≡ Some held = ap row_in (sym e) ∙ h in
-        let same : held ≡ row Domain 20 = cc in
-        rw (e, same) second
-    by (is_none e f) = cc
+at_each P first second = each_key (λ k. (held : Row) → row_in k ≡ Some held → P k held)
+    (λ held h. rw (some_is (row VisibleString 16) held h) first) (λ held h. rw (some_is (row Domain 20) held h) second)
+    (λ key e f held h. let none : row_in key ≡ None = rw (e, f) refl in cc)
 
 filled : IsFilled row_in bytes_in
 filled = record {
-  present = λ key. present key (entry_of key);
+  present = each_key (λ k. is_some (bytes_in k) ≡ is_some (row_in k)) refl refl (λ key e f. rw (e, f) refl);
   fitting = λ key held bytes h g. at_each (λ k r. bytes_in k ≡ Some bytes → fits r (length bytes) ≡ true)
-      (λ e. let is : Some (codes "ABCDEFGHI") ≡ Some bytes = e in let same : bytes ≡ codes "ABCDEFGHI" = cc in rw same refl)
-      (λ e. let is : Some [] ≡ Some bytes = e in let same : bytes ≡ [] = cc in rw same refl) key held h g;
-  bytes = λ key bytes g. small key bytes g (entry_of key);
+      (λ e. rw (some_is (codes "ABCDEFGHI") bytes e) refl) (λ e. rw (some_is [] bytes e) refl) key held h g;
+  bytes = λ key bytes. each_key (λ k. bytes_in k ≡ Some bytes → AreBytes bytes)
+      (λ e. rw (some_is (codes "ABCDEFGHI") bytes e) (omega arith)) (λ e. rw (some_is [] bytes e) tt)
+      (λ other e f g. let none : bytes_in other ≡ None = rw (e, f) refl in cc) key;
 }
-  where
-    present : (key : Key) → Entry key → is_some (bytes_in key) ≡ is_some (row_in key)
-    present key (is_string e) = rw e refl
-    present key (is_domain e) = rw e refl
-    present key (is_none e f) = rw (e, f) refl
-
-    small : (key : Key) (bytes : List ℕ) → bytes_in key ≡ Some bytes → Entry key → AreBytes bytes
-    small key bytes g (is_string e) =
-        let is : Some (codes "ABCDEFGHI") ≡ Some bytes = ap bytes_in (sym e) ∙ g in
-        let is_bytes : bytes ≡ codes "ABCDEFGHI" = cc in
-        rw is_bytes (omega arith)
-    small key bytes g (is_domain e) =
-        let is : Some [] ≡ Some bytes = ap bytes_in (sym e) ∙ g in
-        let is_bytes : bytes ≡ [] = cc in
-        rw is_bytes tt
-    small key bytes g (is_none e f) = cc
 
 described : IsDescription dictionary
 described = record {
   first_node = omega arith;
   last_node = omega arith;
-  finite = λ key. finite key (entry_of key);
+  finite = each_key (λ k. is_some (row_in k) ≡ list_any (same_key k) (string_key ∷ domain_key ∷ []))
+      refl refl (λ key e f. rw (e, f) refl);
   width = λ key held width h g. at_each (λ k r. width_of r.data_type ≡ Some width → r.capacity ≡ width)
       (λ e. let none : None ≡ Some width = e in cc) (λ e. let none : None ≡ Some width = e in cc) key held h g;
   fixed = λ key held t h g. at_each (λ k r. fixed_type_of k ≡ Some t → r.data_type ≡ t)
@@ -106,16 +85,6 @@ described = record {
       (record { ordered = omega (arith, ints); low = λ width g. cc; high = λ width g. cc });
   dummies = λ index h. cc;
 }
-  where
-    finite : (key : Key) → Entry key → is_some (row_in key) ≡ list_any (same_key key) (string_key ∷ domain_key ∷ [])
-    finite key (is_string e) = rw e refl
-    finite key (is_domain e) = rw e refl
-    finite key (is_none e f) = none (same_key key string_key) (same_key key domain_key) refl refl
-      where
-        none : (first second : Bool) → same_key key string_key ≡ first → same_key key domain_key ≡ second → is_some (row_in key) ≡ list_any (same_key key) (string_key ∷ domain_key ∷ [])
-        none true second i j = rw i refl
-        none false true i j = rw (i, j) refl
-        none false false i j = rw (i, j) refl
 
 pub is_dictionary : IsDictionary dictionary bytes_in
 is_dictionary = record { description = described; initially = filled; filled = filled }
@@ -130,12 +99,9 @@ ten_calm : AreCalm ten ten_events
 unfolding request_row_in response_row_in reading_refusal initiate_refusal completion_refusal has_object
 ten_calm = (tt, (tt, (tt, (tt, (tt, (refl, ((λ waits. refl), ((λ waits. refl), (tt, tt)))))))))
 
-ten_permitted : IsPermitted dictionary bytes_in string_key ten.call.job
-unfolding reading_refusal initiate_refusal completion_refusal has_object
-ten_permitted = refl
-
 pub ten_undisturbed : IsUndisturbed ten ten_events
-ten_undisturbed = record { dictionary = is_dictionary; key = omega arith; job = omega arith; permitted = ten_permitted; idle = refl; calm = ten_calm }
+unfolding reading_refusal initiate_refusal completion_refusal has_object
+ten_undisturbed = record { dictionary = is_dictionary; key = omega arith; job = omega arith; permitted = refl; idle = refl; calm = ten_calm }
 
 ten_done : outcome ten.call (world_after ten ten_events).events ≡ Done
 unfolding request_row_in response_row_in reading_refusal initiate_refusal completion_refusal has_object
@@ -151,24 +117,21 @@ pub fourteen_undisturbed : (n : ℕ) → IsUndisturbed fourteen (rounds_after n 
 unfolding reading_refusal initiate_refusal completion_refusal has_object
 fourteen_undisturbed n = record { dictionary = is_dictionary; key = omega arith; job = omega arith; permitted = refl; idle = refl; calm = rounds_calm fourteen n [] tt }
 
-pub nine_undisturbed : (n : ℕ) → IsUndisturbed (setup string_key Block (Upload 9)) (rounds_after n [])
+pub nine_undisturbed : (n : ℕ) → IsUndisturbed nine_in_blocks (rounds_after n [])
 unfolding reading_refusal initiate_refusal completion_refusal has_object
-nine_undisturbed n = record { dictionary = is_dictionary; key = omega arith; job = omega arith; permitted = refl; idle = refl; calm = rounds_calm (setup string_key Block (Upload 9)) n [] tt }
+nine_undisturbed n = record { dictionary = is_dictionary; key = omega arith; job = omega arith; permitted = refl; idle = refl; calm = rounds_calm nine_in_blocks n [] tt }
 
 -- ---- what disturbs it
-
-over : true ≡ false → ⊥
-over e = cc
 
 -- a third tick of the client while it waits
 third_tick : IsCalm ten ClientTicked (world_after ten (ClientTicked ∷ ClientTicked ∷ r ∷ [])) → ⊥
 unfolding request_row_in response_row_in reading_refusal initiate_refusal completion_refusal has_object
-third_tick calm = over (calm refl)
+third_tick calm = let e : true ≡ false = calm refl in cc
 
 -- a second tick of the channel while the transfer is open
 second_tick : IsCalm ten ChannelTicked (world_after ten (ChannelTicked ∷ r ∷ [])) → ⊥
 unfolding request_row_in response_row_in reading_refusal initiate_refusal completion_refusal has_object
-second_tick calm = over calm
+second_tick calm = let e : true ≡ false = calm in cc
 
 -- a lost or a repeated frame
 lost_frame : IsCalm ten (Lost Requests) (world_after ten []) → ⊥
@@ -194,18 +157,15 @@ ten_ticks_later = ((λ waits. cc), ((λ waits. cc), ((λ waits. cc), ((λ waits.
 
 -- ---- what isn't permitted
 
-refused : (code : ℕ) → Some code ≡ None → ⊥
-refused code e = cc
-
 -- 17 bytes don't fit the string
 too_long : IsPermitted dictionary bytes_in string_key (Download (codes "0123456789ABCDEFG") true) → ⊥
 unfolding reading_refusal initiate_refusal completion_refusal has_object
-too_long h = refused 0x06070012 h
+too_long h = none≢some _ 0x06070012 h refl
 
 -- there is no entry 2002:00
 not_there : IsPermitted dictionary bytes_in (record { index = 0x2002; sub = 0 }) (Upload 9) → ⊥
 unfolding reading_refusal initiate_refusal completion_refusal has_object
-not_there h = refused 0x06020000 h
+not_there h = none≢some _ 0x06020000 h refl
 
 -- so that nothing is an undisturbed transfer of 17 bytes
 never_undisturbed : (events : List WorldEvent) → IsUndisturbed (setup string_key Segmented (Download (codes "0123456789ABCDEFG") true)) events → ⊥
@@ -233,15 +193,6 @@ three_exchanges : length (exchanges read_again.past) ≡ 3
 unfolding request_row_in response_row_in reading_refusal initiate_refusal completion_refusal has_object
 three_exchanges = refl
 
-idle_again : open_transfer read_again.past ≡ None
-unfolding request_row_in response_row_in reading_refusal initiate_refusal completion_refusal has_object
-idle_again = refl
-
-ten_are_read : report read_again (r ∷ a ∷ r ∷ a ∷ r ∷ a ∷ [])
-    ≡ is_done 3 [] [] (codes "0123456789") (codes "0123456789")
-unfolding request_row_in response_row_in reading_refusal initiate_refusal completion_refusal has_object
-ten_are_read = refl
-
 read_dictionary : IsDictionary dictionary read_again.contents
 unfolding request_row_in response_row_in reading_refusal initiate_refusal completion_refusal has_object
 read_dictionary = record {
@@ -252,7 +203,7 @@ read_dictionary = record {
 
 read_undisturbed : (n : ℕ) → IsUndisturbed read_again (rounds_after n [])
 unfolding request_row_in response_row_in reading_refusal initiate_refusal completion_refusal has_object
-read_undisturbed n = record { dictionary = read_dictionary; key = omega arith; job = omega arith; permitted = refl; idle = idle_again; calm = rounds_calm read_again n [] tt }
+read_undisturbed n = record { dictionary = read_dictionary; key = omega arith; job = omega arith; permitted = refl; idle = refl; calm = rounds_calm read_again n [] tt }
 
 -- those that arrived before don't count
 read_arrived : map (λ n. arrived (world_after read_again (rounds_after n []))) (0 ∷ 1 ∷ 2 ∷ 3 ∷ 4 ∷ []) ≡ 0 ∷ 2 ∷ 4 ∷ 6 ∷ 6 ∷ []
@@ -281,10 +232,6 @@ write_undisturbed n = record { dictionary = is_dictionary; key = omega arith; jo
 write_goes : (n : ℕ) → GoesInTurns write_again.call 3 (world_after write_again (rounds_after n []))
 write_goes n = (segmented write_again (rounds_after n []) (write_undisturbed n) refl).turns (rounds_after n []) (write_undisturbed n).calm
 
-ten_are_written : report write_again (r ∷ a ∷ r ∷ a ∷ r ∷ a ∷ []) ≡ is_done 3 [] [] (codes "0123456789") []
-unfolding request_row_in response_row_in reading_refusal initiate_refusal completion_refusal has_object
-ten_are_written = refl
-
 -- ---- a channel that isn't idle
 
 -- fourteen bytes were begun in blocks, and their client is gone: the sub-block takes the next begin for a segment that isn't
@@ -296,9 +243,13 @@ still_open : open_transfer inside_blocks.past ≡ None → ⊥
 unfolding request_row_in response_row_in reading_refusal initiate_refusal completion_refusal has_object
 still_open e = cc
 
-nothing_comes : report inside_blocks (r ∷ []) ≡ waits 1 [] [] (codes "ABCDEFGHI")
+with_a_past : AllShow (
+    after read_again (r ∷ a ∷ r ∷ a ∷ r ∷ a ∷ []) (is_done 3 [] [] (codes "0123456789") (codes "0123456789"))
+    ∷ after write_again (r ∷ a ∷ r ∷ a ∷ r ∷ a ∷ []) (is_done 3 [] [] (codes "0123456789") [])
+    ∷ after inside_blocks (r ∷ []) (waits 1 [] [] (codes "ABCDEFGHI"))
+    ∷ [])
 unfolding request_row_in response_row_in reading_refusal initiate_refusal completion_refusal has_object
-nothing_comes = refl
+with_a_past = refl
 
 -- ---- chains of transfers
 
@@ -322,32 +273,25 @@ read_string mode = call_for string_key mode (Upload 16)
 abbrev read_and_write : List Call
 read_and_write = read_string Segmented ∷ write_ten ∷ read_string Block ∷ []
 
--- the second reading gives what was written, the first what was there before
-by_the_entries : all_bytes_given bytes_in read_and_write ≡ codes "ABCDEFGHI" ∷ [] ∷ codes "0123456789" ∷ []
-by_the_entries = refl
-
-string_after : contents_after_all bytes_in read_and_write string_key ≡ Some (codes "0123456789")
-string_after = refl
-
-domain_after : contents_after_all bytes_in read_and_write domain_key ≡ Some []
-domain_after = refl
-
 abbrev write_three : Call
 write_three = call_for string_key Plain (Download (codes "abc") false)
 
--- the later of two writings counts
-written_twice : all_bytes_given bytes_in (write_ten ∷ write_three ∷ read_string Plain ∷ []) ≡ [] ∷ [] ∷ codes "abc" ∷ []
-written_twice = refl
+by_the_entries : map (all_bytes_given bytes_in) (
+    -- the second reading gives what was written, the first what was there before
+    read_and_write
+    -- the later of two writings counts
+    ∷ (write_ten ∷ write_three ∷ read_string Plain ∷ [])
+    -- nothing else is read of what was written
+    ∷ (write_ten ∷ call_for domain_key Plain (Upload 20) ∷ [])
+    ∷ [])
+    ≡ (codes "ABCDEFGHI" ∷ [] ∷ codes "0123456789" ∷ []) ∷ ([] ∷ [] ∷ codes "abc" ∷ []) ∷ ([] ∷ [] ∷ []) ∷ []
+by_the_entries = refl
 
--- nothing else is read of what was written
-other_entry : all_bytes_given bytes_in (write_ten ∷ call_for domain_key Plain (Upload 20) ∷ []) ≡ [] ∷ [] ∷ []
-other_entry = refl
+entries_after : map (contents_after_all bytes_in read_and_write) (string_key ∷ domain_key ∷ [])
+    ≡ Some (codes "0123456789") ∷ Some [] ∷ []
+entries_after = refl
 
 -- the same of the worlds
-as_it_goes : results server (all_in_rounds bytes_in read_and_write) ≡ codes "ABCDEFGHI" ∷ [] ∷ codes "0123456789" ∷ []
-unfolding request_row_in response_row_in reading_refusal initiate_refusal completion_refusal has_object
-as_it_goes = refl
-
 all_are_done : outcomes server (all_in_rounds bytes_in read_and_write) ≡ Done ∷ Done ∷ Done ∷ []
 unfolding request_row_in response_row_in reading_refusal initiate_refusal completion_refusal has_object
 all_are_done = refl
@@ -391,8 +335,7 @@ long_index may = let key = may.key in omega arith
 
 -- a channel with a download open
 not_ready : IsReady (record server { past = (world_after ten (a ∷ r ∷ [])).log }) → ⊥
-unfolding request_row_in response_row_in reading_refusal initiate_refusal completion_refusal has_object
-not_ready ready = let idle = ready.idle in cc
+not_ready ready = open_before ready.idle
 
 -- a transfer that is left while a frame is on its way
 abbrev left_early : Transfer
@@ -408,36 +351,27 @@ unfolding request_row_in response_row_in reading_refusal initiate_refusal comple
 waits_still = refl
 
 -- the client of a block upload is done when it has sent its end, and the channel not before that has come
-abbrev nine : Setup
-nine = setup string_key Block (Upload 9)
-
-nine_done : outcome nine.call (world_after nine (a ∷ r ∷ a ∷ a ∷ r ∷ a ∷ r ∷ [])).events ≡ Done
+nine_done : outcome nine_in_blocks.call (world_after nine_in_blocks (a ∷ r ∷ a ∷ a ∷ r ∷ a ∷ r ∷ [])).events ≡ Done
 unfolding request_row_in response_row_in reading_refusal initiate_refusal completion_refusal has_object
 nine_done = refl
 
-nine_not_over : IsOver nine (world_after nine (a ∷ r ∷ a ∷ a ∷ r ∷ a ∷ r ∷ [])) → ⊥
+nine_not_over : IsOver nine_in_blocks (world_after nine_in_blocks (a ∷ r ∷ a ∷ a ∷ r ∷ a ∷ r ∷ [])) → ⊥
 unfolding request_row_in response_row_in reading_refusal initiate_refusal completion_refusal has_object
 nine_not_over over = let idle = over.idle in cc
 
-nine_over : open_transfer (world_after nine (r ∷ a ∷ r ∷ a ∷ a ∷ r ∷ a ∷ r ∷ [])).log ≡ None
+nine_over : open_transfer (world_after nine_in_blocks (r ∷ a ∷ r ∷ a ∷ a ∷ r ∷ a ∷ r ∷ [])).log ≡ None
 unfolding request_row_in response_row_in reading_refusal initiate_refusal completion_refusal has_object
 nine_over = refl
 
 -- ---- how many frames a transfer takes
 
-some_frames : map (λ mode. frames_needed mode bytes_in string_key (Download (codes "0123456789") true))
-    (Plain ∷ Segmented ∷ Block ∷ []) ≡ 6 ∷ 6 ∷ 7 ∷ []
+-- of ten bytes to the string, of four, of its nine bytes and of none
+some_frames : map (λ (x : Key × Job).
+    map (λ mode. frames_needed mode bytes_in x.0 x.1) (Plain ∷ Segmented ∷ Block ∷ [])) (
+    (string_key, Download (codes "0123456789") true)
+    ∷ (string_key, Download (codes "0123") true)
+    ∷ (string_key, Upload 16)
+    ∷ (domain_key, Upload 16)
+    ∷ [])
+    ≡ (6 ∷ 6 ∷ 7 ∷ []) ∷ (2 ∷ 4 ∷ 6 ∷ []) ∷ (6 ∷ 6 ∷ 8 ∷ []) ∷ (4 ∷ 4 ∷ 7 ∷ []) ∷ []
 some_frames = refl
-
-short_frames : map (λ mode. frames_needed mode bytes_in string_key (Download (codes "0123") true))
-    (Plain ∷ Segmented ∷ Block ∷ []) ≡ 2 ∷ 4 ∷ 6 ∷ []
-short_frames = refl
-
--- nine bytes, and none
-upload_frames : map (λ mode. frames_needed mode bytes_in string_key (Upload 16))
-    (Plain ∷ Segmented ∷ Block ∷ []) ≡ 6 ∷ 6 ∷ 8 ∷ []
-upload_frames = refl
-
-empty_frames : map (λ mode. frames_needed mode bytes_in domain_key (Upload 16))
-    (Plain ∷ Segmented ∷ Block ∷ []) ≡ 4 ∷ 4 ∷ 7 ∷ []
-empty_frames = refl

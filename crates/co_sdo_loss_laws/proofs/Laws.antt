@@ -14,7 +14,8 @@ use Rattle.co_sdo_laws.specs.Undisturbed.{is_short, is_expedited_download, is_se
 use Rattle.co_sdo_loss_laws.specs.Disturbed.{IsAlone, is_plain_download, is_repeat}
 use Rattle.co_sdo_laws.proofs.Permits.{Protocol, IsDownload, IsUpload, Goes, in_segments, at_once, at_once_few, short_bytes}
 use Rattle.co_sdo_laws.proofs.Permits as protocols
-use Rattle.co_sdo_laws.proofs.StopAndWait.{Parts, IsOver, StopAndWait, always, when_done}
+use Rattle.co_sdo_laws.proofs.Blocks.{IsDone}
+use Rattle.co_sdo_laws.proofs.StopAndWait.{Parts, Seen, StopAndWait, always, when_done}
 use Rattle.co_sdo_laws.proofs.SegmentedDownloads as sending
 use Rattle.co_sdo_laws.proofs.Uploads as reading
 use Rattle.co_sdo_laws.proofs.BlockTransfers as blocks
@@ -47,7 +48,8 @@ uploads s protocol alone g = record {
 -- ---- at once or in segments
 
 ends : (s : Setup) (events : List WorldEvent) (t : Parts s) → StopAndWait s ⊥ t → t.Sound
-    → outcome s.call (world_after s events).events ≡ Done → IsOver s t (world_after s events)
+    → outcome s.call (world_after s events).events ≡ Done
+    → IsDone s t.value (world_after s events).events × Seen s t t.last (world_after s events)
 ends s events t m sound done = when_done s t (world_after s events) (always s t m sound events) done
 
 plain : (short : Bool) → (short ≡ true) ⊎ (not short ≡ true)
@@ -68,9 +70,9 @@ pub download_sets : (s : Setup) (events : List WorldEvent) → IsAlone s → is_
 download_sets s events alone t done = elim (protocol s.call.mode s.call.job t) [
   | inl short ↦ (let few = short_bytes _ (at_once_few s.call.mode s.call.job short) in
       (ends s events (sending.parts s true) (sending.stop_and_wait s ⊥ true (downloads s _ alone (at_once s.call.mode s.call.job short))
-      (record { few = few; may_complete = λ x. absurd x })) alone.bytes done).set)
+      (record { few = few; may_complete = λ x. absurd x })) alone.bytes done).1.set refl)
   | inr long ↦ (ends s events (sending.parts s false)
-      (sending.stop_and_wait s ⊥ false (downloads s _ alone (in_segments s.call.mode s.call.job long)) tt) alone.bytes done).set
+      (sending.stop_and_wait s ⊥ false (downloads s _ alone (in_segments s.call.mode s.call.job long)) tt) alone.bytes done).1.set refl
 ]
 
 pub upload_gives : (s : Setup) (events : List WorldEvent) → IsAlone s → is_plain_upload s.call.mode s.call.job ≡ true
@@ -78,7 +80,7 @@ pub upload_gives : (s : Setup) (events : List WorldEvent) → IsAlone s → is_p
 upload_gives s events alone t done =
     let short = is_short (length (value_at s.contents s.call.key)) in
     (ends s events (reading.parts s short)
-    (reading.stop_and_wait s ⊥ (uploads s _ alone (protocols.upload s.call.mode s.call.job t)) short refl) tt done).value
+    (reading.stop_and_wait s ⊥ (uploads s _ alone (protocols.upload s.call.mode s.call.job t)) short refl) tt done).0.gives
 
 -- ---- in blocks
 

@@ -36,6 +36,12 @@ disabled : places FixedCobId (cob_id (codes "DefaultValue=0x80000185")) ≡ []
 unfolding places_of few_places place_in_text places_in
 disabled = refl
 
+-- the COB-IDs of a device configuration file are those of its network
+configured : map (λ name. places FixedCobId (cob_id (codes "DefaultValue=0x185") ++ name ∷ [])) (codes "[DeviceComissioning]" ∷ codes "[devicecommissioning]" ∷ codes "[DeviceInfo]" ∷ [])
+    ≡ [] ∷ [] ∷ (2 ∷ []) ∷ []
+unfolding places_of few_places place_in_text places_in
+configured = refl
+
 -- a configured device has a node-ID
 of_one_device : places FixedCobId (cob_id (codes "ParameterValue=0x185")) ≡ []
 unfolding places_of few_places place_in_text places_in

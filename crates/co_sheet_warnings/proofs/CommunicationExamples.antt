@@ -1,5 +1,5 @@
 -- Values of the communication profile that don't work together, on both sides of each edge.
-use Rattle.std.proofs.Common.{◌≡◌, ℕ, List, [], ◌∷◌, None, true, false, refl, codes, map}
+use Rattle.std.proofs.Common.{◌≡◌, ℕ, List, [], ◌∷◌, ◌++◌, None, true, false, refl, codes, map}
 use Rattle.co_sheet_warnings.specs.declared.warning.WarningKind.TheVariants.{InhibitTime, OwnHeartbeat, HeartbeatTwice}
 use Rattle.co_sheet_warnings.specs.Communication.{is_synchronous, node_of_word, is_used_word}
 use Rattle.co_sheet_warnings.specs.Warnings.{few_places, place_in_text, places_in, places_of}
@@ -38,6 +38,14 @@ of_tpdos = refl
 first_and_past : places InhibitTime (codes "[1800sub2]" ∷ codes "DefaultValue=1" ∷ codes "[1800sub3]" ∷ codes "DefaultValue=1" ∷ codes "[1A00sub2]" ∷ codes "DefaultValue=1" ∷ codes "[1A00sub3]" ∷ codes "DefaultValue=1" ∷ []) ≡ 4 ∷ []
 unfolding places_of few_places place_in_text places_in
 first_and_past = refl
+
+-- a TPDO with bit 31 in its COB-ID isn't used, also where that is a sum; of another TPDO it is nothing
+disabled : map (λ lines. places InhibitTime (tpdo (codes "DefaultValue=1") (codes "DefaultValue=1") ++ lines))
+    ((codes "[18FFsub1]" ∷ codes "DefaultValue=0x80000185" ∷ []) ∷ (codes "[18FFsub1]" ∷ codes "DefaultValue=$NODEID+0x80000180" ∷ []) ∷ (codes "[18FFsub1]" ∷ codes "DefaultValue=0x80000185" ∷ codes "ParameterValue=0x185" ∷ [])
+    ∷ (codes "[18FFsub1]" ∷ codes "DefaultValue=0x7FFFFFFF" ∷ []) ∷ (codes "[18FFsub1]" ∷ codes "DefaultValue=0x80000000" ∷ []) ∷ (codes "[18FEsub1]" ∷ codes "DefaultValue=0x80000185" ∷ []) ∷ [])
+    ≡ [] ∷ [] ∷ (2 ∷ []) ∷ (2 ∷ []) ∷ [] ∷ (2 ∷ []) ∷ []
+unfolding places_of few_places place_in_text places_in
+disabled = refl
 
 types : map is_synchronous (0 ∷ 1 ∷ 240 ∷ 241 ∷ 251 ∷ 252 ∷ 253 ∷ 254 ∷ []) ≡ true ∷ true ∷ true ∷ false ∷ false ∷ true ∷ false ∷ false ∷ []
 types = refl

@@ -26,10 +26,10 @@ use Rattle.std.specs.List.{list_any, before_first, after_first}
 use Rattle.std.specs.Option.{option_map_or, option_or}
 use Rattle.std.specs.Result.{result_ok}
 use Rattle.co_sheet_text.specs.declared.section_kind.SectionKind.{SectionKind}
-use Rattle.co_sheet_text.specs.declared.section_kind.SectionKind.TheVariants.{Object, SubIndex}
+use Rattle.co_sheet_text.specs.declared.section_kind.SectionKind.TheVariants.{DeviceCommissioning, Object, SubIndex}
 use Rattle.co_sheet_text.specs.Text.{trim}
 use Rattle.co_sheet_text.specs.Numerals.{unsigned_number}
-use Rattle.co_sheet_text.specs.Sections.{Property, TextSection, property_at}
+use Rattle.co_sheet_text.specs.Sections.{Property, TextSection, property_at, section_at}
 use Rattle.co_sheet_text.specs.Properties.{number_at, property_number}
 use Rattle.co_sheet.specs.Limits.{is_plus, is_node_id}
 use Rattle.co_sheet_warnings.specs.SubIndices.{is_within}
@@ -49,9 +49,13 @@ is_enabled cob_id = nat_lt cob_id (2 ^ 31) && not (cob_id % 2 ^ 30 == 0)
 abbrev pub fixed_number : Property → List ℕ
 fixed_number k = if option_map_or is_enabled (property_number k) false then k.line ∷ [] else []
 
-abbrev pub fixed_cob_id : TextSection → List ℕ
-fixed_cob_id s =
-    if has_default_cob_id s.kind
+-- a device configuration file, whose COB-IDs are those of its network (CiA 306, device commissioning)
+abbrev pub is_configured : List TextSection → Bool
+is_configured sections = is_some (section_at DeviceCommissioning sections)
+
+abbrev pub fixed_cob_id : List TextSection → TextSection → List ℕ
+fixed_cob_id sections s =
+    if has_default_cob_id s.kind && not (is_configured sections)
     then option_map_or fixed_number (property_at (codes "DefaultValue") s) []
     else []
 

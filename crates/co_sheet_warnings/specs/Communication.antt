@@ -35,17 +35,44 @@ use Rattle.co_sheet_text.specs.Sections.{Property, TextSection}
 use Rattle.co_sheet_text.specs.Properties.{property_number}
 use Rattle.co_sheet.specs.Entries.{Entry, sub_indices}
 use Rattle.co_sheet.specs.Limits.{Default, node_id, number, numeric_default, value_property}
-use Rattle.co_sheet_warnings.specs.SubIndices.{is_within, value_number}
+use Rattle.co_sheet_warnings.specs.SubIndices.{is_within}
 
--- the number at a sub-index of an object
+-- what the entry at a sub-index of an object begins with, and its number
+abbrev pub value_at_sub : ℕ → List Entry → Option Property
+value_at_sub sub entries = option_and_then value_property (find (λ e. e.key.sub == sub) entries)
+
 abbrev pub number_at_sub : ℕ → List Entry → Option ℕ
-number_at_sub sub entries = option_and_then value_number (find (λ e. e.key.sub == sub) entries)
+number_at_sub sub entries = option_and_then property_number (value_at_sub sub entries)
 
 -- a property where its number passes a test
 abbrev pub line_if : (ℕ → Bool) → Property → List ℕ
 line_if test k = if option_map_or test (property_number k) false then k.line ∷ [] else []
 
--- transmission types 0 to 240 and 252 wait for a SYNC, and an inhibit time isn't used then
+-- a number of 32 bits
+abbrev pub word_with : ℤ → Option ℕ
+word_with (pos n) = if nat_lt n (2 ^ 32) then Some n else None
+word_with other = None
+
+-- the word that an entry begins with; a sum with `$NODEID` is one for a node-ID alone
+abbrev pub word_of_default : Option ℕ → Default → Option ℕ
+word_of_default given (number n) = word_with n
+word_of_default (Some node) (node_id n) = word_with (pos (n + node))
+word_of_default given other = None
+
+abbrev pub word_of : Option ℕ → Property → Option ℕ
+word_of given k =
+    option_and_then (word_of_default given) (result_ok (numeric_default Unsigned32 k.value))
+
+-- a word of a COB-ID with bit 31, by which the TPDO isn't used; a sum with `$NODEID` has it by its number
+abbrev pub is_disabled_word : ℕ → Bool
+is_disabled_word word = nat_le (2 ^ 31) word
+
+abbrev pub is_disabled : List Entry → Bool
+is_disabled entries =
+    option_map_or is_disabled_word (option_and_then (word_of (Some 0)) (value_at_sub 1 entries)) false
+
+-- transmission types 0 to 240 and 252 wait for a SYNC, and an inhibit time isn't used then; of a TPDO
+-- that isn't used nothing is said
 abbrev pub is_synchronous : ℕ → Bool
 is_synchronous transmission = nat_le transmission 240 || (transmission == 252)
 
@@ -54,7 +81,7 @@ is_some_time time = nat_lt 0 time
 
 abbrev pub inhibit_time_of : List Entry → Entry → List ℕ
 inhibit_time_of entries e =
-    if (e.key.sub == 3) && is_within 0x1800 0x19FF e.key.index
+    if (e.key.sub == 3) && is_within 0x1800 0x19FF e.key.index && not (is_disabled entries)
     && option_map_or is_synchronous (number_at_sub 2 entries) false
     then option_map_or (line_if is_some_time) (value_property e) []
     else []
@@ -74,21 +101,6 @@ is_used_word word = not (word % 65536 == 0) && is_within 1 127 (node_of_word wor
 
 abbrev pub consumes : ℕ → ℕ → Bool
 consumes node word = is_used_word word && (node_of_word word == node)
-
--- a number of 32 bits
-abbrev pub word_with : ℤ → Option ℕ
-word_with (pos n) = if nat_lt n (2 ^ 32) then Some n else None
-word_with other = None
-
--- the word that an entry begins with; a sum with `$NODEID` is one for a node-ID alone
-abbrev pub word_of_default : Option ℕ → Default → Option ℕ
-word_of_default given (number n) = word_with n
-word_of_default (Some node) (node_id n) = word_with (pos (n + node))
-word_of_default given other = None
-
-abbrev pub word_of : Option ℕ → Property → Option ℕ
-word_of given k =
-    option_and_then (word_of_default given) (result_ok (numeric_default Unsigned32 k.value))
 
 -- a property where its word passes a test
 abbrev pub line_of_word : Option ℕ → (ℕ → Bool) → Property → List ℕ

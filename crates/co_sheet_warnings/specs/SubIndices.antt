@@ -92,9 +92,6 @@ is_highest_by_rule index =
     || is_within 0x1A00 0x1BFF index)
 
 -- the number that an entry begins with, where it is one
-abbrev pub value_number : Entry → Option ℕ
-value_number e = option_and_then property_number (value_property e)
-
 -- a number of one byte, other than the highest sub-index
 abbrev pub other_number : ℕ → Property → List ℕ
 other_number highest k =

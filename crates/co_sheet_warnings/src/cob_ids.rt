@@ -6,13 +6,16 @@ ghost use Rattle.co_sheet_warnings.specs.CobIds.{
   has_default_cob_id,
   fixed_cob_id,
   has_text_type,
+  is_configured,
   is_enabled,
   is_node_id_last,
   node_id_last_at,
   node_id_place,
 };
 
+use crate::read_text::ReadText;
 use crate::sub_indices::is_within;
+use co_sheet::section_at;
 use co_sheet_text::{SectionKind, TextSection, same_name, trim, unsigned_number};
 use co_text::split_at_first;
 
@@ -39,11 +42,23 @@ fn is_enabled(word: u64) -> bool
     word < DISABLED && word % (1 << 30) != 0
 }
 
-/// The line of a COB-ID that is a fixed number, and depends on the node-ID by default.
-pub(crate) fn fixed_cob_id(section: &TextSection) -> Option<usize>
-    ensures { option_to_list result ≡ fixed_cob_id (section_view section.now) }
+// whether a text is a device configuration file
+fn is_configured(text: &ReadText) -> bool
+    ensures { result ≡ is_configured text.now.sections }
 {
-    if !has_default_cob_id(section.kind) {
+    match section_at(text.sections(), SectionKind::DeviceCommissioning) {
+        Some(_) => true,
+        None => false,
+    }
+}
+
+/// The line of a COB-ID that is a fixed number, and depends on the node-ID by default; not in a device
+/// configuration file.
+pub(crate) fn fixed_cob_id(text: &ReadText, section: &TextSection) -> Option<usize>
+    ensures { option_to_list result
+        ≡ fixed_cob_id text.now.sections (section_view section.now) }
+{
+    if !has_default_cob_id(section.kind) || is_configured(text) {
         return None;
     }
     let Some(given) = section.property(b"DefaultValue") else {

@@ -1,6 +1,6 @@
 //! Values of the communication profile that don't work together.
 
-ghost use Rattle.std.specs.Prelude.{◌≡◌, map, option_to_list};
+ghost use Rattle.std.specs.Prelude.{◌≡◌, map, option_map, option_to_list};
 ghost use Rattle.co_sheet.specs.SectionViews.{entry_view};
 ghost use Rattle.co_sheet.specs.Views.{default_view};
 ghost use Rattle.co_sheet_text.specs.Views.{property_view, section_view};
@@ -10,33 +10,58 @@ ghost use Rattle.co_sheet_warnings.specs.Communication.{
   heartbeat_twice,
   inhibit_time,
   is_consumed_twice,
+  is_disabled,
   is_some_time,
   is_synchronous,
   is_used_word,
   node_of_word,
   number_at_sub,
   own_heartbeat,
+  value_at_sub,
   word_of,
   word_of_default,
   word_with,
 };
 
 use crate::read_text::ReadText;
-use crate::sub_indices::{is_within, value_in, value_number};
+use crate::sub_indices::{is_within, value_in};
 use co_sheet::{EntrySection, Preset, numeric_default};
 use co_sheet_text::{Property, SectionKind, TextSection};
 use co_value::DataType;
+
+// what the entry at a sub-index of an object begins with
+fn value_at_sub<'a>(parts: &[EntrySection<'_, 'a>], sub: u8) -> Option<Property<'a>>
+    ensures { option_map property_view result ≡ value_at_sub sub (map entry_view parts.now) }
+{
+    for part in parts {
+        if part.key.sub == sub {
+            return value_in(part.section);
+        }
+    }
+    None
+}
 
 /// The number at a sub-index of an object.
 pub(crate) fn number_at_sub(parts: &[EntrySection], sub: u8) -> Option<u64>
     ensures { result ≡ number_at_sub sub (map entry_view parts.now) }
 {
-    for part in parts {
-        if part.key.sub == sub {
-            return value_number(part);
-        }
+    match value_at_sub(parts, sub) {
+        Some(given) => given.number(),
+        None => None,
     }
-    None
+}
+
+// whether the COB-ID of a PDO has bit 31, also one that is a sum with `$NODEID`
+fn is_disabled(parts: &[EntrySection]) -> bool
+    ensures { result ≡ is_disabled (map entry_view parts.now) }
+{
+    let Some(given) = value_at_sub(parts, 1) else {
+        return false;
+    };
+    match word_of(Some(0), &given) {
+        Some(word) => word >= 0x8000_0000,
+        None => false,
+    }
 }
 
 fn is_synchronous(transmission: u64) -> bool
@@ -51,7 +76,7 @@ fn is_some_time(time: u64) -> bool
     0 < time
 }
 
-/// The line of an inhibit time above 0 of a synchronous TPDO.
+/// The line of an inhibit time above 0 of a synchronous TPDO that is used.
 pub(crate) fn inhibit_time(text: &ReadText, section: &TextSection) -> Option<usize>
     ensures { option_to_list result
         ≡ inhibit_time text.now.sections (section_view section.now) section.now.kind }
@@ -61,7 +86,11 @@ pub(crate) fn inhibit_time(text: &ReadText, section: &TextSection) -> Option<usi
             if key.sub != 3 || !is_within(0x1800, 0x19FF, key.index) {
                 return None;
             }
-            let Some(transmission) = number_at_sub(text.parts(key.index), 2) else {
+            let parts = text.parts(key.index);
+            if is_disabled(parts) {
+                return None;
+            }
+            let Some(transmission) = number_at_sub(parts, 2) else {
                 return None;
             };
             let Some(given) = value_in(section) else {

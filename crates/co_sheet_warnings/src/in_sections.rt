@@ -24,7 +24,7 @@ pub(crate) fn place_in(text: &ReadText, kind: WarningKind, section: &TextSection
         WarningKind::SubIndex0 => sub_index_0(text, section),
         WarningKind::VarSubIndices => var_sub_indices(text, section),
         WarningKind::Unlisted => unlisted(text, section),
-        WarningKind::FixedCobId => fixed_cob_id(section),
+        WarningKind::FixedCobId => fixed_cob_id(text, section),
         WarningKind::NodeIdPlace => node_id_place(section),
         WarningKind::NegativeLimit => negative_limit(section),
         WarningKind::MisspeltSection => misspelt_section(text, section),

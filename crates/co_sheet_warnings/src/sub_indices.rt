@@ -13,7 +13,6 @@ ghost use Rattle.co_sheet_warnings.specs.SubIndices.{
   missing_name,
   sub_index_0,
   sub_number,
-  value_number,
   var_sub_indices,
 };
 ghost use Rattle.co_sheet_warnings.specs.private.Views.{is_constant_section};
@@ -126,16 +125,6 @@ pub fn value_in<'a>(section: &TextSection<'_, 'a>) -> Option<Property<'a>>
     match section.property(b"ParameterValue") {
         Some(given) => Some(given),
         None => section.property(b"DefaultValue"),
-    }
-}
-
-/// The number that an entry begins with.
-pub(crate) fn value_number(entry: &EntrySection) -> Option<u64>
-    ensures { result ≡ value_number (entry_view entry.now) }
-{
-    match value_in(entry.section) {
-        Some(given) => given.number(),
-        None => None,
     }
 }
 

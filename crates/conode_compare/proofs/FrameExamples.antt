@@ -1,38 +1,64 @@
--- Which lines of a text are frames that are compared.
-use Rattle.std.proofs.Common.{◌≡◌, ℕ, List, [], ◌∷◌, ◌++◌, map, Some, None, refl}
+-- Which lines of a text are frames that are compared, which are bad, and what a bad one leaves known.
+use Rattle.std.proofs.Common.{◌≡◌, ℕ, true, List, [], ◌∷◌, ◌++◌, map, None, Some, refl}
 use Rattle.std.specs.Prelude.{codes, replicate}
 use Rattle.conode_convert.specs.Converted.{at_start}
 use Rattle.conode_explain.specs.LogLines.{line_at}
 use Rattle.conode_logs.proofs.OnLines.{logs_on_lines}
 use Rattle.conode_logs.specs.declared.log.Form.TheVariants.{Unknown}
-use Rattle.conode_compare.specs.ComparedFrames.{AreAllOn, Numbered, compared_frames, frames_from, frames_read, line_frames}
+use Rattle.conode_record.specs.declared.line.Record.{Record}
+use Rattle.conode_compare_rules.specs.declared.limits.Limits.{Limits}
+use Rattle.conode_compare_rules.specs.declared.limits.Subject.{Subject}
+use Rattle.conode_compare_rules.specs.declared.progress.Progress.{Progress}
+use Rattle.conode_compare_rules.specs.Progresses.{before_recording, begins_anew, with_bad_line}
+use Rattle.conode_compare.specs.ComparedFrames.{AreAllOn, BadLine, FrameIn, IsWhole, LineRead, compared_frames, frames_from, frames_read, line_frames, records_of}
 
 -- a comment, a bad line, frames of two interfaces, and a last line without its line feed
 abbrev text : List ℕ
 text = codes "; node 5\n(1.000000) can0 705#00\nnothing\n(2.000000) can1 705#7F\n(3.000000) can0 705#7F\n(4.000000) can0 705#05"
 
-abbrev numbers : List Numbered → List ℕ
-numbers frames = map (λ x. x.number) frames
+-- 0 for a bad line
+abbrev number : LineRead → ℕ
+number (FrameIn n frame) = n
+number BadLine = 0
 
-all_frames : numbers (frames_read Unknown text) ≡ 2 ∷ 4 ∷ 5 ∷ []
+abbrev numbers : List LineRead → List ℕ
+numbers lines = map number lines
+
+all_frames : numbers (frames_read Unknown text) ≡ 2 ∷ 0 ∷ 4 ∷ 5 ∷ []
 unfolding logs_on_lines line_at frames_from
 all_frames = refl
 
-first_interface : numbers (compared_frames None Unknown text) ≡ 2 ∷ 5 ∷ []
+first_interface : numbers (compared_frames None Unknown text) ≡ 2 ∷ 0 ∷ 5 ∷ []
 unfolding logs_on_lines line_at frames_from
 first_interface = refl
 
-named_interface : numbers (compared_frames (Some (codes "can1")) Unknown text) ≡ 4 ∷ []
+named_interface : numbers (compared_frames (Some (codes "can1")) Unknown text) ≡ 0 ∷ 4 ∷ []
 unfolding logs_on_lines line_at frames_from
 named_interface = refl
 
-with_last_line : map (λ x. x.frame.micros) (compared_frames None Unknown (text ++ codes "\n")) ≡ 1000000 ∷ 3000000 ∷ 4000000 ∷ []
+with_last_line : map (λ frame. frame.micros) (records_of (compared_frames None Unknown (text ++ codes "\n"))) ≡ 1000000 ∷ 3000000 ∷ 4000000 ∷ []
 unfolding logs_on_lines line_at frames_from
 with_last_line = refl
 
-too_long : line_frames 1 (at_start Unknown) (codes "(1.000000) can0 705#00" ++ replicate 491 32) ≡ []
+too_long : line_frames 1 (at_start Unknown) (codes "(1.000000) can0 705#00" ++ replicate 491 32) ≡ BadLine ∷ []
 too_long = refl
 
 one_interface : AreAllOn (codes "can0") (compared_frames None Unknown text)
 unfolding logs_on_lines line_at frames_from
-one_interface = (refl, (refl, tt))
+one_interface = (refl, (tt, (refl, tt)))
+
+-- ---- after a bad line the recording begins anew, whatever is known, and however soon a frame comes
+
+bad_line : (limits : Limits) (progress : Progress) (micros : ℕ) → begins_anew limits (with_bad_line progress) micros ≡ true
+bad_line limits progress micros = refl
+
+-- before the first frame nothing is known anyway
+bad_first : (subject : Subject) → with_bad_line (before_recording subject) ≡ before_recording subject
+bad_first subject = refl
+
+-- bad lines before the first frame and after the last one; and between two
+whole : (frame : Record) → IsWhole (BadLine ∷ FrameIn 2 frame ∷ FrameIn 3 frame ∷ BadLine ∷ BadLine ∷ [])
+whole frame = (tt, tt)
+
+broken : (frame : Record) → IsWhole (FrameIn 1 frame ∷ BadLine ∷ FrameIn 3 frame ∷ []) → ⊥
+broken frame h = h.0

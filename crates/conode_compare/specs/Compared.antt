@@ -33,17 +33,21 @@ use Rattle.conode_compare_rules.specs.declared.kind.FrameKind.{FrameKind}
 use Rattle.conode_compare_rules.specs.declared.progress.Progress.{Progress}
 use Rattle.conode_compare_receptions.specs.declared.receptions.Receptions.{Receptions}
 use Rattle.conode_compare_rules.specs.FrameKinds.{kind_of}
-use Rattle.conode_compare_rules.specs.Progresses.{before_recording, findings_at, is_number_kept, progress_with}
+use Rattle.conode_compare_rules.specs.Progresses.{before_recording, findings_at, is_number_kept, progress_with, with_bad_line}
 use Rattle.conode_compare_receptions.specs.Receptions.{no_receptions, receptions_with, with_receptions}
+use Rattle.conode_compare_text.specs.declared.details.Details.{Details}
+use Rattle.conode_compare_text.specs.Beside.{came_at, no_details}
 use Rattle.conode_compare_text.specs.FindingTexts.{finding_line}
+use Rattle.conode_compare_transfers.specs.declared.dialogue.Exchange.{Exchange}
 use Rattle.conode_compare_text.specs.Tallies.{no_frames, tally_with}
 use Rattle.conode_compare_text.specs.WarningTexts.{warning_line}
 use Rattle.conode_compare_report.specs.Befores.{before_at}
 use Rattle.conode_compare_report.specs.declared.kind.Kind.TheVariants.{ValueHeld}
-use Rattle.conode_compare_report.specs.Reports.{with_bad_line, with_finding, with_frame, with_line, with_passed}
+use Rattle.conode_compare_report.specs.Reports.{with_bad_line as bad_line_kept, with_finding, with_frame, with_line, with_passed}
 use Rattle.conode_compare_report.specs.Views.{Kept}
 use Rattle.conode_compare.specs.declared.comparing.Comparing.{Comparing}
 use Rattle.conode_compare.specs.declared.notes.Noted.{Noted}
+use Rattle.conode_compare.specs.Detailed.{asks_to_write, first_bytes, passed_at}
 use Rattle.conode_compare.specs.NodesSeen.{no_nodes, nodes_with}
 use Rattle.conode_compare.specs.Noted.{choice_lines, noted_at, nothing_noted, notes_with}
 
@@ -73,13 +77,28 @@ shown_type c (Value (ValueConst key shown held)) = type_at c key
 shown_type c (Held mismatch) = type_at c mismatch.key
 shown_type c finding = Plain Unsigned32
 
-abbrev pub listed : Comparison → ℕ → Option Finding → List (List ℕ)
-listed c number None = []
-listed c number (Some finding) = finding_line c.recording number (shown_type c finding) finding ∷ []
+-- what the line of a difference says beside it, by what its frame is, and by what that is on its SDO channel
+abbrev pub details_at : Comparison → FrameKind → Option Exchange → Finding → Details
+details_at c kind exchange finding = record {
+  value_type = shown_type c finding;
+  came = came_at kind;
+  writes = asks_to_write exchange;
+  passed = passed_at c.rows (first_bytes exchange) finding;
+}
 
-unfoldable pub findings_lines : Comparison → ℕ → Findings → List (List ℕ)
-findings_lines c number found =
-    listed c number found.boot ++ (listed c number found.heartbeat ++ (listed c number found.answer ++ listed c number found.frame))
+-- of the difference of a frame itself; what is missing before it has nothing beside it
+abbrev pub details_of : Comparison → FrameKind → Option Exchange → Option Finding → Details
+details_of c kind exchange None = no_details
+details_of c kind exchange (Some finding) = details_at c kind exchange finding
+
+abbrev pub listed : Comparison → ℕ → Details → Option Finding → List (List ℕ)
+listed c number details None = []
+listed c number details (Some finding) = finding_line c.recording number details finding ∷ []
+
+unfoldable pub findings_lines : Comparison → ℕ → Details → Findings → List (List ℕ)
+findings_lines c number details found =
+    listed c number details found.boot
+    ++ (listed c number details found.heartbeat ++ (listed c number details found.answer ++ listed c number details found.frame))
 
 -- the data type in which the values of a warning are shown
 abbrev pub warned_type : Comparison → Warning → ValueType
@@ -104,29 +123,35 @@ noted_lines c number noted = warning_lines c number noted.warning ++ choice_line
 -- ---- what is kept for a document
 
 -- a difference, if there is one
-abbrev pub if_noted : Comparison → ℕ → Option Finding → Kept → Kept
-if_noted c micros None kept = kept
-if_noted c micros (Some finding) kept = with_finding kept micros (shown_type c finding) finding
+abbrev pub if_noted : ℕ → Details → Option Finding → Kept → Kept
+if_noted micros details None kept = kept
+if_noted micros details (Some finding) kept = with_finding kept micros details finding
 
 -- what is found at a frame with this stamp
-unfoldable pub findings_noted : Comparison → ℕ → Findings → Kept → Kept
-findings_noted c micros found kept =
-    if_noted c micros found.frame (if_noted c micros found.answer (if_noted c micros found.heartbeat (if_noted c micros found.boot kept)))
+unfoldable pub findings_noted : ℕ → Details → Findings → Kept → Kept
+findings_noted micros details found kept =
+    if_noted micros details found.frame
+    (if_noted micros details found.answer (if_noted micros details found.heartbeat (if_noted micros details found.boot kept)))
 
 -- a frame with what is found at it, by what the recording shows before it
 abbrev pub frame_noted : Comparison → Progress → ℕ → FrameKind → Kept → Kept
 frame_noted c progress micros kind kept =
-    with_frame c.rows kept micros kind (before_at kept.rpdos progress kind) (progress_with c.subject progress micros kind).nmt.state
+    with_frame c.rows kept micros kind (before_at kept.rpdos c.subject.facts.modular progress kind) (progress_with c.subject progress micros kind).nmt.state
     (findings_at c.subject c.rows progress micros kind)
 
 -- an upload of an entry that is held shows the number that was written
 abbrev pub number_noted : Comparison → Progress → Kept → Kept
 number_noted c after kept = if is_number_kept c.subject after then with_passed kept ValueHeld else kept
 
+-- what the line of the frame's difference says beside it
+abbrev pub details_for : Comparison → Progress → ℕ → FrameKind → Details
+details_for c progress micros kind =
+    details_of c kind (progress_with c.subject progress micros kind).exchange (findings_at c.subject c.rows progress micros kind).frame
+
 -- and its differences
 abbrev pub kind_noted : Comparison → Progress → ℕ → FrameKind → Kept → Kept
 kind_noted c progress micros kind kept =
-    findings_noted c micros (findings_at c.subject c.rows progress micros kind)
+    findings_noted micros (details_for c progress micros kind) (findings_at c.subject c.rows progress micros kind)
     (number_noted c (progress_with c.subject progress micros kind) (frame_noted c progress micros kind kept))
 
 -- ---- frames
@@ -167,11 +192,12 @@ abbrev pub noted_with : Comparison → Comparing → Record → FrameKind → No
 noted_with c so_far frame kind = noted_at c.choices c.subject c.rows so_far.notes kind (progress_at c so_far frame kind)
 
 -- its differences, then what is noted at it
-unfoldable pub shown_lines : Comparison → ℕ → Findings → Noted → List (List ℕ)
-shown_lines c number found noted = findings_lines c number found ++ noted_lines c number noted
+unfoldable pub shown_lines : Comparison → ℕ → Details → Findings → Noted → List (List ℕ)
+shown_lines c number details found noted = findings_lines c number details found ++ noted_lines c number noted
 
 abbrev pub taken_lines : Comparison → ℕ → Comparing → Record → FrameKind → List (List ℕ)
-taken_lines c number so_far frame kind = shown_lines c number (found_at c so_far frame kind) (noted_with c so_far frame kind)
+taken_lines c number so_far frame kind =
+    shown_lines c number (details_for c so_far.progress frame.micros kind) (found_at c so_far frame kind) (noted_with c so_far frame kind)
 
 abbrev pub kind_at : Comparison → Record → FrameKind
 kind_at c frame = kind_of c.subject.node frame.id frame.content
@@ -220,12 +246,12 @@ frame_with c so_far frame =
 
 -- ---- lines of the recording
 
--- what is kept of a line, and of a bad one
+-- what is kept of a line, and of a bad one: what that had is unknown
 abbrev pub line_noted : Comparing → List ℕ → Comparing
 line_noted so_far line = record so_far { report = option_map (λ kept. with_line kept line) so_far.report }
 
 abbrev pub bad_noted : Comparing → Comparing
-bad_noted so_far = record so_far { report = option_map with_bad_line so_far.report }
+bad_noted so_far = record so_far { progress = with_bad_line so_far.progress; report = option_map bad_line_kept so_far.report }
 
 -- nothing but its number is kept of a line of more than 512 bytes
 abbrev pub long_noted : Comparing → Comparing

@@ -1,8 +1,9 @@
 -- A recording as its frames: which of its lines are frames that are compared, and what is found and noted at each, one after another.
-use Rattle.std.specs.Prelude.{◌≡◌, ℕ, ◌+◌, nat_lt, Bool, if◌then◌else◌, List, [], ◌∷◌, ◌++◌, length, Option, Some, None}
+use Rattle.std.specs.Prelude.{◌≡◌, ⊤, ℕ, ◌+◌, nat_lt, Bool, if◌then◌else◌, List, [], ◌∷◌, ◌++◌, length, Option, Some, None}
 use Rattle.std.specs.List.{AllByRecursion, flat_map}
 use Rattle.std.specs.Str.Lines.{lines}
 use Rattle.arrayvec.specs.ArrayVec.{ArrayVec}
+use Rattle.co_sheet.specs.Content.{Row}
 use Rattle.co_stream.specs.Founds.{is_closed}
 use Rattle.conode_convert.specs.Converted.{at_start, log_after}
 use Rattle.conode_explain.specs.LogLines.{line_at}
@@ -13,81 +14,116 @@ use Rattle.conode_record.specs.declared.line.RecordLine.{RecordLine}
 use Rattle.conode_record.specs.declared.line.RecordLine.TheVariants.{Skipped, Frame}
 use Rattle.conode_compare_rules.specs.declared.finding.Finding.{Finding}
 use Rattle.conode_compare_rules.specs.declared.kind.FrameKind.{FrameKind}
+use Rattle.conode_compare_rules.specs.declared.limits.Subject.{Subject}
 use Rattle.conode_compare_rules.specs.declared.progress.Progress.{Progress}
 use Rattle.conode_compare_rules.specs.declared.verdict.Findings.{Findings}
-use Rattle.conode_compare_rules.specs.Progresses.{before_recording, findings_at, progress_with}
+use Rattle.conode_compare_rules.specs.Progresses.{before_recording, findings_at, progress_with, with_bad_line}
 use Rattle.conode_compare_receptions.specs.declared.receptions.Receptions.{Receptions}
-use Rattle.conode_compare_receptions.specs.AllFrames.{progress_after, receptions_after}
+use Rattle.conode_compare_receptions.specs.AllFrames.{kind_at as what_is, progress_after, receptions_after}
 use Rattle.conode_compare_receptions.specs.Receptions.{no_receptions}
+use Rattle.conode_compare_text.specs.declared.details.Details.{Details}
 use Rattle.conode_compare_text.specs.declared.tally.Tally.{Tally}
 use Rattle.conode_compare_text.specs.Tallies.{tally_with}
 use Rattle.conode_compare.specs.declared.notes.Noted.{Noted}
 use Rattle.conode_compare.specs.declared.notes.Notes.{Notes}
-use Rattle.conode_compare.specs.Compared.{Comparison, counts, first_with, is_compared, kind_at, shown_lines}
+use Rattle.conode_compare.specs.Compared.{Comparison, counts, details_for, first_with, is_compared, kind_at, shown_lines}
 use Rattle.conode_compare.specs.Noted.{noted_at, nothing_noted, notes_with}
 
 -- ---- which frames
 
--- a frame, and the number of its line
-pub record Numbered : Type 0 where
-  pub number : ℕ
-  pub frame : Record
+-- what is read of a line
+pub data LineRead : Type 0 where
+  -- a frame, in the line with this number
+  FrameIn : ℕ → Record → LineRead
+  -- it is bad: which frame it had is unknown
+  BadLine : LineRead
 
 -- of a line that says this
-abbrev pub said_frames : ℕ → Option RecordLine → List Numbered
-said_frames number (Some (Frame frame)) = record { number = number; frame = frame } ∷ []
+abbrev pub said_frames : ℕ → Option RecordLine → List LineRead
+said_frames number (Some (Frame frame)) = FrameIn number frame ∷ []
 said_frames number (Some Skipped) = []
-said_frames number None = []
+said_frames number None = BadLine ∷ []
 
--- of a line; one of more than 512 bytes says nothing
-abbrev pub line_frames : ℕ → Log → List ℕ → List Numbered
-line_frames number log line = if nat_lt 512 (length line) then [] else said_frames number (line_at log line)
+-- of a line; one of more than 512 bytes is bad
+abbrev pub line_frames : ℕ → Log → List ℕ → List LineRead
+line_frames number log line = if nat_lt 512 (length line) then BadLine ∷ [] else said_frames number (line_at log line)
 
 -- of lines from this number on; the last one counts only where it has its line feed
-unfoldable pub frames_from : Bool → ℕ → Log → List (List ℕ) → List Numbered
+unfoldable pub frames_from : Bool → ℕ → Log → List (List ℕ) → List LineRead
 frames_from closed number log [] = []
 frames_from closed number log (line ∷ []) = if counts closed line then line_frames number log line else []
 frames_from closed number log (line ∷ next ∷ more) = line_frames number log line ++ frames_from closed (number + 1) (log_after log line) (next ∷ more)
 
 -- all that a text says
-abbrev pub frames_read : Form → List ℕ → List Numbered
+abbrev pub frames_read : Form → List ℕ → List LineRead
 frames_read form text = frames_from (is_closed text) 1 (at_start form) (lines text)
 
--- of these the ones that are compared: of the interface that is named, else of that of the first frame
-abbrev pub chosen_frames : Option (List ℕ) → ArrayVec ℕ → List Numbered → List Numbered
+-- of these frames the ones that are compared: of the interface that is named, else of that of the first
+-- frame; bad lines may be of any
+abbrev pub chosen_frames : Option (List ℕ) → ArrayVec ℕ → List LineRead → List LineRead
 chosen_frames interface first [] = []
-chosen_frames interface first (x ∷ later) =
-    if is_compared interface first.items x.frame.interface then x ∷ chosen_frames interface (first_with first x.frame.interface) later
+chosen_frames interface first (FrameIn number frame ∷ later) =
+    if is_compared interface first.items frame.interface then FrameIn number frame ∷ chosen_frames interface (first_with first frame.interface) later
     else chosen_frames interface first later
+chosen_frames interface first (BadLine ∷ later) = BadLine ∷ chosen_frames interface first later
 
-abbrev pub compared_frames : Option (List ℕ) → Form → List ℕ → List Numbered
+abbrev pub compared_frames : Option (List ℕ) → Form → List ℕ → List LineRead
 compared_frames interface form text = chosen_frames interface (record { items = [] }) (frames_read form text)
 
+-- the frames alone
+abbrev pub records_of : List LineRead → List Record
+records_of [] = []
+records_of (FrameIn number frame ∷ later) = frame ∷ records_of later
+records_of (BadLine ∷ later) = records_of later
+
+-- no bad line has a frame before it and one after it
+abbrev pub IsBad : LineRead → Type 0
+IsBad (FrameIn number frame) = ⊥
+IsBad BadLine = ⊤
+
+abbrev pub EndsWhole : List LineRead → Type 0
+EndsWhole [] = ⊤
+EndsWhole (FrameIn number frame ∷ later) = EndsWhole later
+EndsWhole (BadLine ∷ later) = AllByRecursion IsBad later
+
+abbrev pub IsWhole : List LineRead → Type 0
+IsWhole [] = ⊤
+IsWhole (FrameIn number frame ∷ later) = EndsWhole later
+IsWhole (BadLine ∷ later) = IsWhole later
+
 -- all frames are of this interface
-abbrev pub AreAllOn : List ℕ → List Numbered → Type 0
-AreAllOn name frames = AllByRecursion (λ x. x.frame.interface ≡ name) frames
+abbrev pub IsOn : List ℕ → LineRead → Type 0
+IsOn name (FrameIn number frame) = frame.interface ≡ name
+IsOn name BadLine = ⊤
+
+abbrev pub AreAllOn : List ℕ → List LineRead → Type 0
+AreAllOn name lines = AllByRecursion (IsOn name) lines
 
 -- ---- what is found at them
 
--- a frame in the line with this number, by what it is to the device, with what is found and noted at it
+-- a frame in the line with this number, by what it is to the device, with what is found and noted at it, and what
+-- the line of its difference says beside it
 pub record FrameShown : Type 0 where
   pub number : ℕ
   pub kind : FrameKind
   pub found : Findings
   pub noted : Noted
+  pub details : Details
 
--- where so much is known before them
-abbrev pub shown_from : Comparison → Progress → Receptions → Notes → List Numbered → List FrameShown
+-- where so much is known before them; with the first one after a bad line the recording begins anew
+abbrev pub shown_from : Comparison → Progress → Receptions → Notes → List LineRead → List FrameShown
 shown_from c progress receptions notes [] = []
-shown_from c progress receptions notes (x ∷ later) =
+shown_from c progress receptions notes (FrameIn number frame ∷ later) =
     record {
-      number = x.number;
-      kind = kind_at c x.frame;
-      found = findings_at c.subject c.rows progress x.frame.micros (kind_at c x.frame);
-      noted = noted_at c.choices c.subject c.rows notes (kind_at c x.frame) (progress_with c.subject progress x.frame.micros (kind_at c x.frame));
+      number = number;
+      kind = kind_at c frame;
+      found = findings_at c.subject c.rows progress frame.micros (kind_at c frame);
+      noted = noted_at c.choices c.subject c.rows notes (kind_at c frame) (progress_with c.subject progress frame.micros (kind_at c frame));
+      details = details_for c progress frame.micros (kind_at c frame);
     }
-    ∷ shown_from c (progress_after c.subject c.rows progress receptions x.frame) (receptions_after c.subject c.rows progress receptions x.frame)
-    (notes_with c.choices c.learned c.subject c.rows notes (kind_at c x.frame) (progress_with c.subject progress x.frame.micros (kind_at c x.frame))) later
+    ∷ shown_from c (progress_after c.subject c.rows progress receptions frame) (receptions_after c.subject c.rows progress receptions frame)
+    (notes_with c.choices c.learned c.subject c.rows notes (kind_at c frame) (progress_with c.subject progress frame.micros (kind_at c frame))) later
+shown_from c progress receptions notes (BadLine ∷ later) = shown_from c (with_bad_line progress) receptions notes later
 
 -- of a text
 abbrev pub shown_in : Comparison → Form → List ℕ → List FrameShown
@@ -95,7 +131,7 @@ shown_in c form text = shown_from c (before_recording c.subject) no_receptions n
 
 -- the lines of their differences, warnings and choices
 abbrev pub lines_shown : Comparison → List FrameShown → List (List ℕ)
-lines_shown c shown = flat_map (λ s. shown_lines c s.number s.found s.noted) shown
+lines_shown c shown = flat_map (λ s. shown_lines c s.number s.details s.found s.noted) shown
 
 -- of what is found at each these
 abbrev pub picked : (FrameKind → Findings → List Finding) → List FrameShown → List Finding
@@ -105,3 +141,18 @@ picked these shown = flat_map (λ s. these s.kind s.found) shown
 abbrev pub tally_of : Tally → List FrameShown → Tally
 tally_of tally [] = tally
 tally_of tally (s ∷ later) = tally_of (tally_with tally s.found.verdict) later
+
+-- ---- what the program finds
+
+-- As `program_from` of conode_compare_receptions has it of frames, of lines: with the first frame after a bad line the
+-- recording begins anew.
+abbrev pub program_from_lines : (FrameKind → Findings → List Finding) → Subject → List Row → Progress → Receptions → List LineRead → List Finding
+program_from_lines these subject rows progress receptions [] = []
+program_from_lines these subject rows progress receptions (FrameIn number frame ∷ later) =
+    these (what_is subject frame) (findings_at subject rows progress frame.micros (what_is subject frame))
+    ++ program_from_lines these subject rows (progress_after subject rows progress receptions frame) (receptions_after subject rows progress receptions frame) later
+program_from_lines these subject rows progress receptions (BadLine ∷ later) = program_from_lines these subject rows (with_bad_line progress) receptions later
+
+-- over all lines of a recording
+abbrev pub program_over_lines : (FrameKind → Findings → List Finding) → Subject → List Row → List LineRead → List Finding
+program_over_lines these subject rows lines = program_from_lines these subject rows (before_recording subject) no_receptions lines

@@ -1,5 +1,6 @@
 pub mod Compared
 pub mod ComparedFrames
+pub mod Detailed
 pub mod Documents
 pub mod LastLines
 pub mod NodesSeen

@@ -17,7 +17,7 @@ use crate::nodes_seen::NodesSeen;
 use crate::writes::Settings;
 use co_sheet::{EntryRow, Sheet, read};
 use co_sheet_changes::Originals;
-use conode_compare_report::SheetNames;
+use conode_compare_report::{SheetNames, is_boot_up_master};
 use conode_compare_rules::{Limits, Subject, facts_of};
 use conode_compare_text::Tally;
 use conode_compare_values::{HeldEntries, HeldFault, Rooms};
@@ -232,12 +232,13 @@ fn bad_keys<E: Write>(fault: HeldFault, err: &mut E) -> ExitCode
 }
 
 // compares the recording of a path with a data sheet, whose entries have these original data types,
-// and which has these names
+// and which has these names; `master`: it says that the device may be the boot-up master
 fn compare_sheet<R: Files + AllocGlobal + Input, O: Write, E: Write>(
     rt: &R,
     sheet: &Sheet<'_>,
     originals: &Originals,
     names: SheetNames<'_>,
+    master: bool,
     paths: &Paths<'_>,
     asked: Asked<'_>,
     out: &mut O,
@@ -257,7 +258,7 @@ fn compare_sheet<R: Files + AllocGlobal + Input, O: Write, E: Write>(
     let subject = Subject {
         node,
         limits: asked.limits,
-        facts: facts_of(rows, node, own.is_some()),
+        facts: facts_of(rows, node, own.is_some()).with_master(master),
         held,
         rooms: asked.rooms,
     };
@@ -299,7 +300,8 @@ fn compare_text<R: Files + AllocGlobal + Input, O: Write, E: Write>(
     match Originals::in_text(rt.alloc(), text) {
         Ok(originals) => {
             let names = SheetNames::in_text(text);
-            compare_sheet(rt, sheet, &originals, names, paths, asked, out, err)
+            let master = is_boot_up_master(text);
+            compare_sheet(rt, sheet, &originals, names, master, paths, asked, out, err)
         }
         Err(_) => {
             let _ = out_of_memory(out);

@@ -21,6 +21,7 @@ ghost use Rattle.conode_compare.specs.Compared.{
 ghost use Rattle.conode_compare.specs.Noted.{noted_at};
 ghost use Rattle.conode_compare.specs.Views.{comparison_view};
 
+use crate::details::details_of;
 use crate::kept::note_findings;
 use crate::nodes_seen::NodesSeen;
 use crate::notes::{Noted, Notes};
@@ -100,14 +101,15 @@ fn document_kind(
     ensures report { OnOk result (report.new
         ≡ kind_noted (comparison_view settings.now) progress.old micros kind.now report.old) }
 {
-    let before = report.before(progress, kind);
+    let before = report.before(settings.subject.facts.modular, progress, kind);
     let found = progress.take(&settings.subject, settings.rows, micros, kind);
     let state = progress.state();
     attempt!(report.take_frame(settings.rows, micros, kind, &before, state, &found));
     if progress.is_number_kept(&settings.subject) {
         report.pass(Kind::ValueHeld);
     }
-    attempt!(note_findings(report, settings, micros, &found));
+    let details = details_of(settings, kind, &progress.exchange, found.frame);
+    attempt!(note_findings(report, micros, &details, &found));
     Ok(found.verdict)
 }
 
@@ -165,10 +167,12 @@ impl Comparing {
         }
     }
 
-    /// The newest line is bad.
+    /// The newest line is bad: what it had is unknown, so with the next frame the recording begins
+    /// anew.
     pub(crate) fn note_bad_line(&mut self)
         ensures { self.new ≡ bad_noted self.old }
     {
+        self.progress.note_bad_line();
         if let Some(report) = &mut self.report {
             report.note_bad_line();
         }
@@ -267,13 +271,14 @@ impl Comparing {
                 let found = self
                     .progress
                     .take(&settings.subject, settings.rows, frame.micros, &kind);
+                let details = details_of(settings, &kind, &self.progress.exchange, found.frame);
                 let noted = attempt_in_memory!(self.note_frame(
                     settings,
                     frame,
                     &kind,
                     found.verdict
                 ));
-                write_shown(text, settings, number, &found, &noted, out)
+                write_shown(text, settings, number, &details, &found, &noted, out)
             }
         }
     }

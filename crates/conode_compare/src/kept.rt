@@ -1,47 +1,42 @@
 //! Differences that are kept for a document.
 
-ghost use Rattle.std.specs.Prelude.{◌≡◌, OnOk, true};
-ghost use Rattle.std.specs.List.{AllPairs};
-ghost use Rattle.co_value.specs.Keys.{is_key_before};
+ghost use Rattle.std.specs.Prelude.{◌≡◌, OnOk};
 ghost use Rattle.conode_compare.specs.Compared.{findings_noted, if_noted};
-ghost use Rattle.conode_compare.specs.Views.{comparison_view};
 
-use crate::writes::{Settings, shown_type};
 use conode_compare_report::Report;
 use conode_compare_rules::{Finding, Findings};
+use conode_compare_text::Details;
 use std::alloc::AllocError;
 
 // keeps a difference at a frame with this stamp, if there is one
 fn note_finding(
     report: &mut Report,
-    settings: &Settings<'_, '_>,
     micros: u64,
+    details: &Details,
     finding: Option<Finding>,
 ) -> Result<(), AllocError>
-    requires { AllPairs (λ e f. is_key_before e.key f.key ≡ true) settings.now.rows.now }
-    ensures { OnOk result
-        (report.new ≡ if_noted (comparison_view settings.now) micros finding report.old) }
+    ensures { OnOk result (report.new ≡ if_noted micros details.now finding report.old) }
 {
     match finding {
-        Some(finding) => report.take_finding(micros, shown_type(settings, finding), finding),
+        Some(finding) => report.take_finding(micros, *details, finding),
         None => Ok(()),
     }
 }
 
-/// Keeps what is found at a frame with this stamp, in microseconds. `Err`: out of memory.
+/// Keeps what is found at a frame with this stamp, in microseconds, and what the line of its
+/// difference says beside it. `Err`: out of memory.
 #[tactic(auto, unfolding(crate::specs::Compared::findings_noted))]
 pub(crate) fn note_findings(
     report: &mut Report,
-    settings: &Settings<'_, '_>,
     micros: u64,
+    details: &Details,
     found: &Findings,
 ) -> Result<(), AllocError>
-    requires { AllPairs (λ e f. is_key_before e.key f.key ≡ true) settings.now.rows.now }
     ensures { OnOk result
-        (report.new ≡ findings_noted (comparison_view settings.now) micros found.now report.old) }
+        (report.new ≡ findings_noted micros details.now found.now report.old) }
 {
-    attempt!(note_finding(report, settings, micros, found.boot));
-    attempt!(note_finding(report, settings, micros, found.heartbeat));
-    attempt!(note_finding(report, settings, micros, found.answer));
-    note_finding(report, settings, micros, found.frame)
+    attempt!(note_finding(report, micros, details, found.boot));
+    attempt!(note_finding(report, micros, details, found.heartbeat));
+    attempt!(note_finding(report, micros, details, found.answer));
+    note_finding(report, micros, details, found.frame)
 }

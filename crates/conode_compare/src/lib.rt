@@ -24,6 +24,7 @@ macro_rules! attempt_in_memory {
 mod compare_file;
 mod compared;
 mod comparing;
+mod details;
 mod document;
 mod frames;
 mod kept;

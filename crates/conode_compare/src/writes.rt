@@ -23,7 +23,7 @@ use co_value::{DataType, Key};
 use conode_compare_notes::Warning;
 use conode_compare_report::SheetNames;
 use conode_compare_rules::{Finding, Findings, Subject};
-use conode_compare_text::{set_finding_line, set_warning_line};
+use conode_compare_text::{Details, set_finding_line, set_warning_line};
 use conode_compare_values::Mismatch;
 use conode_explain_values::ValueType;
 use conode_io::{CmdFault, hand_over};
@@ -80,15 +80,14 @@ fn write_finding<W: Write>(
     text: &mut String,
     settings: &Settings<'_, '_>,
     number: u64,
+    details: &Details,
     finding: Finding,
     out: &mut W,
 ) -> Result<(), CmdFault>
-    requires { AllPairs (λ e f. is_key_before e.key f.key ≡ true) settings.now.rows.now }
     ensures { OnOk result (WritesLines (W.contents out.old) (W.contents out.new)
-        (listed (comparison_view settings.now) number (Some finding))) }
+        (listed (comparison_view settings.now) number details.now (Some finding))) }
 {
-    let value_type = shown_type(settings, finding);
-    attempt_in_memory!(set_finding_line(text, settings.recording, number, value_type, finding));
+    attempt_in_memory!(set_finding_line(text, settings.recording, number, *details, finding));
     hand_over(text.as_bytes(), out)
 }
 
@@ -98,15 +97,15 @@ fn write_listed<W: Write>(
     text: &mut String,
     settings: &Settings<'_, '_>,
     number: u64,
+    details: &Details,
     finding: &Option<Finding>,
     out: &mut W,
 ) -> Result<(), CmdFault>
-    requires { AllPairs (λ e f. is_key_before e.key f.key ≡ true) settings.now.rows.now }
     ensures { OnOk result (WritesLines (W.contents out.old) (W.contents out.new)
-        (listed (comparison_view settings.now) number finding.now)) }
+        (listed (comparison_view settings.now) number details.now finding.now)) }
 {
     match finding {
-        Some(finding) => write_finding(text, settings, number, *finding, out),
+        Some(finding) => write_finding(text, settings, number, details, *finding, out),
         None => Ok(()),
     }
 }
@@ -117,17 +116,17 @@ fn write_findings<W: Write>(
     text: &mut String,
     settings: &Settings<'_, '_>,
     number: u64,
+    details: &Details,
     found: &Findings,
     out: &mut W,
 ) -> Result<(), CmdFault>
-    requires { AllPairs (λ e f. is_key_before e.key f.key ≡ true) settings.now.rows.now }
     ensures lines { OnOk result (WritesLines (W.contents out.old) (W.contents out.new)
-        (findings_lines (comparison_view settings.now) number found.now)) }
+        (findings_lines (comparison_view settings.now) number details.now found.now)) }
 {
-    attempt!(write_listed(text, settings, number, &found.boot, out));
-    attempt!(write_listed(text, settings, number, &found.heartbeat, out));
-    attempt!(write_listed(text, settings, number, &found.answer, out));
-    write_listed(text, settings, number, &found.frame, out)
+    attempt!(write_listed(text, settings, number, details, &found.boot, out));
+    attempt!(write_listed(text, settings, number, details, &found.heartbeat, out));
+    attempt!(write_listed(text, settings, number, details, &found.answer, out));
+    write_listed(text, settings, number, details, &found.frame, out)
 }
 
 // the data type in which the values of a warning are shown
@@ -201,14 +200,15 @@ pub(crate) fn write_shown<W: Write>(
     text: &mut String,
     settings: &Settings<'_, '_>,
     number: u64,
+    details: &Details,
     found: &Findings,
     noted: &Noted,
     out: &mut W,
 ) -> Result<(), CmdFault>
     requires { AllPairs (λ e f. is_key_before e.key f.key ≡ true) settings.now.rows.now }
     ensures lines { OnOk result (WritesLines (W.contents out.old) (W.contents out.new)
-        (shown_lines (comparison_view settings.now) number found.now noted.now)) }
+        (shown_lines (comparison_view settings.now) number details.now found.now noted.now)) }
 {
-    attempt!(write_findings(text, settings, number, found, out));
+    attempt!(write_findings(text, settings, number, details, found, out));
     write_noted(text, settings, number, noted, out)
 }

@@ -22,6 +22,7 @@ use Rattle.conode_compare_rules.specs.declared.limits.Subject.{Subject}
 use Rattle.conode_compare_rules.specs.declared.progress.Progress.{Progress}
 use Rattle.conode_compare_rules.specs.Progresses.{before_recording}
 use Rattle.conode_compare_rules.specs.OtherClients.{no_clients}
+use Rattle.conode_compare_rules.specs.States.{nothing_commanded}
 use Rattle.conode_compare_choices.specs.declared.choice.Choice.{Choice}
 use Rattle.conode_compare_choices.specs.declared.choice.Choice.TheVariants.{NoEmergency, OtherEmergency, Phase as PhaseChoice}
 use Rattle.conode_compare_choices.specs.declared.length_error.LengthError.TheVariants.{ShortRpdo, LongRpdo, OddSync}
@@ -100,7 +101,7 @@ subject = record {
 abbrev shows : NmtState → ℕ → Progress
 shows state micros = record (before_recording subject) {
   newest = Some micros;
-  nmt = record { state = state; commanded = None; reset = None; several = false; booted = None; due = Unknown; followed = None; changed = None; strayed = Unknown; mixed = false; odd = None };
+  nmt = record nothing_commanded { state = state };
   entries = entries;
   pdos = pdos;
 }

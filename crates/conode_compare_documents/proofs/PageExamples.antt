@@ -4,7 +4,6 @@ use Rattle.std.specs.Fmt.{digits}
 use Rattle.std.specs.List.{concat, flat_map}
 use Rattle.std.specs.Str.{chars, is_utf8}
 use Rattle.co_text.specs.Printed.{digits_text}
-use Rattle.co_value.specs.declared.data_type.DataType.TheVariants.{Unsigned32}
 use Rattle.conode_compare_rules.specs.declared.finding.Finding.TheVariants.{HeartbeatLate}
 use Rattle.conode_compare_report.specs.declared.coverage.Covered.{Covered}
 use Rattle.conode_compare_report.specs.declared.lanes.Bin.{Bin}
@@ -15,8 +14,8 @@ use Rattle.conode_compare_report.specs.Contexts.{KeptLine}
 use Rattle.conode_compare_report.specs.Spans.{LanesView}
 use Rattle.conode_text.specs.Filled.{filled}
 use Rattle.conode_compare_text.specs.FindingTexts.{finding_text}
+use Rattle.conode_compare_text.specs.Beside.{no_details}
 use Rattle.conode_compare_text.specs.Values.{millis_text}
-use Rattle.conode_explain_values.specs.declared.value_type.ValueType.TheVariants.{Plain}
 use Rattle.conode_json.specs.Characters.{characters_of}
 use Rattle.conode_json.specs.Escapes.{escaped_character}
 use Rattle.conode_json.specs.Filled.{code_digits, seconds_text}
@@ -61,7 +60,7 @@ recorded = refl
 -- ---- differences
 
 abbrev late : Noted
-late = record { line = 7; micros = 4120000; finding = HeartbeatLate 1021000 1000; value_type = Plain Unsigned32; first = 0 }
+late = record { line = 7; micros = 4120000; finding = HeartbeatLate 1021000 1000; details = no_details; first = 0 }
 
 without_kind : said late ≡ codes "1021.000 ms since the last one, 1017:00 has 1000 ms"
 unfolding finding_text millis_text digits_text digits filled

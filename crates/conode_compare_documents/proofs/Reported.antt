@@ -3,9 +3,9 @@ use Rattle.std.proofs.Common.{ℕ, true, false, [], ◌∷◌, Some, None, codes
 use Rattle.co_profile.specs.declared.access.Access.TheVariants.{Rw}
 use Rattle.co_sheet.specs.Content.{Row}
 use Rattle.co_sheet.specs.Limits.{absent}
-use Rattle.co_value.specs.declared.data_type.DataType.TheVariants.{Unsigned16, Unsigned32}
-use Rattle.conode_explain_values.specs.declared.value_type.ValueType.TheVariants.{Plain}
+use Rattle.co_value.specs.declared.data_type.DataType.TheVariants.{Unsigned16}
 use Rattle.conode_compare_rules.specs.declared.finding.Finding.TheVariants.{HeartbeatLate}
+use Rattle.conode_compare_text.specs.Beside.{no_details}
 use Rattle.conode_compare_report.specs.declared.kind.Counted.{Counted}
 use Rattle.conode_compare_report.specs.declared.kind.Kind.{Kind}
 use Rattle.conode_compare_report.specs.declared.kind.Kind.TheVariants as kinds
@@ -48,7 +48,7 @@ about = record {
 }
 
 abbrev pub late : Noted
-late = record { line = 3; micros = 3020001; finding = HeartbeatLate 1020001 1000; value_type = Plain Unsigned32; first = 0 }
+late = record { line = 3; micros = 3020001; finding = HeartbeatLate 1020001 1000; details = no_details; first = 0 }
 
 abbrev pub counted : Kind → ℕ → ℕ → Counted
 counted kind found occasions = record { kind = kind; found = found; occasions = occasions }

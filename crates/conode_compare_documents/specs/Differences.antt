@@ -17,7 +17,7 @@ after_name name text = drop (length name + 2) text
 
 -- what differs, without the name of its kind
 abbrev pub said : Noted → List ℕ
-said noted = after_name (kind_name (kind_of noted.finding)) (finding_text noted.value_type noted.finding)
+said noted = after_name (kind_name (kind_of noted.finding)) (finding_text noted.details noted.finding)
 
 -- a line of the recording with its number, marked if it is that of the difference
 unfoldable pub context_line : ℕ → KeptLine → List ℕ

@@ -15,7 +15,7 @@ is_of_kind kind noted = kind_number (kind_of noted.finding) == kind_number kind
 
 -- the line of a difference, as the text has it
 unfoldable pub line_markup : List ℕ → Noted → List ℕ
-line_markup recording noted = concat (escaped (finding_line recording noted.line noted.value_type noted.finding) ∷ [])
+line_markup recording noted = concat (escaped (finding_line recording noted.line noted.details noted.finding) ∷ [])
 
 -- whether a difference is of this kind, and fewer than a hundred have a line; its line then, and how many have one after it
 abbrev pub has_line : Kind → ℕ → Noted → Bool

@@ -30,7 +30,7 @@ said_tokens noted text = joined (
 -- a difference
 unfoldable pub noted_tokens : List KeptLine → Noted → List Token
 noted_tokens context noted =
-    said_tokens noted (finding_text noted.value_type noted.finding) ++ context_member (around context noted) ++ end_object ∷ []
+    said_tokens noted (finding_text noted.details noted.finding) ++ context_member (around context noted) ++ end_object ∷ []
 
 unfoldable pub findings_member : List KeptLine → List Noted → List Token
 findings_member context noted =

@@ -42,7 +42,7 @@ fn put_context(document: &mut Document, lines: &[ContextLine])
 // what was found: its kind, and what CiA 301 prescribes
 fn put_found(alloc: Global, document: &mut Document, noted: &Noted)
     ensures { Appended document.old (said_tokens noted.now
-        (finding_text noted.now.value_type noted.now.finding)) document.new }
+        (finding_text noted.now.details noted.now.finding)) document.new }
 {
     let kind = Kind::of(noted.finding);
     match finding_words(alloc, noted) {

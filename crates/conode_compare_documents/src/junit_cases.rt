@@ -45,14 +45,14 @@ fn has_line(kind: Kind, count: usize, noted: &Noted) -> bool
 // the line of a difference, as the text has it. `Err`: out of memory
 fn finding_line(alloc: Global, recording: &str, noted: &Noted) -> Result<String, AllocError>
     ensures { IfOk result (λ line. string_bytes line ≡ finding_line
-        recording.now noted.now.line noted.now.value_type noted.now.finding) }
+        recording.now noted.now.line noted.now.details noted.now.finding) }
 {
     let mut line = String::new(alloc);
     set_finding_line(
         &mut line,
         recording,
         noted.line,
-        noted.value_type,
+        noted.details,
         noted.finding,
     )?;
     Ok(line)

@@ -10,9 +10,9 @@ use std::alloc::{AllocError, Global};
 /// What differs, in words. `Err`: out of memory.
 pub(crate) fn finding_words(alloc: Global, noted: &Noted) -> Result<String, AllocError>
     ensures { IfOk result (λ text.
-        string_bytes text ≡ finding_text noted.now.value_type noted.now.finding) }
+        string_bytes text ≡ finding_text noted.now.details noted.now.finding) }
 {
     let mut text = String::new(alloc);
-    push_finding(&mut text, noted.value_type, noted.finding)?;
+    push_finding(&mut text, noted.details, noted.finding)?;
     Ok(text)
 }

@@ -28,7 +28,7 @@ use Rattle.conode_compare_rules.specs.declared.nmt.Commanded.{Commanded}
 use Rattle.conode_compare_rules.specs.declared.nmt.Nmt.{Nmt}
 use Rattle.conode_compare_rules.specs.Answers.{answer_finding, answers_in, breach_finding, ended_finding, finding_of, held_finding, is_abort, is_exact, known_answer, late_after, late_answer, overdue_answer, refuses_other, shows_stopped, silence_finding, silence_of, stopped_finding, stopped_with, transfer_breach, value_finding, what_finding}
 use Rattle.conode_compare_rules.specs.EmergencyRules.{is_stopped}
-use Rattle.conode_compare_rules.specs.States.{is_settled, is_steady}
+use Rattle.conode_compare_rules.specs.States.{is_settled, was_running}
 use Rattle.conode_compare_laws.specs.AnswerFindings.{of_answers}
 use Rattle.conode_compare_laws.proofs.AnswerTurns.{is_turned}
 use Rattle.conode_compare_laws.proofs.Shown.{freer_running}
@@ -206,7 +206,7 @@ unfolding silence_finding
 commanded_since limits started nmt dialogue micros byte a c is commanded h = by (shows_stopped byte)
   where
     certain : Bool
-    certain = is_steady limits nmt a.micros && is_certain limits.answer started dialogue.slow dialogue.doubted a.micros
+    certain = was_running limits nmt a.micros && is_certain limits.answer started dialogue.slow dialogue.doubted a.micros
 
     off : (answers settled : Bool) → settled ≡ false → (if answers && (settled && certain) then late_after limits a micros else None) ≡ None
     off answers true e = absurd (false≢true (sym e))
@@ -235,7 +235,7 @@ doubted_silent limits started nmt dialogue micros byte a is h = by (shows_stoppe
     by true = refl
     by false =
         ap (λ o. silence_of limits started nmt dialogue o micros) is
-        ∙ off (answers_in nmt.state) (is_settled limits started nmt.commanded a.micros) (is_steady limits nmt a.micros) (is_certain limits.answer started dialogue.slow dialogue.doubted a.micros) h
+        ∙ off (answers_in nmt.state) (is_settled limits started nmt.commanded a.micros) (was_running limits nmt a.micros) (is_certain limits.answer started dialogue.slow dialogue.doubted a.micros) h
 
 -- ---- an abort, where what was asked in doubt isn't answered
 

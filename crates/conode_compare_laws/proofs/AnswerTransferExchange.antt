@@ -41,7 +41,7 @@ use Rattle.conode_explain_laws.specs.Downloads.{is_block_begin}
 use Rattle.conode_explain_laws.proofs.Begins.{HasKey, outside_answers}
 use Rattle.conode_explain_laws.proofs.Readings.{request_reading, response_reading, begun_on, went_on_as}
 use Rattle.conode_compare_transfers.specs.declared.dialogue.Dialogue.{Dialogue}
-use Rattle.conode_compare_transfers.specs.Dialogues.{dialogue_heard, leaves_request_open, owes}
+use Rattle.conode_compare_transfers.specs.Dialogues.{dialogue_heard, leaves_request_open, owes, owes_nothing}
 use Rattle.conode_compare_rules.specs.declared.kind.FrameKind.{FrameKind}
 use Rattle.conode_compare_rules.specs.declared.kind.FrameKind.TheVariants.{Sdo}
 use Rattle.conode_compare_rules.specs.FrameKinds.{data_kind}
@@ -88,7 +88,7 @@ later_next : (key : Key) (answer started : ℕ) (d : Dialogue) (micros : ℕ) (f
 later_next key answer started d micros frame s n =
     let same = client_is d micros frame (sound_in key d.channel.transfer s) in
     elim (later_stands key d.channel.heard d.channel.transfer (request_in frame.bytes) micros frame s n) [
-      | inl leaves ↦ inl (doubted_by answer started d micros Client frame (ap (λ (x : Followed). leaves_request_open (owes answer started d) Client x.says frame) same ∙ leaves (owes answer started d)))
+      | inl leaves ↦ inl (doubted_by answer started d micros Client frame (ap (λ (x : Followed). leaves_request_open (owes answer started d) (owes_nothing d.newest) Client x.says frame) same ∙ leaves (owes answer started d) (owes_nothing d.newest)))
       | inr stands ↦ inr (subst (λ (f : Following). StandsIn (request_in frame.bytes) f.transfer) (sym (channel_is answer started d micros Client frame ∙ ap (λ (x : Followed). x.next) same)) stands)
     ]
 

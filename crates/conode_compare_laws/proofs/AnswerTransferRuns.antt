@@ -35,7 +35,7 @@ use Rattle.conode_compare_transfers.specs.declared.dialogue.Dialogue.{Dialogue}
 use Rattle.conode_compare_transfers.specs.declared.newest.Newest.{Newest}
 use Rattle.conode_compare_transfers.specs.declared.breach.Breach.TheVariants.{Early}
 use Rattle.conode_compare_transfers.specs.Breaches.{breach_at, breach_by, ending_breach}
-use Rattle.conode_compare_transfers.specs.Dialogues.{dialogue_heard, exchange_in, leaves_request_open, may_be_segment, owes}
+use Rattle.conode_compare_transfers.specs.Dialogues.{dialogue_heard, doubts_request, exchange_in, is_in_doubt, leaves_request_open, owes, owes_nothing}
 use Rattle.conode_compare_rules.specs.declared.finding.Finding.{Finding}
 use Rattle.conode_compare_rules.specs.declared.finding.Finding.TheVariants.{Transfer as Within}
 use Rattle.conode_compare_rules.specs.declared.kind.FrameKind.{FrameKind}
@@ -233,7 +233,7 @@ shape_after key answer started d micros frame s =
     (shape_goes key d.channel.heard d.channel.transfer _ micros Server frame.bytes s (server_no_begin d.channel.transfer micros frame.bytes))
 
 doubt_after : (answer started : ℕ) (d : Dialogue) (micros : ℕ) (frame : FrameContent) → d.doubted ≡ Some micros → (dialogue_heard answer started d micros Server frame).doubted ≡ Some micros
-doubt_after answer started d micros frame h = doubted_is answer started d micros Server frame ∙ by (leaves_request_open (owes answer started d) Server (reads d.channel micros Server frame.bytes).says frame || may_be_segment d.sub_block (reads d.channel micros Server frame.bytes).says.what)
+doubt_after answer started d micros frame h = doubted_is answer started d micros Server frame ∙ by (leaves_request_open (owes answer started d) (owes_nothing d.newest) Server (reads d.channel micros Server frame.bytes).says frame || is_in_doubt (doubts_request answer d micros frame) (reads d.channel micros Server frame.bytes).says.what)
   where
     by : (b : Bool) → (if b then Some micros else d.doubted) ≡ Some micros
     by true = refl

@@ -34,7 +34,7 @@ use Rattle.conode_compare_rules.specs.FrameKinds.{command_kind, command_to, cont
 use Rattle.conode_compare_rules.specs.Answers.{confirmed_finding}
 use Rattle.conode_compare_rules.specs.EntriesInForce.{asked_by, asked_to_write, done_word, overwritten, shown_inhibit, shown_period, with_inhibit, with_period}
 use Rattle.conode_compare_rules.specs.OtherClients.{is_channel}
-use Rattle.conode_compare_rules.specs.Heartbeats.{after_transfer, allowance, follows_closely, is_gap, late_finding, overdue_by, overdue_for, overdue_since, overdue_with, sent_after}
+use Rattle.conode_compare_rules.specs.Heartbeats.{after_transfer, allowance, follows_closely, is_gap, late_finding, overdue_by, overdue_for, overdue_since, overdue_with, runs_still, sent_after}
 use Rattle.conode_compare_rules.specs.Progresses as progresses
 use Rattle.conode_compare_rules.specs.Progresses.{
   after_command,
@@ -77,6 +77,7 @@ use Rattle.conode_compare_rules.specs.Progresses.{
   sighted,
   sighting_findings,
   with_gap,
+  may_differ,
 }
 use Rattle.conode_compare_rules.specs.Times.{drift_of}
 use Rattle.conode_compare_transfers.specs.declared.dialogue.Asked.{Asked}
@@ -222,7 +223,12 @@ none_with limits (Some n) p micros period ago same since few free = none_since l
 
 none_alone : (subject : Subject) (p : Progress) (micros period ago : ℕ) → (period ≡ 0) ⊎ (ago ≤ period * 1000) → Begun period micros ago p → late_alone subject p micros ≡ None
 unfolding late_finding overdue_by
-none_alone subject p micros period ago few h = ap (λ o. option_map (λ (late : ℕ × ℕ). HeartbeatLate late.0 late.1) o) (none_with subject.limits p.entries.period p micros period ago h.known h.since few h.free)
+none_alone subject p micros period ago few h =
+    ap (λ o. option_map (λ (late : ℕ × ℕ). HeartbeatLate late.0 late.1) o) (by (runs_still subject.limits p.heartbeats.former p.heartbeats.since p.free))
+  where
+    by : (b : Bool) → (if b then None else overdue_with subject.limits p.entries.period p.heartbeats p.free micros) ≡ None
+    by true = refl
+    by false = none_with subject.limits p.entries.period p micros period ago h.known h.since few h.free
 
 unless_again : (again : Bool) (late : Option Finding) → late ≡ None → (if again then None else late) ≡ None
 unless_again true late none = refl
@@ -305,7 +311,7 @@ ended_since : (beats : Heartbeats) (o : Option Ended) (micros ago : ℕ) → IfS
 ended_since beats None micros ago h = h
 ended_since beats (Some e) micros ago h = by (is_some (shown_period e))
   where
-    by : (b : Bool) → IfSome (if b then record { guarded = beats.guarded; since = Some micros; sent = sent_after e.direction e beats.sent; shown = beats.shown; slow = None } else beats).since (λ last. micros ≤ last + ago)
+    by : (b : Bool) → IfSome (if b then record beats { since = Some micros; sent = sent_after e.direction e beats.sent; slow = None } else beats).since (λ last. micros ≤ last + ago)
     by true = omega arith
     by false = h
 
@@ -315,7 +321,7 @@ shown_since true beats o micros ago = tt
 shown_since false beats None micros ago = tt
 shown_since false beats (Some e) micros ago = by (shown_period e)
   where
-    by : (shown : Option ℕ) → IfSome shown (IsRecent micros ago (if is_some shown then record { guarded = beats.guarded; since = Some micros; sent = sent_after e.direction e beats.sent; shown = beats.shown; slow = None } else beats).since)
+    by : (shown : Option ℕ) → IfSome shown (IsRecent micros ago (if is_some shown then record beats { since = Some micros; sent = sent_after e.direction e beats.sent; slow = None } else beats).since)
     by None = tt
     by (Some n) = inr (omega arith)
 
@@ -459,7 +465,7 @@ other_passes subject rows p micros _ period ago few is shows h = absurd (cc)
 boot_passes : (subject : Subject) (rows : List Row) (p : Progress) (micros period next ago after : ℕ) → KnowsPeriod next subject → Begun period micros ago p → Passes subject rows p micros (Control 0) next after
 unfolding found booted
 boot_passes subject rows p micros period next ago after knows h =
-    (let e : Beats period micros ago p = ended period micros ago p h in record { none = refl; beats = record { fresh = e.fresh; known = booted_known next subject p.other_client knows; since = always (if p.other_client then subject.facts.before else subject.facts.booted).period (λ n. inr (omega arith)) } })
+    (let e : Beats period micros ago p = ended period micros ago p h in record { none = refl; beats = record { fresh = e.fresh; known = booted_known next subject (may_differ subject p) knows; since = always (if may_differ subject p then subject.facts.before else subject.facts.booted).period (λ n. inr (omega arith)) } })
 
 heartbeat_passes : (subject : Subject) (rows : List Row) (p : Progress) (micros byte period ago after : ℕ) → (byte == 0) ≡ false → (period ≡ 0) ⊎ (ago ≤ period * 1000) → Begun period micros ago p
     → Passes subject rows p micros (Control byte) period after

@@ -91,23 +91,23 @@ or_last true b h = refl
 or_last false b h = h
 
 -- where no answer is owed, an abort too
-not_owed : (ending : Ending) (key : Key) (frame : FrameContent) → is_known_end false true ending key frame ≡ false
-not_owed (Aborted Server code) key frame = refl
-not_owed (Aborted Client code) key frame = refl
-not_owed (Done crc) key frame = refl
-not_owed _ key frame = refl
+not_owed : (quiet : Bool) (ending : Ending) (key : Key) (frame : FrameContent) → is_known_end false quiet true ending key frame ≡ false
+not_owed quiet (Aborted Server code) key frame = refl
+not_owed quiet (Aborted Client code) key frame = refl
+not_owed quiet (Done crc) key frame = refl
+not_owed quiet _ key frame = refl
 
 aborted_in_doubt : (heard : Bool) (t : Transfer) (code : AbortCode) (micros : ℕ) (side : Side) (frame : FrameContent) → is_block t.protocol ≡ true
-    → leaves_request_open false side (follows_by heard (Some t) (Abort code) micros side frame.bytes).says frame ≡ true
-aborted_in_doubt heard t code micros side frame p =
+    → (quiet : Bool) → leaves_request_open false quiet side (follows_by heard (Some t) (Abort code) micros side frame.bytes).says frame ≡ true
+aborted_in_doubt heard t code micros side frame p quiet =
     let ending = abort_ending side (not_followed_by side t frame.bytes) code in
-    or_last (is_odd side what.Part) (ends_in_doubt false (Some (ended (one_more t) micros ending)) frame)
-    (ap (λ b. not (is_known_end false b ending t.key frame)) (same_block t.protocol p) ∙ ap not (not_owed ending t.key frame))
+    or_last (is_odd side what.Part) (ends_in_doubt false quiet (Some (ended (one_more t) micros ending)) frame)
+    (ap (λ b. not (is_known_end false quiet b ending t.key frame)) (same_block t.protocol p) ∙ ap not (not_owed quiet ending t.key frame))
 
 -- ---- the server's frames in blocks, after which no answer is owed: the transfer lasts, or its end leaves a doubt
 
 pub record LastsOn (f : Followed) (frame : FrameContent) : Type 0 where
-  pub lasts : (leaves_request_open false Server f.says frame ≡ true) ⊎ (is_some f.next.transfer ≡ true)
+  pub lasts : ((quiet : Bool) → leaves_request_open false quiet Server f.says frame ≡ true) ⊎ (is_some f.next.transfer ≡ true)
   pub blocks : IfSome f.next.transfer Lasts
 
 lasts_frame : (w : What) (u : Transfer) (micros : ℕ) (side : Side) → Lasts u → Lasts (with_frame w u micros side)
@@ -153,14 +153,14 @@ open_turn : (blocks : Bool) (x : Option (Option ℕ)) (heard : Bool) (w : What) 
 open_turn blocks x heard w u micros frame false c on ends goes = doubted blocks _ frame (odd x w c on)
   where
     odd : (x : Option (Option ℕ)) (w : What) → continues w ≡ false → is_turned w ≡ true → Leaves Client (turns_at x heard w u micros Client) frame
-    odd None what.Initiate c on owed = absurd (false≢true on)
-    odd None what.Part c on owed = absurd (false≢true (sym c))
-    odd None (what.Segment n) c on owed = absurd (false≢true (sym c))
-    odd None _ c on owed = refl
-    odd (Some crc) what.Initiate c on owed = absurd (false≢true on)
-    odd (Some crc) what.Part c on owed = absurd (false≢true (sym c))
-    odd (Some crc) (what.Segment n) c on owed = absurd (false≢true (sym c))
-    odd (Some crc) _ c on owed = refl
+    odd None what.Initiate c on owed quiet = absurd (false≢true on)
+    odd None what.Part c on owed quiet = absurd (false≢true (sym c))
+    odd None (what.Segment n) c on owed quiet = absurd (false≢true (sym c))
+    odd None _ c on owed quiet = refl
+    odd (Some crc) what.Initiate c on owed quiet = absurd (false≢true on)
+    odd (Some crc) what.Part c on owed quiet = absurd (false≢true (sym c))
+    odd (Some crc) (what.Segment n) c on owed quiet = absurd (false≢true (sym c))
+    odd (Some crc) _ c on owed quiet = refl
 open_turn blocks (Some crc) heard w u micros frame true c on ends goes = doubted blocks _ frame (confirmed_in_doubt Client crc heard w u micros frame (ends refl))
 open_turn blocks None heard w u micros frame true c on ends goes = record { live = inr refl; lasting = λ b. inr (lasts_frame w u micros Client (goes b refl)) }
 
@@ -186,22 +186,22 @@ segment_open blocks heard t segment micros frame s awaited =
 
 stray_open : (blocks heard : Bool) (reading : Reading) (micros : ℕ) (frame : FrameContent) → is_begin reading ≡ false → GoesOpen blocks (follows_by heard None reading micros Client frame.bytes) frame
 stray_open blocks heard (Begin new) micros frame n = absurd (false≢true (sym n))
-stray_open blocks true _ micros frame n = doubted blocks _ frame (λ owed. refl)
-stray_open blocks false _ micros frame n = doubted blocks _ frame (λ owed. refl)
+stray_open blocks true _ micros frame n = doubted blocks _ frame (λ owed quiet. refl)
+stray_open blocks false _ micros frame n = doubted blocks _ frame (λ owed quiet. refl)
 
 abort_open : (blocks heard : Bool) (t : Transfer) (code : AbortCode) (micros : ℕ) (frame : FrameContent) → GoesOpen blocks (follows_by heard (Some t) (Abort code) micros Client frame.bytes) frame
 abort_open blocks heard t code micros frame = doubted blocks _ frame (by (is_block t.protocol) (not_followed_by Client t frame.bytes))
   where
-    by : (block : Bool) (segment : Option (Option ℕ)) (owed : Bool) → not (is_known_end owed block (abort_ending Client segment code) t.key frame) ≡ true
-    by block None owed = refl
-    by block (Some next) owed = refl
+    by : (block : Bool) (segment : Option (Option ℕ)) (owed quiet : Bool) → not (is_known_end owed quiet block (abort_ending Client segment code) t.key frame) ≡ true
+    by block None owed quiet = refl
+    by block (Some next) owed quiet = refl
 
 nothing_open : (blocks heard : Bool) (t : Transfer) (micros : ℕ) (frame : FrameContent) → GoesOpen blocks (follows_by heard (Some t) Nothing micros Client frame.bytes) frame
 nothing_open blocks heard t micros frame = doubted blocks _ frame (by (confirmed_with t.stage))
   where
     by : (x : Option (Option ℕ)) → Leaves Client (turns_at x heard what.Unexpected (after t (turn_of t Nothing frame.bytes)) micros Client) frame
-    by None owed = refl
-    by (Some crc) owed = refl
+    by None owed quiet = refl
+    by (Some crc) owed quiet = refl
 
 -- read as a request
 plain_open : (heard : Bool) (t : Transfer) (r : Option SdoRequest) (micros : ℕ) (frame : FrameContent) → Live t → is_begin (request_reading r micros frame.bytes) ≡ false

@@ -40,7 +40,7 @@ use Rattle.conode_compare_rules.specs.declared.limits.Limits.{Limits}
 use Rattle.conode_compare_rules.specs.declared.limits.Subject.{Subject}
 use Rattle.conode_compare_rules.specs.declared.progress.Progress.{Progress}
 use Rattle.conode_compare_rules.specs.declared.verdict.Findings.{Findings}
-use Rattle.conode_compare_rules.specs.EmergencyRules.{emergency_finding, gap_finding, has_register, inhibit_finding, inhibit_with, is_in_force, is_stopped, least_gap}
+use Rattle.conode_compare_rules.specs.EmergencyRules.{emergency_finding, fits_register, gap_finding, has_register, inhibit_finding, inhibit_with, is_in_force, is_stopped, least_gap, may_wait}
 use Rattle.conode_compare_rules.specs.FrameKinds.{command_kind, command_to, control_kind, data_kind, emergency_kind, length_of, long_command_in}
 use Rattle.conode_compare_rules.specs.Progresses.{before_recording, begun, emergency_findings, findings_at, findings_in, progress_with, steady_when_free}
 use Rattle.conode_compare_rules.specs.States.{is_initialising, judged_state}
@@ -140,7 +140,7 @@ inhibit_none limits entries (Some last) micros = with_none limits entries.inhibi
 finding_none : (limits : Limits) (entries : Entries) (state : NmtState) (settled : Bool) (last : Option ℕ) (micros code register : ℕ) → is_stopped state ≡ false → has_register code register ≡ true
     → besides_inhibit (emergency_finding limits entries state settled last micros code register) ≡ []
 unfolding emergency_finding
-finding_none limits entries state settled last micros code register up odd = by (not entries.emergencies || is_initialising state) settled (is_stopped state) (has_register code register) up odd
+finding_none limits entries state settled last micros code register up odd = by (not entries.emergencies || is_initialising state) settled (is_stopped state) (fits_register entries.inhibit code register) up (ap (λ b. b || ((register == 0) && may_wait entries.inhibit)) odd)
   where
     by : (unknown settled stopped has : Bool) → stopped ≡ false → has ≡ true
         → besides_inhibit (if unknown then None else (if settled && stopped then Some EmergencyStopped else (if not has then Some (EmergencyRegister code register) else inhibit_finding limits entries last micros))) ≡ []

@@ -29,7 +29,7 @@ use Rattle.conode_compare_rules.specs.declared.kind.FrameKind.TheVariants.{Comma
 use Rattle.conode_compare_rules.specs.declared.limits.Limits.{Limits}
 use Rattle.conode_compare_rules.specs.declared.limits.Subject.{Subject}
 use Rattle.conode_compare_rules.specs.declared.progress.Progress.{Progress}
-use Rattle.conode_compare_rules.specs.EmergencyRules.{emergency_finding, gap_finding, has_register, inhibit_finding, inhibit_with, is_in_force, is_stopped, least_gap}
+use Rattle.conode_compare_rules.specs.EmergencyRules.{emergency_finding, fits_register, gap_finding, inhibit_finding, inhibit_with, is_in_force, is_stopped, least_gap}
 use Rattle.conode_compare_rules.specs.EntriesInForce.{asked_by, asked_to_write, done_word, overwritten, shown_inhibit, shown_period, with_inhibit, with_period}
 use Rattle.conode_compare_rules.specs.OtherClients.{is_channel}
 use Rattle.conode_compare_rules.specs.FrameKinds.{command_kind, command_to, control_kind, data_kind, emergency_kind, emergency_with, length_of, long_command_in}
@@ -62,6 +62,7 @@ use Rattle.conode_compare_rules.specs.Progresses.{
   steady_when_free,
   with_gap,
   free_at,
+  may_differ,
 }
 use Rattle.conode_compare_rules.specs.States.{is_initialising, judged_state}
 use Rattle.conode_compare_rules.specs.Times.{drift_of}
@@ -307,7 +308,7 @@ quiets inhibit micros sent subject rows (frame ∷ frames) p after knows emergen
 
 boot_passes : (inhibit micros : ℕ) (sent : List Sending) (subject : Subject) (rows : List Row) (p : Progress) → KnowsInhibit inhibit subject → p.free ≤ micros → Passes inhibit micros sent subject rows p (Control 0)
 unfolding booted
-boot_passes inhibit micros sent subject rows p knows free = record { none = refl; calm = record { known = booted_known inhibit subject p.other_client knows; since = tt; fresh = free } }
+boot_passes inhibit micros sent subject rows p knows free = record { none = refl; calm = record { known = booted_known inhibit subject (may_differ subject p) knows; since = tt; fresh = free } }
 
 -- whatever was sent before it
 pub boots : (inhibit micros : ℕ) (sent after : List Sending) (subject : Subject) (rows : List Row) (p : Progress) (life : Heartbeat) → state_byte life ≡ 0 → KnowsInhibit inhibit subject → p.free ≤ micros
@@ -318,7 +319,7 @@ boots inhibit micros sent after subject rows p life is knows free =
 
 control_passes : (inhibit micros byte : ℕ) (sent : List Sending) (subject : Subject) (rows : List Row) (p : Progress) → KnowsInhibit inhibit subject → Calm inhibit micros sent p → Passes inhibit micros sent subject rows p (Control byte)
 unfolding booted progresses.after_control
-control_passes inhibit micros byte sent subject rows p knows h = record { none = refl; calm = by (byte == 0) _ _ (record { known = booted_known inhibit subject p.other_client knows; since = tt; fresh = h.fresh }) (record { known = h.known; since = h.since; fresh = h.fresh }) }
+control_passes inhibit micros byte sent subject rows p knows h = record { none = refl; calm = by (byte == 0) _ _ (record { known = booted_known inhibit subject (may_differ subject p) knows; since = tt; fresh = h.fresh }) (record { known = h.known; since = h.since; fresh = h.fresh }) }
   where
     by : (b : Bool) (x y : Progress) → Calm inhibit micros sent x → Calm inhibit micros sent y → Calm inhibit micros sent (if b then x else y)
     by true x y f g = f
@@ -373,7 +374,7 @@ finding_none : (limits : Limits) (entries : Entries) (state : NmtState) (settled
     → only_inhibit (emergency_finding limits entries state settled last micros code register) ≡ []
 unfolding emergency_finding
 finding_none limits entries state settled last micros code register h =
-    by (not entries.emergencies || is_initialising state) (settled && is_stopped state) (has_register code register) (inhibit_finding limits entries last micros) h
+    by (not entries.emergencies || is_initialising state) (settled && is_stopped state) (fits_register entries.inhibit code register) (inhibit_finding limits entries last micros) h
   where
     by : (unknown stopped has : Bool) (f : Option Finding) → f ≡ None → only_inhibit (if unknown then None else (if stopped then Some EmergencyStopped else (if not has then Some (EmergencyRegister code register) else f))) ≡ []
     by true stopped has f h = refl

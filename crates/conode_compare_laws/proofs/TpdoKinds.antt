@@ -17,8 +17,10 @@ use Rattle.conode_compare_pdos.specs.Deviations.{
   first_of,
   greatest_gap,
   inhibit_deviation,
+  inhibit_since,
   is_apart,
   is_certain,
+  is_counted,
   is_event_driven,
   is_number,
   is_settled,
@@ -89,28 +91,29 @@ timer_none is moment inhibit timer sent h =
 
 -- ---- the times of a TPDO
 
-timed_none : (is : Deviation → Bool) (moment : Moment) (timer : Option ℕ) (inhibit : ℕ) (sent : Sent) → is_of is (inhibit_deviation moment inhibit sent) ≡ false
-    → ((t : ℕ) → timer ≡ Some t → is_of is (timer_deviation moment inhibit t sent) ≡ false) → is_of is (timed moment timer inhibit sent) ≡ false
-timed_none is moment None inhibit sent p q = p
-timed_none is moment (Some t) inhibit sent p q = first_none is (inhibit_deviation moment inhibit sent) (timer_deviation moment inhibit t sent) p (q t refl)
+timed_none : (is : Deviation → Bool) (moment : Moment) (changed timer : Option ℕ) (inhibit : ℕ) (sent : Sent) → is_of is (inhibit_deviation moment inhibit sent) ≡ false
+    → ((t : ℕ) → timer ≡ Some t → is_of is (timer_deviation moment inhibit t sent) ≡ false) → is_of is (timed moment changed timer inhibit sent) ≡ false
+timed_none is moment changed None inhibit sent p q = if_none is (is_counted moment changed sent) (inhibit_deviation moment inhibit sent) p
+timed_none is moment changed (Some t) inhibit sent p q =
+    first_none is (inhibit_since moment changed inhibit sent) (timer_deviation moment inhibit t sent) (if_none is (is_counted moment changed sent) (inhibit_deviation moment inhibit sent) p) (q t refl)
 
 -- what is to be shown of each of the times, where it is known and a frame came before
 pub record AreTimes (is : Deviation → Bool) (moment : Moment) (parameters : Parameters) (sent : Option Sent) : Type 0 where
   pub inhibit : (i : ℕ) (s : Sent) → parameters.inhibit ≡ Some i → sent ≡ Some s → is_of is (inhibit_deviation moment i s) ≡ false
   pub timer : (i t : ℕ) (s : Sent) → parameters.inhibit ≡ Some i → parameters.timer ≡ Some t → sent ≡ Some s → is_of is (timer_deviation moment i t s) ≡ false
 
-since_none : (is : Deviation → Bool) (moment : Moment) (parameters : Parameters) (inhibit : Option ℕ) (sent : Option Sent) → parameters.inhibit ≡ inhibit → AreTimes is moment parameters sent
-    → is_of is (timed_since moment parameters inhibit sent) ≡ false
-since_none is moment parameters None sent e times = refl
-since_none is moment parameters (Some i) None e times = refl
-since_none is moment parameters (Some i) (Some s) e times = timed_none is moment parameters.timer i s (times.inhibit i s e refl) (λ t same. times.timer i t s e same refl)
+since_none : (is : Deviation → Bool) (moment : Moment) (changed : Option ℕ) (parameters : Parameters) (inhibit : Option ℕ) (sent : Option Sent) → parameters.inhibit ≡ inhibit → AreTimes is moment parameters sent
+    → is_of is (timed_since moment changed parameters inhibit sent) ≡ false
+since_none is moment changed parameters None sent e times = refl
+since_none is moment changed parameters (Some i) None e times = refl
+since_none is moment changed parameters (Some i) (Some s) e times = timed_none is moment changed parameters.timer i s (times.inhibit i s e refl) (λ t same. times.timer i t s e same refl)
 
 pub time_none : (is : Deviation → Bool) (moment : Moment) (pdo : Tpdo) → (is_event_driven pdo.parameters.kind ≡ true → AreTimes is moment pdo.parameters pdo.sent) → is_of is (time_deviation moment pdo) ≡ false
 unfolding time_deviation
 time_none is moment pdo times = by (is_event_driven pdo.parameters.kind) times
   where
-    by : (b : Bool) → (b ≡ true → AreTimes is moment pdo.parameters pdo.sent) → is_of is (if b then timed_since moment pdo.parameters pdo.parameters.inhibit pdo.sent else None) ≡ false
-    by true h = since_none is moment pdo.parameters pdo.parameters.inhibit pdo.sent refl (h refl)
+    by : (b : Bool) → (b ≡ true → AreTimes is moment pdo.parameters pdo.sent) → is_of is (if b then timed_since moment pdo.changed pdo.parameters pdo.parameters.inhibit pdo.sent else None) ≡ false
+    by true h = since_none is moment pdo.changed pdo.parameters pdo.parameters.inhibit pdo.sent refl (h refl)
     by false h = refl
 
 pub untimed : (is : Deviation → Bool) (moment : Moment) (pdo : Tpdo) → ((passed n : ℕ) → is (Inhibit passed n) ≡ false) → ((passed n : ℕ) → is (Timer passed n) ≡ false) → is_of is (time_deviation moment pdo) ≡ false

@@ -68,6 +68,7 @@ use Rattle.conode_compare_rules.specs.Progresses.{
   is_overdue,
   sighted,
   unless_overdue,
+  may_differ,
 }
 use Rattle.conode_compare_rules.specs.Verdicts.{found}
 use Rattle.conode_compare_laws.specs.TpdoDifferences.{of_kind, tpdo_differences}
@@ -444,7 +445,7 @@ pub lives : (is : Deviation → Bool) (I : Pdos → Type 0) (subject : Subject) 
     → (reset ≡ true → I subject.facts.pdos) → Holds I p
     → AllRun (tpdo_differences is) subject rows micros p (life_frames subject.node (if reset then Some BootUp else (if due then Some (heartbeat_of final) else None))) (Holds I)
 lives is I subject rows micros p true due final kept begins h =
-    boots is I subject rows micros p (either_kept I (begun subject p micros).other_client _ _ kept.unknown (begins refl)) h.fresh h.opened
+    boots is I subject rows micros p (either_kept I (may_differ subject (begun subject p micros)) _ _ kept.unknown (begins refl)) h.fresh h.opened
 lives is I subject rows micros p false false final kept begins h = h
 lives is I subject rows micros p false true final kept begins h =
     one is I subject rows micros p (record { id = 0x700 + subject.node; bytes = heartbeat_bytes (heartbeat_of final) }) (Control (state_byte (heartbeat_of final))) (life_kind subject.node (heartbeat_of final))

@@ -42,6 +42,7 @@ use Rattle.conode_compare_rules.specs.Progresses.{
   late_noted,
   progress_with,
   with_gap,
+  may_differ,
 }
 use Rattle.conode_compare_rules.specs.States.{is_reset}
 use Rattle.conode_compare_rules.specs.Verdicts.{found}
@@ -123,7 +124,7 @@ booted_off subject false none = none.booted
 
 control_off : (subject : Subject) (p : Progress) (micros byte : ℕ) → JudgesNone subject → IsOff p → IsOff (after_frame subject p micros (Control byte))
 unfolding booted progresses.after_control
-control_off subject p micros byte none off = either (byte == 0) _ _ (booted_off subject p.other_client none) off
+control_off subject p micros byte none off = either (byte == 0) _ _ (booted_off subject (may_differ subject p) none) off
 
 odd_control_off : (subject : Subject) (p : Progress) (micros length : ℕ) → IsOff p → IsOff (after_frame subject p micros (OddControl length))
 unfolding after_odd_control

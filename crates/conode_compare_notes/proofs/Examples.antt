@@ -37,7 +37,7 @@ use Rattle.conode_compare_notes.specs.declared.writes.Wrote.{Wrote}
 use Rattle.conode_compare_notes.specs.Contents.{checksum_from, content_warning, is_exact, mixed, shown_content, written_content}
 use Rattle.conode_compare_notes.specs.Histories.{changes_errors, errors_asked, errors_ended, is_newest_error, is_restart, late_warning, nothing_signalled, shown_by, shows_error, signalled_by}
 use Rattle.conode_compare_notes.specs.LearnedValues.{learned_with, number_of, shown_in}
-use Rattle.conode_compare_notes.specs.Versions.{code_warning, has_class, has_text, version_warning}
+use Rattle.conode_compare_notes.specs.Versions.{code_warning, has_class, version_warning}
 use Rattle.conode_compare_notes.specs.Warnings.{after_end, after_other, after_request, ended_warning, is_setting, nothing_watched, remark_warning, stepped_back}
 
 abbrev key : Key
@@ -350,16 +350,30 @@ types = refl
 type_of_modules : type_read true (0x91 ∷ 1 ∷ 0xE ∷ 0 ∷ []) ≡ None
 type_of_modules = refl
 
--- another text, a longer one; the same; an empty text of the sheet; another entry; one that the sheet doesn't have
-texts : map (read 0x1008 0) ((0x49 ∷ 0x50 ∷ []) ∷ (0x49 ∷ 0x4F ∷ 0x20 ∷ []) ∷ (0x49 ∷ 0x4F ∷ []) ∷ []) ≡ Some (OtherText (record { index = 0x1008; sub = 0 })) ∷ Some (OtherText (record { index = 0x1008; sub = 0 })) ∷ None ∷ []
+abbrev other_name : Option Warning
+other_name = Some (OtherText (record { index = 0x1008; sub = 0 }))
+
+-- another text, a shorter one, none, a longer one
+texts : map (read 0x1008 0) ((0x49 ∷ 0x50 ∷ []) ∷ (0x49 ∷ []) ∷ [] ∷ (0x49 ∷ 0x4F ∷ 0x78 ∷ []) ∷ []) ≡ other_name ∷ other_name ∷ other_name ∷ other_name ∷ []
 texts = refl
+
+-- the same; with zeros after it; with a blank after it, or before it
+same_texts : map (read 0x1008 0) ((0x49 ∷ 0x4F ∷ []) ∷ (0x49 ∷ 0x4F ∷ 0 ∷ []) ∷ (0x49 ∷ 0x4F ∷ 0 ∷ 0 ∷ 0x78 ∷ []) ∷ (0x49 ∷ 0x4F ∷ 0x20 ∷ []) ∷ (0x20 ∷ 0x50 ∷ []) ∷ [])
+    ≡ None ∷ None ∷ None ∷ None ∷ None ∷ []
+same_texts = refl
+
+-- of seven bytes in a segment some may not count; of seven in a block all do
+seven : List ℕ
+seven = 0x49 ∷ 0x4F ∷ 0x78 ∷ 0 ∷ 0 ∷ 0 ∷ 0 ∷ []
+
+whole_segments : map (λ protocol. read_by true (Done false) protocol 0x1008 0 seven) (Segmented ∷ Block ∷ []) ≡ None ∷ other_name ∷ []
+unfolding seven
+whole_segments = refl
+
+-- an empty text of the sheet; another entry; one that the sheet doesn't have
 
 other_texts : read 0x1009 0 (0x49 ∷ []) ∷ read 0x100B 0 (0x49 ∷ []) ∷ read 0x100A 0 (0x49 ∷ []) ∷ [] ≡ None ∷ None ∷ None ∷ []
 other_texts = refl
-
--- 64 bytes are kept, and a longer transfer has others after them
-longer : has_text (record (done 0x1008 0 Upload (0x49 ∷ [])) { bytes = 65 }) (0x49 ∷ []) ≡ false
-longer = refl
 
 -- in one frame, not done, in doubt, a download
 text_in_one_frame : read_by true (Done false) Expedited 0x1008 0 (0x49 ∷ []) ∷ read_by true Irregular Segmented 0x1008 0 (0x49 ∷ []) ∷ read_by false (Done false) Segmented 0x1008 0 (0x49 ∷ [])

@@ -1,6 +1,6 @@
 -- What a device says of its version otherwise than its data sheet (CiA 301, 7.5.2.1, 7.5.2.8 to 7.5.2.10
 -- and 7.5.2.21), and codes of EMCY without a class (CiA 301, 7.2.7.1).
-use Rattle.std.specs.Prelude.{ℕ, ◌==◌, nat_le, nat_lt, Bool, true, false, not, ◌&&◌, ◌||◌, if◌then◌else◌, List, length, bytes_eq, Option, Some, None, option_and_then}
+use Rattle.std.specs.Prelude.{ℕ, ◌==◌, nat_le, nat_lt, Bool, true, false, not, ◌&&◌, ◌||◌, if◌then◌else◌, List, Option, Some, None, option_and_then}
 use Rattle.co_profile.specs.Indices.{device_type, identity}
 use Rattle.co_sheet.specs.Content.{Row}
 use Rattle.co_sheet.specs.Limits.{Default, text}
@@ -14,7 +14,8 @@ use Rattle.conode_explain_transfers.specs.declared.kinds.Direction.TheVariants.{
 use Rattle.conode_explain_transfers.specs.declared.kinds.Protocol.{Protocol}
 use Rattle.conode_explain_transfers.specs.declared.kinds.Protocol.TheVariants.{Expedited}
 use Rattle.conode_compare_pdos.specs.SheetNumbers.{number_of as sheet_number}
-use Rattle.conode_compare_values.specs.SheetValues.{profile_in, shown_number}
+use Rattle.conode_compare_values.specs.SheetValues.{is_comparable, is_other_text, profile_in, shown_number}
+use Rattle.conode_compare_notes.specs.Contents.{is_exact}
 use Rattle.conode_compare_notes.specs.declared.warning.Warning.{Warning}
 use Rattle.conode_compare_notes.specs.declared.warning.Warning.TheVariants.{OtherRevision, OtherText, OddCode}
 
@@ -52,15 +53,13 @@ type_shown node row shown = option_and_then (type_with row.key shown) (sheet_num
 abbrev pub type_warning : ℕ → Ended → Row → Option Warning
 type_warning node ended row = option_and_then (type_shown node row) (shown_number 4 ended.first.items)
 
--- `other-version`, of a text that the data sheet has; of the bytes of a transfer 64 are kept
-abbrev pub has_text : Ended → List ℕ → Bool
-has_text ended bytes = bytes_eq ended.first.items bytes && (ended.bytes == length bytes)
-
-abbrev pub is_compared : List ℕ → Bool
-is_compared bytes = nat_lt 0 (length bytes) && nat_le (length bytes) 64
+-- `other-version`, of a text that the data sheet has: it is compared as texts are that never change
+abbrev pub shows_other : Ended → List ℕ → Bool
+shows_other ended bytes =
+    is_comparable bytes && is_other_text (is_exact ended.protocol ended.bytes) bytes ended.first.items
 
 abbrev pub text_warning : Ended → Default → Option Warning
-text_warning ended (text bytes) = if is_compared bytes && not (has_text ended bytes) then Some (OtherText ended.key) else None
+text_warning ended (text bytes) = if shows_other ended bytes then Some (OtherText ended.key) else None
 text_warning ended default = None
 
 -- in one frame a text may come without its length

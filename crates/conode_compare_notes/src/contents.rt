@@ -50,9 +50,9 @@ fn checksum_from(sum: u32, bytes: &[u8]) -> u32
     so_far
 }
 
-// Whether it is known how many bytes of a transfer count. Of a last segment with seven bytes some
-// may not.
-fn is_exact(protocol: Protocol, count: u64) -> bool
+/// Whether it is known how many bytes of a transfer count. Of a last segment with seven bytes some
+/// may not.
+pub(crate) fn is_exact(protocol: Protocol, count: u64) -> bool
     ensures { result ≡ is_exact protocol count }
 {
     match protocol {

@@ -9,14 +9,13 @@ ghost use Rattle.co_value.specs.Keys.{is_key_before};
 ghost use Rattle.conode_compare_notes.specs.Versions.{
   code_warning,
   has_class,
-  has_text,
-  is_compared,
   is_read,
   is_revision,
   is_text,
   is_type,
   revision_shown,
   revision_warning,
+  shows_other,
   text_warning,
   type_shown,
   type_warning,
@@ -24,6 +23,7 @@ ghost use Rattle.conode_compare_notes.specs.Versions.{
   version_warning,
 };
 
+use crate::contents::is_exact;
 use crate::warning::Warning;
 use co_profile::{DEVICE_TYPE, IDENTITY};
 use co_sheet::EntryRow;
@@ -31,11 +31,8 @@ use co_sheet_changes::row_at;
 use co_sheet_rows::Preset;
 use co_value::Key;
 use conode_compare_pdos::number_of;
-use conode_compare_values::{profile_in, shown_number};
+use conode_compare_values::{is_comparable, is_other_text, profile_in, shown_number};
 use conode_explain_transfers::{Direction, Ended, Ending, Protocol};
-
-// of a transfer's bytes so many are kept
-const KEPT: usize = 64;
 
 // the revision number (CiA 301, 7.5.2.21)
 fn is_revision(key: Key) -> bool
@@ -99,17 +96,12 @@ fn type_warning(node: u8, ended: &Ended, row: &EntryRow<'_>) -> Option<Warning>
     type_shown(node, row, shown)
 }
 
-// whether a transfer has these bytes
-fn has_text(ended: &Ended, bytes: &[u8]) -> bool
-    ensures { result ≡ has_text ended.now bytes.now }
+// whether a transfer shows another text than this one of the data sheet, if that can be compared
+fn shows_other(ended: &Ended, bytes: &[u8]) -> bool
+    ensures { result ≡ shows_other ended.now bytes.now }
 {
-    ended.first.as_slice() == bytes && ended.bytes == bytes.len() as u64
-}
-
-fn is_compared(bytes: &[u8]) -> bool
-    ensures { result ≡ is_compared bytes.now }
-{
-    !bytes.is_empty() && bytes.len() <= KEPT
+    let exact = is_exact(ended.protocol, ended.bytes);
+    is_comparable(bytes) && is_other_text(exact, bytes, ended.first.as_slice())
 }
 
 // another text than the data sheet's, where that has one
@@ -117,9 +109,7 @@ fn text_warning(ended: &Ended, default: Preset<'_>) -> Option<Warning>
     ensures { result ≡ text_warning ended.now (default_view default.entry) }
 {
     match default {
-        Preset::Text(bytes) if is_compared(bytes) && !has_text(ended, bytes) => {
-            Some(Warning::OtherText(ended.key))
-        }
+        Preset::Text(bytes) if shows_other(ended, bytes) => Some(Warning::OtherText(ended.key)),
         _ => None,
     }
 }

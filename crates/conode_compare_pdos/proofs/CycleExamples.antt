@@ -103,7 +103,7 @@ with_counter = refl
 -- ---- a difference
 
 abbrev at : Moment
-at = record { micros = 900000; free = 900000; tolerance = 10; drift = 1; idle = false; known = true }
+at = record { micros = 900000; free = 900000; tolerance = 10; drift = 1; idle = false; known = true; commanded = None }
 
 abbrev parameters : ℕ → Parameters
 parameters kind = record { id = Some 0x188; kind = Some kind; inhibit = Some 0; timer = Some 0; length = Some 4 }

@@ -21,11 +21,11 @@ use Rattle.conode_compare_pdos.specs.Deviations.{deviation_at, is_judged, time_d
 use Rattle.conode_compare_pdos.specs.Followed.{are_several, sighting, unknown_pdos}
 use Rattle.conode_compare_pdos.specs.Identifiers.{is_cob_id, may_change, may_get, may_have}
 use Rattle.conode_compare_pdos.specs.PdoParameters.{asked_to_write, counted_bytes, identifier_of, length_of, mapped_bytes, parameters_of, shown}
-use Rattle.conode_compare_pdos.specs.Tpdos.{after_frame, after_gap, after_poll, after_request, after_sync, after_transfer, booted_tpdo}
+use Rattle.conode_compare_pdos.specs.Tpdos.{after_command, after_frame, after_gap, after_poll, after_request, after_sync, after_transfer, booted_tpdo}
 
 -- 10 ms and 1 %, operational; the bus was free 1 ms before the frame
 abbrev at : ℕ → Moment
-at micros = record { micros = micros; free = micros; tolerance = 10; drift = 1; idle = false; known = true }
+at micros = record { micros = micros; free = micros; tolerance = 10; drift = 1; idle = false; known = true; commanded = None }
 
 -- on 188h, of type 255, with 100 ms of inhibit time, 1 s of event timer and four bytes
 abbrev event_driven : Parameters
@@ -186,6 +186,42 @@ after = refl
 waited : deviation_at (at 89004) true (after_frame (record (at 5) { free = 4 }) 0x188 4 tpdo) 4 ≡ None
 unfolding deviation_at time_deviation
 waited = refl
+
+-- the one before came later than the tolerance after the newest command, when the bus was free last: else it
+-- may be one from before that
+abbrev after_start : ℕ → ℕ → Tpdo
+after_start free micros = after_frame (record (at micros) { free = free; commanded = Some 5 }) 0x188 4 tpdo
+
+since_command : deviation_at (record (at 99005) { commanded = Some 5 }) true (after_start 10006 10006) 4 ≡ Some (Inhibit 88999 1000)
+unfolding deviation_at time_deviation
+since_command = refl
+
+right_after_command : deviation_at (record (at 10006) { commanded = Some 5 }) true (after_start 10005 10005) 4 ≡ None
+unfolding deviation_at time_deviation
+right_after_command = refl
+
+waited_since_command : deviation_at (record (at 10008) { commanded = Some 5 }) true (after_start 10005 10007) 4 ≡ None
+unfolding deviation_at time_deviation
+waited_since_command = refl
+
+-- nor where a command came after it and before this one: its times begin anew then
+command_between : deviation_at (record (at 99005) { commanded = Some 20000 }) true (after_command (after_start 10006 10006)) 4 ≡ None
+unfolding deviation_at time_deviation
+command_between = refl
+
+-- the same since a parameter was written or read
+since_write : deviation_at (at 99005) true (record sent { changed = Some 5; sent = Some (record { free = 10006; micros = 10006 }) }) 4 ≡ Some (Inhibit 88999 1000)
+unfolding deviation_at time_deviation
+since_write = refl
+
+right_after_write : deviation_at (at 99004) true (record sent { changed = Some 5; sent = Some (record { free = 10005; micros = 10005 }) }) 4 ≡ None
+unfolding deviation_at time_deviation
+right_after_write = refl
+
+-- it is late all the same
+late_since_command : deviation_at (record (at 1121006) { commanded = Some 5 }) true (after_start 5 5) 4 ≡ Some (Timer 1121001 1000)
+unfolding deviation_at time_deviation
+late_since_command = refl
 
 -- of types 254 and 255 alone
 type_254 : deviation_at (at 89004) true (record sent { parameters = record event_driven { kind = Some 254 } }) 4 ≡ Some (Inhibit 88999 1000)

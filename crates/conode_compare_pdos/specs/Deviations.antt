@@ -22,6 +22,11 @@ abbrev pub is_settled : Moment → Option ℕ → Bool
 is_settled moment None = true
 is_settled moment (Some changed) = nat_lt (micros_of moment.tolerance) (moment.free - changed)
 
+-- so it was at an earlier time, since something happened
+abbrev pub was_settled : Moment → Option ℕ → ℕ → Bool
+was_settled moment None at = true
+was_settled moment (Some happened) at = nat_lt (micros_of moment.tolerance) (at - happened)
+
 -- the transmission types: 0 to 240 with SYNC, 254 and 255 at events
 abbrev pub is_synchronous : Option ℕ → Bool
 is_synchronous None = false
@@ -83,6 +88,15 @@ abbrev pub inhibit_deviation : Moment → ℕ → Sent → Option Deviation
 inhibit_deviation moment inhibit sent =
     if nat_lt (moment.micros - sent.free) (least_gap moment inhibit) then Some (Inhibit (moment.micros - sent.micros) inhibit) else None
 
+-- The frame before came later than the tolerance after the newest command, and after one of its parameters
+-- was written or read. Else it may be one that was sent before that, and waited: with a command the device
+-- may begin its times anew.
+abbrev pub is_counted : Moment → Option ℕ → Sent → Bool
+is_counted moment changed sent = was_settled moment moment.commanded sent.free && was_settled moment changed sent.free
+
+abbrev pub inhibit_since : Moment → Option ℕ → ℕ → Sent → Option Deviation
+inhibit_since moment changed inhibit sent = if is_counted moment changed sent then inhibit_deviation moment inhibit sent else None
+
 -- `pdo-late`: a frame later than the event timer after the one before, when the bus was free last
 abbrev pub timer_deviation : Moment → ℕ → ℕ → Sent → Option Deviation
 timer_deviation moment inhibit timer sent =
@@ -93,19 +107,19 @@ abbrev pub first_of : Option Deviation → Option Deviation → Option Deviation
 first_of (Some deviation) other = Some deviation
 first_of None other = other
 
-abbrev pub timed : Moment → Option ℕ → ℕ → Sent → Option Deviation
-timed moment None inhibit sent = inhibit_deviation moment inhibit sent
-timed moment (Some timer) inhibit sent = first_of (inhibit_deviation moment inhibit sent) (timer_deviation moment inhibit timer sent)
+abbrev pub timed : Moment → Option ℕ → Option ℕ → ℕ → Sent → Option Deviation
+timed moment changed None inhibit sent = inhibit_since moment changed inhibit sent
+timed moment changed (Some timer) inhibit sent = first_of (inhibit_since moment changed inhibit sent) (timer_deviation moment inhibit timer sent)
 
-abbrev pub timed_since : Moment → Parameters → Option ℕ → Option Sent → Option Deviation
-timed_since moment parameters None sent = None
-timed_since moment parameters (Some inhibit) None = None
-timed_since moment parameters (Some inhibit) (Some sent) = timed moment parameters.timer inhibit sent
+abbrev pub timed_since : Moment → Option ℕ → Parameters → Option ℕ → Option Sent → Option Deviation
+timed_since moment changed parameters None sent = None
+timed_since moment changed parameters (Some inhibit) None = None
+timed_since moment changed parameters (Some inhibit) (Some sent) = timed moment changed parameters.timer inhibit sent
 
 -- of an event-driven TPDO
 unfoldable pub time_deviation : Moment → Tpdo → Option Deviation
 time_deviation moment pdo =
-    if is_event_driven pdo.parameters.kind then timed_since moment pdo.parameters pdo.parameters.inhibit pdo.sent else None
+    if is_event_driven pdo.parameters.kind then timed_since moment pdo.changed pdo.parameters pdo.parameters.inhibit pdo.sent else None
 
 -- `pdo-state`: the device isn't operational
 abbrev pub state_deviation : Moment → Option Deviation

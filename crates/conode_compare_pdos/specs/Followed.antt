@@ -1,5 +1,6 @@
 -- The first four TPDOs of a device, followed through a recording.
 use Rattle.std.specs.Prelude.{ℕ, Bool, false, ◌&&◌, ◌||◌, if◌then◌else◌, List, Option, Some, None, is_some, option_and_then}
+use Rattle.co_profile.specs.Indices.{nmt_startup}
 use Rattle.co_profile.specs.Keys.{sync_key}
 use Rattle.co_sheet.specs.Content.{Row}
 use Rattle.co_value.specs.declared.key.Key.{Key}
@@ -15,7 +16,7 @@ use Rattle.conode_compare_pdos.specs.Cycles.{new_cycle}
 use Rattle.conode_compare_pdos.specs.Deviations.{deviation_at, is_judged}
 use Rattle.conode_compare_pdos.specs.PdoParameters.{identifier_of, key_of, parameters_of}
 use Rattle.conode_compare_pdos.specs.SheetNumbers.{preset_at}
-use Rattle.conode_compare_pdos.specs.Tpdos.{after_command, after_frame, after_gap, after_poll, after_request, after_sync, after_transfer, booted_tpdo, is_id, unknown_tpdo}
+use Rattle.conode_compare_pdos.specs.Tpdos.{after_command, after_frame, after_gap, after_poll, after_request, after_sync, after_transfer, booted_tpdo, is_id, unknown_tpdo, without_cycle}
 
 abbrev pub four : Option ℕ → Tpdo → Pdos
 four sync pdo = record { sync = sync; first = pdo; second = pdo; third = pdo; fourth = pdo }
@@ -35,7 +36,7 @@ each change pdos = record {
 -- SYNCs are counted, unless the device may become operational by itself (1F80h, CiA 302-2): the
 -- recording doesn't show when its count begins then
 abbrev pub cycle_of : List Row → Option Cycle
-cycle_of rows = if is_some (row_at rows (key_of 0x1F80 0)) then None else Some new_cycle
+cycle_of rows = if is_some (row_at rows (key_of nmt_startup 0)) then None else Some new_cycle
 
 -- after a boot-up: what the data sheet has
 unfoldable pub pdos_of : List Row → ℕ → Pdos
@@ -46,6 +47,10 @@ pdos_of rows node = record {
   third = booted_tpdo (cycle_of rows) (parameters_of rows node 2);
   fourth = booted_tpdo (cycle_of rows) (parameters_of rows node 3);
 }
+
+-- SYNCs aren't counted
+abbrev pub uncounted : Pdos → Pdos
+uncounted pdos = each (λ number. without_cycle) pdos
 
 -- an NMT command came, or a heartbeat shows another state than operational
 abbrev pub commanded : Pdos → Pdos

@@ -34,6 +34,10 @@ booted_tpdo cycle parameters =
 abbrev pub anew : Option Cycle → Option Cycle
 anew cycle = option_map (λ c. new_cycle) cycle
 
+-- SYNCs aren't counted
+abbrev pub without_cycle : Tpdo → Tpdo
+without_cycle pdo = record pdo { cycle = None }
+
 -- times and SYNCs count anew after an NMT command
 abbrev pub after_command : Tpdo → Tpdo
 after_command pdo = record pdo { sent = None; cycle = anew pdo.cycle }

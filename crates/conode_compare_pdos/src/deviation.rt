@@ -8,8 +8,10 @@ ghost use Rattle.conode_compare_pdos.specs.Deviations.{
   few_syncs_of,
   greatest_gap,
   inhibit_deviation,
+  inhibit_since,
   is_apart,
   is_certain,
+  is_counted,
   is_event_driven,
   is_judged,
   is_number,
@@ -24,6 +26,7 @@ ghost use Rattle.conode_compare_pdos.specs.Deviations.{
   time_deviation,
   timed,
   timer_deviation,
+  was_settled,
 };
 
 use crate::cycle::{Cycle, is_cyclic, is_early};
@@ -62,6 +65,8 @@ pub struct Moment {
     pub idle: bool,
     /// Whether its state is known.
     pub known: bool,
+    /// When the newest command came; where none did, when the recording began.
+    pub commanded: Option<u64>,
 }
 
 // milliseconds in microseconds
@@ -86,6 +91,16 @@ fn is_settled(moment: &Moment, changed: Option<u64>) -> bool
 {
     match changed {
         Some(changed) => moment.free.saturating_sub(changed) > micros_of(moment.tolerance),
+        None => true,
+    }
+}
+
+// whether the tolerance was over at an earlier time, since something happened
+fn was_settled(moment: &Moment, happened: Option<u64>, at: u64) -> bool
+    ensures { result ≡ was_settled moment.now happened at }
+{
+    match happened {
+        Some(happened) => at.saturating_sub(happened) > micros_of(moment.tolerance),
         None => true,
     }
 }
@@ -217,6 +232,29 @@ fn inhibit_deviation(moment: &Moment, inhibit: u16, sent: Sent) -> Option<Deviat
     }
 }
 
+// whether the frame before came later than the tolerance after the newest command, and after a
+// parameter was written or read: else it may have been sent before that
+fn is_counted(moment: &Moment, changed: Option<u64>, sent: Sent) -> bool
+    ensures { result ≡ is_counted moment.now changed sent }
+{
+    was_settled(moment, moment.commanded, sent.free) && was_settled(moment, changed, sent.free)
+}
+
+fn inhibit_since(
+    moment: &Moment,
+    changed: Option<u64>,
+    inhibit: u16,
+    sent: Sent,
+) -> Option<Deviation>
+    ensures { result ≡ inhibit_since moment.now changed inhibit sent }
+{
+    if is_counted(moment, changed, sent) {
+        inhibit_deviation(moment, inhibit, sent)
+    } else {
+        None
+    }
+}
+
 fn timer_deviation(moment: &Moment, inhibit: u16, timer: u16, sent: Sent) -> Option<Deviation>
     ensures { result ≡ timer_deviation moment.now inhibit timer sent }
 {
@@ -228,10 +266,16 @@ fn timer_deviation(moment: &Moment, inhibit: u16, timer: u16, sent: Sent) -> Opt
     }
 }
 
-fn timed(moment: &Moment, timer: Option<u16>, inhibit: u16, sent: Sent) -> Option<Deviation>
-    ensures { result ≡ timed moment.now timer inhibit sent }
+fn timed(
+    moment: &Moment,
+    changed: Option<u64>,
+    timer: Option<u16>,
+    inhibit: u16,
+    sent: Sent,
+) -> Option<Deviation>
+    ensures { result ≡ timed moment.now changed timer inhibit sent }
 {
-    match inhibit_deviation(moment, inhibit, sent) {
+    match inhibit_since(moment, changed, inhibit, sent) {
         Some(deviation) => Some(deviation),
         None => timer_deviation(moment, inhibit, timer?, sent),
     }
@@ -247,7 +291,7 @@ fn time_deviation(moment: &Moment, pdo: &Tpdo) -> Option<Deviation>
     }
     let inhibit = pdo.parameters.inhibit?;
     let sent = pdo.sent?;
-    timed(moment, pdo.parameters.timer, inhibit, sent)
+    timed(moment, pdo.changed, pdo.parameters.timer, inhibit, sent)
 }
 
 /// The difference of a frame of a TPDO with so many bytes, where its parameters are settled;

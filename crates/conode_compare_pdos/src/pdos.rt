@@ -19,6 +19,7 @@ ghost use Rattle.conode_compare_pdos.specs.Followed.{
   sighting,
   synced,
   transferred,
+  uncounted,
   unjudged,
   unknown_pdos,
 };
@@ -28,6 +29,7 @@ use crate::deviation::{Deviation, Moment, deviation_at, is_judged};
 use crate::numbers::preset_at;
 use crate::parameters::{Parameters, identifier_of, key_of};
 use crate::tpdo::{Tpdo, is_id};
+use co_profile::NMT_STARTUP;
 use co_profile::keys::SYNC_COB_ID;
 use co_sheet::EntryRow;
 use co_sheet_changes::row_at;
@@ -65,7 +67,7 @@ fn cycle_of(rows: &[EntryRow<'_>]) -> Option<Cycle>
     requires { AllPairs (λ e f. is_key_before e.key f.key ≡ true) rows.now }
     ensures { result ≡ cycle_of (map row_view rows.now) }
 {
-    if row_at(rows, key_of(0x1F80, 0)).is_some() {
+    if row_at(rows, key_of(NMT_STARTUP, 0)).is_some() {
         None
     } else {
         Some(Cycle::new())
@@ -138,6 +140,19 @@ impl Pdos {
             second: Tpdo::unknown(),
             third: Tpdo::unknown(),
             fourth: Tpdo::unknown(),
+        }
+    }
+
+    /// With SYNCs that aren't counted, as of a device that may become operational by itself.
+    pub fn uncounted(self) -> Pdos
+        ensures { result ≡ uncounted self }
+    {
+        Pdos {
+            sync: self.sync,
+            first: self.first.uncounted(),
+            second: self.second.uncounted(),
+            third: self.third.uncounted(),
+            fourth: self.fourth.uncounted(),
         }
     }
 

@@ -17,6 +17,7 @@ ghost use Rattle.conode_compare_pdos.specs.Tpdos.{
   shows_bytes,
   unknown_tpdo,
   with_parameters,
+  without_cycle,
 };
 
 use crate::cycle::{Cycle, anew, cycle_sent, cycle_synced};
@@ -103,6 +104,20 @@ impl Tpdo {
             cycle: None,
             changed: None,
             odd: None,
+        }
+    }
+
+    /// Its SYNCs aren't counted.
+    pub(crate) fn uncounted(self) -> Tpdo
+        ensures { result ≡ without_cycle self }
+    {
+        Tpdo {
+            parameters: self.parameters,
+            sent: self.sent,
+            syncs: self.syncs,
+            cycle: None,
+            changed: self.changed,
+            odd: self.odd,
         }
     }
 

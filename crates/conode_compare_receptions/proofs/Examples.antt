@@ -44,7 +44,7 @@ use Rattle.conode_compare_receptions.specs.declared.receptions.Receptions.{Recep
 use Rattle.conode_compare_receptions.specs.OtherIds.{other_ids_of}
 use Rattle.conode_compare_rules.specs.EntriesInForce.{facts_of, initial_entries, sheet_entries}
 use Rattle.conode_compare_rules.specs.Progresses.{before_recording}
-use Rattle.conode_compare_rules.specs.States.{is_settled}
+use Rattle.conode_compare_rules.specs.States.{is_settled, nothing_commanded}
 use Rattle.conode_compare_receptions.specs.Receptions.{booted_receptions, exchanged_by, is_sure, no_receptions, process_received, receptions_with, with_receptions, with_written}
 
 -- 10 ms, 1 %, 1 s and 10 s
@@ -83,7 +83,7 @@ subject = record {
 }
 
 abbrev nmt_in : NmtState → Nmt
-nmt_in state = record { state = state; commanded = None; reset = None; several = false; booted = None; due = Unknown; followed = None; changed = None; strayed = Unknown; mixed = false; odd = None }
+nmt_in state = record nothing_commanded { state = state }
 
 abbrev shows : NmtState → ℕ → Progress
 shows state micros = record (before_recording subject) { newest = Some micros; free = micros; nmt = nmt_in state }
@@ -398,3 +398,9 @@ begins : (number_in (receptions_with subject rows booted (record (shows Operatio
     × (number_at (with_receptions subject operational booted).written (Some 0) ≡ Some 5)
 unfolding booted_receptions other_ids_of no_receptions no_writes nothing_written receptions_with with_receptions facts_of initial_entries sheet_entries
 begins = (refl, refl, refl, refl)
+
+-- where a client asked to write an entry of the communication profile within 10 ms before a boot-up, RPDOs aren't followed
+asked_before_boot_up : map (λ asked. (receptions_with subject rows booted (record operational { asked_at = asked }) 20000 (Control 0) (Base 0x705) (Data (0 ∷ []))).followed) (None ∷ Some 9999 ∷ Some 10000 ∷ [])
+    ≡ true ∷ true ∷ false ∷ []
+unfolding booted_receptions other_ids_of has_few_rpdos no_receptions no_writes nothing_written receptions_with facts_of initial_entries sheet_entries
+asked_before_boot_up = refl

@@ -36,7 +36,7 @@ use Rattle.conode_compare_rules.specs.declared.progress.Progress.{Progress}
 use Rattle.conode_compare_receptions.specs.declared.other_ids.OtherIds.{OtherIds}
 use Rattle.conode_compare_receptions.specs.declared.receptions.Receptions.{Receptions}
 use Rattle.conode_compare_receptions.specs.OtherIds.{has_further_ids, ids_asked, ids_ended, may_use, other_ids_of, unknown_ids}
-use Rattle.conode_compare_rules.specs.Progresses.{is_begun, takes_rpdos}
+use Rattle.conode_compare_rules.specs.Progresses.{is_begun, takes_rpdos, was_asked}
 use Rattle.conode_compare_rules.specs.States.{is_reset}
 
 -- ---- boot-ups, commands and heartbeats
@@ -69,9 +69,13 @@ without_brought r = record r { writes = without_values r.writes; operational = N
 abbrev pub with_beat : Receptions → ℕ → ℕ → Receptions
 with_beat r free byte = if byte == 5 then record r { operational = Some free } else without_brought r
 
+-- Not where a client asked to write an entry of the communication profile right before the boot-up frame.
+abbrev pub unless_asked : Bool → Receptions → Receptions
+unless_asked asked r = record r { followed = r.followed && not asked }
+
 abbrev pub controlled : Subject → List Row → Receptions → Progress → ℕ → Receptions
 controlled subject rows r progress byte =
-    if byte == 0 then booted_receptions subject rows else with_written (with_beat r progress.free byte) progress.written
+    if byte == 0 then unless_asked (was_asked subject progress) (booted_receptions subject rows) else with_written (with_beat r progress.free byte) progress.written
 
 -- a command, whatever it is: the device may not have taken a frame before it
 abbrev pub commanded : Receptions → Progress → NmtService → Receptions

@@ -13,6 +13,7 @@ ghost use Rattle.conode_compare_receptions.specs.Receptions.{
   no_receptions,
   receptions_at,
   receptions_with,
+  unless_asked,
   with_beat,
   with_receptions,
   with_written,
@@ -116,6 +117,13 @@ impl Receptions {
         }
     }
 
+    // RPDOs aren't followed where a client asked to write their parameters right before the boot-up.
+    fn forbid_asked(&mut self, asked: bool)
+        ensures { self.new ≡ unless_asked asked self.old }
+    {
+        self.followed = self.followed && !asked;
+    }
+
     // A boot-up or a heartbeat came.
     fn take_control(
         &mut self,
@@ -130,6 +138,7 @@ impl Receptions {
     {
         if byte == 0 {
             *self = Receptions::booted(subject, rows);
+            self.forbid_asked(progress.was_asked(subject));
         } else {
             self.take_beat(progress.free, byte);
             self.set_written(progress.written);

@@ -15,7 +15,7 @@ use Rattle.conode_compare_report.specs.Occasions.{counts_found}
 use Rattle.conode_compare_report.specs.Histories.{Happening, Came, WasBad, Framed, Passed, Found, happened, kept_of, line_in, lines_of, near, numbered_from}
 use Rattle.conode_compare_report.specs.Reports.{if_listed, line_kept, line_of, listed_in, most_listed, newest_with, noted_at, nothing_kept, with_bad_line, with_finding, with_frame, with_line, with_passed}
 use Rattle.conode_compare_report.specs.Views.{Kept}
-use Rattle.conode_explain_values.specs.declared.value_type.ValueType.{ValueType}
+use Rattle.conode_compare_text.specs.declared.details.Details.{Details}
 use Rattle.conode_compare_rules.specs.declared.finding.Finding.{Finding}
 
 -- ---- numbers of lines
@@ -429,13 +429,13 @@ came all kept bytes few h =
     let number : min (kept.lines + 1) (2 ^ 64 - 1) ≡ length all + 1 = let c = h.counts in omega (arith, few, c) in
     subst (λ (n : ℕ). Stands (all ++ line_of (length all + 1) bytes ∷ []) (line_kept kept (line_of n bytes))) (sym number) (line_step all kept bytes h)
 
-was_found : (all : List KeptLine) (kept : Kept) (micros : ℕ) (value_type : ValueType) (finding : Finding) → length all < 2 ^ 64 - 4 → Stands all kept → Stands all (if_listed kept micros value_type finding)
-was_found all kept micros value_type finding few h = by_number (nat_lt (length kept.noted) most_listed) refl
+was_found : (all : List KeptLine) (kept : Kept) (micros : ℕ) (details : Details) (finding : Finding) → length all < 2 ^ 64 - 4 → Stands all kept → Stands all (if_listed kept micros details finding)
+was_found all kept micros details finding few h = by_number (nat_lt (length kept.noted) most_listed) refl
   where
     by_number : (b : Bool) → nat_lt (length kept.noted) most_listed ≡ b
-        → Stands all (if b then listed_in (kept.context ++ kept.recent) kept micros value_type finding else record kept { unlisted = one_more kept.unlisted })
+        → Stands all (if b then listed_in (kept.context ++ kept.recent) kept micros details finding else record kept { unlisted = one_more kept.unlisted })
     by_number true e =
-        found all kept.context kept.recent kept.noted kept.lines kept.wanted h [] (noted_at (kept.context ++ kept.recent) kept.lines micros value_type finding) (min (kept.lines + 3) (2 ^ 64 - 1)) h.counts
+        found all kept.context kept.recent kept.noted kept.lines kept.wanted h [] (noted_at (kept.context ++ kept.recent) kept.lines micros details finding) (min (kept.lines + 3) (2 ^ 64 - 1)) h.counts
         (ap (λ (n : ℕ). length (kept.context ++ kept.recent) - min n 4) h.counts) (let c = h.counts in omega (arith, few, c))
     by_number false e = h
 
@@ -467,10 +467,10 @@ step lines kept WasBad few h = subst (λ (all : List (List ℕ)). Stands (number
 step lines kept (Framed rows micros kind before state found) few h =
     subst (λ (all : List (List ℕ)). Stands (numbered_from 1 all) (with_frame rows kept micros kind before state found)) (sym (append-nil lines)) h
 step lines kept (Passed kind) few h = subst (λ (all : List (List ℕ)). Stands (numbered_from 1 all) (with_passed kept kind)) (sym (append-nil lines)) h
-step lines kept (Found micros value_type finding) few h =
+step lines kept (Found micros details finding) few h =
     let size : length (numbered_from 1 lines) ≡ length lines = numbered_length 1 lines in
-    subst (λ (all : List (List ℕ)). Stands (numbered_from 1 all) (with_finding kept micros value_type finding)) (sym (append-nil lines))
-    (was_found (numbered_from 1 lines) (record kept { kinds = counts_found (kind_of finding) kept.kinds }) micros value_type finding (omega (arith, few, size)) h)
+    subst (λ (all : List (List ℕ)). Stands (numbered_from 1 all) (with_finding kept micros details finding)) (sym (append-nil lines))
+    (was_found (numbered_from 1 lines) (record kept { kinds = counts_found (kind_of finding) kept.kinds }) micros details finding (omega (arith, few, size)) h)
 
 stands : (rows : List Row) (node : ℕ) (happenings : List Happening) → length (lines_of happenings) < 2 ^ 64 - 4 → Stands (numbered_from 1 (lines_of happenings)) (kept_of rows node happenings)
 unfolding kept_of lines_of numbered_from

@@ -1,10 +1,10 @@
 -- What is kept of small recordings, computed from the definitions.
-use Rattle.std.proofs.Common.{◌≡◌, ℕ, zero, suc, ◌+◌, ◌-◌, ◌/◌, ◌^◌, true, false, List, [], ◌∷◌, map, length, Option, Some, None, refl, codes}
+use Rattle.std.proofs.Common.{◌≡◌, ℕ, zero, suc, ◌+◌, ◌-◌, ◌/◌, ◌^◌, true, false, List, [], ◌∷◌, ◌++◌, map, length, Option, Some, None, refl, codes}
 use Rattle.std.specs.Prelude.{nat_lt, filter, replicate, pos}
 use Rattle.co_frame.specs.FrameContent.{FrameContent}
 use Rattle.co_frame.specs.declared.nmt.NmtService.TheVariants as nmt
 use Rattle.co_profile.specs.declared.access.Access.{Access}
-use Rattle.co_profile.specs.declared.access.Access.TheVariants.{Wo, Rw, Constant}
+use Rattle.co_profile.specs.declared.access.Access.TheVariants.{Ro, Wo, Rw, Constant}
 use Rattle.co_sheet.specs.Content.{Row}
 use Rattle.co_sheet.specs.Limits.{absent, node_id}
 use Rattle.co_value.specs.declared.data_type.DataType.TheVariants.{Unsigned8, Unsigned32}
@@ -16,8 +16,6 @@ use Rattle.conode_explain_transfers.specs.declared.kinds.Direction.TheVariants.{
 use Rattle.conode_explain_transfers.specs.declared.kinds.Protocol.{Protocol}
 use Rattle.conode_explain_transfers.specs.declared.kinds.Protocol.TheVariants.{Expedited, Segmented, Block}
 use Rattle.conode_explain_transfers.specs.declared.kinds.Side.TheVariants.{Client, Server}
-use Rattle.conode_explain_values.specs.declared.value_type.ValueType.{ValueType}
-use Rattle.conode_explain_values.specs.declared.value_type.ValueType.TheVariants.{Plain}
 use Rattle.conode_compare_pdos.specs.declared.parameters.Parameters.{Parameters}
 use Rattle.conode_compare_pdos.specs.Followed.{unknown_pdos}
 use Rattle.conode_compare_rules.specs.declared.entries.Entries.{Entries}
@@ -28,6 +26,8 @@ use Rattle.conode_compare_rules.specs.declared.finding.NmtState.TheVariants.{Unk
 use Rattle.conode_compare_rules.specs.declared.kind.FrameKind.TheVariants as frame
 use Rattle.conode_compare_rules.specs.declared.verdict.Verdict.TheVariants.{Prescribed, Different, Unjudged}
 use Rattle.conode_compare_rules.specs.Verdicts.{nothing_found}
+use Rattle.conode_compare_text.specs.declared.details.Details.{Details}
+use Rattle.conode_compare_text.specs.Beside.{no_details}
 use Rattle.conode_compare_report.specs.declared.before.Before.{Before}
 use Rattle.conode_compare_report.specs.declared.before.Role.{Role}
 use Rattle.conode_compare_report.specs.declared.before.Role.TheVariants as role
@@ -48,7 +48,7 @@ use Rattle.conode_compare_report.specs.Kinds.{kind_number}
 use Rattle.conode_compare_report.specs.Occasions.{answer_passed, command_passed, control_passed, counts_found, counts_passed, emergency_passed, ended_passed, frame_passed, no_counts, side_passed, tpdo_passed, upload_passed}
 use Rattle.conode_compare_report.specs.Reports.{nothing_kept, with_bad_line, with_finding, with_frame, with_line}
 use Rattle.conode_compare_report.specs.Services.{service_number}
-use Rattle.conode_compare_report.specs.SheetNames.{info_in}
+use Rattle.conode_compare_report.specs.SheetNames.{info_in, is_boot_up_master}
 use Rattle.conode_compare_report.specs.Spans.{LanesView, bin_with, both_bins, empty_bin, joined, lanes_with, no_lanes, no_states, widened}
 use Rattle.conode_compare_report.specs.Views.{Kept}
 use Rattle.conode_compare_report.specs.Widths.{Seen, spans_of}
@@ -148,8 +148,8 @@ with_lines kept (letter ∷ more) = with_lines (with_line kept (letter ∷ [])) 
 abbrev late : Finding
 late = finding.HeartbeatLate 1020001 1000
 
-abbrev plain : ValueType
-plain = Plain Unsigned32
+abbrev plain : Details
+plain = no_details
 
 abbrev with_late : Kept → Kept
 with_late kept = with_finding kept 7 plain late
@@ -161,7 +161,7 @@ letters lines = map {B = ℕ × List ℕ} (λ line. (line.number, line.bytes)) l
 abbrev sixth : Kept
 sixth = with_lines (with_late (with_lines empty_report (codes "abcdef"))) (codes "ghijk")
 
-sixth_is_listed : sixth.noted ≡ record { line = 6; micros = 7; finding = late; value_type = plain; first = 0 } ∷ []
+sixth_is_listed : sixth.noted ≡ record { line = 6; micros = 7; finding = late; details = plain; first = 0 } ∷ []
 unfolding with_line with_finding counts_found nothing_kept no_coverage rpdos_of
 sixth_is_listed = refl
 
@@ -210,7 +210,7 @@ counted_bad_lines = refl
 
 -- 10,000 are listed
 abbrev full : Kept
-full = record empty_report { noted = replicate 10000 (record { line = 1; micros = 7; finding = late; value_type = plain; first = 0 }) }
+full = record empty_report { noted = replicate 10000 (record { line = 1; micros = 7; finding = late; details = plain; first = 0 }) }
 
 one_too_many : (with_late full).unlisted ≡ 1
 unfolding with_finding counts_found nothing_kept no_coverage rpdos_of
@@ -226,7 +226,7 @@ abbrev in_force : Option ℕ → Option ℕ → Entries
 in_force period inhibit = record { period = period; emergencies = true; inhibit = inhibit; inhibit_shown = None }
 
 abbrev before : NmtState → Option ℕ → Option ℕ → Role → Before
-before state period inhibit role = record { state = state; entries = in_force period inhibit; role = role }
+before state period inhibit role = record { state = state; entries = in_force period inhibit; modular = false; role = role }
 
 heartbeat : shown (control_passed (before Operational (Some 1000) None role.Other) 5 no_counts) ≡ HeartbeatLate ∷ HeartbeatState ∷ HeartbeatLength ∷ []
 unfolding control_passed counts_passed
@@ -350,7 +350,7 @@ abbrev refused : Ending
 refused = Aborted Server (record { 0 = 0x06010002 })
 
 abbrev after : ℕ → Direction → Protocol → Ending → List Kind
-after index direction protocol ending = shown (ended_passed rows (ended index direction protocol ending) no_counts)
+after index direction protocol ending = shown (ended_passed false rows (ended index direction protocol ending) no_counts)
 
 read : after 0x2000 Upload Expedited done ≡ ValueLength ∷ AccessRead ∷ []
 unfolding ended_passed upload_passed counts_passed
@@ -391,6 +391,22 @@ written_constant = refl
 written_with_limit : after 0x2002 Download Segmented done ≡ AccessLimits ∷ []
 unfolding ended_passed upload_passed counts_passed
 written_with_limit = refl
+
+-- with modules what the device type is, and which entries can be read, isn't compared
+abbrev with_modules : ℕ → Ending → List Kind
+with_modules index ending = shown (ended_passed true (row 0x1000 Ro None ∷ rows) (ended index Upload Expedited ending) no_counts)
+
+read_device_type : shown (ended_passed false (row 0x1000 Ro None ∷ rows) (ended 0x1000 Upload Expedited done) no_counts) ≡ ValueLength ∷ ValueConst ∷ AccessRead ∷ []
+unfolding ended_passed upload_passed counts_passed
+read_device_type = refl
+
+read_of_modules : map (λ index. with_modules index done) (0x1000 ∷ 0x2000 ∷ 0x2001 ∷ 0x2002 ∷ []) ≡ (ValueLength ∷ []) ∷ (ValueLength ∷ []) ∷ (ValueLength ∷ ValueConst ∷ []) ∷ [] ∷ []
+unfolding ended_passed upload_passed counts_passed
+read_of_modules = refl
+
+refused_by_modules : with_modules 0x2001 refused ≡ []
+unfolding ended_passed upload_passed counts_passed
+refused_by_modules = refl
 
 left_unanswered : after 0x2001 Upload Expedited Unanswered ≡ []
 unfolding ended_passed upload_passed counts_passed
@@ -514,3 +530,11 @@ sheet =
 names_in_sheet : info_in (codes "VendorName") sheet ∷ info_in (codes "ProductName") sheet ∷ info_in (codes "VendorName") (0xEF ∷ 0xBB ∷ 0xBF ∷ codes "[DeviceInfo]\r\nVendorName=e\r\n") ∷ []
     ≡ Some (codes "<A&B>") ∷ None ∷ Some (codes "e") ∷ []
 names_in_sheet = refl
+
+-- a digit other than 0, in hexadecimal digits too; not without the key, nor outside DeviceInfo
+masters : map (λ value. is_boot_up_master (codes "[DeviceInfo]\nSimpleBootUpMaster=" ++ value ++ codes "\n")) (codes "1" ∷ codes "0x01" ∷ codes "9" ∷ codes "0" ∷ codes "0x00" ∷ codes "" ∷ [])
+    ≡ true ∷ true ∷ true ∷ false ∷ false ∷ false ∷ []
+masters = refl
+
+no_masters : map is_boot_up_master (codes "[DeviceInfo]\nSimpleBootUpSlave=1\n" ∷ codes "SimpleBootUpMaster=1\n" ∷ codes "[FileInfo]\nSimpleBootUpMaster=1\n" ∷ []) ≡ false ∷ false ∷ false ∷ []
+no_masters = refl

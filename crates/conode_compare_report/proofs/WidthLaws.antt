@@ -6,7 +6,7 @@ use Rattle.std.proofs.Math.Nat.{div-div-eq-div-mul}
 use Rattle.std.proofs.lemmas.Nat.{div_below, div-mul-add}
 use Rattle.std.proofs.lemmas.Bool.Decides.{nat_tests}
 use Rattle.co_sheet.specs.Content.{Row}
-use Rattle.conode_explain_values.specs.declared.value_type.ValueType.{ValueType}
+use Rattle.conode_compare_text.specs.declared.details.Details.{Details}
 use Rattle.conode_compare_rules.specs.declared.finding.Finding.{Finding}
 use Rattle.conode_compare_rules.specs.declared.finding.NmtState.{NmtState}
 use Rattle.conode_compare_rules.specs.declared.finding.NmtState.TheVariants.{Unknown, Initialising, PreOperational, Operational, Stopped}
@@ -327,9 +327,9 @@ of_line kept line =
     one_of_two (nat_lt kept.wanted line.number) (record kept { lines = line.number; recent = newest_with kept.recent line })
     (record kept { lines = line.number; context = kept.context ++ line ∷ [] }) kept.lanes refl refl
 
-of_finding : (kept : Kept) (micros : ℕ) (value_type : ValueType) (finding : Finding) → (if_listed kept micros value_type finding).lanes ≡ kept.lanes
-of_finding kept micros value_type finding =
-    one_of_two (nat_lt (length kept.noted) most_listed) (listed_in (kept.context ++ kept.recent) kept micros value_type finding)
+of_finding : (kept : Kept) (micros : ℕ) (details : Details) (finding : Finding) → (if_listed kept micros details finding).lanes ≡ kept.lanes
+of_finding kept micros details finding =
+    one_of_two (nat_lt (length kept.noted) most_listed) (listed_in (kept.context ++ kept.recent) kept micros details finding)
     (record kept { unlisted = one_more_of kept.unlisted }) kept.lanes refl refl
 
 fits_before : (happening : Happening) (seen : List Seen) → StampsFit (seen_in happening ++ seen) → StampsFit seen
@@ -337,7 +337,7 @@ fits_before (Came line) seen fit = fit
 fits_before WasBad seen fit = fit
 fits_before (Framed rows micros kind before state found) seen fit = fit.1
 fits_before (Passed kind) seen fit = fit
-fits_before (Found micros value_type finding) seen fit = fit
+fits_before (Found micros details finding) seen fit = fit
 
 step : (happening : Happening) (seen : List Seen) (kept : Kept) → StampsFit (seen_in happening ++ seen) → Drawn seen kept.lanes
     → Drawn (seen_in happening ++ seen) (happened kept happening).lanes
@@ -347,8 +347,8 @@ step WasBad seen kept fit h = h
 step (Framed rows micros kind before state found) seen kept fit h =
     one_more (record { micros = micros; state = state; lane = lane_of kind before.role; differences = number_found found }) seen kept.lanes fit.0 h
 step (Passed kind) seen kept fit h = h
-step (Found micros value_type finding) seen kept fit h =
-    subst (Drawn seen) (sym (of_finding (record kept { kinds = counts_found (kind_of finding) kept.kinds }) micros value_type finding)) h
+step (Found micros details finding) seen kept fit h =
+    subst (Drawn seen) (sym (of_finding (record kept { kinds = counts_found (kind_of finding) kept.kinds }) micros details finding)) h
 
 drawn : (rows : List Row) (node : ℕ) (happenings : List Happening) → StampsFit (seen_of happenings) → Drawn (seen_of happenings) (kept_of rows node happenings).lanes
 unfolding kept_of seen_of nothing_kept spans_of

@@ -1,5 +1,5 @@
 -- What is known of the device before a frame, and what the frame is to it.
-use Rattle.std.specs.Prelude.{ℕ, ◌+◌, ◌==◌, if◌then◌else◌, List, Option, option_and_then}
+use Rattle.std.specs.Prelude.{ℕ, ◌+◌, ◌==◌, Bool, if◌then◌else◌, List, Option, option_and_then}
 use Rattle.co_sheet.specs.Content.{Row}
 use Rattle.conode_compare_pdos.specs.declared.pdos.Pdos.{Pdos}
 use Rattle.conode_compare_pdos.specs.PdoParameters.{identifier_of, key_of}
@@ -49,9 +49,11 @@ abbrev pub role_at : Pdos → Rpdos → FrameKind → Role
 role_at pdos rpdos (Process id length) = role_of pdos rpdos id
 role_at pdos rpdos _ = Other
 
-unfoldable pub before_at : Rpdos → Progress → FrameKind → Before
-before_at rpdos progress kind = record {
+-- `modular`: modules decide which entries the device has
+unfoldable pub before_at : Rpdos → Bool → Progress → FrameKind → Before
+before_at rpdos modular progress kind = record {
   state = progress.nmt.state;
   entries = progress.entries;
+  modular = modular;
   role = role_at progress.pdos rpdos kind;
 }

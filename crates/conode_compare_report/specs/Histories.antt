@@ -1,7 +1,7 @@
 -- What happens in a comparison, and what is kept of it: the law about the lines around differences.
 use Rattle.std.specs.Prelude.{ℕ, ◌+◌, ◌-◌, List, [], ◌∷◌, ◌++◌, drop, take}
 use Rattle.co_sheet.specs.Content.{Row}
-use Rattle.conode_explain_values.specs.declared.value_type.ValueType.{ValueType}
+use Rattle.conode_compare_text.specs.declared.details.Details.{Details}
 use Rattle.conode_compare_rules.specs.declared.finding.Finding.{Finding}
 use Rattle.conode_compare_rules.specs.declared.finding.NmtState.{NmtState}
 use Rattle.conode_compare_rules.specs.declared.kind.FrameKind.{FrameKind}
@@ -19,14 +19,14 @@ pub data Happening : Type 0 where
   WasBad : Happening
   Framed : List Row → ℕ → FrameKind → Before → NmtState → Findings → Happening
   Passed : Kind → Happening
-  Found : ℕ → ValueType → Finding → Happening
+  Found : ℕ → Details → Finding → Happening
 
 abbrev pub happened : Kept → Happening → Kept
 happened kept (Came line) = with_line kept line
 happened kept WasBad = with_bad_line kept
 happened kept (Framed rows micros kind before state found) = with_frame rows kept micros kind before state found
 happened kept (Passed kind) = with_passed kept kind
-happened kept (Found micros value_type finding) = with_finding kept micros value_type finding
+happened kept (Found micros details finding) = with_finding kept micros details finding
 
 -- what is kept after all that happened, the newest first
 unfoldable pub kept_of : List Row → ℕ → List Happening → Kept

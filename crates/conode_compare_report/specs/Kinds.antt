@@ -120,7 +120,7 @@ kind_rule AbortEarly = codes "no transfer is aborted as timed out before its tim
 kind_rule ValueLength = codes "a number has as many bytes as its data type (CiA 301, 7.4.7.1)"
 kind_rule ValueConst = codes "a constant entry has the value of the data sheet (CiA 301, 7.4)"
 kind_rule ValueHeld = codes "an entry that is named as held keeps what is written to it"
-kind_rule AccessRead = codes "an entry that is readable can be read, and no other (CiA 301, 7.4)"
+kind_rule AccessRead = codes "an entry that is readable can be read, one that is write only can't (CiA 301, 7.4)"
 kind_rule AccessWrite = codes "an entry that is read only isn't written (CiA 301, 7.2.4.3.17)"
 kind_rule AccessLimits = codes "a value outside the limits is refused (CiA 301, 7.2.4.3.17)"
 

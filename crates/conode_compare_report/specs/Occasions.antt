@@ -2,6 +2,7 @@
 use Rattle.std.specs.Prelude.{ℕ, ◌==◌, nat_lt, nat_le, Bool, true, false, not, ◌&&◌, ◌||◌, if◌then◌else◌, List, [], ◌∷◌, slice_index, Option, Some, None, is_some}
 use Rattle.std.specs.Option.{option_map_or}
 use Rattle.co_frame.specs.FrameContent.{FrameContent}
+use Rattle.co_profile.specs.Indices.{device_type}
 use Rattle.co_sheet.specs.Content.{Row}
 use Rattle.co_sheet_changes.specs.Names.{row_at}
 use Rattle.conode_explain_transfers.specs.declared.channel.Heard.{Heard}
@@ -187,42 +188,47 @@ is_block other = false
 abbrev pub shows_value : Row → Bool → Bool
 shows_value row done = done && is_readable row.access
 
--- an upload; of an entry that the data sheet doesn't have no value is compared
-abbrev pub entry_of_upload : Option Row → Bool → List Counted → List Counted
-entry_of_upload None done counts = counts
-entry_of_upload (Some row) done counts =
-    counts_passed true AccessRead
-    (counts_passed (shows_value row done && is_held row) ValueConst (counts_passed (shows_value row done) ValueLength counts))
+-- a value that is compared with the data sheet's; modules decide what a modular device's device type is
+abbrev pub is_compared : Bool → Row → Bool
+is_compared modular row = is_held row && not (modular && (row.key.index == device_type))
 
-unfoldable pub upload_passed : Option Row → Bool → Protocol → List Counted → List Counted
-upload_passed row done protocol counts =
+-- An upload; of an entry that the data sheet doesn't have no value is compared. Which entries a modular
+-- device has, and who may read them, its modules decide.
+abbrev pub entry_of_upload : Bool → Option Row → Bool → List Counted → List Counted
+entry_of_upload modular None done counts = counts
+entry_of_upload modular (Some row) done counts =
+    counts_passed (not modular) AccessRead
+    (counts_passed (shows_value row done && is_compared modular row) ValueConst (counts_passed (shows_value row done) ValueLength counts))
+
+unfoldable pub upload_passed : Bool → Option Row → Bool → Protocol → List Counted → List Counted
+upload_passed modular row done protocol counts =
     counts_passed (done && is_block protocol) AnswerCrc
     (counts_passed (done && not (is_expedited protocol)) AnswerSize
-    (entry_of_upload row done counts))
+    (entry_of_upload modular row done counts))
 
 abbrev pub download_passed : Option Row → List Counted → List Counted
 download_passed None counts = counts
 download_passed (Some row) counts =
     counts_passed (has_limits row) AccessLimits (counts_passed (is_read_only row.access) AccessWrite counts)
 
-abbrev pub way_passed : Direction → Option Row → Bool → Protocol → List Counted → List Counted
-way_passed Upload row done protocol counts = upload_passed row done protocol counts
-way_passed Download row done protocol counts = download_passed row counts
+abbrev pub way_passed : Direction → Bool → Option Row → Bool → Protocol → List Counted → List Counted
+way_passed Upload modular row done protocol counts = upload_passed modular row done protocol counts
+way_passed Download modular row done protocol counts = download_passed row counts
 
 -- a transfer that was confirmed, or refused by the device
-unfoldable pub ended_passed : List Row → Ended → List Counted → List Counted
-ended_passed rows ended counts =
+unfoldable pub ended_passed : Bool → List Row → Ended → List Counted → List Counted
+ended_passed modular rows ended counts =
     if is_done ended.ending || is_refused ended.ending
-    then way_passed ended.direction (row_at rows ended.key) (is_done ended.ending) ended.protocol counts
+    then way_passed ended.direction modular (row_at rows ended.key) (is_done ended.ending) ended.protocol counts
     else counts
 
 abbrev pub ended_in : Option Heard → Option Ended
 ended_in None = None
 ended_in (Some heard) = heard.ended
 
-abbrev pub if_ended_passed : List Row → Option Ended → List Counted → List Counted
-if_ended_passed rows None counts = counts
-if_ended_passed rows (Some ended) counts = ended_passed rows ended counts
+abbrev pub if_ended_passed : Bool → List Row → Option Ended → List Counted → List Counted
+if_ended_passed modular rows None counts = counts
+if_ended_passed modular rows (Some ended) counts = ended_passed modular rows ended counts
 
 -- ---- a frame
 
@@ -242,4 +248,4 @@ passes (Some Unjudged) = false
 
 unfoldable pub frame_passed : List Row → FrameKind → Before → Option Heard → Option Verdict → List Counted → List Counted
 frame_passed rows kind before heard verdict counts =
-    if passes verdict then if_ended_passed rows (ended_in heard) (kind_passed kind before heard counts) else counts
+    if passes verdict then if_ended_passed before.modular rows (ended_in heard) (kind_passed kind before heard counts) else counts

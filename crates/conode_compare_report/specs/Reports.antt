@@ -3,7 +3,7 @@ use Rattle.std.specs.Prelude.{ℕ, ◌+◌, ◌-◌, ◌^◌, ◌==◌, min, nat
 use Rattle.co_sheet.specs.Content.{Row}
 use Rattle.conode_explain_transfers.specs.declared.channel.Heard.{Heard}
 use Rattle.conode_explain_transfers.specs.Followed.{Following, after_boot, followed, nothing_heard}
-use Rattle.conode_explain_values.specs.declared.value_type.ValueType.{ValueType}
+use Rattle.conode_compare_text.specs.declared.details.Details.{Details}
 use Rattle.conode_compare_rules.specs.declared.finding.Finding.{Finding}
 use Rattle.conode_compare_rules.specs.declared.finding.NmtState.{NmtState}
 use Rattle.conode_compare_rules.specs.declared.kind.FrameKind.{FrameKind}
@@ -109,30 +109,30 @@ with_passed kept kind = record kept { kinds = counts_passed true kind kept.kinds
 abbrev pub most_listed : ℕ
 most_listed = 10000
 
--- a difference in the newest line, which has this stamp; its values are shown in this type
-abbrev pub noted_at : List KeptLine → ℕ → ℕ → ValueType → Finding → Noted
-noted_at context line micros value_type finding = record {
+-- a difference in the newest line, which has this stamp; its text has these details
+abbrev pub noted_at : List KeptLine → ℕ → ℕ → Details → Finding → Noted
+noted_at context line micros details finding = record {
   line = line;
   micros = micros;
   finding = finding;
-  value_type = value_type;
+  details = details;
   first = length context - min line 4;
 }
 
 -- it is listed: the lines before it, and its own, are kept, and the next three are wanted
-abbrev pub listed_in : List KeptLine → Kept → ℕ → ValueType → Finding → Kept
-listed_in context kept micros value_type finding = record kept {
-  noted = kept.noted ++ noted_at context kept.lines micros value_type finding ∷ [];
+abbrev pub listed_in : List KeptLine → Kept → ℕ → Details → Finding → Kept
+listed_in context kept micros details finding = record kept {
+  noted = kept.noted ++ noted_at context kept.lines micros details finding ∷ [];
   context = context;
   recent = [];
   wanted = min (kept.lines + 3) (2 ^ 64 - 1);
 }
 
-abbrev pub if_listed : Kept → ℕ → ValueType → Finding → Kept
-if_listed kept micros value_type finding =
-    if nat_lt (length kept.noted) most_listed then listed_in (kept.context ++ kept.recent) kept micros value_type finding
+abbrev pub if_listed : Kept → ℕ → Details → Finding → Kept
+if_listed kept micros details finding =
+    if nat_lt (length kept.noted) most_listed then listed_in (kept.context ++ kept.recent) kept micros details finding
     else record kept { unlisted = one_more kept.unlisted }
 
-unfoldable pub with_finding : Kept → ℕ → ValueType → Finding → Kept
-with_finding kept micros value_type finding =
-    if_listed (record kept { kinds = counts_found (kind_of finding) kept.kinds }) micros value_type finding
+unfoldable pub with_finding : Kept → ℕ → Details → Finding → Kept
+with_finding kept micros details finding =
+    if_listed (record kept { kinds = counts_found (kind_of finding) kept.kinds }) micros details finding

@@ -1,6 +1,7 @@
 -- The names that a data sheet has of its vendor and its product: VendorName and ProductName of the section DeviceInfo
 -- (CiA 306-1, device information).
-use Rattle.std.specs.Prelude.{ℕ, Bool, false, if◌then◌else◌, List, [], ◌∷◌, codes, Option, None}
+use Rattle.std.specs.Prelude.{ℕ, nat_le, Bool, false, ◌&&◌, if◌then◌else◌, List, [], ◌∷◌, codes, Option, None}
+use Rattle.std.specs.List.{list_any}
 use Rattle.std.specs.Option.{option_map_or, option_or}
 use Rattle.std.specs.Str.Lines.{lines}
 use Rattle.co_sheet_text.specs.Text.{Line, same_name, without_mark}
@@ -26,3 +27,11 @@ info_from name within (bytes ∷ more) =
 
 abbrev pub info_in : List ℕ → List ℕ → Option (List ℕ)
 info_in name text = info_from name false (lines (without_mark text))
+
+-- a digit other than 0
+abbrev pub is_counting_digit : ℕ → Bool
+is_counting_digit byte = nat_le 49 byte && nat_le byte 57
+
+-- the device may be the boot-up master: SimpleBootUpMaster is there, and has a digit other than 0
+abbrev pub is_boot_up_master : List ℕ → Bool
+is_boot_up_master text = option_map_or (λ value. list_any is_counting_digit value) (info_in (codes "SimpleBootUpMaster") text) false

@@ -37,6 +37,8 @@ pub struct Before {
     pub state: NmtState,
     /// The entries in force.
     pub entries: Entries,
+    /// Whether modules decide which entries it has (1027h).
+    pub modular: bool,
     /// What the frame is.
     pub role: Role,
 }
@@ -133,12 +135,13 @@ fn role_at(pdos: &Pdos, rpdos: &Rpdos, kind: &FrameKind) -> Role
 impl Before {
     /// What is known before a frame of this kind comes.
     #[tactic(auto, unfolding(crate::specs::Befores::before_at))]
-    pub(crate) fn at(rpdos: &Rpdos, progress: &Progress, kind: &FrameKind) -> Before
-        ensures { result ≡ before_at rpdos.now progress.now kind.now }
+    pub(crate) fn at(rpdos: &Rpdos, modular: bool, progress: &Progress, kind: &FrameKind) -> Before
+        ensures { result ≡ before_at rpdos.now modular progress.now kind.now }
     {
         Before {
             state: progress.state(),
             entries: progress.entries(),
+            modular,
             role: role_at(progress.pdos(), rpdos, kind),
         }
     }

@@ -137,7 +137,7 @@ static RULES: [&str; 29] = [
     "a number has as many bytes as its data type (CiA 301, 7.4.7.1)",
     "a constant entry has the value of the data sheet (CiA 301, 7.4)",
     "an entry that is named as held keeps what is written to it",
-    "an entry that is readable can be read, and no other (CiA 301, 7.4)",
+    "an entry that is readable can be read, one that is write only can't (CiA 301, 7.4)",
     "an entry that is read only isn't written (CiA 301, 7.2.4.3.17)",
     "a value outside the limits is refused (CiA 301, 7.2.4.3.17)",
 ];

@@ -33,7 +33,7 @@ pub use coverage::{Coverage, Covered, Numbered};
 pub use identity::Identity;
 pub use kind::{Counted, Kind};
 pub use lanes::{Bin, Lane, Lanes, States};
-pub use names::SheetNames;
+pub use names::{SheetNames, is_boot_up_master};
 pub use noted::{ContextLine, Noted};
 pub use outcome::Outcome;
 pub use report::Report;

@@ -1,10 +1,17 @@
 //! The names that a data sheet has of its vendor and its product.
 
 ghost use Rattle.std.specs.Prelude.{◌≡◌, codes};
+ghost use Rattle.std.specs.List.{list_any};
 ghost use Rattle.std.specs.Option.{option_copied};
 ghost use Rattle.co_sheet_changes.specs.Groups.{property_in, section_in, value_given};
 ghost use Rattle.co_sheet_changes.specs.Views.{line_view};
-ghost use Rattle.conode_compare_report.specs.SheetNames.{info_at, info_in, is_info_after};
+ghost use Rattle.conode_compare_report.specs.SheetNames.{
+  info_at,
+  info_in,
+  is_boot_up_master,
+  is_counting_digit,
+  is_info_after,
+};
 
 use co_sheet_changes::Line;
 use co_sheet_text::{same_name, without_mark};
@@ -64,6 +71,29 @@ fn info_in<'a>(name: &[u8], text: &'a [u8]) -> Option<&'a [u8]>
         rest = more;
     }
     None
+}
+
+// whether a value has a digit other than 0
+fn has_counting_digit(value: &[u8]) -> bool
+    ensures { result ≡ list_any is_counting_digit value.now }
+{
+    for byte in value {
+        if b'1' <= *byte && *byte <= b'9' {
+            return true;
+        }
+    }
+    false
+}
+
+/// Whether the text of a data sheet says that the device may be the boot-up master
+/// (SimpleBootUpMaster of DeviceInfo, CiA 306-1).
+pub fn is_boot_up_master(text: &[u8]) -> bool
+    ensures { result ≡ is_boot_up_master text.now }
+{
+    match info_in(b"SimpleBootUpMaster", text) {
+        Some(value) => has_counting_digit(value),
+        None => false,
+    }
 }
 
 impl<'a> SheetNames<'a> {

@@ -4,7 +4,7 @@ ghost use Rattle.std.specs.Prelude.{◌≡◌, ◌<◌, IfSome, length, nat_lt, 
 ghost use Rattle.conode_compare_report.specs.Contexts.{around, greatest_around};
 
 use conode_compare_rules::Finding;
-use conode_explain_values::ValueType;
+use conode_compare_text::Details;
 use std::marker::Model;
 
 /// A difference that is listed.
@@ -16,8 +16,8 @@ pub struct Noted {
     pub micros: u64,
     /// What differs.
     pub finding: Finding,
-    /// The data type in which the values in it are shown.
-    pub value_type: ValueType,
+    /// What its text has beside that.
+    pub details: Details,
     /// Where the lines around it begin in `Report::context`.
     pub first: usize,
 }

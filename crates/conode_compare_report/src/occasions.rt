@@ -24,6 +24,7 @@ ghost use Rattle.conode_compare_report.specs.Occasions.{
   is_block,
   is_booting,
   is_by_event,
+  is_compared,
   is_done,
   is_expedited,
   is_refused,
@@ -43,6 +44,7 @@ ghost use Rattle.conode_compare_report.specs.Occasions.{
 
 use crate::before::{Before, Role};
 use crate::kind::{Counted, KINDS, Kind};
+use co_profile::DEVICE_TYPE;
 use co_sheet::EntryRow;
 use co_sheet_changes::row_at;
 use conode_compare_rules::{FrameKind, NmtState, Verdict};
@@ -323,10 +325,19 @@ fn shows_value(row: &EntryRow<'_>, done: bool) -> bool
     done && is_readable(row.access)
 }
 
-// an upload of an entry
-fn pass_entry(counts: &mut [Counted], row: Option<&EntryRow<'_>>, done: bool)
+// whether a value is compared with the data sheet's; modules decide what a modular device's device
+// type is
+fn is_compared(modular: bool, row: &EntryRow<'_>) -> bool
+    ensures { result ≡ is_compared modular (row_view row.now) }
+{
+    is_held(row) && !(modular && row.key.index == DEVICE_TYPE)
+}
+
+// an upload of an entry; which entries a modular device has, and who may read them, its modules
+// decide
+fn pass_entry(counts: &mut [Counted], modular: bool, row: Option<&EntryRow<'_>>, done: bool)
     ensures { counts.new
-        ≡ entry_of_upload (option_map row_view (option_copied row.entry)) done counts.old }
+        ≡ entry_of_upload modular (option_map row_view (option_copied row.entry)) done counts.old }
 {
     if let Some(row) = row {
         let shows = shows_value(row, done);
@@ -334,20 +345,26 @@ fn pass_entry(counts: &mut [Counted], row: Option<&EntryRow<'_>>, done: bool)
             counts,
             &[
                 (shows, Kind::ValueLength),
-                (shows && is_held(row), Kind::ValueConst),
-                (true, Kind::AccessRead),
+                (shows && is_compared(modular, row), Kind::ValueConst),
+                (!modular, Kind::AccessRead),
             ],
         );
     }
 }
 
 #[tactic(auto, unfolding(crate::specs::Occasions::upload_passed))]
-fn pass_upload(counts: &mut [Counted], row: Option<&EntryRow<'_>>, done: bool, protocol: Protocol)
-    ensures { counts.new
-        ≡ upload_passed (option_map row_view (option_copied row.entry)) done protocol counts.old }
+fn pass_upload(
+    counts: &mut [Counted],
+    modular: bool,
+    row: Option<&EntryRow<'_>>,
+    done: bool,
+    protocol: Protocol,
+)
+    ensures { counts.new ≡ upload_passed
+        modular (option_map row_view (option_copied row.entry)) done protocol counts.old }
 {
     let expedited = is_expedited(protocol);
-    pass_entry(counts, row, done);
+    pass_entry(counts, modular, row, done);
     pass_all(
         counts,
         &[
@@ -374,9 +391,9 @@ fn pass_download(counts: &mut [Counted], row: Option<&EntryRow<'_>>)
 
 // a transfer that was confirmed, or refused by the device
 #[tactic(auto, unfolding(crate::specs::Occasions::ended_passed))]
-fn pass_ended(counts: &mut [Counted], rows: &[EntryRow<'_>], ended: &Ended)
+fn pass_ended(counts: &mut [Counted], modular: bool, rows: &[EntryRow<'_>], ended: &Ended)
     requires { AllPairs (λ e f. is_key_before e.key f.key ≡ true) rows.now }
-    ensures { counts.new ≡ ended_passed (map row_view rows.now) ended.now counts.old }
+    ensures { counts.new ≡ ended_passed modular (map row_view rows.now) ended.now counts.old }
 {
     let done = is_done(ended.ending);
     if !done && !is_refused(ended.ending) {
@@ -384,7 +401,7 @@ fn pass_ended(counts: &mut [Counted], rows: &[EntryRow<'_>], ended: &Ended)
     }
     let row = row_at(rows, ended.key);
     match ended.direction {
-        Direction::Upload => pass_upload(counts, row, done, ended.protocol),
+        Direction::Upload => pass_upload(counts, modular, row, done, ended.protocol),
         Direction::Download => pass_download(counts, row),
     }
 }
@@ -437,6 +454,6 @@ pub(crate) fn pass_frame(
         },
     ) = heard
     {
-        pass_ended(counts, rows, ended);
+        pass_ended(counts, before.modular, rows, ended);
     }
 }

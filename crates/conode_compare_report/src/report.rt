@@ -50,8 +50,8 @@ use crate::occasions::{find, no_counts, pass, pass_frame};
 use crate::service::lane_of;
 use co_sheet::EntryRow;
 use conode_compare_rules::{Finding, Findings, FrameKind, NmtState, Progress};
+use conode_compare_text::Details;
 use conode_explain_transfers::{Channel, Heard};
-use conode_explain_values::ValueType;
 use std::alloc::{AllocError, Global};
 use std::marker::Model;
 
@@ -228,11 +228,12 @@ impl Report {
         self.bad_lines = self.bad_lines.saturating_add(1);
     }
 
-    /// What is known of the device before a frame of this kind.
-    pub fn before(&self, progress: &Progress, kind: &FrameKind) -> Before
-        ensures { result ≡ before_at self.now.rpdos progress.now kind.now }
+    /// What is known of the device before a frame of this kind; `modular`: modules decide which
+    /// entries it has.
+    pub fn before(&self, modular: bool, progress: &Progress, kind: &FrameKind) -> Before
+        ensures { result ≡ before_at self.now.rpdos modular progress.now kind.now }
     {
-        Before::at(&self.rpdos, progress, kind)
+        Before::at(&self.rpdos, modular, progress, kind)
     }
 
     /// A frame of the newest line: its stamp in microseconds, its kind, what was known before it,
@@ -272,14 +273,9 @@ impl Report {
     }
 
     // lists a difference
-    fn list(
-        &mut self,
-        micros: u64,
-        value_type: ValueType,
-        finding: Finding,
-    ) -> Result<(), AllocError>
+    fn list(&mut self, micros: u64, details: Details, finding: Finding) -> Result<(), AllocError>
         ensures { OnOk result (self.new ≡ listed_in
-            (self.old.context ++ self.old.recent) self.old micros value_type finding) }
+            (self.old.context ++ self.old.recent) self.old micros details finding) }
     {
         attempt!(self.context.append(&mut self.recent));
         let own = self.lines.min(4) as usize;
@@ -288,7 +284,7 @@ impl Report {
             line: self.lines,
             micros,
             finding,
-            value_type,
+            details,
             first,
         };
         let Ok(()) = self.noted.push(noted) else {
@@ -299,19 +295,19 @@ impl Report {
     }
 
     /// A difference that is found at the frame of the newest line, with the frame's stamp in
-    /// microseconds, and the data type in which its values are shown. `Err`: out of memory.
+    /// microseconds, and what its text has beside the difference. `Err`: out of memory.
     #[tactic(auto, unfolding(crate::specs::Reports::with_finding))]
     pub fn take_finding(
         &mut self,
         micros: u64,
-        value_type: ValueType,
+        details: Details,
         finding: Finding,
     ) -> Result<(), AllocError>
-        ensures { OnOk result (self.new ≡ with_finding self.old micros value_type finding) }
+        ensures { OnOk result (self.new ≡ with_finding self.old micros details finding) }
     {
         find(&mut self.kinds, Kind::of(finding));
         if self.noted.len() < MOST_LISTED {
-            return self.list(micros, value_type, finding);
+            return self.list(micros, details, finding);
         }
         self.unlisted = self.unlisted.saturating_add(1);
         Ok(())

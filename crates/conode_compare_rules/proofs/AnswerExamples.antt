@@ -20,6 +20,7 @@ use Rattle.conode_compare_values.specs.HeldNumbers.{held_mismatch, nothing_writt
 use Rattle.conode_compare_rules.specs.declared.finding.Finding.{Finding}
 use Rattle.conode_compare_rules.specs.declared.finding.Finding.TheVariants.{AnswerStopped, Transfer, Value}
 use Rattle.conode_compare_rules.specs.declared.finding.NmtState.TheVariants.{Unknown, PreOperational, Operational, Stopped}
+use Rattle.conode_compare_rules.specs.declared.leaving.Leaving.TheVariants.{Nothing}
 use Rattle.conode_compare_rules.specs.declared.limits.Subject.{Subject}
 use Rattle.conode_compare_rules.specs.declared.nmt.Nmt.{Nmt}
 use Rattle.conode_compare_rules.specs.Answers.{answer_finding, confirmed_finding, ended_finding, held_finding, is_exact, stopped_finding, what_finding}
@@ -43,6 +44,7 @@ stopped_at micros = record {
   strayed = Unknown;
   mixed = false;
   odd = None;
+  leaving = Nothing;
 }
 
 abbrev answered_in : Bool → Exchange

@@ -1,6 +1,6 @@
 -- What isn't known of a device with another SDO channel than the default one, on both sides of each edge.
 use Rattle.std.proofs.Common.{◌≡◌, ℕ, Bool, true, false, List, [], ◌∷◌, map, Option, Some, None, refl}
-use Rattle.std.specs.Prelude.{◌+◌, pos}
+use Rattle.std.specs.Prelude.{◌+◌, ◌/◌, ◌%◌, pos}
 use Rattle.co_frame.specs.SdoRequests.{request_row_in}
 use Rattle.co_frame.specs.SdoResponses.{response_row_in}
 use Rattle.co_profile.specs.declared.access.Access.TheVariants.{Rw}
@@ -19,7 +19,7 @@ use Rattle.conode_compare_rules.specs.declared.limits.Subject.{Subject}
 use Rattle.conode_compare_rules.specs.declared.progress.Progress.{Progress}
 use Rattle.conode_compare_rules.specs.EntriesInForce.{asked_to_write, facts_of, initial_entries, overwritten, sheet_entries, shown_inhibit, shown_period}
 use Rattle.conode_compare_rules.specs.OtherClients.{clients_of, is_channel, is_open, may_send, no_clients}
-use Rattle.conode_compare_rules.specs.Progresses.{after_emergency, after_fault, after_process, before_recording, begun, booted, channel_heard, exchange_at, is_begun, is_parameter, pdos_asked, pdos_by, with_gap}
+use Rattle.conode_compare_rules.specs.Progresses.{after_emergency, after_fault, after_process, asks_for_profile, before_recording, begun, booted, channel_heard, exchange_at, is_begun, is_parameter, pdos_asked, pdos_by, with_bad_line, with_gap}
 use Rattle.conode_compare_rules.proofs.Examples.{limits, row}
 
 abbrev key : ℕ → ℕ → Key
@@ -246,3 +246,74 @@ parameters = refl
 counts_from_free : (after_emergency (record up { free = 7 })).emergency ≡ Some 7
 unfolding after_emergency
 counts_from_free = refl
+
+-- ---- a request to write right before a boot-up, whose frame may have waited
+
+-- of 1000h to 1FFFh, expedited
+asks_for : map (λ (index : ℕ). asks_for_profile Client (record { id = 0x605; bytes = 0x2B ∷ index % 256 ∷ index / 256 ∷ 0 ∷ 0 ∷ 0 ∷ 0 ∷ 0 ∷ [] })) (0xFFF ∷ 0x1000 ∷ 0x1FFF ∷ 0x2000 ∷ [])
+    ≡ false ∷ true ∷ true ∷ false ∷ []
+asks_for = refl
+
+-- in segments or blocks too; not to read, nor an answer
+asks_by : map (λ (byte : ℕ). asks_for_profile Client (record { id = 0x605; bytes = byte ∷ 0x17 ∷ 0x10 ∷ 0 ∷ 0 ∷ 0 ∷ 0 ∷ 0 ∷ [] })) (0x21 ∷ 0xC2 ∷ 0x40 ∷ 0xA0 ∷ []) ≡ true ∷ true ∷ false ∷ false ∷ []
+asks_by = refl
+
+answers : asks_for_profile Server (record { id = 0x585; bytes = 0x2B ∷ 0x17 ∷ 0x10 ∷ 0 ∷ 0 ∷ 0 ∷ 0 ∷ 0 ∷ [] }) ≡ false
+answers = refl
+
+abbrev asked_by : ℕ → Option ℕ
+asked_by byte =
+    (channel_heard device (record up { asked_at = Some 3 }) 5 Client (record { id = 0x605; bytes = byte ∷ 0x17 ∷ 0x10 ∷ 0 ∷ 0 ∷ 0 ∷ 0 ∷ 0 ∷ [] })).asked_at
+
+newest_asks : map asked_by (0x2B ∷ 0x40 ∷ []) ≡ Some 5 ∷ Some 3 ∷ []
+unfolding channel_heard
+newest_asks = refl
+
+-- within 10 ms before the bus was free last, before the boot-up frame
+abbrev boots_after : Option ℕ → ℕ → Progress
+boots_after asked free = booted device (record up { asked_at = asked; free = free }) 21000
+
+asked_before : (boots_after None 20000).entries ∷ (boots_after (Some 9999) 20000).entries ∷ (boots_after (Some 10000) 20000).entries ∷ (boots_after (Some 9999) 19999).entries
+    ∷ (boots_after (Some 20500) 20000).entries ∷ []
+    ≡ entries ∷ entries ∷ constant ∷ constant ∷ constant ∷ []
+unfolding booted
+asked_before = refl
+
+asked_pdos : (boots_after (Some 9999) 20000).pdos ∷ (boots_after (Some 10000) 20000).pdos ∷ [] ≡ pdos ∷ unknown_pdos ∷ []
+unfolding booted
+asked_pdos = refl
+
+-- ---- a bad line
+
+-- with the next frame the recording begins anew, also where there are several
+abbrev goes_on : Progress → Progress
+goes_on progress = begun device progress 12
+
+abbrev recorded : Progress
+recorded = record up { newest = Some 9 }
+
+begins_anew_then : is_begun (goes_on recorded) ∷ is_begun (goes_on (with_bad_line recorded)) ∷ is_begun (goes_on (with_bad_line (with_bad_line recorded))) ∷ [] ≡ false ∷ true ∷ true ∷ []
+unfolding begun
+begins_anew_then = refl
+
+knows_then : ((goes_on (with_bad_line recorded)).entries ≡ constant) × ((goes_on (with_bad_line recorded)).pdos ≡ unknown_pdos) × ((goes_on recorded).entries ≡ entries)
+unfolding begun
+knows_then = (refl, refl, refl)
+
+-- It may have had a request to write, and a frame of another client, where there is one; not before the first frame.
+asked_then_too : (goes_on recorded).asked_at ∷ (goes_on (with_bad_line recorded)).asked_at ∷ (goes_on (with_bad_line (with_bad_line recorded))).asked_at
+    ∷ (goes_on (with_bad_line (before_recording device))).asked_at ∷ []
+    ≡ None ∷ Some 12 ∷ Some 12 ∷ None ∷ []
+unfolding begun
+asked_then_too = refl
+
+client_then : (goes_on (with_bad_line recorded)).other_client ∷ (goes_on (with_bad_line (before_recording device))).other_client
+    ∷ (begun (record device { facts = record device.facts { clients = no_clients } }) (with_bad_line recorded) 12).other_client ∷ []
+    ≡ true ∷ false ∷ false ∷ []
+unfolding begun
+client_then = refl
+
+-- with the frame after that it goes on
+goes_on_again : is_begun (begun device (goes_on (with_bad_line recorded)) 13) ≡ false
+unfolding begun
+goes_on_again = refl

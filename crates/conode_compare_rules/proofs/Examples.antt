@@ -1,6 +1,6 @@
 -- What is a difference of heartbeats and EMCY and what isn't, on both sides of each edge, computed from
 -- the definitions.
-use Rattle.std.proofs.Common.{◌≡◌, ℕ, true, false, [], ◌∷◌, Some, None, refl}
+use Rattle.std.proofs.Common.{map, ◌≡◌, ℕ, true, false, [], ◌∷◌, Some, None, refl}
 use Rattle.co_profile.specs.declared.access.Access.{Access}
 use Rattle.co_sheet.specs.Content.{Row}
 use Rattle.co_sheet.specs.Limits.{Default}
@@ -29,8 +29,8 @@ limits = record { tolerance = 10; drift = 1; answer = 1000; boot = 10000; time =
 
 -- ---- heartbeats
 
-abbrev pulse : Heartbeats
-pulse = record { guarded = false; since = Some 5; sent = Some 4; shown = None; slow = None }
+abbrev pub pulse : Heartbeats
+pulse = record { guarded = false; since = Some 5; sent = Some 4; shown = None; slow = None; former = None }
 
 -- late after 1000 ms, 10 ms and 1 %
 in_time : late_finding limits (Some 1000) pulse 1020005 1020005 ≡ None
@@ -111,7 +111,7 @@ unfolding early_remark
 toggled = refl
 
 -- one that waited counts from when the bus was free
-waited : after_byte pulse 1000 2000 5 ≡ record { guarded = false; since = Some 2000; sent = Some 1000; shown = None; slow = None }
+waited : after_byte pulse 1000 2000 5 ≡ record { guarded = false; since = Some 2000; sent = Some 1000; shown = None; slow = None; former = None }
 waited = refl
 
 -- more than three periods without a frame are a gap
@@ -160,9 +160,16 @@ reset_error : emergency_finding limits entries PreOperational true None 0 0xFF 0
 unfolding emergency_finding inhibit_finding
 reset_error = refl
 
-code_alone : emergency_finding limits entries PreOperational true None 0 0x100 0 ≡ Some (EmergencyRegister 0x100 0)
-unfolding emergency_finding
+-- one that may have waited for the inhibit time, and one that can't have
+code_alone : map (λ inhibit. emergency_finding limits (record entries { inhibit = inhibit }) PreOperational true None 0 0x100 0) (Some 0 ∷ Some 1 ∷ None ∷ [])
+    ≡ Some (EmergencyRegister 0x100 0) ∷ None ∷ None ∷ []
+unfolding emergency_finding inhibit_finding
 code_alone = refl
+
+waited_without_bit_0 : map (λ inhibit. emergency_finding limits (record entries { inhibit = inhibit }) PreOperational true None 0 0x100 2) (Some 0 ∷ None ∷ [])
+    ≡ Some (EmergencyRegister 0x100 2) ∷ Some (EmergencyRegister 0x100 2) ∷ []
+unfolding emergency_finding
+waited_without_bit_0 = refl
 
 while_stopped : emergency_finding limits entries Stopped true None 0 0 0 ≡ Some EmergencyStopped
 unfolding emergency_finding
@@ -238,11 +245,11 @@ other_written = refl
 abbrev after_period : Direction → Heartbeats
 after_period direction = after_transfer pulse (Some (record (transferred (key 0x1017 0) Expedited) { direction = direction })) 90
 
-begun_anew : after_period Download ≡ record { guarded = false; since = Some 90; sent = Some 1; shown = None; slow = None }
+begun_anew : after_period Download ≡ record { guarded = false; since = Some 90; sent = Some 1; shown = None; slow = None; former = None }
 unfolding shown_period
 begun_anew = refl
 
-read_period : after_period Upload ≡ record { guarded = false; since = Some 90; sent = Some 4; shown = None; slow = None }
+read_period : after_period Upload ≡ record { guarded = false; since = Some 90; sent = Some 4; shown = None; slow = None; former = None }
 unfolding shown_period
 read_period = refl
 

@@ -1,6 +1,8 @@
 mod AnswerExamples
+mod ChangedPeriodExamples
 mod ChannelExamples
 mod Examples
+mod LeavingExamples
 mod MissingExamples
 mod SheetExamples
 mod SilenceExamples

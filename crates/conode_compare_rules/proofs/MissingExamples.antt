@@ -36,7 +36,7 @@ pdos = record unknown_pdos { first = booted_tpdo None event_driven }
 abbrev facts : Facts
 facts = record { before = sheet; booted = sheet; pdos = pdos; clients = no_clients; starts_itself = false; modular = false; stores = false; as_sheet = true }
 
-abbrev subject : Subject
+abbrev pub subject : Subject
 subject = record {
   node = 5;
   limits = limits;
@@ -46,12 +46,12 @@ subject = record {
 }
 
 -- operational, its last heartbeat came at 5 µs, and other frames come up to 1 s
-abbrev waiting : Progress
+abbrev pub waiting : Progress
 waiting = record (before_recording subject) {
   newest = Some 1000000;
   free = 1000000;
   nmt = record nothing_commanded { state = Operational };
-  heartbeats = record { guarded = false; since = Some 5; sent = Some 5; shown = None; slow = None };
+  heartbeats = record { guarded = false; since = Some 5; sent = Some 5; shown = None; slow = None; former = None };
   pdos = pdos;
 }
 

@@ -6,11 +6,13 @@ use Rattle.co_profile.specs.declared.access.Access.TheVariants.{Rw, Constant}
 use Rattle.co_sheet.specs.Content.{Row}
 use Rattle.co_sheet.specs.Limits.{absent, number, node_id}
 use Rattle.co_value.specs.declared.data_type.DataType.TheVariants.{Unsigned8, Unsigned16, Unsigned32}
-use Rattle.conode_compare_pdos.specs.Followed.{pdos_of}
+use Rattle.conode_compare_pdos.specs.Followed.{pdos_of, uncounted}
+use Rattle.conode_compare_pdos.specs.Cycles.{new_cycle}
 use Rattle.conode_explain_transfers.specs.declared.kinds.Side.{Side}
 use Rattle.conode_explain_transfers.specs.declared.kinds.Side.TheVariants.{Client, Server}
-use Rattle.conode_compare_rules.specs.EntriesInForce.{asked_by, asked_to_write, facts_of, initial_entries, shares_id, sheet_entries, with_sharing}
+use Rattle.conode_compare_rules.specs.EntriesInForce.{asked_by, asked_to_write, facts_of, initial_entries, shares_id, sheet_entries, with_master, with_sharing}
 use Rattle.conode_compare_rules.specs.declared.entries.Entries.{Entries}
+use Rattle.conode_compare_rules.specs.declared.entries.Facts.{Facts}
 use Rattle.conode_compare_rules.specs.OtherClients.{no_clients}
 use Rattle.conode_compare_rules.proofs.Examples.{entries, row}
 
@@ -99,3 +101,20 @@ none_asked = refl
 
 by_device : (asks_by Server 0x2B 0x17).period ≡ Some 500
 by_device = refl
+
+-- the boot-up master may start itself, and its SYNCs aren't counted
+abbrev mastered : Bool → Facts
+mastered master = with_master master (facts_of rows 5 false)
+
+masters : map (λ master. (mastered master).starts_itself) (true ∷ false ∷ []) ≡ true ∷ false ∷ []
+unfolding facts_of
+masters = refl
+
+counted_by : map (λ master. (mastered master).pdos.first.cycle) (true ∷ false ∷ []) ≡ None ∷ Some new_cycle ∷ []
+unfolding facts_of pdos_of
+counted_by = refl
+
+-- nothing else changes
+kept_of_master : with_master true (facts_of rows 5 false) ≡ record (facts_of rows 5 false) { starts_itself = true; pdos = uncounted (pdos_of rows 5) }
+unfolding facts_of
+kept_of_master = refl

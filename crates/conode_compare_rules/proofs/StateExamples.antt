@@ -12,6 +12,7 @@ use Rattle.conode_compare_rules.specs.declared.finding.Remark.TheVariants.{Resta
 use Rattle.conode_compare_rules.specs.declared.finding.NmtState.{NmtState}
 use Rattle.conode_compare_rules.specs.declared.finding.NmtState.TheVariants.{Unknown, Initialising, PreOperational, Operational, Stopped}
 use Rattle.conode_compare_rules.specs.declared.kind.FrameKind.TheVariants.{Command, CommandToAll, LongCommand, Other}
+use Rattle.conode_compare_rules.specs.declared.leaving.Leaving.TheVariants.{Nothing}
 use Rattle.conode_compare_rules.specs.declared.limits.Subject.{Subject}
 use Rattle.conode_compare_rules.specs.declared.nmt.Nmt.{Nmt}
 use Rattle.conode_compare_rules.specs.declared.progress.Progress.{Progress}
@@ -91,6 +92,7 @@ reset_at micros = record {
   strayed = Unknown;
   mixed = false;
   odd = None;
+  leaving = Nothing;
 }
 
 awaited : boot_finding limits (reset_at 1) 10000001 ≡ None
@@ -125,7 +127,7 @@ unfolding second_boot_up
 again = refl
 
 -- a boot-up without a reset
-restarted : restart_remark (record { state = Stopped; commanded = None; reset = Some 5; several = false; booted = None; due = Unknown; followed = None; changed = None; strayed = Unknown; mixed = false; odd = None }) 9000000 ≡ Some Restarted
+restarted : restart_remark (record { state = Stopped; commanded = None; reset = Some 5; several = false; booted = None; due = Unknown; followed = None; changed = None; strayed = Unknown; mixed = false; odd = None; leaving = Nothing }) 9000000 ≡ Some Restarted
 unfolding restart_remark second_boot_up
 restarted = refl
 
@@ -139,21 +141,21 @@ unfolding restart_remark second_boot_up
 power_on = refl
 
 -- of which more than one boot-up may come
-perhaps_commanded : restart_remark (record { state = PreOperational; commanded = None; reset = Some 5; several = true; booted = None; due = Unknown; followed = None; changed = None; strayed = Unknown; mixed = false; odd = None }) 9000000 ≡ None
+perhaps_commanded : restart_remark (record { state = PreOperational; commanded = None; reset = Some 5; several = true; booted = None; due = Unknown; followed = None; changed = None; strayed = Unknown; mixed = false; odd = None; leaving = Nothing }) 9000000 ≡ None
 unfolding restart_remark second_boot_up
 perhaps_commanded = refl
 
 -- a second one within a second is another device's
-of_another : restart_remark (record { state = PreOperational; commanded = None; reset = None; several = false; booted = Some 0; due = Unknown; followed = None; changed = None; strayed = Unknown; mixed = false; odd = None }) 1000000 ≡ None
+of_another : restart_remark (record { state = PreOperational; commanded = None; reset = None; several = false; booted = Some 0; due = Unknown; followed = None; changed = None; strayed = Unknown; mixed = false; odd = None; leaving = Nothing }) 1000000 ≡ None
 unfolding restart_remark second_boot_up
 of_another = refl
 
-restarted_again : restart_remark (record { state = PreOperational; commanded = None; reset = None; several = false; booted = Some 0; due = Unknown; followed = None; changed = None; strayed = Unknown; mixed = false; odd = None }) 1000001 ≡ Some Restarted
+restarted_again : restart_remark (record { state = PreOperational; commanded = None; reset = None; several = false; booted = Some 0; due = Unknown; followed = None; changed = None; strayed = Unknown; mixed = false; odd = None; leaving = Nothing }) 1000001 ≡ Some Restarted
 unfolding restart_remark second_boot_up
 restarted_again = refl
 
 -- a device that is up answers a reset by one boot-up
-one_due : (after_boot_up limits (after_command (record { state = Stopped; commanded = None; reset = None; several = false; booted = None; due = Unknown; followed = None; changed = None; strayed = Unknown; mixed = false; odd = None }) ResetNode false 0) 5).booted ≡ Some 5
+one_due : (after_boot_up limits (after_command (record { state = Stopped; commanded = None; reset = None; several = false; booted = None; due = Unknown; followed = None; changed = None; strayed = Unknown; mixed = false; odd = None; leaving = Nothing }) ResetNode false 0) 5).booted ≡ Some 5
 unfolding after_command after_boot_up
 one_due = refl
 
@@ -188,6 +190,7 @@ started_at micros = record {
   strayed = Unknown;
   mixed = false;
   odd = None;
+  leaving = Nothing;
 }
 
 -- a Start shortly before a boot-up may have been taken
@@ -208,14 +211,14 @@ start_initialising : (after_command (reset_at 0) Start false 5).state ≡ Initia
 unfolding after_command
 start_initialising = refl
 
-start : (after_command (record { state = PreOperational; commanded = None; reset = None; several = false; booted = Some 0; due = Unknown; followed = None; changed = None; strayed = Unknown; mixed = false; odd = None }) Start false 5).state ≡ Operational
+start : (after_command (record { state = PreOperational; commanded = None; reset = None; several = false; booted = Some 0; due = Unknown; followed = None; changed = None; strayed = Unknown; mixed = false; odd = None; leaving = Nothing }) Start false 5).state ≡ Operational
 unfolding after_command
 start = refl
 
 -- a command to all nodes that the device may have sent itself, as the NMT master: it may follow it or
 -- not
 abbrev up_in : NmtState → Nmt
-up_in state = record { state = state; commanded = None; reset = None; several = false; booted = Some 0; due = Unknown; followed = None; changed = None; strayed = Unknown; mixed = false; odd = None }
+up_in state = record { state = state; commanded = None; reset = None; several = false; booted = Some 0; due = Unknown; followed = None; changed = None; strayed = Unknown; mixed = false; odd = None; leaving = Nothing }
 
 stop_of_others : (after_command (up_in Operational) Stop false 5).state ≡ Stopped
 unfolding after_command
@@ -305,6 +308,7 @@ commanded_to service state = record {
   strayed = Unknown;
   mixed = false;
   odd = None;
+  leaving = Nothing;
 }
 
 -- the bus was free last 10 ms after it: the heartbeat may be one of the state before
@@ -367,6 +371,11 @@ later_in nmt = record (before_recording device) { free = 250000; nmt = nmt }
 sends_pdo : (moment_at device (later_in slow_start) 250000).idle ≡ false
 unfolding moment_at after_control after_other awaits_boot_up is_settled overdue_by
 sends_pdo = refl
+
+-- its inhibit time counts from the newest command, or from the begin of the recording
+counts_from_command : map (λ nmt. (moment_at device (record (later_in nmt) { started = 7 }) 250000).commanded) (slow_start ∷ nothing_commanded ∷ []) ≡ Some 100000 ∷ Some 7 ∷ []
+unfolding moment_at after_control after_other awaits_boot_up is_settled overdue_by
+counts_from_command = refl
 
 becomes_operational : control_finding device 0 false false slow_start 250000 250000 5 ≡ None
 unfolding control_finding state_finding after_control after_other awaits_boot_up is_settled

@@ -27,7 +27,7 @@ use Rattle.conode_compare_rules.specs.declared.limits.Subject.{Subject}
 use Rattle.conode_compare_rules.specs.declared.nmt.Nmt.{Nmt}
 use Rattle.conode_compare_transfers.specs.Dialogues.{is_certain, is_timed}
 use Rattle.conode_compare_rules.specs.EmergencyRules.{is_stopped}
-use Rattle.conode_compare_rules.specs.States.{is_settled, is_steady, judged_state}
+use Rattle.conode_compare_rules.specs.States.{is_settled, is_steady, judged_state, was_running}
 use Rattle.conode_compare_transfers.specs.Timeouts.{early_abort}
 use Rattle.conode_compare_transfers.specs.Times.{is_past}
 
@@ -142,12 +142,13 @@ answers_in PreOperational = true
 answers_in Operational = true
 answers_in other = false
 
--- Where a heartbeat after the request shows that the device left stopped, it may have been stopped.
+-- Where a heartbeat after the request shows that the device left stopped, or no frame before the request shows
+-- that it has, it may have been stopped.
 abbrev pub could_answer : Limits → ℕ → Nmt → Dialogue → Asked → Bool
 could_answer limits started nmt dialogue asked =
     answers_in nmt.state
     && (is_settled limits started nmt.commanded asked.micros
-    && (is_steady limits nmt asked.micros && is_certain limits.answer started dialogue.slow dialogue.doubted asked.micros))
+    && (was_running limits nmt asked.micros && is_certain limits.answer started dialogue.slow dialogue.doubted asked.micros))
 
 -- `no-answer`, by a heartbeat: the device lives, and could have answered since it was asked
 abbrev pub silence_of : Limits → ℕ → Nmt → Dialogue → Option Asked → ℕ → Option Finding

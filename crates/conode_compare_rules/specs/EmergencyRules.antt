@@ -7,6 +7,7 @@ use Rattle.conode_compare_rules.specs.declared.finding.Finding.TheVariants.{Emer
 use Rattle.conode_compare_rules.specs.declared.finding.NmtState.{NmtState}
 use Rattle.conode_compare_rules.specs.declared.finding.NmtState.TheVariants.{Stopped}
 use Rattle.conode_compare_rules.specs.declared.limits.Limits.{Limits}
+use Rattle.conode_compare_rules.specs.EntriesInForce.{is_number}
 use Rattle.conode_compare_rules.specs.States.{is_initialising}
 use Rattle.conode_compare_transfers.specs.Times.{micros_of, is_past}
 use Rattle.conode_compare_rules.specs.Times.{drift_of}
@@ -15,6 +16,14 @@ use Rattle.conode_compare_rules.specs.Times.{drift_of}
 -- error", 00xxh
 abbrev pub has_register : ℕ → ℕ → Bool
 has_register code register = (register % 2 == 1) || ((register == 0) && nat_lt code 0x100)
+
+-- One that may have waited for the inhibit time has the register of the moment at which it is sent: the error may
+-- be over.
+abbrev pub may_wait : Option ℕ → Bool
+may_wait inhibit = not (is_number inhibit 0)
+
+abbrev pub fits_register : Option ℕ → ℕ → ℕ → Bool
+fits_register inhibit code register = has_register code register || ((register == 0) && may_wait inhibit)
 
 -- how many microseconds two EMCY are apart at least, with an inhibit time in 100 µs
 abbrev pub least_gap : Limits → ℕ → ℕ
@@ -48,7 +57,7 @@ unfoldable pub emergency_finding : Limits → Entries → NmtState → Bool → 
 emergency_finding limits entries state settled last micros code register =
     if not entries.emergencies || is_initialising state then None
     else (if settled && is_stopped state then Some EmergencyStopped
-    else (if not (has_register code register) then Some (EmergencyRegister code register)
+    else (if not (fits_register entries.inhibit code register) then Some (EmergencyRegister code register)
     else inhibit_finding limits entries last micros))
 
 -- `emcy-length`

@@ -3,7 +3,7 @@
 use Rattle.std.specs.Prelude.{ℕ, ◌+◌, ◌==◌, Bool, true, false, not, ◌&&◌, ◌||◌, if◌then◌else◌, List, Option, Some, None, is_some}
 use Rattle.std.specs.Option.{option_map_or}
 use Rattle.co_frame.specs.FrameContent.{FrameContent}
-use Rattle.co_profile.specs.Indices.{store_parameters}
+use Rattle.co_profile.specs.Indices.{module_list, nmt_startup, store_parameters}
 use Rattle.co_profile.specs.Keys.{producer_key, emergency_key, emergency_inhibit_key}
 use Rattle.co_sheet.specs.Content.{Row}
 use Rattle.co_value.specs.declared.key.Key.{Key}
@@ -16,7 +16,7 @@ use Rattle.conode_explain_transfers.specs.declared.kinds.Protocol.{Protocol}
 use Rattle.conode_explain_transfers.specs.declared.kinds.Protocol.TheVariants.{Expedited}
 use Rattle.conode_explain_transfers.specs.declared.kinds.Side.{Side}
 use Rattle.conode_explain_transfers.specs.declared.kinds.Side.TheVariants.{Client, Server}
-use Rattle.conode_compare_pdos.specs.Followed.{pdos_of, unknown_pdos}
+use Rattle.conode_compare_pdos.specs.Followed.{pdos_of, uncounted, unknown_pdos}
 use Rattle.conode_compare_pdos.specs.Identifiers.{is_constant_access, may_change, may_get, may_have}
 use Rattle.conode_compare_pdos.specs.SheetNumbers.{first_word, number_of, preset_at, small}
 use Rattle.conode_compare_transfers.specs.Breaches.{key_in}
@@ -66,14 +66,6 @@ initial_entries rows sheet = record {
   inhibit_shown = None;
 }
 
--- NMT startup (CiA 302-2)
-abbrev pub nmt_startup : ℕ
-nmt_startup = 0x1F80
-
--- the module list
-abbrev pub module_list : ℕ
-module_list = 0x1027
-
 -- Before a boot-up only what never changes is known. After one what the data sheet has is; but
 -- where the device can store parameters, it may have stored others, the values of a configuration
 -- (DCF) are written by a master, or not yet, and those of a device with another SDO channel by its
@@ -91,6 +83,11 @@ facts_of rows node configured =
       stores = has_object rows store_parameters && not configured;
       as_sheet = not (has_object rows store_parameters || configured);
     }
+
+-- A device whose sheet has SimpleBootUpMaster=1 (CiA 306-1) may be the NMT master and start itself, as one with NMT
+-- startup.
+abbrev pub with_master : Bool → Facts → Facts
+with_master master facts = if master then record facts { starts_itself = true; pdos = uncounted facts.pdos } else facts
 
 -- ---- a recording
 

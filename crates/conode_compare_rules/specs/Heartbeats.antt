@@ -15,7 +15,7 @@ use Rattle.conode_compare_transfers.specs.Times.{is_past, micros_of}
 use Rattle.conode_compare_rules.specs.Times.{drift_of}
 
 abbrev pub no_heartbeat : Heartbeats
-no_heartbeat = record { guarded = false; since = None; sent = None; shown = None; slow = None }
+no_heartbeat = record { guarded = false; since = None; sent = None; shown = None; slow = None; former = None }
 
 -- A heartbeat came, or an answer of node guarding. It may have waited since the bus was free last,
 -- `free`.
@@ -26,6 +26,7 @@ after_byte heartbeats free micros byte = record {
   sent = Some free;
   shown = heartbeats.shown;
   slow = heartbeats.slow;
+  former = heartbeats.former;
 }
 
 -- With a transfer of 1017:00 the wait for the next one begins anew. By a download the device counts
@@ -36,11 +37,9 @@ sent_after Upload ended sent = sent
 
 abbrev pub after_ended : Heartbeats → Ended → ℕ → Heartbeats
 after_ended heartbeats ended micros =
-    if is_some (shown_period ended) then record {
-      guarded = heartbeats.guarded;
+    if is_some (shown_period ended) then record heartbeats {
       since = Some micros;
       sent = sent_after ended.direction ended heartbeats.sent;
-      shown = heartbeats.shown;
       slow = None;
     }
     else heartbeats
@@ -53,6 +52,38 @@ after_transfer heartbeats (Some ended) micros = after_ended heartbeats ended mic
 abbrev pub allowance : Limits → ℕ → ℕ
 allowance limits period = micros_of period + micros_of limits.tolerance + drift_of limits period
 
+-- ---- a period that changes
+
+-- CiA 301 doesn't say when a change of 1017:00 takes effect, so the period that ran when it was asked to be
+-- written may end first: of several the longest.
+abbrev pub longest : Option ℕ → ℕ → ℕ
+longest None period = period
+longest (Some former) period = if nat_le period former then former else period
+
+-- a frame comes with which what 1017:00 has isn't known any more
+abbrev pub former_asked : Option ℕ → Option ℕ → Option ℕ → Option ℕ
+former_asked (Some period) None former = Some (longest former period)
+former_asked before after former = former
+
+abbrev pub with_former : Heartbeats → Option ℕ → Option ℕ → Heartbeats
+with_former heartbeats before after = record heartbeats { former = former_asked before after heartbeats.former }
+
+-- it may still run: since the answer no more time has passed than until a heartbeat would be late by it
+abbrev pub runs_still : Limits → Option ℕ → Option ℕ → ℕ → Bool
+runs_still limits None since free = false
+runs_still limits (Some former) None free = false
+runs_still limits (Some former) (Some since) free = nat_le (free - since) (allowance limits former)
+
+-- After a heartbeat what 1017:00 has runs. One that comes within the tolerance after the answer may have been on its
+-- way before the device took what was written.
+abbrev pub former_after : Limits → Option ℕ → Option ℕ → Option ℕ → ℕ → Option ℕ
+former_after limits None period since free = None
+former_after limits (Some former) None since free = Some former
+former_after limits (Some former) (Some period) None free = None
+former_after limits (Some former) (Some period) (Some since) free = if is_past since limits.tolerance free then None else Some former
+
+-- ---- gaps
+
 -- Nothing at all was recorded for longer than three periods; where none is known, or no heartbeat
 -- is sent, for longer than an answer may take: the recorder may have rested.
 abbrev pub is_gap : Limits → Option ℕ → ℕ → ℕ → Bool
@@ -64,6 +95,8 @@ is_gap limits (Some period) newest micros =
 -- eight bytes takes 1.35 ms.
 abbrev pub follows_closely : ℕ → ℕ → Bool
 follows_closely newest micros = nat_le (micros - newest) 1500
+
+-- ---- late ones
 
 -- How long the next one is awaited, where that is too long, and the period; with a period of 0 none
 -- is sent. Error control has the lowest priority: it counts when the bus was free last, `free`.
@@ -79,8 +112,10 @@ abbrev pub overdue_with : Limits → Option ℕ → Heartbeats → ℕ → ℕ �
 overdue_with limits None heartbeats free micros = None
 overdue_with limits (Some period) heartbeats free micros = overdue_since limits heartbeats.guarded period heartbeats.since free micros
 
+-- nor while a period may still run that 1017:00 had before
 unfoldable pub overdue_by : Limits → Option ℕ → Heartbeats → ℕ → ℕ → Option (ℕ × ℕ)
-overdue_by limits period heartbeats free micros = overdue_with limits period heartbeats free micros
+overdue_by limits period heartbeats free micros =
+    if runs_still limits heartbeats.former heartbeats.since free then None else overdue_with limits period heartbeats free micros
 
 -- `heartbeat-late`: the device sends, and its next heartbeat is late
 unfoldable pub late_finding : Limits → Option ℕ → Heartbeats → ℕ → ℕ → Option Finding

@@ -3,6 +3,7 @@ pub mod Progresses
 pub mod EmergencyRules
 pub mod EntriesInForce
 pub mod Heartbeats
+pub mod Leavings
 pub mod FrameKinds
 pub mod States
 pub mod OtherClients

@@ -66,6 +66,10 @@ clients_from rows node clients (row ∷ later) = clients_from rows node (clients
 abbrev pub clients_of : List Row → ℕ → OtherClients
 clients_of rows node = clients_from rows node no_clients rows
 
+-- there are any
+abbrev pub has_clients : OtherClients → Bool
+has_clients clients = nat_le clients.lowest clients.highest
+
 -- a frame with this identifier may be one of theirs
 abbrev pub may_send : OtherClients → ℕ → Bool
 may_send clients id = nat_le clients.lowest id && nat_le id clients.highest

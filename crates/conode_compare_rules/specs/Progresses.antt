@@ -38,10 +38,10 @@ use Rattle.conode_compare_transfers.specs.Breaches.{key_in}
 use Rattle.conode_compare_values.specs.HeldNumbers.{is_kept, nothing_written, unmapped, with_process, written_heard}
 use Rattle.conode_compare_rules.specs.EmergencyRules.{emergency_finding, is_stopped, length_finding}
 use Rattle.conode_compare_rules.specs.EntriesInForce.{asked_by, asked_to_write, ended_entries, overwritten, reset_entries, shares_id, with_sharing}
-use Rattle.conode_compare_rules.specs.OtherClients.{is_channel, may_send}
-use Rattle.conode_compare_rules.specs.Heartbeats.{after_byte, after_transfer, early_remark, follows_closely, late_finding, no_heartbeat, is_gap, is_late_again, is_missing, overdue_by, slow_after, with_shown}
+use Rattle.conode_compare_rules.specs.OtherClients.{has_clients, is_channel, may_send}
+use Rattle.conode_compare_rules.specs.Heartbeats.{after_byte, after_transfer, early_remark, follows_closely, former_after, late_finding, no_heartbeat, is_gap, is_late_again, is_missing, overdue_by, slow_after, with_former, with_shown}
 use Rattle.conode_compare_rules.specs.States as states
-use Rattle.conode_compare_rules.specs.States.{boot_finding, control_finding, has_followed, is_operational, is_reset, is_same_byte, is_same_length, is_settled, is_steady, judged_state, nothing_commanded, after_turn, odd_after, odd_finding, restart_remark, with_followed, with_odd}
+use Rattle.conode_compare_rules.specs.States.{boot_finding, control_finding, has_followed, is_operational, is_reset, is_same_byte, is_same_length, is_settled, is_steady, judged_state, nothing_commanded, after_turn, odd_after, odd_finding, restart_remark, with_followed, with_left, with_odd}
 use Rattle.conode_compare_transfers.specs.Times.{is_past}
 use Rattle.conode_compare_rules.specs.Verdicts.{found, nothing_found}
 
@@ -52,6 +52,7 @@ before_recording subject = record {
   newest = None;
   started = 0;
   begins = false;
+  damaged = false;
   free = 0;
   nmt = nothing_commanded;
   heartbeats = no_heartbeat;
@@ -60,6 +61,7 @@ before_recording subject = record {
   dialogue = nothing_asked;
   pdos = tpdos.unknown_pdos;
   other_client = false;
+  asked_at = None;
   written = nothing_written;
   exchange = None;
   remark = None;
@@ -93,6 +95,13 @@ pdos_with_quiet limits progress micros = if was_quiet limits progress micros the
 abbrev pub still_awaited : Dialogue → ℕ → Dialogue
 still_awaited dialogue micros = record nothing_asked { slow = (interrupted dialogue micros).slow; sub_block = (interrupted dialogue micros).sub_block }
 
+-- A bad line may have had a frame of any client: of another SDO channel's too, and a request to write.
+abbrev pub client_since : Subject → Progress → Bool
+client_since subject progress = progress.other_client || (progress.damaged && has_clients subject.facts.clients)
+
+abbrev pub asked_since : Progress → ℕ → Option ℕ
+asked_since progress micros = if progress.damaged then Some micros else None
+
 -- then nothing is known; where it was quiet, no request is
 unfoldable pub begun : Subject → Progress → ℕ → Progress
 begun subject progress micros =
@@ -102,7 +111,8 @@ begun subject progress micros =
       begins = true;
       free = micros;
       dialogue = still_awaited progress.dialogue micros;
-      other_client = progress.other_client;
+      other_client = client_since subject progress;
+      asked_at = asked_since progress micros;
     }
     else record progress {
       newest = Some micros;
@@ -113,6 +123,11 @@ begun subject progress micros =
       exchange = None;
       remark = None;
     }
+
+-- A line of the recording is bad: what it had is unknown, so with the next frame the recording begins anew.
+-- Before the first frame nothing is known anyway.
+abbrev pub with_bad_line : Progress → Progress
+with_bad_line progress = record progress { newest = None; damaged = progress.damaged || is_some progress.newest }
 
 -- what is open isn't known any more: after a reset, a boot-up, and an error frame
 unfoldable pub with_gap : Progress → ℕ → Progress
@@ -152,20 +167,29 @@ abbrev pub boot_findings : Subject → Progress → ℕ → Findings
 boot_findings subject progress micros =
     found None None None (control_finding subject progress.started progress.heartbeats.guarded false progress.nmt progress.free micros 0) true
 
--- what the data sheet says of the entries and the TPDOs, as far as that is known; once the client of another
--- SDO channel has sent, only what never changes: the device may take its request after the boot-up
+-- A client asked to write an entry of the communication profile within the tolerance before the boot-up frame,
+-- when the bus was free last: the device may have booted up by then, and its frame waited.
+abbrev pub was_asked : Subject → Progress → Bool
+was_asked subject progress = option_map_or (λ a. not (is_past a subject.limits.tolerance progress.free)) progress.asked_at false
+
+-- What the data sheet says of the entries and the TPDOs, as far as that is known: only what never changes, where
+-- a client may have written them since, and once that of another SDO channel has sent, whose request the device
+-- may take after the boot-up.
+abbrev pub may_differ : Subject → Progress → Bool
+may_differ subject progress = progress.other_client || was_asked subject progress
+
 abbrev pub booted_entries : Subject → Progress → Entries
-booted_entries subject progress = if progress.other_client then subject.facts.before else subject.facts.booted
+booted_entries subject progress = if may_differ subject progress then subject.facts.before else subject.facts.booted
 
 abbrev pub booted_pdos : Subject → Progress → Pdos
-booted_pdos subject progress = if progress.other_client then tpdos.unknown_pdos else subject.facts.pdos
+booted_pdos subject progress = if may_differ subject progress then tpdos.unknown_pdos else subject.facts.pdos
 
 -- the entries have that, and the next heartbeat is awaited; no earlier request is answered any more,
 -- however long it took
 unfoldable pub booted : Subject → Progress → ℕ → Progress
 booted subject progress micros = record progress {
   nmt = states.after_control subject.limits progress.started progress.nmt progress.free micros 0;
-  heartbeats = record progress.heartbeats { since = Some micros; sent = Some progress.free; slow = None };
+  heartbeats = record progress.heartbeats { since = Some micros; sent = Some progress.free; slow = None; former = None };
   entries = booted_entries subject progress;
   emergency = None;
   dialogue = record (interrupted progress.dialogue micros) { slow = nothing_left; sub_block = false };
@@ -262,12 +286,15 @@ control_findings subject progress micros byte = heartbeat_findings subject progr
 abbrev pub slow_then : Subject → Progress → ℕ → Option ℕ
 slow_then subject progress micros = slow_after subject.limits progress.entries.period progress.heartbeats progress.free micros
 
+abbrev pub former_then : Subject → Progress → Option ℕ
+former_then subject progress = former_after subject.limits progress.heartbeats.former progress.entries.period progress.heartbeats.since progress.free
+
 unfoldable pub after_control : Subject → Progress → ℕ → ℕ → Progress
 after_control subject progress micros byte = record progress {
   nmt = with_odd (odd_after (byte_finding subject progress micros byte) byte progress.nmt.odd)
       (after_turn subject progress.started progress.heartbeats.guarded (comes_early subject progress micros byte) progress.nmt progress.free byte
       (states.after_control subject.limits progress.started progress.nmt progress.free micros byte));
-  heartbeats = record (after_byte progress.heartbeats progress.free micros byte) { slow = slow_then subject progress micros };
+  heartbeats = record (after_byte progress.heartbeats progress.free micros byte) { slow = slow_then subject progress micros; former = former_then subject progress };
   pdos = if byte == 5 then progress.pdos else tpdos.commanded progress.pdos;
   dialogue = if is_some (silence_at subject progress micros byte) then given_up progress.dialogue micros else progress.dialogue;
   remark = early_remark subject.limits progress.entries.period progress.heartbeats micros byte;
@@ -308,16 +335,19 @@ odd_emergency_findings progress length = found None None None (length_finding pr
 unfoldable pub after_emergency : Progress → Progress
 after_emergency progress = record progress { nmt = record progress.nmt { booted = None }; emergency = Some progress.free }
 
--- a stopped device sends none: that the device has followed a command, where a heartbeat showed stopped
+-- a stopped device sends none
+abbrev pub shows_by_emergency : Subject → Progress → Bool
+shows_by_emergency subject progress = progress.entries.emergencies && steady_when_free subject progress
+
+-- that the device has followed a command, where a heartbeat showed stopped
 abbrev pub follows_by_emergency : Subject → Progress → Bool
-follows_by_emergency subject progress =
-    has_followed is_stopped progress.nmt && (progress.entries.emergencies && steady_when_free subject progress)
+follows_by_emergency subject progress = has_followed is_stopped progress.nmt && shows_by_emergency subject progress
 
 -- by an EMCY of eight bytes a heartbeat may be missing
 abbrev pub emergency_noted : Subject → Progress → ℕ → Progress
 emergency_noted subject progress micros =
     after_emergency (record progress {
-      nmt = with_followed progress.nmt (follows_by_emergency subject progress) micros;
+      nmt = with_left (with_followed progress.nmt (follows_by_emergency subject progress) micros) (shows_by_emergency subject progress) micros;
       heartbeats = heartbeats_by subject progress progress.entries.emergencies micros;
     })
 
@@ -393,6 +423,14 @@ pdos_by Client frame pdos micros =
     if (length frame.bytes == 8) && asks_to_write frame then pdos_requested pdos (key_in frame) micros else pdos
 pdos_by Server frame pdos micros = pdos
 
+-- a client's frame that asks to write an entry of the communication profile, 1000h to 1FFFh (CiA 301, 7.4.2.1)
+abbrev pub asks_for_profile : Side → FrameContent → Bool
+asks_for_profile Client frame = asks_to_write frame && (nat_le 0x1000 (key_in frame).index && nat_lt (key_in frame).index 0x2000)
+asks_for_profile Server frame = false
+
+abbrev pub asked_then : Bool → Option ℕ → ℕ → Option ℕ
+asked_then asks before micros = if asks then Some micros else before
+
 unfoldable pub exchange_at : Subject → Progress → ℕ → Side → FrameContent → Exchange
 exchange_at subject progress micros side frame = exchange_in subject.limits.answer progress.started progress.dialogue micros side frame
 
@@ -402,15 +440,17 @@ follows_asked limits started nmt None = false
 follows_asked limits started nmt (Some asked) =
     is_settled limits started nmt.commanded asked.micros && is_steady limits nmt asked.micros
 
-abbrev pub follows_by_answer : Limits → ℕ → Nmt → Exchange → Bool
-follows_by_answer limits started nmt exchange =
-    has_followed is_stopped nmt && (exchange.certain && follows_asked limits started nmt exchange.asked)
+abbrev pub shows_by_answer : Limits → ℕ → Nmt → Exchange → Bool
+shows_by_answer limits started nmt exchange = exchange.certain && follows_asked limits started nmt exchange.asked
 
--- by an answer: that it has followed a command, where a heartbeat showed stopped
+abbrev pub follows_by_answer : Limits → ℕ → Nmt → Exchange → Bool
+follows_by_answer limits started nmt exchange = has_followed is_stopped nmt && shows_by_answer limits started nmt exchange
+
+-- by an answer: that it isn't stopped, and that it has followed a command, where a heartbeat showed stopped
 abbrev pub nmt_heard : Limits → ℕ → Nmt → ℕ → Side → Exchange → Nmt
 nmt_heard limits started nmt micros Client exchange = nmt
 nmt_heard limits started nmt micros Server exchange =
-    with_followed nmt (follows_by_answer limits started nmt exchange) micros
+    with_left (with_followed nmt (follows_by_answer limits started nmt exchange) micros) (shows_by_answer limits started nmt exchange) micros
 
 unfoldable pub channel_heard : Subject → Progress → ℕ → Side → FrameContent → Progress
 channel_heard subject progress micros side frame =
@@ -418,12 +458,14 @@ channel_heard subject progress micros side frame =
     let ended = (exchange_at subject progress micros side frame).heard.ended in
     let shown = shown_beside (hides_end subject progress micros ended) ended in
     let beside = pdos_beside (leaves_unknown_at subject progress micros ended) ended progress.pdos in
+    let entries = with_sharing (shares_id subject.node side frame) (asked_by side frame (entries_heard progress.entries shown next.asked)) in
     record progress {
       nmt = nmt_heard subject.limits progress.started progress.nmt micros side (exchange_at subject progress micros side frame);
-      heartbeats = after_transfer progress.heartbeats ended micros;
-      entries = with_sharing (shares_id subject.node side frame) (asked_by side frame (entries_heard progress.entries shown next.asked));
+      heartbeats = with_former (after_transfer progress.heartbeats ended micros) progress.entries.period entries.period;
+      entries = entries;
       pdos = pdos_by side frame (pdos_heard beside shown next.asked micros) micros;
       dialogue = next;
+      asked_at = asked_then (asks_for_profile side frame) progress.asked_at micros;
     }
 
 -- what the frame is, and what was written to the entries that are held
@@ -490,6 +532,10 @@ is_idle starts_itself PreOperational = not starts_itself
 is_idle starts_itself Stopped = true
 is_idle starts_itself state = false
 
+-- when the newest command came; else when the recording began
+abbrev pub newest_command : Progress → Option ℕ
+newest_command progress = Some (option_map_or (λ c. c.micros) progress.nmt.commanded progress.started)
+
 unfoldable pub moment_at : Subject → Progress → ℕ → Moment
 moment_at subject progress micros = record {
   micros = micros;
@@ -498,6 +544,7 @@ moment_at subject progress micros = record {
   drift = subject.limits.drift;
   idle = steady_when_free subject progress && is_idle subject.facts.starts_itself (judged_state progress.nmt);
   known = steady_when_free subject progress && is_known progress.nmt.state;
+  commanded = newest_command progress;
 }
 
 abbrev pub sighting_findings : Option Finding → Option Sighting → Findings
@@ -539,14 +586,17 @@ process_pdos subject progress micros id length =
 
 -- a device that isn't operational sends no TPDO: that it has followed a command, where a heartbeat showed
 -- that it wasn't
+abbrev pub shows_by_tpdo : Subject → Progress → ℕ → ℕ → ℕ → Bool
+shows_by_tpdo subject progress micros id length =
+    is_some (sighted subject progress micros id length) && steady_when_free subject progress
+
 abbrev pub follows_by_tpdo : Subject → Progress → ℕ → ℕ → ℕ → Bool
 follows_by_tpdo subject progress micros id length =
-    has_followed (is_idle subject.facts.starts_itself) progress.nmt
-    && (is_some (sighted subject progress micros id length) && steady_when_free subject progress)
+    has_followed (is_idle subject.facts.starts_itself) progress.nmt && shows_by_tpdo subject progress micros id length
 
 unfoldable pub after_process : Subject → Progress → ℕ → ℕ → ℕ → Progress
 after_process subject progress micros id length = record progress {
-  nmt = with_followed progress.nmt (follows_by_tpdo subject progress micros id length) micros;
+  nmt = with_left (with_followed progress.nmt (follows_by_tpdo subject progress micros id length) micros) (shows_by_tpdo subject progress micros id length) micros;
   heartbeats = heartbeats_by subject progress (is_some (sighted subject progress micros id length)) micros;
   entries = process_entries subject progress id;
   pdos = process_pdos subject progress micros id length;

@@ -13,9 +13,11 @@ use Rattle.conode_compare_rules.specs.declared.finding.NmtState.TheVariants.{Unk
 use Rattle.conode_compare_rules.specs.declared.limits.Limits.{Limits}
 use Rattle.conode_compare_rules.specs.declared.limits.Subject.{Subject}
 use Rattle.conode_compare_rules.specs.declared.nmt.Commanded.{Commanded}
+use Rattle.conode_compare_rules.specs.declared.leaving.Leaving.TheVariants.{Nothing}
 use Rattle.conode_compare_rules.specs.declared.repeated.Odd.{Odd}
 use Rattle.conode_compare_rules.specs.declared.repeated.Odd.TheVariants.{Byte, Length}
 use Rattle.conode_compare_rules.specs.declared.nmt.Nmt.{Nmt}
+use Rattle.conode_compare_rules.specs.Leavings.{is_running, leaving_after, leaving_shown, was_stopped}
 use Rattle.conode_compare_transfers.specs.Times.{is_past}
 
 abbrev pub nothing_commanded : Nmt
@@ -31,6 +33,7 @@ nothing_commanded = record {
   strayed = Unknown;
   mixed = false;
   odd = None;
+  leaving = Nothing;
 }
 
 -- ---- commands
@@ -93,6 +96,7 @@ after_command nmt service own micros = record {
   strayed = Unknown;
   mixed = false;
   odd = nmt.odd;
+  leaving = leaving_after nmt.state nmt.leaving;
 }
 
 -- ---- boot-ups
@@ -145,6 +149,7 @@ after_boot_up limits nmt micros = record {
   strayed = Unknown;
   mixed = false;
   odd = None;
+  leaving = Nothing;
 }
 
 -- more than one boot-up may still come: the newest reset isn't so old that its boot-up would be
@@ -185,6 +190,14 @@ judged_state nmt = freer nmt.state nmt.due
 abbrev pub is_steady : Limits → Nmt → ℕ → Bool
 is_steady limits nmt micros = option_map_or (λ c. is_past c limits.tolerance micros) nmt.changed true
 
+-- and the device can't have been stopped since a command leads out of that
+abbrev pub was_running : Limits → Nmt → ℕ → Bool
+was_running limits nmt asked = is_steady limits nmt asked && not (was_stopped nmt.leaving asked)
+
+-- a frame comes that shows that it isn't stopped, or not
+abbrev pub with_left : Nmt → Bool → ℕ → Nmt
+with_left nmt shows micros = record nmt { leaving = leaving_shown shows micros nmt.leaving }
+
 abbrev pub same_state : NmtState → NmtState → Bool
 same_state PreOperational PreOperational = true
 same_state Operational Operational = true
@@ -209,6 +222,7 @@ with_state nmt shown micros = record nmt {
   due = if same_state shown nmt.due then Unknown else nmt.due;
   followed = if same_state shown nmt.state then nmt.followed else None;
   changed = if is_turn nmt.state shown then Some micros else nmt.changed;
+  leaving = leaving_shown (is_running shown) micros nmt.leaving;
 }
 
 -- ---- a command that was followed

@@ -232,7 +232,8 @@ pub(crate) fn answer_finding(
 
 /// The difference of a heartbeat while a request isn't answered in time: the device lives, and
 /// could have answered since it was asked. Not where the heartbeat shows stopped: the device may
-/// have stopped by itself (1029h) before it was asked. Nor where one showed since that it left stopped.
+/// have stopped by itself (1029h) before it was asked. Nor where one showed since that it left
+/// stopped, or it may have been stopped still after a command that leads out of that.
 #[tactic(auto, unfolding(crate::specs::Answers::silence_finding))]
 pub(crate) fn silence_finding(
     limits: &Limits,
@@ -254,6 +255,7 @@ pub(crate) fn silence_finding(
     }
     if !nmt.is_settled(limits, started, asked.micros)
         || !nmt.is_steady(limits, asked.micros)
+        || nmt.leaving.was_stopped(asked.micros)
         || !dialogue.is_certain(limits.answer, started, asked.micros)
     {
         return None;

@@ -17,6 +17,8 @@ ghost use Rattle.conode_compare_rules.specs.Progresses.{
   is_judged,
   is_of_parameter,
   answer_noted,
+  asked_then,
+  asks_for_profile,
   is_doubtful,
   late_by,
   leaves_unknown,
@@ -148,6 +150,26 @@ fn hear_pdos_by(pdos: &mut Pdos, side: Side, frame: &Frame, micros: u64)
     }
 }
 
+// whether a client's frame asks to write an entry of the communication profile
+fn asks_for_profile(side: Side, frame: &Frame) -> bool
+    ensures { result ≡ asks_for_profile side frame.now }
+{
+    match side {
+        Side::Client if asks_to_write(frame) => {
+            let index = key_in(frame).index;
+            0x1000 <= index && index < 0x2000
+        }
+        _ => false,
+    }
+}
+
+// when a client asked so last
+fn asked_then(asks: bool, before: Option<u64>, micros: u64) -> Option<u64>
+    ensures { result ≡ asked_then asks before micros }
+{
+    if asks { Some(micros) } else { before }
+}
+
 // whether an answer is judged: it follows its initiate request, and answers that
 fn is_judged(exchange: &Exchange) -> bool
     ensures { result ≡ is_judged exchange.now }
@@ -164,6 +186,7 @@ impl Progress {
         ensures written { self.new.written ≡ self.old.written }
     {
         let doubtful = is_doubtful(subject.limits.answer, &self.dialogue, micros);
+        let period = self.entries.period;
         let exchange = self
             .dialogue
             .hear(subject.limits.answer, self.started, micros, side, frame);
@@ -181,7 +204,8 @@ impl Progress {
         let shares = shares_id(subject.node, side, frame);
         let entries = entries.with_sharing(shares);
         self.entries = entries;
-        self.heartbeats = self.heartbeats.heard(&exchange.heard.ended, micros);
+        let heartbeats = self.heartbeats.heard(&exchange.heard.ended, micros);
+        self.heartbeats = heartbeats.with_former(period, entries.period);
         leave_pdos(&mut self.pdos, unknown, &exchange.heard.ended);
         hear_pdos(
             &mut self.pdos,
@@ -191,6 +215,8 @@ impl Progress {
             micros,
         );
         hear_pdos_by(&mut self.pdos, side, frame, micros);
+        let asks = asks_for_profile(side, frame);
+        self.asked_at = asked_then(asks, self.asked_at, micros);
         exchange
     }
 

@@ -7,6 +7,7 @@ ghost use Rattle.conode_compare_rules.specs.OtherClients.{
   client_id,
   clients_of,
   clients_with,
+  has_clients,
   has_hidden_channel,
   is_apart,
   is_channel,
@@ -135,6 +136,13 @@ impl OtherClients {
             clients = clients.with(client_id(rows, node, row));
         }
         clients
+    }
+
+    /// Whether there are any.
+    pub(crate) fn are_any(self) -> bool
+        ensures { result ≡ has_clients self }
+    {
+        self.lowest <= self.highest
     }
 
     /// Whether a frame with this identifier may be one of theirs.

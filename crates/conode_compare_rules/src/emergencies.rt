@@ -3,12 +3,14 @@
 ghost use Rattle.std.specs.Prelude.{◌≡◌};
 ghost use Rattle.conode_compare_rules.specs.EmergencyRules.{
   emergency_finding,
+  fits_register,
   gap_finding,
   has_register,
   inhibit_finding,
   is_in_force,
   length_finding,
   least_gap,
+  may_wait,
 };
 
 use crate::entries::Entries;
@@ -22,6 +24,21 @@ fn has_register(code: u16, register: u8) -> bool
     ensures { result ≡ has_register code register }
 {
     register % 2 == 1 || (register == 0 && code < 0x100)
+}
+
+// whether an EMCY may have waited for the inhibit time: it isn't known to be 0
+fn may_wait(inhibit: Option<u16>) -> bool
+    ensures { result ≡ may_wait inhibit }
+{
+    !matches!(inhibit, Some(0))
+}
+
+// whether the error register of an EMCY is right: one that waited has that of the moment at which
+// it is sent
+fn fits_register(inhibit: Option<u16>, code: u16, register: u8) -> bool
+    ensures { result ≡ fits_register inhibit code register }
+{
+    has_register(code, register) || (register == 0 && may_wait(inhibit))
 }
 
 // how many microseconds two EMCY are apart at least
@@ -94,7 +111,7 @@ pub(crate) fn emergency_finding(
     if settled && matches!(state, NmtState::Stopped) {
         return Some(Finding::EmergencyStopped);
     }
-    if !has_register(code, register) {
+    if !fits_register(entries.inhibit, code, register) {
         return Some(Finding::EmergencyRegister(code, register));
     }
     inhibit_finding(limits, entries, last, micros)

@@ -21,13 +21,14 @@ ghost use Rattle.conode_compare_rules.specs.EntriesInForce.{
   shares_id,
   shown_inhibit,
   shown_period,
+  with_master,
   with_sharing,
 };
 
 use crate::clients::{OtherClients, has_hidden_channel, is_channel};
 use co_frame::Frame;
 use co_profile::keys::{EMERGENCY_COB_ID, EMERGENCY_INHIBIT_TIME, PRODUCER_HEARTBEAT};
-use co_profile::{Access, STORE_PARAMETERS};
+use co_profile::{Access, MODULE_LIST, NMT_STARTUP, STORE_PARAMETERS};
 use co_sheet::EntryRow;
 use co_sheet_changes::row_at;
 use co_value::Key;
@@ -65,7 +66,8 @@ pub struct Facts {
     /// The clients of its other SDO channels: once one sends, what it may have written is unknown.
     pub clients: OtherClients,
     /// Whether it may enter operational by itself, and may be the NMT master, which needn't follow
-    /// its own commands: it has the entry NMT startup, 1F80h (CiA 302-2).
+    /// its own commands: it has the entry NMT startup, 1F80h (CiA 302-2), or the sheet names it as the
+    /// boot-up master.
     pub starts_itself: bool,
     /// Whether modules decide which entries it has: it has the module list, 1027h.
     pub modular: bool,
@@ -76,12 +78,6 @@ pub struct Facts {
     /// the sheet is no configuration.
     pub as_sheet: bool,
 }
-
-// NMT startup (CiA 302-2)
-const NMT_STARTUP: u16 = 0x1F80;
-
-// the module list (CiA 301, 7.5.2.30)
-const MODULES: u16 = 0x1027;
 
 fn has_object(rows: &[EntryRow<'_>], index: u16) -> bool
     requires { AllPairs (λ e f. is_key_before e.key f.key ≡ true) rows.now }
@@ -164,10 +160,26 @@ pub fn facts_of(rows: &[EntryRow<'_>], node: u8, configured: bool) -> Facts
             pdos_of(rows, node)
         },
         clients: OtherClients::of(rows, node),
-        modular: has_object(rows, MODULES),
+        modular: has_object(rows, MODULE_LIST),
         starts_itself: has_object(rows, NMT_STARTUP),
         stores: stores && !configured,
         as_sheet: !stores && !configured,
+    }
+}
+
+impl Facts {
+    /// Those of a device whose sheet says whether it may be the boot-up master: then it may be the NMT
+    /// master and start itself, as one with 1F80h.
+    pub fn with_master(self, master: bool) -> Facts
+        ensures { result ≡ with_master master self }
+    {
+        if !master {
+            return self;
+        }
+        let mut facts = self;
+        facts.starts_itself = true;
+        facts.pdos = self.pdos.uncounted();
+        facts
     }
 }
 

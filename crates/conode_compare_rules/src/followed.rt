@@ -4,13 +4,13 @@ ghost use Rattle.std.specs.Prelude.{◌≡◌, ◌&&◌, true};
 ghost use Rattle.conode_compare_rules.specs.EmergencyRules.{is_stopped};
 ghost use Rattle.conode_compare_rules.specs.Progresses.{
   follows_asked,
-  follows_by_answer,
-  follows_by_emergency,
   is_idle,
   nmt_heard,
+  shows_by_answer,
+  shows_by_emergency,
   steady_when_free,
 };
-ghost use Rattle.conode_compare_rules.specs.States.{has_followed, is_back, with_back, with_followed};
+ghost use Rattle.conode_compare_rules.specs.States.{has_followed, is_back, with_back, with_followed, with_left};
 
 use crate::finding::NmtState;
 use crate::limits::{Limits, Subject};
@@ -45,8 +45,8 @@ impl Nmt {
         is_idle(starts_itself, self.state) && !is_idle(starts_itself, self.judged_state())
     }
 
-    // whether it has followed a command, where it sends an EMCY or an answer
-    fn has_left_stopped(&self) -> bool
+    /// Whether it has followed a command, where it sends an EMCY or an answer.
+    pub(crate) fn has_left_stopped(&self) -> bool
         ensures { result ≡ has_followed is_stopped self.now }
     {
         is_stopped(self.state) && !is_stopped(self.judged_state())
@@ -75,16 +75,15 @@ impl Nmt {
         }
     }
 
-    // whether an answer shows that it has followed a command
-    fn follows_by_answer(&self, limits: &Limits, started: u64, exchange: &Exchange) -> bool
-        ensures { result ≡ follows_by_answer limits.now started self.now exchange.now }
+    // whether an answer shows that it isn't stopped
+    fn shows_by_answer(&self, limits: &Limits, started: u64, exchange: &Exchange) -> bool
+        ensures { result ≡ shows_by_answer limits.now started self.now exchange.now }
     {
-        self.has_left_stopped()
-            && exchange.certain
-            && self.follows_asked(limits, started, exchange.asked)
+        exchange.certain && self.follows_asked(limits, started, exchange.asked)
     }
 
-    /// A frame of the SDO channel comes: an answer may show that the device has followed a command.
+    /// A frame of the SDO channel comes: an answer may show that the device isn't stopped, and has
+    /// followed a command.
     pub(crate) fn note_heard(
         &mut self,
         limits: &Limits,
@@ -98,9 +97,11 @@ impl Nmt {
         match side {
             Side::Client => {}
             Side::Server => {
-                if self.follows_by_answer(limits, started, exchange) {
+                let shows = self.shows_by_answer(limits, started, exchange);
+                if self.has_left_stopped() && shows {
                     self.note_followed(micros);
                 }
+                self.note_left(shows, micros);
             }
         }
     }
@@ -129,18 +130,27 @@ impl Nmt {
 }
 
 impl Progress {
-    /// Whether a frame that is one of its TPDOs, if `own`, shows that it has followed a command.
-    pub(crate) fn follows_by_tpdo(&self, subject: &Subject, own: bool) -> bool
-        ensures { result ≡ (has_followed (is_idle subject.now.facts.starts_itself) self.now.nmt
-            && (own && steady_when_free subject.now self.now)) }
+    /// Notes what a frame shows that is one of its TPDOs, if `own`: that the device isn't stopped,
+    /// and has followed a command.
+    pub(crate) fn note_tpdo(&mut self, subject: &Subject, own: bool, micros: u64)
+        ensures { self.new ≡ record self.old {
+          nmt = with_left (with_followed self.old.nmt
+              (has_followed (is_idle subject.now.facts.starts_itself) self.old.nmt
+              && (own && steady_when_free subject.now self.old)) micros)
+              (own && steady_when_free subject.now self.old) micros;
+        } }
     {
-        self.nmt.is_running(subject.facts.starts_itself) && own && self.steady_when_free(subject)
+        let shows = own && self.steady_when_free(subject);
+        if self.nmt.is_running(subject.facts.starts_itself) && shows {
+            self.nmt.note_followed(micros);
+        }
+        self.nmt.note_left(shows, micros);
     }
 
-    /// Whether an EMCY shows that it has followed a command.
-    pub(crate) fn follows_by_emergency(&self, subject: &Subject) -> bool
-        ensures { result ≡ follows_by_emergency subject.now self.now }
+    /// Whether an EMCY shows that the device isn't stopped.
+    pub(crate) fn shows_by_emergency(&self, subject: &Subject) -> bool
+        ensures { result ≡ shows_by_emergency subject.now self.now }
     {
-        self.nmt.has_left_stopped() && self.entries.emergencies && self.steady_when_free(subject)
+        self.entries.emergencies && self.steady_when_free(subject)
     }
 }

@@ -3,10 +3,13 @@
 ghost use Rattle.std.specs.Prelude.{◌≡◌};
 ghost use Rattle.conode_compare_rules.specs.Progresses.{
   after_fault,
+  asked_since,
   begins_anew,
   begun,
+  client_since,
   free_at,
   was_quiet,
+  with_bad_line,
   with_gap,
 };
 
@@ -50,9 +53,32 @@ impl Progress {
         }
     }
 
+    // Whether the client of another SDO channel may have sent: a bad line may have had its frame.
+    fn client_since(&self, subject: &Subject) -> bool
+        ensures { result ≡ client_since subject.now self.now }
+    {
+        self.other_client || self.damaged && subject.facts.clients.are_any()
+    }
+
+    // When a client may have asked to write last: a bad line may have had its request.
+    fn asked_since(&self, micros: u64) -> Option<u64>
+        ensures { result ≡ asked_since self.now micros }
+    {
+        if self.damaged { Some(micros) } else { None }
+    }
+
+    /// A line of the recording is bad: what it had is unknown, so with the next frame the recording
+    /// begins anew.
+    pub fn note_bad_line(&mut self)
+        ensures { self.new ≡ with_bad_line self.old }
+    {
+        self.damaged = self.damaged || self.newest.is_some();
+        self.newest = None;
+    }
+
     /// A frame comes. Where the recording begins anew, nothing is known, but that an answer which
     /// may take long is awaited, and that a sub-block may be open; where it was quiet, no request is
-    /// known.
+    /// known. After a bad line a client may have asked to write until now.
     #[tactic(auto, unfolding(crate::specs::Progresses::begun))]
     pub(crate) fn begin(&mut self, subject: &Subject, micros: u64)
         ensures { self.new ≡ begun subject.now self.old micros }
@@ -61,9 +87,11 @@ impl Progress {
             self.dialogue.interrupt(micros);
             let slow = self.dialogue.slow;
             let sub_block = self.dialogue.sub_block;
-            let other_client = self.other_client;
+            let other_client = self.client_since(subject);
+            let asked_at = self.asked_since(micros);
             *self = Progress::new(subject);
             self.started = micros;
+            self.asked_at = asked_at;
             self.begins = true;
             self.dialogue.slow = slow;
             self.dialogue.sub_block = sub_block;

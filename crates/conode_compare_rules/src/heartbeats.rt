@@ -49,10 +49,12 @@ pub(crate) struct Heartbeats {
     /// The longest time that one of the newest heartbeats took, which all came late; where the
     /// newest one did.
     pub(crate) slow: Option<u64>,
+    /// The longest period that may still run, though 1017:00 was written since.
+    pub(crate) former: Option<u16>,
 }
 
 /// After how many microseconds a heartbeat is late.
-fn allowance(limits: &Limits, period: u16) -> u64
+pub(crate) fn allowance(limits: &Limits, period: u16) -> u64
     ensures { result ≡ allowance limits.now period }
 {
     micros_of(period as u32) + micros_of(limits.tolerance) + drift_of(limits, period)
@@ -120,6 +122,7 @@ impl Heartbeats {
             sent: None,
             shown: None,
             slow: None,
+            former: None,
         }
     }
 
@@ -133,6 +136,7 @@ impl Heartbeats {
             sent: Some(free),
             shown: self.shown,
             slow: self.slow,
+            former: self.former,
         }
     }
 
@@ -151,6 +155,7 @@ impl Heartbeats {
                 },
                 shown: self.shown,
                 slow: None,
+                former: self.former,
             },
             _ => self,
         }
@@ -191,6 +196,9 @@ impl Heartbeats {
     ) -> Option<(u64, u16)>
         ensures { result ≡ overdue_by limits.now entries.now.period self.now free micros }
     {
+        if self.runs_still(limits, free) {
+            return None;
+        }
         let period = entries.period?;
         let since = self.since?;
         let waited = free.saturating_sub(since);

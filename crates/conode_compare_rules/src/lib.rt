@@ -3,6 +3,7 @@
 #![tactic(auto)]
 
 mod answers;
+mod changed_period;
 mod channel;
 mod clients;
 mod emergencies;
@@ -13,6 +14,7 @@ mod gaps;
 mod heartbeats;
 mod kind;
 mod known;
+mod leaving;
 mod limits;
 mod nmt;
 mod process;

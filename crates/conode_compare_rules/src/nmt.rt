@@ -36,6 +36,7 @@ ghost use Rattle.conode_compare_rules.specs.States.{
 };
 
 use crate::finding::{Finding, NmtState, Remark};
+use crate::leaving::{Leaving, is_running};
 use crate::limits::{Limits, Subject};
 use crate::repeated::Odd;
 use co_frame::NmtService;
@@ -82,6 +83,8 @@ pub(crate) struct Nmt {
     pub(crate) mixed: bool,
     /// What was wrong about its newest frame of error control, other than the state.
     pub(crate) odd: Option<Odd>,
+    /// Whether it has left stopped since a command.
+    pub(crate) leaving: Leaving,
 }
 
 /// Whether a command is a reset.
@@ -247,6 +250,7 @@ impl Nmt {
             strayed: NmtState::Unknown,
             mixed: false,
             odd: None,
+            leaving: Leaving::Nothing,
         }
     }
 
@@ -418,6 +422,7 @@ impl Nmt {
             strayed: NmtState::Unknown,
             mixed: false,
             odd: self.odd,
+            leaving: self.leaving.after(self.state),
         }
     }
 
@@ -443,6 +448,7 @@ impl Nmt {
             strayed: NmtState::Unknown,
             mixed: false,
             odd: None,
+            leaving: Leaving::Nothing,
         }
     }
 
@@ -479,6 +485,7 @@ impl Nmt {
             strayed: self.strayed,
             mixed: self.mixed,
             odd: self.odd,
+            leaving: self.leaving,
         }
     }
 
@@ -510,6 +517,7 @@ impl Nmt {
             strayed: self.strayed,
             mixed: self.mixed,
             odd: self.odd,
+            leaving: self.leaving.shown(is_running(shown), micros),
         }
     }
 

@@ -4,6 +4,7 @@ ghost use Rattle.std.specs.Prelude.{◌≡◌, true};
 ghost use Rattle.conode_compare_rules.specs.Progresses.{
   after_process,
   moment_at,
+  newest_command,
   process_findings,
   sighting_findings,
   unless_overdue,
@@ -49,6 +50,16 @@ fn sighting_findings(late: Option<Finding>, sighting: Option<Sighting>) -> Findi
 }
 
 impl Progress {
+    // when the newest command came; else when the recording began
+    fn newest_command(&self) -> Option<u64>
+        ensures { result ≡ newest_command self.now }
+    {
+        match self.nmt.commanded {
+            Some(commanded) => Some(commanded.micros),
+            None => Some(self.started),
+        }
+    }
+
     // how a PDO is judged that comes now: by whether the tolerance was over when the bus was free
     #[tactic(auto, unfolding(crate::specs::Progresses::moment_at))]
     fn moment_at(&self, subject: &Subject, micros: u64) -> Moment
@@ -64,6 +75,7 @@ impl Progress {
             drift: subject.limits.drift,
             idle: steady && is_idle,
             known: steady && is_known,
+            commanded: self.newest_command(),
         }
     }
 
@@ -99,9 +111,7 @@ impl Progress {
             self.is_overdue(subject),
             self.pdos.sighting(&moment, id, length),
         );
-        if self.follows_by_tpdo(subject, sighting.is_some()) {
-            self.nmt.note_followed(micros);
-        }
+        self.note_tpdo(subject, sighting.is_some(), micros);
         let late = self.notice_late(subject, sighting.is_some(), micros);
         if subject.facts.clients.may_send(id) {
             self.note_client();

@@ -31,11 +31,13 @@ ghost use Rattle.conode_compare_rules.specs.Progresses.{
   late_alone,
   late_at,
   late_by,
+  may_differ,
   odd_control_findings,
   odd_emergency_findings,
   after_frame,
   steady_when_free,
   heartbeats_by,
+  was_asked,
 };
 
 use crate::answers::silence_finding;
@@ -51,7 +53,7 @@ use crate::verdict::Findings;
 use co_frame::NmtService;
 use co_sheet::EntryRow;
 use conode_compare_pdos::Pdos;
-use conode_compare_transfers::{Dialogue, Exchange, Left};
+use conode_compare_transfers::{Dialogue, Exchange, Left, is_past};
 use conode_compare_values::Written;
 use conode_explain_transfers::Side;
 
@@ -64,6 +66,8 @@ pub struct Progress {
     pub started: u64,
     /// Whether the recording begins with the newest frame, or begins anew; or that is an error frame.
     pub(crate) begins: bool,
+    /// Whether a line since the newest frame is bad, or since an earlier one, and no frame came yet.
+    pub(crate) damaged: bool,
     /// When the bus was free last: the stamp of the first of the frames that follow one another
     /// closely.
     pub free: u64,
@@ -76,6 +80,8 @@ pub struct Progress {
     pub(crate) pdos: Pdos,
     /// Whether a frame came that may be of the client of another SDO channel.
     pub(crate) other_client: bool,
+    /// When a client asked last to write an entry of the communication profile.
+    pub(crate) asked_at: Option<u64>,
     /// What was written to the entries that are held.
     pub written: Written,
     /// What the newest frame is on its SDO channel, if it is of that.
@@ -93,6 +99,7 @@ impl Progress {
             newest: None,
             started: 0,
             begins: false,
+            damaged: false,
             free: 0,
             nmt: Nmt::new(),
             heartbeats: Heartbeats::new(),
@@ -101,6 +108,7 @@ impl Progress {
             dialogue: Dialogue::new(),
             pdos: Pdos::unknown(),
             other_client: false,
+            asked_at: None,
             written: Written::nothing(),
             exchange: None,
             remark: None,
@@ -124,11 +132,30 @@ impl Progress {
         }
     }
 
+    /// Whether a client asked to write an entry of the communication profile within the tolerance
+    /// before the frame, which is a boot-up, when the bus was free last: the device may have booted
+    /// up by then, and its frame waited.
+    pub fn was_asked(&self, subject: &Subject) -> bool
+        ensures { result ≡ was_asked subject.now self.now }
+    {
+        match self.asked_at {
+            Some(asked) => !is_past(asked, subject.limits.tolerance, self.free),
+            None => false,
+        }
+    }
+
+    // whether the entries may have other values than the data sheet's after a boot-up
+    fn may_differ(&self, subject: &Subject) -> bool
+        ensures { result ≡ may_differ subject.now self.now }
+    {
+        self.other_client || self.was_asked(subject)
+    }
+
     // what is known of the entries after a boot-up
     fn booted_entries(&self, subject: &Subject) -> Entries
         ensures { result ≡ booted_entries subject.now self.now }
     {
-        if self.other_client {
+        if self.may_differ(subject) {
             subject.facts.before
         } else {
             subject.facts.booted
@@ -139,7 +166,7 @@ impl Progress {
     fn booted_pdos(&self, subject: &Subject) -> Pdos
         ensures { result ≡ booted_pdos subject.now self.now }
     {
-        if self.other_client {
+        if self.may_differ(subject) {
             Pdos::unknown()
         } else {
             subject.facts.pdos
@@ -173,6 +200,7 @@ impl Progress {
         self.pdos = self.booted_pdos(subject);
         self.heartbeats.since = Some(micros);
         self.heartbeats.sent = Some(self.free);
+        self.heartbeats.former = None;
         Findings::of(None, None, None, frame, true)
     }
 
@@ -349,6 +377,9 @@ impl Progress {
         let slow = self
             .heartbeats
             .slow_after(limits, &self.entries, self.free, micros);
+        let former = self
+            .heartbeats
+            .former_after(limits, self.entries.period, self.free);
         self.remark = self
             .heartbeats
             .early_remark(limits, &self.entries, micros, byte);
@@ -369,6 +400,7 @@ impl Progress {
         self.nmt.odd = odd;
         self.heartbeats = self.heartbeats.after_control(self.free, micros, byte);
         self.heartbeats.slow = slow;
+        self.heartbeats.former = former;
         if byte != 5 {
             self.pdos.command();
         }
@@ -417,7 +449,8 @@ impl Progress {
         ensures progress { self.new ≡ emergency_noted subject.now self.old micros }
     {
         let steady = self.steady_when_free(subject);
-        let follows = self.follows_by_emergency(subject);
+        let shows = self.shows_by_emergency(subject);
+        let follows = self.nmt.has_left_stopped() && shows;
         let late = self.notice_late(subject, self.entries.emergencies, micros);
         let frame = emergency_finding(
             &subject.limits,
@@ -432,6 +465,7 @@ impl Progress {
         if follows {
             self.nmt.note_followed(micros);
         }
+        self.nmt.note_left(shows, micros);
         self.note_emergency();
         Findings::of(None, late, None, frame, self.entries.emergencies)
     }

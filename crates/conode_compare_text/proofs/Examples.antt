@@ -1,9 +1,10 @@
 -- Lines of differences, computed from the definitions.
-use Rattle.std.proofs.Common.{◌≡◌, [], ◌∷◌, ◌++◌, map, Some, None, refl, codes}
+use Rattle.std.proofs.Common.{◌≡◌, ℕ, ℤ, pos, negsuc, Bool, true, false, [], ◌∷◌, ◌++◌, map, Some, None, refl, codes}
 use Rattle.std.specs.Fmt.{digits}
 use Rattle.co_text.specs.Printed.{digits_text}
 use Rattle.co_value.specs.declared.data_type.DataType.TheVariants.{Integer16, Unsigned8, Unsigned16, Unsigned32}
 use Rattle.co_value.specs.declared.key.Key.{Key}
+use Rattle.conode_explain_transfers.specs.declared.kinds.Side.TheVariants.{Client, Server}
 use Rattle.conode_explain_values.specs.declared.value_type.ValueType.{ValueType}
 use Rattle.conode_explain_values.specs.declared.value_type.ValueType.TheVariants.{Plain, Real32, TimeOfDay}
 use Rattle.conode_explain_values.specs.Numbers.{number_text}
@@ -13,22 +14,42 @@ use Rattle.conode_compare_transfers.specs.declared.breach.Breach.TheVariants.{To
 use Rattle.conode_compare_values.specs.declared.mismatch.Mismatch.TheVariants.{ValueLength, ValueConst, ConstText, ReadRefused, ReadServed, Written, AboveLimit, BelowLimit, BeyondRoom}
 use Rattle.conode_compare_rules.specs.declared.finding.Finding.TheVariants.{BootMissing, SecondBootUp, HeartbeatLength, NoState, WrongState, TwoStates, HeartbeatLate, EmergencyLength, EmergencyRegister, EmergencyInhibit, NoAnswer, AnswerKey, AnswerForm, AnswerStopped, Transfer, Value, Held, Pdo}
 use Rattle.conode_compare_rules.specs.declared.finding.NmtState.TheVariants.{PreOperational, Operational}
+use Rattle.conode_compare_rules.specs.declared.kind.FrameKind.TheVariants.{Control, Sdo}
 use Rattle.conode_compare_choices.specs.declared.choice.Choice.TheVariants.{Segments, NoSize, ShortSegment, NoCrc, BlockSize, Switched, Code, Timeout, NoTimeout, Heartbeat, Phase, NoEmergency, OtherEmergency}
 use Rattle.conode_compare_choices.specs.declared.length_error.LengthError.TheVariants.{ShortRpdo, LongRpdo, OddSync}
 use Rattle.conode_compare_notes.specs.declared.warning.Warning.TheVariants.{Changed, ChangedBytes, OddCode, OtherError, OtherRevision, OtherText, Restarted, SteppedBack, Stored}
+use Rattle.conode_compare_text.specs.declared.details.Details.{Details}
 use Rattle.conode_compare_text.specs.ChoiceTexts.{choice_line, choice_text, choices_summary}
 use Rattle.conode_text.specs.Filled.{filled}
 use Rattle.conode_compare_text.specs.FindingTexts.{finding_line, finding_text, mismatch_text, pdo_text, transfer_text}
+use Rattle.conode_compare_text.specs.Beside.{came_at, no_details, nothing_came}
 use Rattle.conode_compare_text.specs.LearnedTexts.{learned_line, other_text, typed_text}
 use Rattle.conode_compare_text.specs.Tallies.{summary, tally_text}
-use Rattle.conode_compare_text.specs.Values.{bytes_text, eight_digits, hexadecimal, line_front, millis_text, shown_value}
+use Rattle.conode_compare_text.specs.Values.{bytes_text, came_text, eight_digits, hexadecimal, line_front, millis_text, shown_value}
 use Rattle.conode_compare_text.specs.WarningTexts.{warning_line, warning_text}
 
 abbrev key : Key
 key = record { index = 0x1018; sub = 1 }
 
-abbrev plain : ValueType
-plain = Plain Unsigned32
+abbrev plain : Details
+plain = no_details
+
+-- values of a type
+abbrev of_type : ValueType → Details
+of_type t = record no_details { value_type = t }
+
+-- an answer of so many bytes with this command, of 1018:02, to a request that asks to write, or not
+abbrev after : Bool → ℕ → ℕ → Details
+after writes length command = record no_details { writes = writes; came = record { length = length; command = command; key = record { index = 0x1018; sub = 2 } } }
+
+-- a number and a limit
+abbrev beyond : ℤ → ℤ → Details
+beyond number limit = record no_details { passed = record { number = number; limit = limit } }
+
+-- what a frame of the channel says, by either end
+came : came_at (Sdo Server (record { id = 0x585; bytes = 0x43 ∷ 0x18 ∷ 0x10 ∷ 2 ∷ 7 ∷ 0 ∷ 0 ∷ 0 ∷ [] })) ∷ came_at (Sdo Client (record { id = 0x605; bytes = 0x40 ∷ 0 ∷ 0x20 ∷ [] })) ∷ came_at (Control 5) ∷ []
+    ≡ record { length = 8; command = 0x43; key = record { index = 0x1018; sub = 2 } } ∷ record { length = 3; command = 0x40; key = record { index = 0x2000; sub = 0 } } ∷ nothing_came ∷ []
+came = refl
 
 late_line : finding_line (codes "r.log") 120 plain (HeartbeatLate 1020001 1000) ≡ codes "r.log:120: heartbeat-late: 1020.001 ms since the last one, 1017:00 has 1000 ms" ++ 10 ∷ []
 unfolding finding_line finding_text millis_text digits_text digits filled line_front
@@ -74,13 +95,25 @@ no_answer : finding_text plain (NoAnswer key 1000001) ≡ codes "no-answer: 1018
 unfolding finding_text millis_text digits_text digits filled
 no_answer = refl
 
-answer_key : finding_text plain (AnswerKey key) ≡ codes "answer-key: 1018:01 was requested, another entry is answered"
+answer_key : finding_text (after false 8 0x43) (AnswerKey key) ≡ codes "answer-key: 1018:01 was requested, 1018:02 is answered"
 unfolding finding_text digits_text filled
 answer_key = refl
 
-answer_form : finding_text plain (AnswerForm key) ≡ codes "answer-form: 1018:01 was requested, which has no such answer"
-unfolding finding_text digits_text filled
-answer_form = refl
+form_of_upload : finding_text (after false 8 0x6A) (AnswerForm key) ≡ codes "answer-form: an upload of 1018:01 was requested, which has no answer 6Ah"
+unfolding finding_text came_text digits_text filled
+form_of_upload = refl
+
+form_of_download : finding_text (after true 8 0x43) (AnswerForm key) ≡ codes "answer-form: a download to 1018:01 was requested, which has no answer 43h"
+unfolding finding_text came_text digits_text filled
+form_of_download = refl
+
+-- of another number of bytes than eight
+short_answers : map (λ length. finding_text (after false length 0x43) (AnswerForm key)) (0 ∷ 1 ∷ 7 ∷ []) ≡
+    codes "answer-form: an upload of 1018:01 was requested, which has no answer of 0 bytes"
+    ∷ codes "answer-form: an upload of 1018:01 was requested, which has no answer of 1 byte"
+    ∷ codes "answer-form: an upload of 1018:01 was requested, which has no answer of 7 bytes" ∷ []
+unfolding finding_text came_text bytes_text digits digits_text filled
+short_answers = refl
 
 value_length : finding_text plain (Value (ValueLength key 2 4)) ≡ codes "value-length: 1018:01 has 2 bytes, its type 4"
 unfolding finding_text mismatch_text digits_text digits filled bytes_text
@@ -95,12 +128,12 @@ unfolding finding_text mismatch_text digits_text filled
 value_const_text = refl
 
 -- a REAL32 of an adapted sheet, by its value
-value_const_real : finding_text Real32 (Value (ValueConst key 0x7F800000 0x80000000)) ≡ codes "value-const: 1018:01 has inf, the sheet -0.0"
+value_const_real : finding_text (of_type Real32) (Value (ValueConst key 0x7F800000 0x80000000)) ≡ codes "value-const: 1018:01 has inf, the sheet -0.0"
 unfolding finding_text mismatch_text shown_value value_text digits_text filled
 value_const_real = refl
 
 -- another original type, of more than four bytes
-value_const_time : finding_text TimeOfDay (Value (ValueConst key 0xFFFFFFFF 0x100000000)) ≡ codes "value-const: 1018:01 has FFFFFFFFh, the sheet 0000000100000000h"
+value_const_time : finding_text (of_type TimeOfDay) (Value (ValueConst key 0xFFFFFFFF 0x100000000)) ≡ codes "value-const: 1018:01 has FFFFFFFFh, the sheet 0000000100000000h"
 unfolding finding_text mismatch_text shown_value hexadecimal eight_digits digits_text filled
 value_const_time = refl
 
@@ -116,12 +149,13 @@ written : finding_text plain (Value (Written key)) ≡ codes "access-write: 1018
 unfolding finding_text mismatch_text digits_text filled
 written = refl
 
-above_limit : finding_text plain (Value (AboveLimit key)) ≡ codes "access-limits: 1018:01 was written, with a value above its HighLimit"
-unfolding finding_text mismatch_text digits_text filled
+above_limit : finding_text (beyond (pos 101) (pos 100)) (Value (AboveLimit key)) ≡ codes "access-limits: 1018:01 was written, with 101, its HighLimit is 100"
+unfolding finding_text mismatch_text digits_text digits filled
 above_limit = refl
 
-below_limit : finding_text plain (Value (BelowLimit key)) ≡ codes "access-limits: 1018:01 was written, with a value below its LowLimit"
-unfolding finding_text mismatch_text digits_text filled
+-- -11 and -10
+below_limit : finding_text (beyond (negsuc 10) (negsuc 9)) (Value (BelowLimit key)) ≡ codes "access-limits: 1018:01 was written, with -11, its LowLimit is -10"
+unfolding finding_text mismatch_text digits_text digits filled
 below_limit = refl
 
 beyond_room : finding_text plain (Value (BeyondRoom key 17 16)) ≡ codes "access-limits: 1018:01 was written, with 17 bytes, its room is 16"
@@ -185,11 +219,15 @@ toggle : finding_text plain (Transfer (Toggle key)) ≡ codes "answer-toggle: 10
 unfolding finding_text transfer_text digits_text filled
 toggle = refl
 
-form : finding_text plain (Transfer (Form key)) ≡ codes "answer-form: 1018:01 is transferred, which has no such answer here"
-unfolding finding_text transfer_text digits_text filled
+form : finding_text (after false 8 0x80) (Transfer (Form key)) ≡ codes "answer-form: 1018:01 is transferred, which has no answer 80h here"
+unfolding finding_text transfer_text came_text digits_text filled
 form = refl
 
-abort_key : finding_text plain (Transfer (AbortKey key)) ≡ codes "abort-key: 1018:01 is transferred, the abort is of another entry"
+short_form : finding_text (after false 3 0x80) (Transfer (Form key)) ≡ codes "answer-form: 1018:01 is transferred, which has no answer of 3 bytes here"
+unfolding finding_text transfer_text came_text bytes_text digits digits_text filled
+short_form = refl
+
+abort_key : finding_text (after false 8 0x80) (Transfer (AbortKey key)) ≡ codes "abort-key: 1018:01 is transferred, the abort is of 1018:02"
 unfolding finding_text transfer_text digits_text filled
 abort_key = refl
 
@@ -285,39 +323,39 @@ sums_choice = refl
 
 -- ---- warnings
 
-restarted : warning_line (codes "r.log") 12 plain Restarted ≡ codes "r.log:12: warning: restarted: a boot-up, and no reset was commanded" ++ 10 ∷ []
+restarted : warning_line (codes "r.log") 12 (Plain Unsigned32) Restarted ≡ codes "r.log:12: warning: restarted: a boot-up, and no reset was commanded" ++ 10 ∷ []
 unfolding warning_line warning_text digits filled line_front
 restarted = refl
 
-stored : warning_text plain (Stored key 0x1F4 0x3E8) ≡ codes "warning: stored: 1018:01 has 000001F4h after the boot-up, the sheet 000003E8h"
+stored : warning_text (Plain Unsigned32) (Stored key 0x1F4 0x3E8) ≡ codes "warning: stored: 1018:01 has 000001F4h after the boot-up, the sheet 000003E8h"
 unfolding warning_text shown_value hexadecimal eight_digits digits_text filled
 stored = refl
 
-stepped_back : warning_text plain (SteppedBack 3000001) ≡ codes "warning: stepped-back: the stamp is 3000.001 ms before the last one"
+stepped_back : warning_text (Plain Unsigned32) (SteppedBack 3000001) ≡ codes "warning: stepped-back: the stamp is 3000.001 ms before the last one"
 unfolding warning_text millis_text digits_text digits filled
 stepped_back = refl
 
-changed : warning_text plain (Changed (record { key = key; shown = 0x5; written = 0x12345678 })) ≡ codes "warning: changed-after-write: 1018:01 has 00000005h, written was 12345678h"
+changed : warning_text (Plain Unsigned32) (Changed (record { key = key; shown = 0x5; written = 0x12345678 })) ≡ codes "warning: changed-after-write: 1018:01 has 00000005h, written was 12345678h"
 unfolding warning_text shown_value hexadecimal eight_digits digits_text filled
 changed = refl
 
-other_revision : warning_text plain (OtherRevision key 0x10003 0x10002) ≡ codes "warning: other-version: 1018:01 has 00010003h, the sheet 00010002h"
+other_revision : warning_text (Plain Unsigned32) (OtherRevision key 0x10003 0x10002) ≡ codes "warning: other-version: 1018:01 has 00010003h, the sheet 00010002h"
 unfolding warning_text shown_value hexadecimal eight_digits digits_text filled
 other_revision = refl
 
-changed_bytes : warning_text plain (ChangedBytes key) ≡ codes "warning: changed-after-write: 1018:01 has other bytes than were written"
+changed_bytes : warning_text (Plain Unsigned32) (ChangedBytes key) ≡ codes "warning: changed-after-write: 1018:01 has other bytes than were written"
 unfolding warning_text digits_text filled
 changed_bytes = refl
 
-another_text : warning_text plain (OtherText key) ≡ codes "warning: other-version: 1018:01 has another text than the sheet"
+another_text : warning_text (Plain Unsigned32) (OtherText key) ≡ codes "warning: other-version: 1018:01 has another text than the sheet"
 unfolding warning_text digits_text filled
 another_text = refl
 
-odd_code : warning_text plain (OddCode 0xA123 1) ≡ codes "warning: emcy-code: code A123h with error register 01h, of a class that CiA 301 doesn't have"
+odd_code : warning_text (Plain Unsigned32) (OddCode 0xA123 1) ≡ codes "warning: emcy-code: code A123h with error register 01h, of a class that CiA 301 doesn't have"
 unfolding warning_text digits_text filled
 odd_code = refl
 
-other_error : warning_text plain (OtherError 0x8210 0x8130) ≡ codes "warning: emcy-history: 1003:01 has code 8210h, the last EMCY 8130h"
+other_error : warning_text (Plain Unsigned32) (OtherError 0x8210 0x8130) ≡ codes "warning: emcy-history: 1003:01 has code 8210h, the last EMCY 8130h"
 unfolding warning_text digits_text filled
 other_error = refl
 

@@ -1,9 +1,9 @@
 -- The line of a difference.
-use Rattle.std.specs.Prelude.{ℕ, ◌*◌, ◌==◌, if◌then◌else◌, List, [], ◌∷◌, codes, decimal}
+use Rattle.std.specs.Prelude.{ℕ, ◌*◌, ◌==◌, Bool, true, false, if◌then◌else◌, List, [], ◌∷◌, codes, decimal}
+use Rattle.std.specs.Fmt.{signed_decimal}
 use Rattle.co_text.specs.Printed.{digits_text}
 use Rattle.co_value.specs.declared.key.Key.{Key}
 use Rattle.co_value.specs.KeyTexts.{key_text}
-use Rattle.conode_explain_values.specs.declared.value_type.ValueType.{ValueType}
 use Rattle.conode_compare_pdos.specs.declared.deviation.Deviation.{Deviation}
 use Rattle.conode_compare_pdos.specs.declared.deviation.Deviation.TheVariants.{Length, NotOperational, WithoutSync, FewSyncs, Inhibit, Timer}
 use Rattle.conode_compare_transfers.specs.declared.breach.Breach.{Breach}
@@ -15,7 +15,8 @@ use Rattle.conode_compare_rules.specs.declared.finding.Finding.TheVariants.{Boot
 use Rattle.conode_compare_rules.specs.declared.finding.NmtState.{NmtState}
 use Rattle.conode_compare_rules.specs.declared.finding.NmtState.TheVariants.{Unknown, Initialising, PreOperational, Operational, Stopped}
 use Rattle.conode_text.specs.Filled.{filled}
-use Rattle.conode_compare_text.specs.Values.{bytes_text, line_text, millis_text, shown_value}
+use Rattle.conode_compare_text.specs.declared.details.Details.{Details}
+use Rattle.conode_compare_text.specs.Values.{bytes_text, came_text, line_text, millis_text, shown_value}
 
 abbrev pub state_name : NmtState → List ℕ
 state_name Unknown = codes "unknown"
@@ -62,94 +63,101 @@ early_text key waited time =
     filled (codes "abort-early: % was aborted as timed out % after the client's last frame, the timeout is % ms")
     (key_text key ∷ millis_text waited ∷ decimal time ∷ [])
 
--- in an open transfer
-unfoldable pub transfer_text : Breach → List ℕ
-transfer_text (Toggle key) =
+-- in an open transfer, where the line has these details
+unfoldable pub transfer_text : Details → Breach → List ℕ
+transfer_text details (Toggle key) =
     filled (codes "answer-toggle: % is transferred, a segment has the wrong toggle bit")
     (key_text key ∷ [])
-transfer_text (Form key) =
-    filled (codes "answer-form: % is transferred, which has no such answer here")
-    (key_text key ∷ [])
-transfer_text (AbortKey key) =
-    filled (codes "abort-key: % is transferred, the abort is of another entry") (key_text key ∷ [])
-transfer_text (Size key indicated bytes) =
+transfer_text details (Form key) =
+    filled (codes "answer-form: % is transferred, which has no answer % here")
+    (key_text key ∷ came_text details.came ∷ [])
+transfer_text details (AbortKey key) =
+    filled (codes "abort-key: % is transferred, the abort is of %")
+    (key_text key ∷ key_text details.came.key ∷ [])
+transfer_text details (Size key indicated bytes) =
     filled (codes "answer-size: % has %, its response to initiate has %")
     (key_text key ∷ bytes_text bytes ∷ decimal indicated ∷ [])
-transfer_text (Crc key came computed) =
+transfer_text details (Crc key came computed) =
     filled (codes "answer-crc: % has the CRC %h, that of its bytes is %h")
     (key_text key ∷ digits_text 16 4 came ∷ digits_text 16 4 computed ∷ [])
-transfer_text (Early key waited time) = early_text key waited time
+transfer_text details (Early key waited time) = early_text key waited time
 
--- at the end of a transfer, where the values of the entry have this type
-unfoldable pub mismatch_text : ValueType → Mismatch → List ℕ
-mismatch_text t (ValueLength key length width) =
+-- at the end of a transfer
+unfoldable pub mismatch_text : Details → Mismatch → List ℕ
+mismatch_text details (ValueLength key length width) =
     filled (codes "value-length: % has %, its type %")
     (key_text key ∷ bytes_text length ∷ decimal width ∷ [])
-mismatch_text t (ValueConst key shown held) =
+mismatch_text details (ValueConst key shown held) =
     filled (codes "value-const: % has %, the sheet %")
-    (key_text key ∷ shown_value t shown ∷ shown_value t held ∷ [])
-mismatch_text t (ConstText key) =
+    (key_text key ∷ shown_value details.value_type shown ∷ shown_value details.value_type held ∷ [])
+mismatch_text details (ConstText key) =
     filled (codes "value-const: % has another text than the sheet") (key_text key ∷ [])
-mismatch_text t (ReadRefused key code) =
+mismatch_text details (ReadRefused key code) =
     filled (codes "access-read: % refused with %, the sheet has it as readable")
     (key_text key ∷ digits_text 16 8 code.0 ∷ [])
-mismatch_text t (ReadServed key) =
+mismatch_text details (ReadServed key) =
     filled (codes "access-read: % was read, the sheet has it as write only") (key_text key ∷ [])
-mismatch_text t (Written key) =
+mismatch_text details (Written key) =
     filled (codes "access-write: % was written, the sheet has it as read only") (key_text key ∷ [])
-mismatch_text t (AboveLimit key) =
-    filled (codes "access-limits: % was written, with a value above its HighLimit")
-    (key_text key ∷ [])
-mismatch_text t (BelowLimit key) =
-    filled (codes "access-limits: % was written, with a value below its LowLimit")
-    (key_text key ∷ [])
-mismatch_text t (BeyondRoom key bytes room) =
+mismatch_text details (AboveLimit key) =
+    filled (codes "access-limits: % was written, with %, its HighLimit is %")
+    (key_text key ∷ signed_decimal details.passed.number ∷ signed_decimal details.passed.limit ∷ [])
+mismatch_text details (BelowLimit key) =
+    filled (codes "access-limits: % was written, with %, its LowLimit is %")
+    (key_text key ∷ signed_decimal details.passed.number ∷ signed_decimal details.passed.limit ∷ [])
+mismatch_text details (BeyondRoom key bytes room) =
     filled (codes "access-limits: % was written, with %, its room is %")
     (key_text key ∷ bytes_text bytes ∷ decimal room ∷ [])
 
--- the name of the kind, and what is different, where the values of the entry have this type
-unfoldable pub finding_text : ValueType → Finding → List ℕ
-finding_text t (BootMissing passed) =
+-- an answer to an initiate request that has none of this form: by whether that asks to write
+abbrev pub form_words : Bool → List ℕ
+form_words true = codes "answer-form: a download to % was requested, which has no answer %"
+form_words false = codes "answer-form: an upload of % was requested, which has no answer %"
+
+-- the name of the kind, and what is different, where the line has these details
+unfoldable pub finding_text : Details → Finding → List ℕ
+finding_text details (BootMissing passed) =
     filled (codes "boot-missing: no boot-up % after the reset command") (millis_text passed ∷ [])
-finding_text t (SecondBootUp passed) =
+finding_text details (SecondBootUp passed) =
     filled (codes "second-sender: a boot-up % after the last one") (millis_text passed ∷ [])
-finding_text t (HeartbeatLength length) =
+finding_text details (HeartbeatLength length) =
     filled (codes "heartbeat-length: % bytes, not 1") (decimal length ∷ [])
-finding_text t (NoState byte) =
+finding_text details (NoState byte) =
     filled (codes "heartbeat-state: %h is no NMT state") (digits_text 16 2 byte ∷ [])
-finding_text t (WrongState shown held) =
+finding_text details (WrongState shown held) =
     filled (codes "heartbeat-state: %, but by commands and heartbeats it is %")
     (state_name shown ∷ state_name held ∷ [])
-finding_text t (TwoStates shown held) =
+finding_text details (TwoStates shown held) =
     filled (codes "second-sender: %, again from % without a command")
     (state_name shown ∷ state_name held ∷ [])
-finding_text t (HeartbeatLate passed period) =
+finding_text details (HeartbeatLate passed period) =
     filled (codes "heartbeat-late: % since the last one, 1017:00 has % ms")
     (millis_text passed ∷ decimal period ∷ [])
-finding_text t (EmergencyLength length) =
+finding_text details (EmergencyLength length) =
     filled (codes "emcy-length: %, not 8") (bytes_text length ∷ [])
-finding_text t EmergencyStopped = codes "emcy-state: an EMCY while stopped"
-finding_text t (EmergencyRegister code register) =
+finding_text details EmergencyStopped = codes "emcy-state: an EMCY while stopped"
+finding_text details (EmergencyRegister code register) =
     filled (codes "emcy-register: code %h with error register %h, whose bit 0 isn't set")
     (digits_text 16 4 code ∷ digits_text 16 2 register ∷ [])
-finding_text t (EmergencyInhibit passed inhibit) =
+finding_text details (EmergencyInhibit passed inhibit) =
     filled (codes "emcy-inhibit: % since the last one, 1015:00 has %")
     (millis_text passed ∷ millis_text (inhibit * 100) ∷ [])
-finding_text t (NoAnswer key passed) =
+finding_text details (NoAnswer key passed) =
     filled (codes "no-answer: % was requested % ago") (key_text key ∷ millis_text passed ∷ [])
-finding_text t Unasked = codes "second-sender: an answer without a request"
-finding_text t (AnswerKey key) =
-    filled (codes "answer-key: % was requested, another entry is answered") (key_text key ∷ [])
-finding_text t (AnswerForm key) =
-    filled (codes "answer-form: % was requested, which has no such answer") (key_text key ∷ [])
-finding_text t (AnswerStopped key) =
+finding_text details Unasked = codes "second-sender: an answer without a request"
+finding_text details (AnswerKey key) =
+    filled (codes "answer-key: % was requested, % is answered")
+    (key_text key ∷ key_text details.came.key ∷ [])
+finding_text details (AnswerForm key) =
+    filled (form_words details.writes) (key_text key ∷ came_text details.came ∷ [])
+finding_text details (AnswerStopped key) =
     filled (codes "answer-state: % is answered while stopped") (key_text key ∷ [])
-finding_text t (Transfer breach) = transfer_text breach
-finding_text t (Value mismatch) = mismatch_text t mismatch
-finding_text t (Held mismatch) =
+finding_text details (Transfer breach) = transfer_text details breach
+finding_text details (Value mismatch) = mismatch_text details mismatch
+finding_text details (Held mismatch) =
     filled (codes "value-held: % has %, written was %")
-    (key_text mismatch.key ∷ shown_value t mismatch.shown ∷ shown_value t mismatch.written ∷ [])
-finding_text t (Pdo number deviation) = pdo_text number deviation
+    (key_text mismatch.key ∷ shown_value details.value_type mismatch.shown ∷ shown_value details.value_type mismatch.written ∷ [])
+finding_text details (Pdo number deviation) = pdo_text number deviation
 
-unfoldable pub finding_line : List ℕ → ℕ → ValueType → Finding → List ℕ
-finding_line recording line t finding = line_text recording line (finding_text t finding)
+unfoldable pub finding_line : List ℕ → ℕ → Details → Finding → List ℕ
+finding_line recording line details finding = line_text recording line (finding_text details finding)

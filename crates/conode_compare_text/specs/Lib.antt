@@ -1,3 +1,4 @@
+pub mod Beside
 pub mod ChoiceTexts
 pub mod FindingTexts
 pub mod LearnedTexts

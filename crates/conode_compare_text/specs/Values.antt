@@ -1,5 +1,6 @@
 -- The texts of values, and lines.
 use Rattle.std.specs.Prelude.{ℕ, ◌/◌, ◌%◌, ◌==◌, nat_lt, if◌then◌else◌, List, [], ◌∷◌, ◌++◌, codes, decimal}
+use Rattle.std.specs.Fmt.{signed_decimal}
 use Rattle.co_text.specs.Printed.{digits_text}
 use Rattle.co_value.specs.KeyTexts.{key_text}
 use Rattle.co_value.specs.Numbers.{low_bytes}
@@ -7,10 +8,11 @@ use Rattle.conode_explain_values.specs.declared.value_type.ValueType.{ValueType}
 use Rattle.conode_explain_values.specs.declared.value_type.ValueType.TheVariants.{Real32}
 use Rattle.conode_explain_values.specs.Values.{value_text}
 use Rattle.conode_text.specs.Filled.{filled}
+use Rattle.conode_compare_text.specs.declared.details.Came.{Came}
 use Rattle.conode_compare_text.specs.declared.value.Said.{Said}
 use Rattle.conode_compare_text.specs.declared.value.Said.TheVariants.{Alone, One, Two, Three}
 use Rattle.conode_compare_text.specs.declared.value.Value.{Value}
-use Rattle.conode_compare_text.specs.declared.value.Value.TheVariants.{Words, Number, Millis, Bytes, Byte, Short, Long, Hexadecimal, Key, Shown}
+use Rattle.conode_compare_text.specs.declared.value.Value.TheVariants.{Words, Number, Signed, Millis, Bytes, Byte, Short, Long, Hexadecimal, Key, Shown, Answer}
 
 -- microseconds, in ms with three digits after the point
 unfoldable pub millis_text : ℕ → List ℕ
@@ -38,9 +40,15 @@ shown_value t number = hexadecimal number
 unfoldable pub bytes_text : ℕ → List ℕ
 bytes_text number = decimal number ++ (if number == 1 then codes " byte" else codes " bytes")
 
+-- an answer: the first of its eight bytes, which has its command specifier; with another number of bytes
+-- that number
+unfoldable pub came_text : Came → List ℕ
+came_text came = if came.length == 8 then digits_text 16 2 came.command ++ codes "h" else codes "of " ++ bytes_text came.length
+
 abbrev pub printed : Value → List ℕ
 printed (Words words) = words.now
 printed (Number number) = decimal number
+printed (Signed number) = signed_decimal number
 printed (Millis micros) = millis_text micros
 printed (Bytes number) = bytes_text number
 printed (Byte byte) = digits_text 16 2 byte
@@ -49,6 +57,7 @@ printed (Long number) = digits_text 16 8 number
 printed (Hexadecimal number) = hexadecimal number
 printed (Key key) = key_text key
 printed (Shown t number) = shown_value t number
+printed (Answer came) = came_text came
 
 -- words with values in their places
 abbrev pub said_text : Said → List ℕ

@@ -6,6 +6,7 @@ ghost use Rattle.conode_compare_text.specs.FindingTexts.{
   few_text,
   finding_line,
   finding_text,
+  form_words,
   mismatch_text,
   pdo_text,
   state_name,
@@ -13,13 +14,13 @@ ghost use Rattle.conode_compare_text.specs.FindingTexts.{
 };
 ghost use Rattle.conode_compare_text.specs.Values.{said_text};
 
+use crate::details::Details;
 use crate::value::{Said, Value, push_said, set_line};
 use co_value::Key;
 use conode_compare_pdos::Deviation;
 use conode_compare_rules::{Finding, NmtState};
 use conode_compare_transfers::Breach;
 use conode_compare_values::Mismatch;
-use conode_explain_values::ValueType;
 use std::alloc::AllocError;
 
 /// Their names, in the order of `NmtState`.
@@ -113,21 +114,23 @@ fn early_said(key: Key, waited: u64, time: u16) -> Said
 
 // what is different in an open transfer
 #[tactic(auto, unfolding(crate::specs::FindingTexts::transfer_text))]
-fn transfer_said(breach: Breach) -> Said
-    ensures { said_text result ≡ transfer_text breach }
+fn transfer_said(details: Details, breach: Breach) -> Said
+    ensures { said_text result ≡ transfer_text details breach }
 {
     match breach {
         Breach::Toggle(key) => Said::One(
             "answer-toggle: % is transferred, a segment has the wrong toggle bit",
             Value::Key(key),
         ),
-        Breach::Form(key) => Said::One(
-            "answer-form: % is transferred, which has no such answer here",
+        Breach::Form(key) => Said::Two(
+            "answer-form: % is transferred, which has no answer % here",
             Value::Key(key),
+            Value::Answer(details.came),
         ),
-        Breach::AbortKey(key) => Said::One(
-            "abort-key: % is transferred, the abort is of another entry",
+        Breach::AbortKey(key) => Said::Two(
+            "abort-key: % is transferred, the abort is of %",
             Value::Key(key),
+            Value::Key(details.came.key),
         ),
         Breach::Size(key, indicated, bytes) => Said::Three(
             "answer-size: % has %, its response to initiate has %",
@@ -145,10 +148,10 @@ fn transfer_said(breach: Breach) -> Said
     }
 }
 
-// what is different at the end of a transfer, where the values of the entry have this type
+// what is different at the end of a transfer
 #[tactic(auto, unfolding(crate::specs::FindingTexts::mismatch_text))]
-fn mismatch_said(value_type: ValueType, mismatch: Mismatch) -> Said
-    ensures { said_text result ≡ mismatch_text value_type mismatch }
+fn mismatch_said(details: Details, mismatch: Mismatch) -> Said
+    ensures { said_text result ≡ mismatch_text details mismatch }
 {
     match mismatch {
         Mismatch::ValueLength(key, length, width) => Said::Three(
@@ -160,8 +163,8 @@ fn mismatch_said(value_type: ValueType, mismatch: Mismatch) -> Said
         Mismatch::ValueConst(key, shown, held) => Said::Three(
             "value-const: % has %, the sheet %",
             Value::Key(key),
-            Value::Shown(value_type, shown),
-            Value::Shown(value_type, held),
+            Value::Shown(details.value_type, shown),
+            Value::Shown(details.value_type, held),
         ),
         Mismatch::ConstText(key) => Said::One(
             "value-const: % has another text than the sheet",
@@ -180,13 +183,17 @@ fn mismatch_said(value_type: ValueType, mismatch: Mismatch) -> Said
             "access-write: % was written, the sheet has it as read only",
             Value::Key(key),
         ),
-        Mismatch::AboveLimit(key) => Said::One(
-            "access-limits: % was written, with a value above its HighLimit",
+        Mismatch::AboveLimit(key) => Said::Three(
+            "access-limits: % was written, with %, its HighLimit is %",
             Value::Key(key),
+            Value::Signed(details.passed.number),
+            Value::Signed(details.passed.limit),
         ),
-        Mismatch::BelowLimit(key) => Said::One(
-            "access-limits: % was written, with a value below its LowLimit",
+        Mismatch::BelowLimit(key) => Said::Three(
+            "access-limits: % was written, with %, its LowLimit is %",
             Value::Key(key),
+            Value::Signed(details.passed.number),
+            Value::Signed(details.passed.limit),
         ),
         Mismatch::BeyondRoom(key, bytes, room) => Said::Three(
             "access-limits: % was written, with %, its room is %",
@@ -197,10 +204,21 @@ fn mismatch_said(value_type: ValueType, mismatch: Mismatch) -> Said
     }
 }
 
+// of an answer to an initiate request that has none of this form; `writes`: that asks to write
+fn form_words(writes: bool) -> &'static str
+    ensures { result.now ≡ form_words writes }
+{
+    if writes {
+        "answer-form: a download to % was requested, which has no answer %"
+    } else {
+        "answer-form: an upload of % was requested, which has no answer %"
+    }
+}
+
 // the name of the kind, and what is different
 #[tactic(auto, unfolding(crate::specs::FindingTexts::finding_text))]
-fn finding_said(value_type: ValueType, finding: Finding) -> Said
-    ensures { said_text result ≡ finding_text value_type finding }
+fn finding_said(details: Details, finding: Finding) -> Said
+    ensures { said_text result ≡ finding_text details finding }
 {
     match finding {
         Finding::BootMissing(passed) => Said::One(
@@ -255,59 +273,57 @@ fn finding_said(value_type: ValueType, finding: Finding) -> Said
             Value::Millis(passed),
         ),
         Finding::Unasked => Said::Alone("second-sender: an answer without a request"),
-        Finding::AnswerKey(key) => Said::One(
-            "answer-key: % was requested, another entry is answered",
+        Finding::AnswerKey(key) => Said::Two(
+            "answer-key: % was requested, % is answered",
             Value::Key(key),
+            Value::Key(details.came.key),
         ),
-        Finding::AnswerForm(key) => Said::One(
-            "answer-form: % was requested, which has no such answer",
+        Finding::AnswerForm(key) => Said::Two(
+            form_words(details.writes),
             Value::Key(key),
+            Value::Answer(details.came),
         ),
         Finding::AnswerStopped(key) => Said::One(
             "answer-state: % is answered while stopped",
             Value::Key(key),
         ),
-        Finding::Transfer(breach) => transfer_said(breach),
-        Finding::Value(mismatch) => mismatch_said(value_type, mismatch),
+        Finding::Transfer(breach) => transfer_said(details, breach),
+        Finding::Value(mismatch) => mismatch_said(details, mismatch),
         Finding::Held(mismatch) => Said::Three(
             "value-held: % has %, written was %",
             Value::Key(mismatch.key),
-            Value::Shown(value_type, mismatch.shown),
-            Value::Shown(value_type, mismatch.written),
+            Value::Shown(details.value_type, mismatch.shown),
+            Value::Shown(details.value_type, mismatch.written),
         ),
         Finding::Pdo(number, deviation) => pdo_said(number, deviation),
     }
 }
 
 /// Appends the name of the kind, and what is different: `heartbeat-late: ..`. The values of an
-/// entry are hexadecimal; a REAL32 is as `explain` shows it. On an `Err` memory ran out, and a part
-/// of it may be there.
-pub fn push_finding(
-    text: &mut String,
-    value_type: ValueType,
-    finding: Finding,
-) -> Result<(), AllocError>
+/// entry are hexadecimal, and decimal beside a limit; a REAL32 is as `explain` shows it. On an `Err`
+/// memory ran out, and a part of it may be there.
+pub fn push_finding(text: &mut String, details: Details, finding: Finding) -> Result<(), AllocError>
     ensures { OnOk result (string_bytes text.new
-        ≡ string_bytes text.old ++ finding_text value_type finding) }
+        ≡ string_bytes text.old ++ finding_text details finding) }
 {
-    push_said(text, finding_said(value_type, finding))
+    push_said(text, finding_said(details, finding))
 }
 
 /// Sets a text to the line of a difference, with its line feed, as `recording.log:123:
 /// heartbeat-late: ..`: the name of the recording, and the number of its line. The values of an
-/// entry are hexadecimal; those of the original type REAL32, which an adapted sheet has in
-/// `OriginalDataType`, are as `explain` shows them. On an `Err` memory ran out, and a part of it
-/// may be there.
+/// entry are hexadecimal, and decimal beside a limit; those of the original type REAL32, which an
+/// adapted sheet has in `OriginalDataType`, are as `explain` shows them. On an `Err` memory ran out,
+/// and a part of it may be there.
 #[tactic(auto, unfolding(crate::specs::FindingTexts::finding_line))]
 pub fn set_finding_line(
     text: &mut String,
     recording: &str,
     line: u64,
-    value_type: ValueType,
+    details: Details,
     finding: Finding,
 ) -> Result<(), AllocError>
     ensures { OnOk result
-        (string_bytes text.new ≡ finding_line recording.now line value_type finding) }
+        (string_bytes text.new ≡ finding_line recording.now line details finding) }
 {
-    set_line(text, recording, line, finding_said(value_type, finding))
+    set_line(text, recording, line, finding_said(details, finding))
 }

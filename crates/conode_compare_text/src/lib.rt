@@ -12,6 +12,7 @@ macro_rules! attempt {
 }
 
 mod choice_text;
+mod details;
 mod finding_text;
 mod learned_text;
 mod tally;
@@ -19,6 +20,7 @@ mod value;
 mod warning_text;
 
 pub use choice_text::{set_choice_line, set_choices_summary};
+pub use details::{Came, Details, Passed};
 pub use finding_text::{push_finding, set_finding_line};
 pub use learned_text::set_learned_line;
 pub use tally::{Tally, set_summary};

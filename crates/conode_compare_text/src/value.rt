@@ -1,9 +1,11 @@
 //! Values in lines, and what is said with them.
 
 ghost use Rattle.std.specs.Prelude.{◌≡◌, ◌++◌, OnOk, string_bytes};
+ghost use Rattle.std.specs.Fmt.{signed_decimal};
 ghost use Rattle.co_text.specs.Printed.{digits_text};
 ghost use Rattle.conode_compare_text.specs.Values.{
   bytes_text,
+  came_text,
   eight_digits,
   hexadecimal,
   high_digits,
@@ -14,6 +16,7 @@ ghost use Rattle.conode_compare_text.specs.Values.{
   shown_value,
 };
 
+use crate::details::Came;
 use co_text::{push_byte, push_decimal, push_digit, push_u16, push_u32};
 use co_value::{Key, bytes_of_u32};
 use conode_explain_values::{ValueType, push_value};
@@ -27,6 +30,8 @@ pub(crate) enum Value<'a> {
     Words(&'a str),
     /// A number in decimal digits.
     Number(u64),
+    /// The same, with its sign.
+    Signed(i128),
     /// Microseconds, in ms with three digits after the point.
     Millis(u64),
     /// A number of bytes, as `2 bytes`.
@@ -43,6 +48,8 @@ pub(crate) enum Value<'a> {
     Key(Key),
     /// A value of up to eight bytes of an entry with values of this type.
     Shown(ValueType, u64),
+    /// An answer: its first byte, or how many bytes it has, where these aren't eight.
+    Answer(Came),
 }
 
 #[tactic(auto, unfolding(co_text::specs::Printed::digits_text))]
@@ -120,6 +127,27 @@ fn push_shown(text: &mut String, value_type: ValueType, number: u64) -> Result<(
     }
 }
 
+fn push_signed(text: &mut String, number: i128) -> Result<(), AllocError>
+    ensures { OnOk result
+        (string_bytes text.new ≡ string_bytes text.old ++ signed_decimal number) }
+{
+    write!(text, "{number}")
+}
+
+// an answer
+#[tactic(auto, unfolding(crate::specs::Values::came_text))]
+fn push_came(text: &mut String, came: Came) -> Result<(), AllocError>
+    ensures { OnOk result (string_bytes text.new ≡ string_bytes text.old ++ came_text came) }
+{
+    if came.length == 8 {
+        attempt!(push_byte(text, came.command));
+        text.push('h')
+    } else {
+        attempt!(text.push_str("of "));
+        push_bytes(text, came.length as u64)
+    }
+}
+
 impl HasText for Value<'_> {
     ghost text_of = { printed };
 
@@ -127,6 +155,7 @@ impl HasText for Value<'_> {
         match *self {
             Value::Words(words) => text.push_str(words),
             Value::Number(number) => push_decimal(text, number),
+            Value::Signed(number) => push_signed(text, number),
             Value::Millis(micros) => push_millis(text, micros),
             Value::Bytes(number) => push_bytes(text, number),
             Value::Byte(byte) => push_byte(text, byte),
@@ -135,6 +164,7 @@ impl HasText for Value<'_> {
             Value::Hexadecimal(number) => push_hexadecimal(text, number),
             Value::Key(key) => text.push_str(key.text().as_str()),
             Value::Shown(value_type, number) => push_shown(text, value_type, number),
+            Value::Answer(came) => push_came(text, came),
         }
     }
 }

@@ -1,5 +1,5 @@
 -- Which requests an answer is owed to, which may take long, what they write, and which sub-blocks are followed, on both sides of each edge, computed from the definitions.
-use Rattle.std.proofs.Common.{◌≡◌, ℕ, ◌+◌, List, [], ◌∷◌, true, false, map, Option, Some, None, refl}
+use Rattle.std.proofs.Common.{◌≡◌, ℕ, ◌+◌, ◌/◌, ◌%◌, List, [], ◌∷◌, true, false, map, Option, Some, None, refl}
 use Rattle.co_frame.specs.FrameContent.{FrameContent}
 use Rattle.co_frame.specs.SdoRequests.{request_row_in}
 use Rattle.co_frame.specs.SdoResponses.{response_row_in}
@@ -22,7 +22,7 @@ use Rattle.conode_compare_transfers.specs.declared.dialogue.Exchange.{Exchange}
 use Rattle.conode_compare_transfers.specs.declared.left.Left.{Left}
 use Rattle.conode_compare_transfers.specs.declared.newest.Newest.TheVariants.{Acknowledge, AllAcknowledged, Answer, Data, LaterAcknowledge, LaterData, LastData, Request}
 use Rattle.conode_compare_transfers.specs.Breaches.{breach_at}
-use Rattle.conode_compare_transfers.specs.Dialogues.{awaited_for, dialogue_heard, exchange_in, interrupted, is_certain, is_late_answer, is_timed, is_awaited, is_in_turn, leaves_block, leaves_slow, left_after, left_after_answer, may_be_segment, may_switch, misses_request, nothing_asked, nothing_left, opens_sub_block, owes, sub_block_after, word_written}
+use Rattle.conode_compare_transfers.specs.Dialogues.{asks_again, awaited_for, dialogue_heard, doubts_request, exchange_in, interrupted, is_certain, is_in_doubt, is_late_answer, is_timed, is_awaited, is_in_turn, leaves_block, leaves_slow, left_after, left_after_answer, may_switch, misses_request, nothing_asked, nothing_left, opens_sub_block, owes, sub_block_after, word_written}
 use Rattle.conode_compare_transfers.specs.NewestFrames.{newest_after, newest_with}
 use Rattle.conode_compare_transfers.specs.Timeouts.{early_abort, is_late, resumed_after, served_key}
 
@@ -319,7 +319,7 @@ opened_elsewhere = refl
 is_out : map (λ first. sub_block_after Server true Stray first true) (0x43 ∷ 0x60 ∷ 0x7F ∷ 0x80 ∷ 0x9F ∷ 0xA1 ∷ 0xC0 ∷ []) ≡ false ∷ false ∷ false ∷ true ∷ true ∷ false ∷ false ∷ []
 is_out = refl
 
-may_be_one : may_be_segment true Initiate ∷ may_be_segment true Part ∷ may_be_segment false Initiate ∷ [] ≡ true ∷ false ∷ false ∷ []
+may_be_one : is_in_doubt true Initiate ∷ is_in_doubt true Part ∷ is_in_doubt false Initiate ∷ [] ≡ true ∷ false ∷ false ∷ []
 may_be_one = refl
 
 -- an upload of 1000:00, and at once a block download of 2000:01; the device refuses the first, and awaits segments
@@ -414,13 +414,88 @@ segments_awaited : (refused_download (record nothing_asked { sub_block = true })
 unfolding dialogue_heard is_certain newest_after newest_with request_row_in response_row_in
 segments_awaited = refl
 
--- with 05040000, which may be of an earlier transfer; of another entry; not at once
+-- with 05040000, which may be of an earlier transfer; of another entry; not at once, and with 05040000 though the device has answered all
 other_refusals : (asked_in_blocks nothing_asked 0xC6 2000000 (0x80 ∷ 0 ∷ 0x20 ∷ 1 ∷ 0 ∷ 0 ∷ 4 ∷ 5 ∷ [])).doubted
     ∷ (asked_in_blocks nothing_asked 0xC6 2000000 (0x80 ∷ 0 ∷ 0x20 ∷ 2 ∷ 2 ∷ 0 ∷ 1 ∷ 6 ∷ [])).doubted
-    ∷ (sent (asked_in_blocks nothing_asked 0xC6 2000000 (0xA4 ∷ 0 ∷ 0x20 ∷ 1 ∷ 30 ∷ 0 ∷ 0 ∷ 0 ∷ [])) 2002000 Server (0x80 ∷ 0 ∷ 0x20 ∷ 1 ∷ 2 ∷ 0 ∷ 1 ∷ 6 ∷ [])).doubted ∷ []
-    ≡ Some 2001000 ∷ Some 2001000 ∷ Some 2002000 ∷ []
+    ∷ (sent (asked_in_blocks nothing_asked 0xC6 2000000 (0xA4 ∷ 0 ∷ 0x20 ∷ 1 ∷ 30 ∷ 0 ∷ 0 ∷ 0 ∷ [])) 2002000 Server (0x80 ∷ 0 ∷ 0x20 ∷ 1 ∷ 2 ∷ 0 ∷ 1 ∷ 6 ∷ [])).doubted
+    ∷ (sent (asked_in_blocks nothing_asked 0xC6 2000000 (0xA4 ∷ 0 ∷ 0x20 ∷ 1 ∷ 30 ∷ 0 ∷ 0 ∷ 0 ∷ [])) 2002000 Server (0x80 ∷ 0 ∷ 0x20 ∷ 1 ∷ 0 ∷ 0 ∷ 4 ∷ 5 ∷ [])).doubted ∷ []
+    ≡ Some 2001000 ∷ Some 2001000 ∷ Some 2002000 ∷ Some 2002000 ∷ []
 unfolding dialogue_heard is_certain newest_after newest_with request_row_in response_row_in
 other_refusals = refl
+
+-- ---- a transfer that is aborted as timed out
+
+-- an upload of 2000:01 is asked for then, and a millisecond later this comes
+abbrev asked_for : ℕ → List ℕ → Dialogue
+asked_for micros answer = sent (sent nothing_asked micros Client (0x40 ∷ 0 ∷ 0x20 ∷ 1 ∷ 0 ∷ 0 ∷ 0 ∷ 0 ∷ [])) (micros + 1000) Server answer
+
+-- and a segment of it, which isn't answered so far
+abbrev next_segment : Dialogue
+next_segment = sent (asked_for 2000000 (0x41 ∷ 0 ∷ 0x20 ∷ 1 ∷ 9 ∷ 0 ∷ 0 ∷ 0 ∷ [])) 2002000 Client (0x60 ∷ 0 ∷ 0 ∷ 0 ∷ 0 ∷ 0 ∷ 0 ∷ 0 ∷ [])
+
+-- with 05040000 the request, or the segment, may be answered later; not with 05040001 and 08000022, nor where the device has answered all
+timed_out_in_doubt : (asked_for 2000000 (0x80 ∷ 0 ∷ 0x20 ∷ 1 ∷ 0 ∷ 0 ∷ 4 ∷ 5 ∷ [])).doubted
+    ∷ (sent next_segment 2003000 Server (0x80 ∷ 0 ∷ 0x20 ∷ 1 ∷ 0 ∷ 0 ∷ 4 ∷ 5 ∷ [])).doubted ∷ []
+    ≡ Some 2001000 ∷ Some 2003000 ∷ []
+unfolding dialogue_heard is_certain newest_after newest_with request_row_in response_row_in
+timed_out_in_doubt = refl
+
+refused_without_doubt : (asked_for 2000000 (0x80 ∷ 0 ∷ 0x20 ∷ 1 ∷ 1 ∷ 0 ∷ 4 ∷ 5 ∷ [])).doubted
+    ∷ (sent next_segment 2003000 Server (0x80 ∷ 0 ∷ 0x20 ∷ 1 ∷ 0x22 ∷ 0 ∷ 0 ∷ 8 ∷ [])).doubted
+    ∷ (sent (asked_for 2000000 (0x41 ∷ 0 ∷ 0x20 ∷ 1 ∷ 9 ∷ 0 ∷ 0 ∷ 0 ∷ [])) 3001000 Server (0x80 ∷ 0 ∷ 0x20 ∷ 1 ∷ 0 ∷ 0 ∷ 4 ∷ 5 ∷ [])).doubted ∷ []
+    ≡ None ∷ None ∷ None ∷ []
+unfolding dialogue_heard is_certain newest_after newest_with request_row_in response_row_in
+refused_without_doubt = refl
+
+-- ---- the entry is asked for again
+
+abbrev request_of : ℕ → FrameContent
+request_of index = record { id = 0x605; bytes = 0x40 ∷ index % 256 ∷ index / 256 ∷ 1 ∷ 0 ∷ 0 ∷ 0 ∷ 0 ∷ [] }
+
+abbrev after_request : Option Key → Option ℕ → Dialogue
+after_request entry doubted = record nothing_asked { entry = entry; doubted = doubted }
+
+-- 2000:01, while the request before may still be answered, of the same entry; of others; of none; where none can be answered
+asked_again : map (λ micros. asks_again 1000 (after_request (Some (entry 0x2000)) (Some 2000000)) micros (request_of 0x2000)) (3000000 ∷ 3000001 ∷ []) ≡ true ∷ false ∷ []
+asked_again = refl
+
+not_asked_again : asks_again 1000 (after_request (Some (entry 0x2001)) (Some 2000000)) 3000000 (request_of 0x2000)
+    ∷ asks_again 1000 (after_request None (Some 2000000)) 3000000 (request_of 0x2000)
+    ∷ asks_again 1000 (after_request (Some (entry 0x2000)) None) 3000000 (request_of 0x2000) ∷ []
+    ≡ false ∷ false ∷ false ∷ []
+not_asked_again = refl
+
+doubts_either : map (λ d. doubts_request 1000 d 3000000 (request_of 0x2000))
+    (record nothing_asked { sub_block = true } ∷ after_request (Some (entry 0x2000)) (Some 2000000) ∷ nothing_asked ∷ [])
+    ≡ true ∷ true ∷ false ∷ []
+doubts_either = refl
+
+-- 2000:01 is asked for, given up by the client, asked for again 0.9 s later, and refused, perhaps the first time: the second answer may come
+-- until a second after its request
+abbrev given_up_first : Dialogue
+given_up_first = sent
+    (sent nothing_asked 2000000 Client (0x40 ∷ 0 ∷ 0x20 ∷ 1 ∷ 0 ∷ 0 ∷ 0 ∷ 0 ∷ []))
+    2100000
+    Client
+    (0x80 ∷ 0 ∷ 0x20 ∷ 1 ∷ 0 ∷ 0 ∷ 4 ∷ 5 ∷ [])
+
+abbrev refused_again : ℕ → Dialogue
+refused_again sub = sent
+    (sent given_up_first 3000000 Client (0x40 ∷ 0 ∷ 0x20 ∷ sub ∷ 0 ∷ 0 ∷ 0 ∷ 0 ∷ []))
+    3001000
+    Server
+    (0x80 ∷ 0 ∷ 0x20 ∷ sub ∷ 2 ∷ 0 ∷ 1 ∷ 6 ∷ [])
+
+-- after another entry the first one can't be answered any more
+doubted_again : map (λ sub. (refused_again sub).doubted) (1 ∷ 2 ∷ []) ≡ Some 3000000 ∷ Some 2100000 ∷ []
+unfolding dialogue_heard is_certain newest_after newest_with request_row_in response_row_in
+doubted_again = refl
+
+-- the entry of the newest request, whatever comes after it
+entry_kept : map (λ (d : Dialogue). d.entry) (nothing_asked ∷ given_up_first ∷ refused_again 2 ∷ interrupted given_up_first 9000000 ∷ [])
+    ≡ None ∷ Some (record { index = 0x2000; sub = 1 }) ∷ Some (record { index = 0x2000; sub = 2 }) ∷ Some (record { index = 0x2000; sub = 1 }) ∷ []
+unfolding dialogue_heard is_certain newest_after newest_with request_row_in response_row_in
+entry_kept = refl
 
 -- ---- how long the client is awaited
 

@@ -3,6 +3,7 @@
 use Rattle.std.specs.Prelude.{ℕ, ◌+◌, ◌-◌, ◌/◌, ◌%◌, ◌==◌, nat_le, nat_lt, Bool, true, false, not, ◌&&◌, ◌||◌, if◌then◌else◌, [], ◌∷◌, Option, Some, None, is_some}
 use Rattle.std.specs.Option.{option_map_or}
 use Rattle.co_frame.specs.AbortCodes.{timed_out}
+use Rattle.co_frame.specs.declared.abort_code.AbortCode.{AbortCode}
 use Rattle.co_frame.specs.FrameContent.{FrameContent}
 use Rattle.co_profile.specs.Indices.{store_parameters, restore_parameters}
 use Rattle.co_value.specs.declared.key.Key.{Key}
@@ -36,7 +37,7 @@ abbrev pub nothing_left : Left
 nothing_left = record { count = 0; newest = 0 }
 
 abbrev pub nothing_asked : Dialogue
-nothing_asked = record { channel = nothing_heard; asked = None; doubted = None; slow = nothing_left; sub_block = false; newest = None; requested = 0 }
+nothing_asked = record { channel = nothing_heard; asked = None; entry = None; doubted = None; slow = nothing_left; sub_block = false; newest = None; requested = 0 }
 
 -- ---- initiate requests
 
@@ -65,26 +66,35 @@ asked_after Initiate micros frame = Some (record {
 })
 asked_after what micros frame = None
 
+-- the entry of the newest initiate request
+abbrev pub entry_after : What → FrameContent → Option Key → Option Key
+entry_after Initiate frame entry = Some (key_in frame)
+entry_after what frame entry = entry
+
 -- ---- doubts
 
--- A transfer that both ends know to have ended. An abort of another entry answers an earlier request.
--- Of a block transfer that isn't assumed, but where its initiate request, which came when no earlier one
--- could be answered (`owed`), is refused: then no segment and no acknowledge is on its way. An abort with
--- 05040000 may be of an earlier transfer of the entry.
+-- An abort with 05040000 may be of an earlier transfer of the entry, or sent before the device took the
+-- client's frame, which it answers later; not where it has answered all (`quiet`).
+abbrev pub is_final : Bool → AbortCode → Bool
+is_final quiet code = quiet || not (code.0 == timed_out)
+
+-- A transfer that both ends know to have ended. An abort of another entry answers an earlier request. Of a
+-- block transfer it isn't assumed, but where its initiate request, which came when no earlier one could be
+-- answered (`owed`), is refused: then no segment and no acknowledge is on its way.
 abbrev pub is_block : Protocol → Bool
 is_block Block = true
 is_block other = false
 
-abbrev pub is_known_end : Bool → Bool → Ending → Key → FrameContent → Bool
-is_known_end owed block (Done crc) key frame = not block
-is_known_end owed block (Aborted Server code) key frame = ((owed && not (code.0 == timed_out)) || not block) && same_key (key_in frame) key
-is_known_end owed block other key frame = false
+abbrev pub is_known_end : Bool → Bool → Bool → Ending → Key → FrameContent → Bool
+is_known_end owed quiet block (Done crc) key frame = not block
+is_known_end owed quiet block (Aborted Server code) key frame = (owed || not block) && (is_final quiet code && same_key (key_in frame) key)
+is_known_end owed quiet block other key frame = false
 
-abbrev pub both_know_its_end : Bool → Ended → FrameContent → Bool
-both_know_its_end owed ended frame = is_known_end owed (is_block ended.protocol) ended.ending ended.key frame
+abbrev pub both_know_its_end : Bool → Bool → Ended → FrameContent → Bool
+both_know_its_end owed quiet ended frame = is_known_end owed quiet (is_block ended.protocol) ended.ending ended.key frame
 
-abbrev pub ends_in_doubt : Bool → Option Ended → FrameContent → Bool
-ends_in_doubt owed ended frame = option_map_or (λ e. not (both_know_its_end owed e frame)) ended false
+abbrev pub ends_in_doubt : Bool → Bool → Option Ended → FrameContent → Bool
+ends_in_doubt owed quiet ended frame = option_map_or (λ e. not (both_know_its_end owed quiet e frame)) ended false
 
 -- a frame that goes on with the open transfer
 abbrev pub continues : What → Bool
@@ -103,8 +113,14 @@ is_odd Client what = not (is_initiate what || continues what)
 
 -- After a frame an earlier request may still be answered: a transfer was left, or the frame goes on
 -- with none.
-abbrev pub leaves_request_open : Bool → Side → Heard → FrameContent → Bool
-leaves_request_open owed side heard frame = is_odd side heard.what || ends_in_doubt owed heard.ended frame
+abbrev pub leaves_request_open : Bool → Bool → Side → Heard → FrameContent → Bool
+leaves_request_open owed quiet side heard frame = is_odd side heard.what || ends_in_doubt owed quiet heard.ended frame
+
+-- An initiate request of the same entry as the one before, while an earlier request may still be
+-- answered: the answer to that looks like its own, which comes later.
+abbrev pub asks_again : ℕ → Dialogue → ℕ → FrameContent → Bool
+asks_again answer dialogue micros frame =
+    option_map_or (same_key (key_in frame)) dialogue.entry false && option_map_or (λ d. not (is_past d answer micros)) dialogue.doubted false
 
 -- ---- sub-blocks that aren't followed
 
@@ -141,9 +157,12 @@ abbrev pub sub_block_after : Side → Bool → What → ℕ → Bool → Bool
 sub_block_after Client leaves what first awaits = awaits || leaves
 sub_block_after Server leaves what first awaits = server_sub_block leaves what first awaits
 
--- then a request may be a segment, which isn't answered
-abbrev pub may_be_segment : Bool → What → Bool
-may_be_segment awaits what = awaits && is_initiate what
+-- then a request may be a segment, which isn't answered; or it asks again
+abbrev pub doubts_request : ℕ → Dialogue → ℕ → FrameContent → Bool
+doubts_request answer dialogue micros frame = dialogue.sub_block || asks_again answer dialogue micros frame
+
+abbrev pub is_in_doubt : Bool → What → Bool
+is_in_doubt doubts what = doubts && is_initiate what
 
 -- ---- requests that may take long
 
@@ -297,10 +316,11 @@ exchange_in answer started dialogue micros side frame = record {
   awaited = awaited_for dialogue.newest dialogue.requested micros;
 }
 
--- `owed`: an answer is owed to the initiate request right before this frame
-abbrev pub doubted_after : Bool → Bool → Side → Heard → FrameContent → Option ℕ → ℕ → Option ℕ
-doubted_after owed awaits side heard frame doubted micros =
-    if leaves_request_open owed side heard frame || may_be_segment awaits heard.what then Some micros else doubted
+-- `owed`: an answer is owed to the initiate request right before this frame; `quiet`: the device has
+-- answered all; `doubts`: a request is in doubt
+abbrev pub doubted_after : Bool → Bool → Bool → Side → Heard → FrameContent → Option ℕ → ℕ → Option ℕ
+doubted_after owed quiet doubts side heard frame doubted micros =
+    if leaves_request_open owed quiet side heard frame || is_in_doubt doubts heard.what then Some micros else doubted
 
 -- A transfer isn't judged whose initiate request comes while an earlier request may still be answered.
 abbrev pub newest_heard : Bool → Side → What → FrameContent → Option Newest → Option Newest
@@ -309,7 +329,8 @@ newest_heard certain side what frame newest = if is_initiate what && not certain
 unfoldable pub dialogue_heard : ℕ → ℕ → Dialogue → ℕ → Side → FrameContent → Dialogue
 dialogue_heard answer started dialogue micros side frame =
     let f = followed dialogue.channel micros side frame.bytes in
-    let doubted = doubted_after (owes answer started dialogue) dialogue.sub_block side f.says frame dialogue.doubted micros in
+    let doubts = doubts_request answer dialogue micros frame in
+    let doubted = doubted_after (owes answer started dialogue) (owes_nothing dialogue.newest) doubts side f.says frame dialogue.doubted micros in
     let other = names_other f.says.ended frame in
     let leaves = leaves_slow other dialogue.newest f.says.ended in
     let turns = is_in_turn answer started dialogue side f.says.what frame in
@@ -317,6 +338,7 @@ dialogue_heard answer started dialogue micros side frame =
     record {
       channel = f.next;
       asked = asked_after f.says.what micros frame;
+      entry = entry_after f.says.what frame dialogue.entry;
       doubted = doubted;
       slow = slow;
       sub_block = sub_block_after side (leaves_block other f.says.ended) f.says.what (byte_at frame 0) dialogue.sub_block;
@@ -334,6 +356,7 @@ abbrev pub interrupted : Dialogue → ℕ → Dialogue
 interrupted dialogue micros = record {
   channel = after_boot dialogue.channel;
   asked = None;
+  entry = dialogue.entry;
   doubted = if is_some dialogue.channel.transfer then Some micros else dialogue.doubted;
   slow = left_after (leaves_slow false dialogue.newest (broken_off dialogue.channel.transfer micros)) micros dialogue.slow;
   sub_block = dialogue.sub_block || leaves_block false (broken_off dialogue.channel.transfer micros);

@@ -5,16 +5,21 @@ ghost use Rattle.conode_explain_transfers.specs.Followed.{followed};
 ghost use Rattle.conode_compare_transfers.specs.Dialogues.{
   answers_in_turn,
   asked_after,
+  asks_again,
   asks_to_write,
   awaited_for,
   leaves_request_open,
   dialogue_heard,
   doubted_after,
+  doubts_request,
   ends_in_doubt,
+  entry_after,
   both_know_its_end,
   given_up,
   interrupted,
   is_certain,
+  is_final,
+  is_in_doubt,
   is_in_turn,
   is_initiate,
   is_late_answer,
@@ -26,7 +31,6 @@ ghost use Rattle.conode_compare_transfers.specs.Dialogues.{
   is_unasked,
   leaves_block,
   leaves_slow,
-  may_be_segment,
   may_switch,
   misses_request,
   names_other,
@@ -73,6 +77,8 @@ pub struct Dialogue {
     pub channel: Channel,
     /// The initiate request, where it is the newest frame.
     pub asked: Option<Asked>,
+    /// The entry of the newest initiate request.
+    pub entry: Option<Key>,
     /// The stamp of the newest frame by which an earlier request may still be answered.
     pub doubted: Option<u64>,
     /// The requests that may take long and were left before their answer.
@@ -297,12 +303,30 @@ fn asked_after(what: What, micros: u64, frame: &Frame) -> Option<Asked>
     }
 }
 
+// the entry of the newest initiate request after a frame
+fn entry_after(what: What, frame: &Frame, entry: Option<Key>) -> Option<Key>
+    ensures { result ≡ entry_after what frame.now entry }
+{
+    match what {
+        What::Initiate => Some(key_in(frame)),
+        _ => entry,
+    }
+}
+
+// Whether nothing is answered after an abort of the device. One with 05040000 may be of an earlier
+// transfer of the entry, or sent before the device took the client's frame, which it answers later;
+// not where it has answered all (`quiet`).
+fn is_final(quiet: bool, code: AbortCode) -> bool
+    ensures { result ≡ is_final quiet code }
+{
+    quiet || code != AbortCode::TIMED_OUT
+}
+
 // Whether both ends know the end of a transfer that a frame ended. An abort of another entry answers
-// an earlier request. Of a block transfer that isn't assumed, but where its initiate request is
-// refused, and an answer was owed to that (`owed`): not with 05040000, which may be of an earlier
-// transfer of the entry.
-fn both_know_its_end(owed: bool, ended: &Ended, frame: &Frame) -> bool
-    ensures { result ≡ both_know_its_end owed ended.now frame.now }
+// an earlier request. Of a block transfer it isn't assumed, but where its initiate request is refused,
+// and an answer was owed to that (`owed`).
+fn both_know_its_end(owed: bool, quiet: bool, ended: &Ended, frame: &Frame) -> bool
+    ensures { result ≡ both_know_its_end owed quiet ended.now frame.now }
 {
     let is_block = matches!(ended.protocol, Protocol::Block);
     match ended.ending {
@@ -310,19 +334,16 @@ fn both_know_its_end(owed: bool, ended: &Ended, frame: &Frame) -> bool
         Ending::Aborted {
             by: Side::Server,
             code,
-        } => {
-            let is_refused = owed && code != AbortCode::TIMED_OUT;
-            (is_refused || !is_block) && key_in(frame) == ended.key
-        }
+        } => (owed || !is_block) && is_final(quiet, code) && key_in(frame) == ended.key,
         _ => false,
     }
 }
 
-fn ends_in_doubt(owed: bool, ended: &Option<Ended>, frame: &Frame) -> bool
-    ensures { result ≡ ends_in_doubt owed ended.now frame.now }
+fn ends_in_doubt(owed: bool, quiet: bool, ended: &Option<Ended>, frame: &Frame) -> bool
+    ensures { result ≡ ends_in_doubt owed quiet ended.now frame.now }
 {
     match ended {
-        Some(ended) => !both_know_its_end(owed, ended, frame),
+        Some(ended) => !both_know_its_end(owed, quiet, ended, frame),
         None => false,
     }
 }
@@ -393,38 +414,40 @@ fn sub_block_after(side: Side, leaves: bool, what: What, first: u8, awaits: bool
     }
 }
 
-// whether a request may be a segment of such a sub-block
-fn may_be_segment(awaits: bool, what: What) -> bool
-    ensures { result ≡ may_be_segment awaits what }
+// whether a frame is an initiate request that is in doubt
+fn is_in_doubt(doubts: bool, what: What) -> bool
+    ensures { result ≡ is_in_doubt doubts what }
 {
-    awaits && is_initiate(what)
+    doubts && is_initiate(what)
 }
 
 // whether after a frame an earlier request may still be answered
-fn leaves_request_open(owed: bool, side: Side, heard: &Heard, frame: &Frame) -> bool
-    ensures { result ≡ leaves_request_open owed side heard.now frame.now }
+fn leaves_request_open(owed: bool, quiet: bool, side: Side, heard: &Heard, frame: &Frame) -> bool
+    ensures { result ≡ leaves_request_open owed quiet side heard.now frame.now }
 {
     let odd = match side {
         Side::Server => !continues(heard.what),
         Side::Client => !(is_initiate(heard.what) || continues(heard.what)),
     };
-    odd || ends_in_doubt(owed, &heard.ended, frame)
+    odd || ends_in_doubt(owed, quiet, &heard.ended, frame)
 }
 
 // The stamp of the newest frame by which an earlier request may still be answered. `owed`: an answer
-// is owed to the initiate request right before this frame.
+// is owed to the initiate request right before this frame; `quiet`: the device has answered all;
+// `doubts`: a request is in doubt.
 fn doubted_after(
     owed: bool,
-    awaits: bool,
+    quiet: bool,
+    doubts: bool,
     side: Side,
     heard: &Heard,
     frame: &Frame,
     doubted: Option<u64>,
     micros: u64,
 ) -> Option<u64>
-    ensures { result ≡ doubted_after owed awaits side heard.now frame.now doubted micros }
+    ensures { result ≡ doubted_after owed quiet doubts side heard.now frame.now doubted micros }
 {
-    if leaves_request_open(owed, side, heard, frame) || may_be_segment(awaits, heard.what) {
+    if leaves_request_open(owed, quiet, side, heard, frame) || is_in_doubt(doubts, heard.what) {
         Some(micros)
     } else {
         doubted
@@ -471,6 +494,7 @@ impl Dialogue {
         Dialogue {
             channel: Channel::new(),
             asked: None,
+            entry: None,
             doubted: None,
             slow: Left::new(),
             sub_block: false,
@@ -499,6 +523,26 @@ impl Dialogue {
             }
             None => false,
         }
+    }
+
+    // Whether a request is of the same entry as the one before, while an earlier request may still be
+    // answered: the answer to that looks like its own, which comes later.
+    fn asks_again(&self, answer: u32, micros: u64, frame: &Frame) -> bool
+        ensures { result ≡ asks_again answer self.now micros frame.now }
+    {
+        match (self.entry, self.doubted) {
+            (Some(entry), Some(doubted)) => {
+                key_in(frame) == entry && !is_past(doubted, answer, micros)
+            }
+            _ => false,
+        }
+    }
+
+    // Whether a request is in doubt: it may be a segment, which isn't answered, or it asks again.
+    fn doubts_request(&self, answer: u32, micros: u64, frame: &Frame) -> bool
+        ensures { result ≡ doubts_request answer self.now micros frame.now }
+    {
+        self.sub_block || self.asks_again(answer, micros, frame)
     }
 
     // Whether the request of an answer may be missing in the recording: the client's newest frame is
@@ -546,6 +590,8 @@ impl Dialogue {
         let known = self.is_certain(answer, started, micros);
         let asked = self.asked;
         let awaited = awaited_for(self.newest, self.requested, micros);
+        let quiet = owes_nothing(self.newest);
+        let doubts = self.doubts_request(answer, micros, frame);
         let heard = self.channel.take(micros, side, frame);
         let breach = breach_at(self.newest, side, &heard, frame);
         let late = is_late_answer(side, &heard, frame);
@@ -555,8 +601,17 @@ impl Dialogue {
         let leaves = leaves_slow(other, self.newest, &heard.ended);
         self.slow = self.slow.after_answer(late, turns).after(leaves, micros);
         self.asked = asked_after(heard.what, micros, frame);
-        let awaits = self.sub_block;
-        self.doubted = doubted_after(owed, awaits, side, &heard, frame, self.doubted, micros);
+        self.entry = entry_after(heard.what, frame, self.entry);
+        self.doubted = doubted_after(
+            owed,
+            quiet,
+            doubts,
+            side,
+            &heard,
+            frame,
+            self.doubted,
+            micros,
+        );
         let left = leaves_block(other, &heard.ended);
         self.sub_block = sub_block_after(side, left, heard.what, byte_at(frame, 0), self.sub_block);
         let judged = self.is_certain(answer, started, micros);

@@ -300,8 +300,8 @@ fn all_printed(bytes: &[u8]) -> bool
     bytes.iter().all(|byte| is_printed(*byte))
 }
 
-// whether a text of the data sheet can be compared
-fn is_comparable(bytes: &[u8]) -> bool
+/// Whether a text of the data sheet can be compared.
+pub fn is_comparable(bytes: &[u8]) -> bool
     ensures { result ≡ is_comparable bytes.now }
 {
     bytes.len() <= KEPT && (all_printed(bytes) && is_first(byte_of(bytes, 0)))
@@ -313,9 +313,9 @@ fn begins_with(bytes: &[u8], shown: &[u8]) -> bool
     bytes.len() <= shown.len() && &shown[..bytes.len()] == bytes
 }
 
-// Whether another text is shown. A data sheet has no blanks at either end, and a device may add
-// zeros; the number of bytes that are shown may be known exactly.
-fn is_other_text(exact: bool, bytes: &[u8], shown: &[u8]) -> bool
+/// Whether another text is shown. A data sheet has no blanks at either end, and a device may add
+/// zeros; `exact`: it is known how many of the bytes that are shown count.
+pub fn is_other_text(exact: bool, bytes: &[u8], shown: &[u8]) -> bool
     ensures { result ≡ is_other_text exact bytes.now shown.now }
 {
     byte_of(shown, 0) != b' '

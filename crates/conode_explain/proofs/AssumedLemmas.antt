@@ -1,4 +1,4 @@
--- What a PDO of the pre-defined connection set says, of which no more is known.
+-- What a PDO of the pre-defined connection set says, of which no more is known; and SYNC.
 use Rattle.std.proofs.Common.{◌≡◌, ℕ, ◌-◌, ◌*◌, ◌/◌, ◌%◌, ◌<◌, ◌≤◌, Bool, true, false, List, [], ◌∷◌, ◌++◌, None, ltb, eqb, length, refl, sym, ap, ◌∙◌, append_assoc, arith}
 use Rattle.std.specs.Prelude.{◌&&◌, codes, decimal, not}
 use Rattle.std.specs.Fmt.{digits}
@@ -9,7 +9,7 @@ use Rattle.std.proofs.lemmas.List.{append-nil}
 use Rattle.co_text.proofs.Tests.{by_test}
 use Rattle.co_sheet_changes.specs.Names.{Names}
 use Rattle.conode_decode.specs.Services.{service_at}
-use Rattle.conode_decode.specs.Texts.{of_node, pdo_text, service_text, text_of_frame, unknown_text}
+use Rattle.conode_decode.specs.Texts.{of_node, pdo_text, service_text, sync_text, text_of_frame, unknown_text}
 use Rattle.co_frame.specs.FrameContent.{FrameContent}
 use Rattle.conode_explain_pdo.specs.declared.claim.Claim.{Claim}
 use Rattle.conode_explain_pdo.specs.Buses.{Bus, names_at}
@@ -18,7 +18,7 @@ use Rattle.conode_explain_services.specs.Lengths.{fixed_at}
 use Rattle.conode_explain_services.specs.Reserved.{is_reserved}
 use Rattle.conode_explain_services.specs.Services.{service_words, state_words}
 use Rattle.conode_explain.specs.AbortWords.{abort_words}
-use Rattle.conode_explain.specs.FrameWords.{assumed_front, assumed_mark, assumed_words, frame_words, is_default_pdo, is_of_drive, other_words, plain_words, served_words}
+use Rattle.conode_explain.specs.FrameWords.{assumed_front, assumed_mark, assumed_words, frame_words, is_bare_sync, is_default_pdo, is_of_drive, other_words, plain_words, served_words, sync_words}
 use Rattle.conode_explain.specs.Transfers.{transfer_in, transfer_words}
 
 -- it is between these numbers, and of a node
@@ -116,6 +116,22 @@ pub assumed : (bus : Bus) (named : Bool) (last : Last) (id : ℕ) (bytes : List 
 unfolding frame_words transfer_words other_words served_words
 assumed bus named last id bytes is =
     rw (no_transfer id bytes (above id is) (below id is), no_service id bytes (above id is) (below id is) (is_of_drive bus (record { id = id; bytes = bytes })) last) (sym (plain (names_at bus (id % 128)) named last id bytes is))
+
+no_bytes : (bytes : List ℕ) → eqb (length bytes) 0 ≡ true → bytes ≡ []
+no_bytes [] none = refl
+no_bytes (byte ∷ bytes) none = absurd (omega (arith, eqb-true (length (byte ∷ bytes)) 0 none))
+
+at_sync : (bus : Bus) (named : Bool) (last : Last) → sync_words named ≡ frame_words bus [] named last (record { id = 0x080; bytes = [] })
+unfolding frame_words transfer_words transfer_in other_words served_words service_words fixed_at text_of_frame sync_text abort_words state_words
+at_sync bus true last = refl
+at_sync bus false last = refl
+
+-- SYNC has no words of its own, and says no more
+pub bare_sync : (bus : Bus) (named : Bool) (last : Last) (id : ℕ) (bytes : List ℕ) → is_bare_sync id bytes ≡ true
+    → sync_words named ≡ frame_words bus [] named last (record { id = id; bytes = bytes })
+bare_sync bus named last id bytes is =
+    let parts = and_parts (eqb id 0x080) (eqb (length bytes) 0) is in
+    rw (eqb-true id 0x080 parts.0, no_bytes bytes parts.1) (at_sync bus named last)
 
 pub none_there : (claims : List Claim) → length claims < 1 → claims ≡ []
 none_there [] few = refl

@@ -5,6 +5,7 @@ pub mod Explaining
 mod ChangeExamples
 mod FilterExamples
 pub mod LogLemmas
+pub mod NodeDigitsTable
 pub mod NodeExamples
 pub mod ServiceLemmas
 pub mod SheetExamples

@@ -1,5 +1,5 @@
 -- What a frame says.
-use Rattle.std.specs.Prelude.{ℕ, ◌/◌, ◌%◌, ◌==◌, nat_lt, Bool, not, ◌&&◌, ◌||◌, if◌then◌else◌, List, [], ◌∷◌, ◌++◌, codes, decimal, unwrap_or}
+use Rattle.std.specs.Prelude.{ℕ, ◌/◌, ◌%◌, ◌==◌, nat_lt, Bool, not, ◌&&◌, ◌||◌, if◌then◌else◌, List, [], ◌∷◌, ◌++◌, codes, decimal, length, unwrap_or}
 use Rattle.co_sheet_changes.specs.Names.{Names}
 use Rattle.conode_decode.specs.Texts.{text_of_frame}
 use Rattle.conode_record.specs.declared.content.Content.{Content}
@@ -67,6 +67,14 @@ assumed_front step =
 
 unfoldable pub assumed_words : ℕ → List ℕ
 assumed_words id = assumed_front (id / 128) ++ decimal (id % 128)
+
+-- SYNC without a counter
+abbrev pub is_bare_sync : ℕ → List ℕ → Bool
+is_bare_sync id bytes = (id == 0x080) && (length bytes == 0)
+
+-- which a COB-ID names or not
+abbrev pub sync_words : Bool → List ℕ
+sync_words named = if named then codes "SYNC" else codes "~SYNC"
 
 -- what data say, by the identifier
 abbrev pub data_words : Bus → List Claim → Bool → Last → Identifier → List ℕ → List ℕ

@@ -4,6 +4,7 @@ pub mod Explained
 pub mod Filtered
 pub mod FrameWords
 pub mod LogLines
+pub mod NodeDigits
 pub mod Nodes
 pub mod Sheets
 pub mod Taking

@@ -12,21 +12,23 @@ ghost use Rattle.conode_explain.specs.FrameWords.{
   assumed_mark,
   assumed_words,
   frame_words,
+  is_bare_sync,
   is_default_pdo,
   is_default_service,
   is_of_drive,
   other_words,
   plain_words,
   served_words,
+  sync_words,
   words_of_content,
 };
 
 use crate::abort_words::push_abort_words;
+use crate::node_digits::push_node;
 use crate::progress::last_of;
 use crate::transfer::{push_transfer, transfer_in};
 use co_frame::Frame;
 use co_sheet_changes::Names;
-use co_text::push_decimal;
 use co_value::PackedBytes;
 use conode_decode::push_text;
 use conode_explain_pdo::{Bus, Claim, push_pdos};
@@ -164,7 +166,47 @@ fn push_assumed_words(said: &mut String, id: u16) -> Result<(), AllocError>
     ensures { OnOk result (string_bytes said.new ≡ string_bytes said.old ++ assumed_words id) }
 {
     attempt!(said.push_str(assumed_front(id / 128)));
-    push_decimal(said, (id % 128) as u64)
+    push_node(said, (id % 128) as u8)
+}
+
+fn is_bare_sync(id: u16, bytes: &PackedBytes) -> bool
+    ensures { result ≡ is_bare_sync id bytes.now }
+{
+    id == 0x080 && bytes.len() == 0
+}
+
+fn push_sync(said: &mut String, named: bool) -> Result<(), AllocError>
+    ensures { OnOk result (string_bytes said.new ≡ string_bytes said.old ++ sync_words named) }
+{
+    said.push_str(if named { "SYNC" } else { "~SYNC" })
+}
+
+// what data with an identifier of 11 bits say that is no PDO of the pre-defined connection set, of
+// this frame
+#[inline(always)]
+fn push_other_base_words(
+    said: &mut String,
+    bus: Bus<'_, '_, '_, '_, '_>,
+    claims: &[Claim],
+    named: bool,
+    nodes: &Nodes,
+    id: u16,
+    bytes: &PackedBytes,
+    frame: &Record<'_>,
+) -> Result<(), AllocError>
+    requires id { id < 2048 }
+    requires of { IsIdentifier frame.now.id }
+    ensures { OnOk result (string_bytes said.new ≡ string_bytes said.old
+        ++ frame_words (bus_view bus.entry) claims.now named (last_at nodes.now (Base id) frame.now)
+        (record { id = id; bytes = bytes.now })) }
+{
+    match claims {
+        [] if is_bare_sync(id, bytes) => push_sync(said, named),
+        _ => {
+            let last = last_of(nodes, Identifier::Base(id), frame);
+            push_frame_words(said, bus, claims, named, &last, &Frame::packed(id, bytes))
+        }
+    }
 }
 
 // what data with an identifier of 11 bits say, of this frame
@@ -187,10 +229,7 @@ fn push_base_words(
     match claims {
         // most frames of most recordings
         [] if is_default_pdo(id) => push_assumed_words(said, id),
-        _ => {
-            let last = last_of(nodes, Identifier::Base(id), frame);
-            push_frame_words(said, bus, claims, named, &last, &Frame::packed(id, bytes))
-        }
+        _ => push_other_base_words(said, bus, claims, named, nodes, id, bytes, frame),
     }
 }
 

@@ -49,12 +49,14 @@ mod explain_file;
 mod explained;
 mod filtered;
 mod frame_words;
+mod node_digits;
 mod progress;
 mod settings;
 mod sheets;
 mod step;
 mod told_words;
 mod transfer;
+mod untold;
 mod whose;
 mod writes;
 

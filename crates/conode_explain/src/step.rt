@@ -24,6 +24,7 @@ use crate::bad_words::bad_words;
 use crate::ends::{write_unfinished_default, write_unfinished_further};
 use crate::progress::Progress;
 use crate::settings::Settings;
+use crate::untold::Untold;
 use crate::writes::{Room, write_frame};
 use co_stream::{BoundedLines, Found};
 use conode_convert::{TOO_LONG, add_frame, name_bad_line, name_cut, read_fault};
@@ -43,6 +44,7 @@ pub(crate) struct Explaining {
     room: Room,
     frame: Vec<u8>,
     claims: Vec<Claim>,
+    untold: Untold,
 }
 
 // Takes a line in the form of `candump -L`, and writes the line of its frame, if it has one. Returns
@@ -53,6 +55,7 @@ fn explain_record<W: Write>(
     claims: &mut Vec<Claim>,
     progress: &mut Progress,
     settings: &Settings<'_, '_, '_, '_>,
+    untold: &Untold,
     line: &[u8],
     out: &mut W,
 ) -> Result<Option<&'static str>, CmdFault>
@@ -68,7 +71,7 @@ fn explain_record<W: Write>(
     match RecordLine::read(line) {
         Ok(RecordLine::Skipped) => Ok(None),
         Ok(RecordLine::Frame(frame)) => {
-            attempt!(write_frame(room, claims, progress, settings, &frame, out));
+            attempt!(write_frame(room, claims, progress, settings, untold, &frame, out));
             Ok(None)
         }
         Err(bad) => Ok(Some(bad_words(bad))),
@@ -142,6 +145,7 @@ impl Explaining {
             },
             frame: Vec::new(alloc),
             claims: Vec::new(alloc),
+            untold: Untold::new(),
         }
     }
 
@@ -178,15 +182,16 @@ impl Explaining {
         let room = &mut self.room;
         let claims = &mut self.claims;
         let progress = &mut self.progress;
+        let untold = &self.untold;
         let line = self.lines.line();
         if let Form::Candump = self.log.form {
-            return explain_record(room, claims, progress, settings, line, out);
+            return explain_record(room, claims, progress, settings, untold, line, out);
         }
         match take_any(&mut self.frame, &mut self.log, line) {
             Ok(Said::Nothing) => Ok(None),
             Ok(Said::Line) => {
                 let line = self.frame.as_slice();
-                explain_record(room, claims, progress, settings, line, out)
+                explain_record(room, claims, progress, settings, untold, line, out)
             }
             Ok(Said::Bad(words)) => Ok(Some(words)),
             Err(_) => Err(CmdFault::Memory),

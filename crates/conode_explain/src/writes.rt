@@ -31,6 +31,7 @@ use crate::filtered::{is_news, shows_frame, subject_by};
 use crate::progress::{Layout, LineFormat, Progress, may_be_told};
 use crate::settings::Settings;
 use crate::told_words::set_told_words;
+use crate::untold::Untold;
 use crate::whose::{Whose, is_named, read_by, whose_of};
 use conode_explain_entries::{Entries, Place, push_moved};
 use conode_explain_filter::Lasts;
@@ -45,9 +46,6 @@ use conode_io::{CmdFault, hand_over};
 use conode_record::{Identifier, Record};
 use std::alloc::{AllocError, Global};
 use std::io::Write;
-
-/// Of a frame of no SDO channel nothing is said. A constant, since what is said is large.
-const UNTOLD: Option<Told> = None;
 
 /// Scratch space for a line, reused for each one.
 #[derive(Drop)]
@@ -422,18 +420,23 @@ fn write_heard<W: Write>(
         (sheets_of settings.now) (heard_at progress.old frame.now place) place frame.now
         (told_at progress.old frame.now place)) }
 {
-    let told = attempt_value_in_memory!(progress.tell_at(frame, place));
-    write_by(room, claims, progress, settings, place, frame, &told, out)
+    let told = progress.tell_at(frame, place);
+    // (by reference, since what is said is large)
+    match &told {
+        Ok(told) => write_by(room, claims, progress, settings, place, frame, told, out),
+        Err(_) => Err(CmdFault::Memory),
+    }
 }
 
 /// Writes the lines of a frame, and adds it to what the recording showed; `claims` is scratch space
-/// for its PDOs.
+/// for its PDOs, `untold` is what is said of most frames.
 #[tactic(auto, unfolding(crate::specs::Explained::frame_lines, crate::specs::Explained::progress_with), using(crate::proofs::TellingLemmas::untold))]
 pub(crate) fn write_frame<W: Write>(
     room: &mut Room,
     claims: &mut Vec<Claim>,
     progress: &mut Progress,
     settings: &Settings<'_, '_, '_, '_>,
+    untold: &Untold,
     frame: &Record<'_>,
     out: &mut W,
 ) -> Result<(), CmdFault>
@@ -447,7 +450,8 @@ pub(crate) fn write_frame<W: Write>(
     match place_of(bus, frame.id, &frame.content, settings.channels) {
         // most frames are of no SDO channel
         None if !may_be_told(frame.id, &frame.content) => {
-            write_by(room, claims, progress, settings, None, frame, &UNTOLD, out)
+            let told = untold.told();
+            write_by(room, claims, progress, settings, None, frame, told, out)
         }
         place => write_heard(room, claims, progress, settings, place, frame, out),
     }

@@ -1,14 +1,14 @@
 -- What the last frames of nodes had, computed from the definitions.
-use Rattle.std.proofs.Common.{◌≡◌, ℕ, true, false, List, [], ◌∷◌, refl, Some, None}
+use Rattle.std.proofs.Common.{◌≡◌, ℕ, ◌-◌, true, false, List, [], ◌∷◌, replicate, refl, Some, None}
 use Rattle.std.specs.Prelude.{codes, length, map}
 use Rattle.conode_explain_services.specs.declared.guarding.Guarding.{Guarding}
 use Rattle.conode_explain_services.specs.declared.guarding.Guarding.TheVariants.{NotSeen, BootedUp, Requested, Answered}
 use Rattle.conode_explain_services.specs.declared.last.Last.{Last}
 use Rattle.conode_explain_services.specs.declared.nmt_state.KnownState.{KnownState}
-use Rattle.conode_explain_services.specs.declared.nmt_state.KnownState.TheVariants.{Unknown, Seen, Commanded}
+use Rattle.conode_explain_services.specs.declared.nmt_state.KnownState.TheVariants.{Unknown, Seen, Commanded, CommandedOfAll}
 use Rattle.conode_explain_services.specs.declared.nmt_state.NmtState.TheVariants.{Operational, PreOperational, Stopped}
 use Rattle.conode_explain_services.specs.declared.node.Node.{Node}
-use Rattle.conode_explain_services.specs.Nodes.{last_for, last_in, last_of, new_node, nodes_after, nodes_asked, nodes_commanded, noted, nothing_seen}
+use Rattle.conode_explain_services.specs.Nodes.{has_room, last_for, last_in, last_not_kept, last_of, most_nodes, new_node, nodes_after, nodes_asked, nodes_commanded, noted, nothing_seen}
 use Rattle.conode_explain_services.specs.NmtStates.{state_at, state_commanded}
 
 abbrev after : List Node → List ℕ → ℕ → List ℕ → List Node
@@ -77,7 +77,7 @@ started = after three (codes "a") 0 (1 ∷ 0 ∷ [])
 abbrev state_in : List Node → List ℕ → ℕ → KnownState
 state_in nodes interface id = (last_for nodes interface (record { id = 0; bytes = 1 ∷ id ∷ [] })).state
 
-of_started : map (state_in started (codes "a")) (5 ∷ 6 ∷ 7 ∷ []) ≡ Commanded Operational ∷ Commanded Operational ∷ Commanded Operational ∷ []
+of_started : map (state_in started (codes "a")) (5 ∷ 6 ∷ 7 ∷ []) ≡ Commanded Operational ∷ Commanded Operational ∷ CommandedOfAll Operational ∷ []
 unfolding last_for nodes_after nodes_commanded last_of last_in noted state_commanded
 of_started = refl
 
@@ -87,7 +87,7 @@ on_the_other = refl
 
 -- a node that comes later begins with it; a reset of all ends it
 later : map (state_in (after (after started (codes "a") 0x087 (emergency_of 1)) (codes "a") 0 (2 ∷ 8 ∷ [])) (codes "a")) (7 ∷ 8 ∷ 9 ∷ [])
-    ≡ Commanded Operational ∷ Commanded Stopped ∷ Commanded Operational ∷ []
+    ≡ Commanded Operational ∷ Commanded Stopped ∷ CommandedOfAll Operational ∷ []
 unfolding last_for nodes_after nodes_commanded last_of last_in noted state_commanded
 later = refl
 
@@ -98,6 +98,23 @@ reset = refl
 started_again : length (after started (codes "a") 0 (1 ∷ 0 ∷ [])) ≡ 4
 unfolding last_for nodes_after nodes_commanded last_of last_in noted state_commanded
 started_again = refl
+
+-- a table of one node less than there may be has room, a full one hasn't
+abbrev so_many : ℕ → List Node
+so_many count = replicate count (new_node (codes "a") 5 (had 0x44 NotSeen))
+
+room : has_room (so_many (most_nodes - 1)) ≡ true
+room = refl
+
+no_room : has_room (so_many most_nodes) ≡ false
+no_room = refl
+
+-- with room a node that isn't kept has what was commanded of all, without room nothing is known of it
+with_room : last_not_kept true (Commanded Stopped) ≡ record { register = None; guarding = NotSeen; state = CommandedOfAll Stopped }
+with_room = refl
+
+without_room : last_not_kept false (Commanded Stopped) ≡ nothing_seen
+without_room = refl
 
 -- seven bytes, SYNC and TPDOs change nothing
 short_emergency : after [] (codes "a") 0x085 (0 ∷ 0 ∷ 1 ∷ 0 ∷ 0 ∷ 0 ∷ 0 ∷ []) ≡ []

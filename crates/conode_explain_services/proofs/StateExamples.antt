@@ -3,10 +3,10 @@ use Rattle.std.proofs.Common.{◌≡◌, ℕ, true, false, List, [], ◌∷◌, 
 use Rattle.std.specs.Prelude.{codes}
 use Rattle.conode_explain_services.specs.declared.nmt_state.NmtState.TheVariants.{Stopped, Operational, PreOperational}
 use Rattle.conode_explain_services.specs.declared.nmt_state.KnownState.{KnownState}
-use Rattle.conode_explain_services.specs.declared.nmt_state.KnownState.TheVariants.{Unknown, Seen, Commanded}
+use Rattle.conode_explain_services.specs.declared.nmt_state.KnownState.TheVariants.{Unknown, Seen, Commanded, CommandedOfAll}
 use Rattle.conode_explain_services.specs.declared.guarding.Guarding.TheVariants.{NotSeen}
 use Rattle.conode_explain_services.specs.Nodes.{last_in, new_node, nodes_after, nodes_commanded, noted, nothing_seen}
-use Rattle.conode_explain_services.specs.NmtStates.{found_words, is_command, shown_words, state_after, state_at, state_commanded}
+use Rattle.conode_explain_services.specs.NmtStates.{found_words, is_command, of_all, shown_words, state_after, state_at, state_commanded}
 use Rattle.conode_explain_services.specs.Services.{state_words}
 
 states : map state_at (0 ∷ 1 ∷ 3 ∷ 4 ∷ 5 ∷ 6 ∷ 126 ∷ 127 ∷ 128 ∷ 132 ∷ 133 ∷ 255 ∷ [])
@@ -28,8 +28,8 @@ are_commands : map (λ bytes. is_command (record { id = 0; bytes = bytes }))
     ≡ true ∷ true ∷ false ∷ false ∷ false ∷ false ∷ false ∷ false ∷ []
 are_commands = refl
 
-found : map found_words (Unknown ∷ Seen PreOperational ∷ Commanded Stopped ∷ [])
-    ≡ codes " (state ?)" ∷ codes " (pre-operational seen)" ∷ codes " (stopped commanded)" ∷ []
+found : map found_words (Unknown ∷ Seen PreOperational ∷ Commanded Stopped ∷ CommandedOfAll Stopped ∷ [])
+    ≡ codes " (state ?)" ∷ codes " (pre-operational seen)" ∷ codes " (stopped commanded)" ∷ codes " (stopped commanded)" ∷ []
 unfolding found_words
 found = refl
 
@@ -38,6 +38,19 @@ shown : shown_words (Commanded Operational) 127 ∷ shown_words (Commanded Opera
     ≡ codes " (operational commanded)" ∷ [] ∷ [] ∷ [] ∷ []
 unfolding shown_words found_words state_at
 shown = refl
+
+-- a boot-up after a command to the node itself, and after one to all of a node of which nothing came before; other bytes
+boot_up : map (shown_words (Commanded Operational)) (0 ∷ 0x80 ∷ []) ≡ codes " (operational commanded)" ∷ [] ∷ []
+unfolding shown_words state_at
+boot_up = refl
+
+first_boot_up : map (shown_words (CommandedOfAll Operational)) (0 ∷ 127 ∷ 5 ∷ 1 ∷ []) ≡ [] ∷ codes " (operational commanded)" ∷ [] ∷ [] ∷ []
+unfolding shown_words state_at
+first_boot_up = refl
+
+for_all : map of_all (Unknown ∷ Seen Stopped ∷ Commanded Stopped ∷ CommandedOfAll Stopped ∷ [])
+    ≡ Unknown ∷ Seen Stopped ∷ CommandedOfAll Stopped ∷ CommandedOfAll Stopped ∷ []
+for_all = refl
 
 -- a command to all is for the nodes of its interface that are kept, and node 0 stands for others
 to_all : nodes_commanded (new_node (codes "a") 5 nothing_seen ∷ new_node (codes "b") 5 nothing_seen ∷ []) (codes "a") 1 0

@@ -6,7 +6,7 @@ use Rattle.co_frame.specs.FrameContent.{FrameContent}
 use Rattle.conode_explain_services.specs.declared.nmt_state.NmtState.{NmtState}
 use Rattle.conode_explain_services.specs.declared.nmt_state.NmtState.TheVariants.{Stopped, Operational, PreOperational}
 use Rattle.conode_explain_services.specs.declared.nmt_state.KnownState.{KnownState}
-use Rattle.conode_explain_services.specs.declared.nmt_state.KnownState.TheVariants.{Unknown, Seen, Commanded}
+use Rattle.conode_explain_services.specs.declared.nmt_state.KnownState.TheVariants.{Unknown, Seen, Commanded, CommandedOfAll}
 
 -- ---- by frames
 
@@ -45,6 +45,13 @@ state_commanded known command =
     else (if command == 129 then Unknown
     else (if command == 130 then Unknown else known))))
 
+-- of a node of which nothing is kept: what was commanded of all nodes
+abbrev pub of_all : KnownState → KnownState
+of_all Unknown = Unknown
+of_all (Seen state) = Seen state
+of_all (Commanded state) = CommandedOfAll state
+of_all (CommandedOfAll state) = CommandedOfAll state
+
 -- ---- in words
 
 abbrev pub nmt_words : NmtState → List ℕ
@@ -52,11 +59,15 @@ nmt_words Stopped = codes "stopped"
 nmt_words Operational = codes "operational"
 nmt_words PreOperational = codes "pre-operational"
 
+abbrev pub commanded_words : NmtState → List ℕ
+commanded_words state = codes " (" ++ nmt_words state ++ codes " commanded)"
+
 -- what a command finds
 unfoldable pub found_words : KnownState → List ℕ
 found_words Unknown = codes " (state ?)"
 found_words (Seen state) = codes " (" ++ nmt_words state ++ codes " seen)"
-found_words (Commanded state) = codes " (" ++ nmt_words state ++ codes " commanded)"
+found_words (Commanded state) = commanded_words state
+found_words (CommandedOfAll state) = commanded_words state
 
 abbrev pub same_state : NmtState → NmtState → Bool
 same_state Stopped Stopped = true
@@ -66,8 +77,13 @@ same_state a b = false
 
 -- a frame of error control that shows another state than the commanded one
 abbrev pub differs_words : NmtState → NmtState → List ℕ
-differs_words commanded shown = if same_state commanded shown then [] else found_words (Commanded commanded)
+differs_words commanded shown = if same_state commanded shown then [] else commanded_words commanded
 
+abbrev pub other_words : NmtState → ℕ → List ℕ
+other_words commanded byte = option_map_or (differs_words commanded) (state_at byte) []
+
+-- the first boot-up of a node says nothing of a command to all nodes before it, as the node wasn't there yet
 unfoldable pub shown_words : KnownState → ℕ → List ℕ
-shown_words (Commanded state) byte = option_map_or (differs_words state) (state_at byte) []
+shown_words (Commanded state) byte = other_words state byte
+shown_words (CommandedOfAll state) byte = if byte == 0 then [] else other_words state byte
 shown_words known byte = []

@@ -9,8 +9,9 @@ use Rattle.conode_explain_services.specs.declared.last.Shown.TheVariants.{Regist
 use Rattle.conode_explain_services.specs.declared.guarding.Guarding.TheVariants.{NotSeen}
 use Rattle.conode_explain_services.specs.declared.node.Node.{Node}
 use Rattle.conode_explain_services.specs.Guardings.{guarding_after, guarding_asked}
+use Rattle.conode_explain_services.specs.declared.nmt_state.KnownState.{KnownState}
 use Rattle.conode_explain_services.specs.declared.nmt_state.KnownState.TheVariants.{Unknown}
-use Rattle.conode_explain_services.specs.NmtStates.{is_command, state_after, state_commanded}
+use Rattle.conode_explain_services.specs.NmtStates.{is_command, of_all, state_after, state_commanded}
 
 -- at most so many nodes are kept: on each of 8 interfaces 127, and node 0, which stands for all
 abbrev pub most_nodes : ℕ
@@ -37,13 +38,22 @@ abbrev pub last_at : Option ℕ → List Node → Last
 last_at None nodes = nothing_seen
 last_at (Some place) nodes = (node_at nodes place).last
 
--- of a node from which nothing came: what was commanded of all nodes
+-- node 0: what was commanded of all nodes
 abbrev pub last_of_all : List Node → List ℕ → Last
 last_of_all nodes interface = last_at (place_of nodes interface 0) nodes
 
+-- another node has room
+abbrev pub has_room : List Node → Bool
+has_room nodes = nat_lt (length nodes) most_nodes
+
+-- of a node that isn't kept: while there is room nothing came from it, and what was commanded of all nodes
+-- counts; without room it may have had frames, and nothing is known
+abbrev pub last_not_kept : Bool → KnownState → Last
+last_not_kept room all = record nothing_seen { state = if room then of_all all else Unknown }
+
 -- what its last frames had
 abbrev pub last_found : Option ℕ → List Node → List ℕ → Last
-last_found None nodes interface = last_of_all nodes interface
+last_found None nodes interface = last_not_kept (has_room nodes) (last_of_all nodes interface).state
 last_found (Some place) nodes interface = (node_at nodes place).last
 
 unfoldable pub last_in : List Node → List ℕ → ℕ → Last
@@ -69,7 +79,7 @@ abbrev pub noted_at : Option ℕ → List Node → List ℕ → ℕ → Shown �
 noted_at (Some place) nodes interface id shown =
     slice_set nodes place (record (node_at nodes place) { last = last_with (node_at nodes place).last shown })
 noted_at None nodes interface id shown =
-    if nat_lt (length nodes) most_nodes
+    if has_room nodes
     then nodes ++ new_node interface id (last_with (last_of_all nodes interface) shown) ∷ [] else nodes
 
 unfoldable pub noted : List Node → List ℕ → ℕ → Shown → List Node

@@ -17,4 +17,7 @@ pub enum KnownState {
     Seen(NmtState),
     /// It was commanded, and no frame of error control came since.
     Commanded(NmtState),
+    /// It was commanded of all nodes, and before that nothing came that counts: no error control or
+    /// emergency of this node, no command or guarding request for it.
+    CommandedOfAll(NmtState),
 }

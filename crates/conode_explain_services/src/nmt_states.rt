@@ -2,9 +2,12 @@
 
 ghost use Rattle.std.specs.Prelude.{◌≡◌, ◌++◌, OnOk, string_bytes};
 ghost use Rattle.conode_explain_services.specs.NmtStates.{
+  commanded_words,
   found_words,
   is_command,
   is_service,
+  of_all,
+  other_words,
   same_state,
   seen_or,
   shown_words,
@@ -70,6 +73,26 @@ pub(crate) fn state_commanded(known: KnownState, command: u8) -> KnownState
     }
 }
 
+/// What is known of a node of which nothing is kept, by what was commanded of all nodes.
+pub(crate) fn of_all(known: KnownState) -> KnownState
+    ensures { result ≡ of_all known }
+{
+    match known {
+        KnownState::Commanded(state) => KnownState::CommandedOfAll(state),
+        _ => known,
+    }
+}
+
+fn commanded_words(state: NmtState) -> &'static str
+    ensures { result.now ≡ commanded_words state }
+{
+    match state {
+        NmtState::Stopped => " (stopped commanded)",
+        NmtState::Operational => " (operational commanded)",
+        NmtState::PreOperational => " (pre-operational commanded)",
+    }
+}
+
 /// The state in which a command finds its node: ` (pre-operational seen)`.
 #[tactic(auto, unfolding(crate::specs::NmtStates::found_words))]
 pub(crate) fn found_words(known: KnownState) -> &'static str
@@ -80,9 +103,7 @@ pub(crate) fn found_words(known: KnownState) -> &'static str
         KnownState::Seen(NmtState::Stopped) => " (stopped seen)",
         KnownState::Seen(NmtState::Operational) => " (operational seen)",
         KnownState::Seen(NmtState::PreOperational) => " (pre-operational seen)",
-        KnownState::Commanded(NmtState::Stopped) => " (stopped commanded)",
-        KnownState::Commanded(NmtState::Operational) => " (operational commanded)",
-        KnownState::Commanded(NmtState::PreOperational) => " (pre-operational commanded)",
+        KnownState::Commanded(state) | KnownState::CommandedOfAll(state) => commanded_words(state),
     }
 }
 
@@ -97,20 +118,26 @@ fn same_state(one: NmtState, other: NmtState) -> bool
     }
 }
 
+// the same, where a byte of error control shows another state than the commanded one
+fn other_words(commanded: NmtState, byte: u8) -> &'static str
+    ensures { result.now ≡ other_words commanded byte }
+{
+    match state_at(byte) {
+        Some(shown) if !same_state(commanded, shown) => commanded_words(commanded),
+        _ => "",
+    }
+}
+
 /// Appends the state that was commanded, where a byte of error control shows another one: `
-/// (operational commanded)`. On an `Err` memory ran out, and a part of it may be there.
+/// (operational commanded)`; nothing of a node's first boot-up, after a command to all nodes. On an
+/// `Err` memory ran out, and a part of it may be there.
 #[tactic(auto, unfolding(crate::specs::NmtStates::shown_words))]
 pub(crate) fn push_shown(text: &mut String, known: KnownState, byte: u8) -> Result<(), AllocError>
     ensures { OnOk result (string_bytes text.new ≡ string_bytes text.old ++ shown_words known byte) }
 {
-    let KnownState::Commanded(commanded) = known else {
-        return Ok(());
-    };
-    let Some(shown) = state_at(byte) else {
-        return Ok(());
-    };
-    if same_state(commanded, shown) {
-        return Ok(());
+    match known {
+        KnownState::Commanded(state) => text.push_str(other_words(state, byte)),
+        KnownState::CommandedOfAll(state) if byte != 0 => text.push_str(other_words(state, byte)),
+        _ => Ok(()),
     }
-    text.push_str(found_words(known))
 }

@@ -3,11 +3,13 @@
 ghost use Rattle.std.specs.Prelude.{◌≡◌, ◌<◌, ◌≤◌, [], length, map, OnOk, IfSome};
 ghost use Rattle.conode_explain_services.specs.Nodes.{
   commanded,
+  has_room,
   is_emergency,
   is_error_control,
   is_error_control_id,
   last_for,
   last_in,
+  last_not_kept,
   last_of,
   last_of_all,
   last_with,
@@ -24,7 +26,7 @@ use crate::guarding::Guarding;
 use crate::guardings::{guarding_after, guarding_asked};
 use crate::last::{Last, Shown};
 use crate::nmt_state::KnownState;
-use crate::nmt_states::{is_command, state_after, state_commanded};
+use crate::nmt_states::{is_command, of_all, state_after, state_commanded};
 use crate::node::Node;
 use co_frame::Frame;
 use std::alloc::{AllocError, Global};
@@ -137,7 +139,7 @@ impl Nodes {
         }
     }
 
-    // of a node from which nothing came: what was commanded of all nodes
+    // node 0: what was commanded of all nodes
     fn last_of_all(&self, interface: &[u8]) -> Last
         ensures { result ≡ last_of_all self.now interface.now }
     {
@@ -147,13 +149,27 @@ impl Nodes {
         }
     }
 
+    // of a node that isn't kept
+    fn last_not_kept(&self, interface: &[u8]) -> Last
+        ensures { result ≡ last_not_kept (has_room self.now) (last_of_all self.now interface.now).state }
+    {
+        if self.nodes.len() >= MOST_NODES {
+            return Last::new();
+        }
+        Last {
+            register: None,
+            guarding: Guarding::NotSeen,
+            state: of_all(self.last_of_all(interface).state),
+        }
+    }
+
     #[tactic(auto, unfolding(crate::specs::Nodes::last_in))]
     fn last_in(&self, interface: &[u8], id: u8) -> Last
         ensures { result ≡ last_in self.now interface.now id }
     {
         match place_of(self.nodes.as_slice(), interface, id) {
             Some(place) => self.nodes[place].last,
-            None => self.last_of_all(interface),
+            None => self.last_not_kept(interface),
         }
     }
 

@@ -56,12 +56,12 @@ sheet = record { objects = []; rows = []; sections = []; notes = []; dummies = [
 nodes : node_for (Some 5) (Some sheet) ∷ node_for None (Some sheet) ∷ node_for (Some 5) None ∷ node_for None None ∷ [] ≡ Some 5 ∷ Some 7 ∷ Some 5 ∷ None ∷ []
 nodes = refl
 
--- ---- names that a sheet allows: with blanks around `;` and after `:`, or without; no name, no comment, other words; several
+-- ---- names that a sheet allows: with blanks around `;` and after `:`, or without; the words in any case of letters; no name, no comment, other words; several
 
 allowed : names_in (codes "; lint: allow Unlisted" ∷ codes ";lint: allow BadList" ∷ codes " ;  lint: allow  SubNumber " ∷ codes ";lint: allow " ∷ codes "lint: allow LongLine" ∷ codes ";lint:allow Utf8"
     ∷ codes "; lint:allow NodeId" ∷ codes ";lint:   allow DateFormat" ∷ codes ";lint:allow" ∷ codes ";lint:allowLongLine" ∷ codes ";lint :allow LongLine" ∷ codes ";lintallow LongLine" ∷ codes ";lint:allows LongLine" ∷ codes ";lint:"
-    ∷ codes ";; lint: allow LongLine" ∷ codes "; Lint: allow LongLine" ∷ codes "" ∷ codes ";" ∷ codes "DefaultValue=1 ; lint: allow LongLine" ∷ [])
-    ≡ codes "Unlisted" ∷ codes "BadList" ∷ codes "SubNumber" ∷ codes "Utf8" ∷ codes "NodeId" ∷ codes "DateFormat" ∷ []
+    ∷ codes ";; lint: allow LongLine" ∷ codes "; Lint: Allow ListOrder" ∷ codes ";LINT:ALLOW EqualNames" ∷ codes "" ∷ codes ";" ∷ codes "DefaultValue=1 ; lint: allow LongLine" ∷ [])
+    ≡ codes "Unlisted" ∷ codes "BadList" ∷ codes "SubNumber" ∷ codes "Utf8" ∷ codes "NodeId" ∷ codes "DateFormat" ∷ codes "ListOrder" ∷ codes "EqualNames" ∷ []
 unfolding names_on names_allowed names_after
 allowed = refl
 

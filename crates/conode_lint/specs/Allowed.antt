@@ -2,7 +2,7 @@
 use Rattle.std.specs.Prelude.{ℕ, Bool, true, false, nat_lt, ◌==◌, ◌||◌, if◌then◌else◌, List, [], ◌∷◌, length, map, take, drop, codes}
 use Rattle.std.specs.List.{before_first, flat_map, list_any, slice_split}
 use Rattle.std.specs.Str.{bytes_eq}
-use Rattle.co_sheet_text.specs.Text.{trim}
+use Rattle.co_sheet_text.specs.Text.{same_name, trim}
 use Rattle.conode_lint_text.specs.declared.finding.Severity.{Severity}
 use Rattle.conode_lint_text.specs.declared.finding.Severity.TheVariants.{Error, Warning}
 use Rattle.conode_lint_marks.specs.declared.mark.Mark.{Mark}
@@ -30,16 +30,17 @@ is_comma byte = byte == 44
 abbrev pub words_between : List ℕ → List (List ℕ)
 words_between text = map first_word (slice_split is_comma text)
 
--- the names after `allow`, and those that a comment allows, with blanks after `lint:` or without
+-- the names after `allow`, and those that a comment allows, with blanks after `lint:` or without; both
+-- words in any case of letters
 unfoldable pub names_after : List ℕ → List (List ℕ)
 names_after text =
     if nat_lt (length text) 6 then []
-    else (if bytes_eq (take 6 text) allow_words then words_between (drop 6 text) else [])
+    else (if same_name (take 6 text) allow_words then words_between (drop 6 text) else [])
 
 unfoldable pub names_allowed : List ℕ → List (List ℕ)
 names_allowed comment =
     if nat_lt (length comment) 5 then []
-    else (if bytes_eq (take 5 comment) lint_words then names_after (trim (drop 5 comment)) else [])
+    else (if same_name (take 5 comment) lint_words then names_after (trim (drop 5 comment)) else [])
 
 -- the names that a line without blanks at its ends allows: `;` begins a comment
 abbrev pub names_at : List ℕ → List (List ℕ)

@@ -18,7 +18,7 @@ ghost use Rattle.conode_lint.specs.Allowed.{
 };
 
 use crate::words::name_of;
-use co_sheet_text::trim;
+use co_sheet_text::{same_name, trim};
 use co_text::split_at_first;
 use conode_lint_marks::Mark;
 use std::alloc::AllocError;
@@ -90,7 +90,7 @@ fn add_names_after<'a>(names: &mut Vec<&'a [u8]>, text: &'a [u8]) -> Result<(), 
         return Ok(());
     }
     let (words, list) = text.split_at(6);
-    if words == ALLOW {
+    if same_name(words, ALLOW) {
         add_words(names, list)
     } else {
         Ok(())
@@ -107,7 +107,7 @@ fn add_allowed<'a>(names: &mut Vec<&'a [u8]>, comment: &'a [u8]) -> Result<(), A
         return Ok(());
     }
     let (words, rest) = comment.split_at(5);
-    if words == LINT {
+    if same_name(words, LINT) {
         add_names_after(names, trim(rest))
     } else {
         Ok(())
@@ -115,7 +115,7 @@ fn add_allowed<'a>(names: &mut Vec<&'a [u8]>, comment: &'a [u8]) -> Result<(), A
 }
 
 // adds the names that a line allows, as `; lint: allow Unlisted, BadList`; blanks after `;` and `:`
-// may be left out
+// may be left out, and the words are in any case of letters
 #[tactic(auto, unfolding(crate::specs::Allowed::names_on))]
 fn add_names_on<'a>(names: &mut Vec<&'a [u8]>, line: &'a [u8]) -> Result<(), AllocError>
     ensures { OnOk result (map (λ name. name.now) names.new.items

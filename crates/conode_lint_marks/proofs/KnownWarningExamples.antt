@@ -205,10 +205,10 @@ second_section = refl
 abbrev left_at : List Warning → ℕ → List Warning
 left_at warnings line = known_warnings lines described [] (fault BadNumber line ∷ []) warnings
 
--- an inhibit time: the access of the transmission type, that type, a limit of the time, the time, the other type, the other time, a COB-ID
+-- an inhibit time: the access of the transmission type, that type, a limit of the time, the time, the other type, the other time, the COB-ID
 inhibited : map (left_at (warning InhibitTime 9 ∷ warning InhibitTime 13 ∷ [])) (5 ∷ 6 ∷ 8 ∷ 9 ∷ 11 ∷ 13 ∷ 3 ∷ [])
     ≡ (warning InhibitTime 9 ∷ warning InhibitTime 13 ∷ []) ∷ (warning InhibitTime 13 ∷ []) ∷ (warning InhibitTime 9 ∷ warning InhibitTime 13 ∷ []) ∷ (warning InhibitTime 13 ∷ [])
-    ∷ (warning InhibitTime 9 ∷ []) ∷ (warning InhibitTime 9 ∷ []) ∷ (warning InhibitTime 9 ∷ warning InhibitTime 13 ∷ []) ∷ []
+    ∷ (warning InhibitTime 9 ∷ []) ∷ (warning InhibitTime 9 ∷ []) ∷ (warning InhibitTime 13 ∷ []) ∷ []
 unfolding known_warnings unknown_of is_complete kinds_at_fault doubts_of whole_line value_line
 inhibited = refl
 

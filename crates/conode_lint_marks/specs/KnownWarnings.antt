@@ -75,11 +75,11 @@ is_in_compact sections line (s ∷ more) = nat_lt s.line line && is_of_compact s
 
 -- ---- values that may be wrong
 
--- the inhibit time at a line is that of a TPDO whose transmission type or inhibit time may be wrong
--- (CiA 301, TPDO communication parameter, sub-indices 2 and 3)
+-- the inhibit time at a line is that of a TPDO whose COB-ID, transmission type or inhibit time may be
+-- wrong (CiA 301, TPDO communication parameter, sub-indices 1 to 3)
 abbrev pub is_time_with : List SectionKind → ℕ → TextSection → SectionKind → Bool
 is_time_with doubts line s (SubIndex key) =
-    (key.sub == 3) && (value_line s == line) && is_any (SubsOf key.index 2 3) doubts
+    (key.sub == 3) && (value_line s == line) && is_any (SubsOf key.index 1 3) doubts
 is_time_with doubts line s kind = false
 
 abbrev pub is_time_in_doubt : List TextSection → List SectionKind → ℕ → Bool

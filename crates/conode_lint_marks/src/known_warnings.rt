@@ -101,7 +101,7 @@ fn is_in_compact(forms: &CompactForms<'_, '_>, line: usize, here: &[TextSection<
     }
 }
 
-// whether a section has the inhibit time at a line, and one of the two numbers of its TPDO may be
+// whether a section has the inhibit time at a line, and one of the three numbers of its TPDO may be
 // wrong
 fn is_time_with(doubts: &[SectionKind], line: usize, section: &TextSection<'_, '_>) -> bool
     ensures { result ≡ is_time_with doubts.now line (section_view section.now) section.now.kind }
@@ -110,7 +110,7 @@ fn is_time_with(doubts: &[SectionKind], line: usize, section: &TextSection<'_, '
         SectionKind::SubIndex(key) => {
             key.sub == 3
                 && value_line(section) == line
-                && is_any(Concern::SubsOf(key.index, 2, 3), doubts)
+                && is_any(Concern::SubsOf(key.index, 1, 3), doubts)
         }
         _ => false,
     }

@@ -1,9 +1,10 @@
 -- What a sheet has where a finding is, evaluated.
 use Rattle.std.proofs.Common.{◌≡◌, ℕ, true, false, List, Some, None, [], ◌∷◌, ◌++◌, codes, map, refl}
-use Rattle.std.specs.Prelude.{replicate}
+use Rattle.std.specs.Prelude.{pos, negsuc, replicate}
 use Rattle.std.specs.Fmt.{digits}
 use Rattle.co_sheet_warnings.specs.declared.known_key.KnownKey.TheVariants.{AccessType, DataType, NrOfRxPdo}
 use Rattle.co_text.specs.Printed.{digits_text}
+use Rattle.co_value.specs.declared.data_type.DataType.TheVariants.{Boolean, Integer8, Integer16, Unsigned8, Unsigned16}
 use Rattle.conode_text.specs.Filled.{filled}
 use Rattle.co_sheet_text.specs.declared.section_kind.SectionKind.{SectionKind}
 use Rattle.co_sheet_text.specs.declared.section_kind.SectionKind.TheVariants.{MandatoryObjects, OptionalObjects, ManufacturerObjects, Object, SubIndex}
@@ -86,10 +87,16 @@ device : fact_text (fact.RpdoCount 1 0) ∷ fact_text (fact.TpdoCount 2 4) ∷ f
 unfolding fact_text words_of texts_of hexadecimal filled digits
 device = refl
 
-bounds : fact_text (fact.BelowLow 7) ∷ fact_text (fact.AboveHigh 8) ∷ fact_text (fact.LimitsCrossed 9) ∷ fact_text (fact.AboveNegative 10) ∷ fact_text (fact.NegativeHigh 11) ∷ []
-    ≡ codes "the value is below the LowLimit of line 7" ∷ codes "the value is above the HighLimit of line 8" ∷ codes "HighLimit is below the LowLimit of line 9" ∷ codes "the value is above the HighLimit of line 10, which is a negative number" ∷ codes "HighLimit is a negative number, below the LowLimit of line 11" ∷ []
+bounds : fact_text (fact.BelowLow 7 (pos 10)) ∷ fact_text (fact.AboveHigh 8 (pos 1000)) ∷ fact_text (fact.LimitsCrossed 9) ∷ fact_text (fact.AboveNegative 10 (negsuc 0)) ∷ fact_text (fact.NegativeHigh 11) ∷ []
+    ≡ codes "the value is below the LowLimit of line 7, which is 10" ∷ codes "the value is above the HighLimit of line 8, which is 1000" ∷ codes "HighLimit is below the LowLimit of line 9" ∷ codes "the value is above the HighLimit of line 10, which is a negative number, -1" ∷ codes "HighLimit is a negative number, below the LowLimit of line 11" ∷ []
 unfolding fact_text words_of texts_of filled digits
 bounds = refl
+
+-- the range of a type, of BOOLEAN and INTEGER16, UNSIGNED8
+ranges : map fact_text (fact.ValueOutside Boolean ∷ fact.ValueOutside Integer16 ∷ fact.LimitOutside Unsigned8 ∷ [])
+    ≡ codes "the value is outside the type's range, 0 to 1" ∷ codes "the value is outside the type's range, -32768 to 32767" ∷ codes "the limit is outside the type's range, 0 to 255" ∷ []
+unfolding fact_text words_of texts_of filled digits
+ranges = refl
 
 with_meaning : about_message (FirstAt 40) (codes "m") ∷ about_message (Misspelt NrOfRxPdo) (codes "m") ∷ about_message (Fact (fact.NoType true)) (codes "m") ∷ []
     ≡ codes "m, first at line 40" ∷ codes "the standard has no such key: did you mean NrOfRXPDO" ∷ codes "the entry has no DataType" ∷ []
@@ -163,7 +170,8 @@ type_text : fact_text (fact.FixedType 7) ∷ fix_with (Fact (fact.FixedType 7)) 
 unfolding fact_text words_of texts_of fix_with filled digits digits_text
 type_text = refl
 
-bad_numbers : bad_number (codes " defaultvalue = x") ∷ bad_number (codes "ParameterValue=x") ∷ bad_number (codes "LowLimit=x") ∷ [] ≡ Fact fact.NoValue ∷ Fact fact.NoValue ∷ Line ∷ []
+bad_numbers : map bad_number (codes " defaultvalue = x" ∷ codes "ParameterValue=x" ∷ codes "LowLimit=x" ∷ codes "objecttype = VAR" ∷ codes "ObjectType=7 ; VAR" ∷ [])
+    ≡ Fact fact.NoValue ∷ Fact fact.NoValue ∷ Line ∷ Fact fact.NoObjectType ∷ Fact fact.CommentInValue ∷ []
 bad_numbers = refl
 
 -- quotes come first, and `;` may be anywhere in the value; before `=` it is none
@@ -191,14 +199,14 @@ listed_texts = refl
 marks : map utf8 (codes "a" ∷ (0x7F ∷ []) ∷ (0xC3 ∷ 0xA4 ∷ []) ∷ []) ≡ Fact fact.ByteOrderMark ∷ Fact fact.ByteOrderMark ∷ Line ∷ []
 marks = refl
 
-odd_texts : map fact_text (fact.CommentInValue ∷ fact.QuotedValue ∷ fact.NoPairs ∷ fact.ByteOrderMark ∷ fact.LimitOutside ∷ [])
+odd_texts : map fact_text (fact.CommentInValue ∷ fact.QuotedValue ∷ fact.NoPairs ∷ fact.ByteOrderMark ∷ fact.NoObjectType ∷ [])
     ≡ codes "`;` begins a comment only at the beginning of a line, so it belongs to the value" ∷ codes "the value is in quotes, which belong to it" ∷ codes "an OCTET_STRING is pairs of hexadecimal digits"
-    ∷ codes "the text begins with a byte order mark of UTF-8, which older tools read as characters" ∷ codes "the limit is outside the type's range" ∷ []
+    ∷ codes "the text begins with a byte order mark of UTF-8, which older tools read as characters" ∷ codes "ObjectType is a number, and this is none" ∷ []
 unfolding fact_text words_of texts_of filled
 odd_texts = refl
 
-odd_fixes : map (λ about. fix_with about (codes "f")) (Fact fact.CommentInValue ∷ Fact fact.QuotedValue ∷ Fact fact.NoPairs ∷ Fact fact.ByteOrderMark ∷ Fact (fact.DecimalIndex 6110) ∷ Fact (fact.LowDecimal 1008) ∷ Fact (fact.LowIndex 5) ∷ MisspeltBeside NrOfRxPdo ∷ Misspelt NrOfRxPdo ∷ [])
-    ≡ codes "put the comment on a line of its own" ∷ codes "take the quotes out" ∷ codes "write pairs of hexadecimal digits without blanks, as 00A1FF" ∷ codes "save it without the mark" ∷ codes "write the index in hexadecimal, after 0x; or add the section"
+odd_fixes : map (λ about. fix_with about (codes "f")) (Fact fact.NoObjectType ∷ Fact fact.CommentInValue ∷ Fact fact.QuotedValue ∷ Fact fact.NoPairs ∷ Fact fact.ByteOrderMark ∷ Fact (fact.DecimalIndex 6110) ∷ Fact (fact.LowDecimal 1008) ∷ Fact (fact.LowIndex 5) ∷ MisspeltBeside NrOfRxPdo ∷ Misspelt NrOfRxPdo ∷ [])
+    ≡ codes "write 0x7 for a VAR, 0x8 for an ARRAY, 0x9 for a RECORD, 0x2 for a DOMAIN" ∷ codes "put the comment on a line of its own" ∷ codes "take the quotes out" ∷ codes "write pairs of hexadecimal digits without blanks, as 00A1FF" ∷ codes "save it without the mark" ∷ codes "write the index in hexadecimal, after 0x; or add the section"
     ∷ codes "write the index in hexadecimal, after 0x" ∷ codes "take it out of the list" ∷ codes "take it out" ∷ codes "f" ∷ []
 unfolding fix_with
 odd_fixes = refl
@@ -284,17 +292,34 @@ limited =
     ∷ section 40 (Object 0x2004) (property 41 (codes "DataType") (codes "6") ∷ property 42 (codes "LowLimit") (codes "9") ∷ property 43 (codes "HighLimit") (codes "5") ∷ []) ∷ []
 
 defaults : bad_default 5 limited (codes "DefaultValue=9") ∷ bad_default 5 limited (codes "DefaultValue=10") ∷ bad_default 5 limited (codes "ParameterValue = 1000") ∷ bad_default 5 limited (codes "DefaultValue= 1001") ∷ bad_default 5 limited (codes "DefaultValue=$NODEID+2") ∷ bad_default 5 limited (codes "DefaultValue=x") ∷ bad_default 5 limited (codes "DefaultValue") ∷ []
-    ≡ Fact (fact.BelowLow 3) ∷ Line ∷ Line ∷ Fact (fact.AboveHigh 4) ∷ Line ∷ Line ∷ Line ∷ []
+    ≡ Fact (fact.BelowLow 3 (pos 10)) ∷ Line ∷ Line ∷ Fact (fact.AboveHigh 4 (pos 1000)) ∷ Line ∷ Line ∷ Line ∷ []
 defaults = refl
 
 signed_defaults : bad_default 15 limited (codes "DefaultValue=0xFD") ∷ bad_default 15 limited (codes "DefaultValue=-2") ∷ bad_default 15 limited (codes "DefaultValue=3") ∷ []
-    ≡ Fact (fact.BelowLow 13) ∷ Line ∷ Fact (fact.AboveHigh 14) ∷ []
+    ≡ Fact (fact.BelowLow 13 (negsuc 1)) ∷ Line ∷ Fact (fact.AboveHigh 14 (pos 2)) ∷ []
 signed_defaults = refl
 
 -- a value outside the type; above a HighLimit that is below LowLimit, and so is itself at fault
 odd_defaults : bad_default 5 limited (codes "DefaultValue=65535") ∷ bad_default 5 limited (codes "DefaultValue=65536") ∷ bad_default 5 limited (codes "DefaultValue=-1") ∷ bad_default 45 limited (codes "DefaultValue=7") ∷ []
-    ≡ Fact (fact.AboveHigh 4) ∷ Line ∷ Line ∷ Fact (fact.BelowLow 42) ∷ []
+    ≡ Fact (fact.AboveHigh 4 (pos 1000)) ∷ Fact (fact.ValueOutside Unsigned16) ∷ Fact (fact.ValueOutside Unsigned16) ∷ Fact (fact.BelowLow 42 (pos 9)) ∷ []
 odd_defaults = refl
+
+-- a LowLimit outside UNSIGNED16 is itself at fault, so it is named only where HighLimit isn't exceeded; of both outside the type HighLimit is named too
+abbrev at_limits : List ℕ → List ℕ → List TextSection
+at_limits low high = section 1 (Object 0x2000) (property 2 (codes "DataType") (codes "6") ∷ property 3 (codes "LowLimit") low ∷ property 4 (codes "HighLimit") high ∷ []) ∷ []
+
+low_at_fault : map (λ value. bad_default 5 (at_limits (codes "65536") (codes "10")) value) (codes "DefaultValue=11" ∷ codes "DefaultValue=10" ∷ codes "DefaultValue=65535" ∷ [])
+    ≡ Fact (fact.AboveHigh 4 (pos 10)) ∷ Fact (fact.BelowLow 3 (pos 65536)) ∷ Fact (fact.AboveHigh 4 (pos 10)) ∷ []
+low_at_fault = refl
+
+both_at_fault : bad_default 5 (at_limits (codes "65536") (codes "65537")) (codes "DefaultValue=11") ∷ bad_default 5 (at_limits (codes "65536") (codes "-1")) (codes "DefaultValue=11") ∷ []
+    ≡ Fact (fact.BelowLow 3 (pos 65536)) ∷ Fact (fact.AboveNegative 4 (negsuc 0)) ∷ []
+both_at_fault = refl
+
+-- at the end of the type LowLimit is in order, and comes first; one below the type is exceeded by no value
+low_at_end : bad_default 5 (at_limits (codes "65535") (codes "10")) (codes "DefaultValue=11") ∷ bad_default 5 (at_limits (codes "-1") (codes "10")) (codes "DefaultValue=11") ∷ bad_default 5 (at_limits (codes "x") (codes "10")) (codes "DefaultValue=11") ∷ []
+    ≡ Fact (fact.BelowLow 3 (pos 65535)) ∷ Fact (fact.AboveHigh 4 (pos 10)) ∷ Fact (fact.AboveHigh 4 (pos 10)) ∷ []
+low_at_end = refl
 
 -- the limits of an OCTET_STRING, which has a form, and of an entry without a type, are passed over; before the first section there is none
 other_defaults : bad_default 24 limited (codes "DefaultValue=0") ∷ bad_default 34 limited (codes "DefaultValue=0") ∷ bad_default 1 limited (codes "DefaultValue=9") ∷ []
@@ -307,14 +332,14 @@ limits = refl
 
 -- a limit outside the type is that alone, whatever the other limit
 outside : bad_limits 4 limited (codes "HighLimit=65535") ∷ bad_limits 4 limited (codes "HighLimit=65536") ∷ bad_limits 4 limited (codes "HighLimit=-1") ∷ bad_limits 3 limited (codes "LowLimit=0x10000") ∷ bad_limits 14 limited (codes "HighLimit=128") ∷ bad_limits 4 limited (codes "HighLimit=x") ∷ []
-    ≡ Line ∷ Fact fact.LimitOutside ∷ Fact fact.LimitOutside ∷ Fact fact.LimitOutside ∷ Fact fact.LimitOutside ∷ Line ∷ []
+    ≡ Line ∷ Fact (fact.LimitOutside Unsigned16) ∷ Fact (fact.LimitOutside Unsigned16) ∷ Fact (fact.LimitOutside Unsigned16) ∷ Fact (fact.LimitOutside Integer8) ∷ Line ∷ []
 outside = refl
 
 -- a HighLimit of an INTEGER8 that is negative in two's complement, beside one that is 0
 abbrev negative : List TextSection
 negative = map (λ value. section 1 (Object 0x2000) (property 2 (codes "DataType") (codes "2") ∷ property 3 (codes "LowLimit") (codes "-9") ∷ property 4 (codes "HighLimit") value ∷ [])) (codes "0xFF" ∷ codes "0" ∷ [])
 
-negative_defaults : map (λ s. bad_default 5 (s ∷ []) (codes "DefaultValue=5")) negative ≡ Fact (fact.AboveNegative 4) ∷ Fact (fact.AboveHigh 4) ∷ []
+negative_defaults : map (λ s. bad_default 5 (s ∷ []) (codes "DefaultValue=5")) negative ≡ Fact (fact.AboveNegative 4 (negsuc 0)) ∷ Fact (fact.AboveHigh 4 (pos 0)) ∷ []
 negative_defaults = refl
 
 negative_limits : bad_limits 14 limited (codes "HighLimit=0xFF") ∷ bad_limits 14 limited (codes "HighLimit=0xFD") ∷ bad_limits 4 limited (codes "HighLimit=0") ∷ []

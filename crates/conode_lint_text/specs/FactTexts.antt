@@ -1,6 +1,8 @@
 -- The sentence of a fact: what a sheet has where a finding is.
-use Rattle.std.specs.Prelude.{ℕ, Bool, true, false, List, [], ◌∷◌, ◌++◌, codes, decimal}
-use Rattle.std.specs.Fmt.{digits}
+use Rattle.std.specs.Prelude.{ℕ, ℤ, pos, Bool, true, false, List, [], ◌∷◌, ◌++◌, codes, decimal, unwrap_or}
+use Rattle.std.specs.Fmt.{digits, signed_decimal}
+use Rattle.co_value.specs.declared.data_type.DataType.{DataType}
+use Rattle.co_value.specs.Types.{least_of, greatest_of}
 use Rattle.co_sheet_warnings.specs.declared.known_key.KnownKey.{KnownKey}
 use Rattle.co_sheet_warnings.specs.Infos.{device_keys, file_keys}
 use Rattle.co_sheet_warnings.specs.KnownKeys.{key_text}
@@ -9,18 +11,20 @@ use Rattle.conode_text.specs.Filled.{filled}
 use Rattle.conode_lint_text.specs.MeantSections.{meant_text}
 use Rattle.conode_lint_text.specs.declared.fact.Fact.{Fact}
 use Rattle.conode_lint_text.specs.declared.fact.Part.{Part}
-use Rattle.conode_lint_text.specs.declared.fact.Part.TheVariants.{Number, Code, Hexadecimal}
-use Rattle.conode_lint_text.specs.declared.fact.Fact.TheVariants.{NoCount, ListCount, ListGap, HighIndex, NoMandatoryList, NotListed, LargeText, NoValue, MeantSection, ByteOrderMark, CommentInValue, QuotedValue, NoPairs, DecimalIndex, LowDecimal, LowIndex, FixedType, NoType, NoAccess, NoTypeOrAccess, NoFileInfo, FileInfoLacks, NoDeviceInfo, DeviceInfoLacks, NoSubNumber, SubNumber, SubIndex0, RpdoCount, TpdoCount, NoRpdoCount, NoTpdoCount, Identity, NoIdentity, BelowLow, AboveHigh, AboveNegative, LimitOutside, LimitsCrossed, NegativeHigh}
+use Rattle.conode_lint_text.specs.declared.fact.Part.TheVariants.{Number, Code, Hexadecimal, Signed}
+use Rattle.conode_lint_text.specs.declared.fact.Fact.TheVariants.{NoCount, ListCount, ListGap, HighIndex, NoMandatoryList, NotListed, LargeText, NoValue, NoObjectType, MeantSection, ByteOrderMark, CommentInValue, QuotedValue, NoPairs, DecimalIndex, LowDecimal, LowIndex, FixedType, NoType, NoAccess, NoTypeOrAccess, NoFileInfo, FileInfoLacks, NoDeviceInfo, DeviceInfoLacks, NoSubNumber, SubNumber, SubIndex0, RpdoCount, TpdoCount, NoRpdoCount, NoTpdoCount, Identity, NoIdentity, BelowLow, AboveHigh, AboveNegative, ValueOutside, LimitOutside, LimitsCrossed, NegativeHigh}
 
 -- a number as sheets have it, in hexadecimal digits
 unfoldable pub hexadecimal : ℕ → List ℕ
 hexadecimal number = codes "0x" ++ digits 16 true number
 
--- a value in a sentence: a number in decimal digits, the code of a type, a number as sheets have it
+-- a value in a sentence: a number in decimal digits, the code of a type, a number as sheets have it, a
+-- number with its sign
 abbrev pub part_text : Part → List ℕ
 part_text (Number number) = decimal number
 part_text (Code code) = digits_text 16 4 code
 part_text (Hexadecimal number) = hexadecimal number
+part_text (Signed number) = signed_decimal number
 
 -- of keys those that are missing, after these words, with commas between them
 unfoldable pub missing_text : List ℕ → List KnownKey → List Bool → List ℕ
@@ -50,6 +54,7 @@ words_of NoMandatoryList = codes "there is no section [MandatoryObjects]"
 words_of (NotListed device error identity) = not_listed device error identity
 words_of LargeText = codes "the text has more than 1,048,576 bytes"
 words_of NoValue = codes "the value is no whole number of at most 64 bits"
+words_of NoObjectType = codes "ObjectType is a number, and this is none"
 words_of (MeantSection section) = meant_text section
 words_of ByteOrderMark =
     codes "the text begins with a byte order mark of UTF-8, which older tools read as characters"
@@ -85,11 +90,14 @@ words_of (NoTpdoCount number) =
 words_of (Identity number other) = codes "the number is %, and that of the identity object is %"
 words_of (NoIdentity number) =
     codes "the number can't be read, and that of the identity object is %"
-words_of (BelowLow number) = codes "the value is below the LowLimit of line %"
-words_of (AboveHigh number) = codes "the value is above the HighLimit of line %"
-words_of (AboveNegative number) =
-    codes "the value is above the HighLimit of line %, which is a negative number"
-words_of LimitOutside = codes "the limit is outside the type's range"
+words_of (BelowLow line number) =
+    codes "the value is below the LowLimit of line %, which is %"
+words_of (AboveHigh line number) =
+    codes "the value is above the HighLimit of line %, which is %"
+words_of (AboveNegative line number) =
+    codes "the value is above the HighLimit of line %, which is a negative number, %"
+words_of (ValueOutside t) = codes "the value is outside the type's range, % to %"
+words_of (LimitOutside t) = codes "the limit is outside the type's range, % to %"
 words_of (LimitsCrossed number) = codes "HighLimit is below the LowLimit of line %"
 words_of (NegativeHigh number) =
     codes "HighLimit is a negative number, below the LowLimit of line %"
@@ -97,6 +105,15 @@ words_of (NegativeHigh number) =
 -- three numbers in the places of words; those past the last place aren't written
 abbrev pub numbers : ℕ → ℕ → ℕ → List (List ℕ)
 numbers first second third = decimal first ∷ decimal second ∷ decimal third ∷ []
+
+-- the line and the number of a limit; the range of a numeric type
+abbrev pub bound_texts : ℕ → ℤ → List (List ℕ)
+bound_texts line number = decimal line ∷ signed_decimal number ∷ decimal 0 ∷ []
+
+abbrev pub range_texts : DataType → List (List ℕ)
+range_texts t =
+    signed_decimal (unwrap_or (least_of t) (pos 0))
+    ∷ signed_decimal (unwrap_or (greatest_of t) (pos 0)) ∷ decimal 0 ∷ []
 
 -- the texts in the places of a fact's words
 unfoldable pub texts_of : Fact → List (List ℕ)
@@ -109,9 +126,11 @@ texts_of (SubIndex0 number highest) = numbers number highest 0
 texts_of (NoSubNumber has) = numbers has 0 0
 texts_of (NoRpdoCount has) = numbers has 0 0
 texts_of (NoTpdoCount has) = numbers has 0 0
-texts_of (BelowLow line) = numbers line 0 0
-texts_of (AboveHigh line) = numbers line 0 0
-texts_of (AboveNegative line) = numbers line 0 0
+texts_of (BelowLow line number) = bound_texts line number
+texts_of (AboveHigh line number) = bound_texts line number
+texts_of (AboveNegative line number) = bound_texts line number
+texts_of (ValueOutside t) = range_texts t
+texts_of (LimitOutside t) = range_texts t
 texts_of (HighIndex line) = numbers line 0 0
 texts_of (LimitsCrossed line) = numbers line 0 0
 texts_of (NegativeHigh line) = numbers line 0 0

@@ -205,9 +205,15 @@ odd_value value other =
 abbrev pub is_value_key : List ℕ → Bool
 is_value_key name = same_name name (codes "DefaultValue") || same_name name (codes "ParameterValue")
 
+-- and ObjectType may be written as a name
+abbrev pub number_fact : List ℕ → About
+number_fact name =
+    if is_value_key name then Fact fact.NoValue
+    else if same_name name (codes "ObjectType") then Fact fact.NoObjectType
+    else Line
+
 abbrev pub bad_number : List ℕ → About
-bad_number text =
-    odd_value (key_value text) (if is_value_key (key_name text) then Fact fact.NoValue else Line)
+bad_number text = odd_value (key_value text) (number_fact (key_name text))
 
 -- of the BadAccess of a line
 abbrev pub bad_access : List ℕ → About

@@ -1,16 +1,18 @@
 //! Which bound of its entry a value or a limit exceeds.
 
-ghost use Rattle.std.specs.Prelude.{◌≡◌, Some, map};
+ghost use Rattle.std.specs.Prelude.{◌≡◌, false, Some, map, option_and_then};
+ghost use Rattle.std.specs.Option.{option_map_or};
 ghost use Rattle.co_sheet_text.specs.Views.{section_view};
 ghost use Rattle.conode_lint_text.specs.Bounds.{
-  above_high,
+  about_fact,
+  above_fact,
   bad_default,
   bad_limits,
-  below_low,
+  below_fact,
+  bound_at,
   crossed_fact,
   high_fact,
-  is_high_negative,
-  is_negative,
+  is_outside,
   limit_in,
   limit_of,
   limit_passed,
@@ -50,80 +52,90 @@ fn number_of(data_type: DataType, value: &[u8]) -> Option<i128>
     }
 }
 
-// the line of LowLimit, if a number is below it
-fn below_low(
-    data_type: DataType,
-    number: Option<i128>,
-    section: &TextSection<'_, '_>,
-) -> Option<usize>
-    ensures { result ≡ below_low data_type number (section_view section.now) }
+/// A limit of an entry, on its line.
+#[derive(Clone, Copy)]
+pub(crate) struct Bound {
+    line: usize,
+    number: i128,
+}
+
+// a limit that is a number at its type
+fn bound_at(data_type: DataType, name: &[u8], section: &TextSection<'_, '_>) -> Option<Bound>
+    ensures { result ≡ bound_at data_type name.now (section_view section.now) }
 {
-    match section.property(b"LowLimit") {
-        Some(limit) if !at_most(number_of(data_type, limit.value), number) => Some(limit.line),
-        _ => None,
+    let Some(limit) = section.property(name) else {
+        return None;
+    };
+    match number_of(data_type, limit.value) {
+        Some(number) => Some(Bound {
+            line: limit.line,
+            number,
+        }),
+        None => None,
     }
 }
 
-// the line of HighLimit, if a number is above it
-fn above_high(
-    data_type: DataType,
-    number: Option<i128>,
-    section: &TextSection<'_, '_>,
-) -> Option<usize>
-    ensures { result ≡ above_high data_type number (section_view section.now) }
+// a limit outside the type, which is itself at fault
+fn is_outside(data_type: DataType, limit: Option<Bound>) -> bool
+    ensures { result ≡ option_map_or (is_outside data_type) limit false }
 {
-    match section.property(b"HighLimit") {
-        Some(limit) if !at_most(number, number_of(data_type, limit.value)) => Some(limit.line),
-        _ => None,
-    }
-}
-
-// whether a number is below 0, as 0xFFFF is at INTEGER16
-fn is_negative(number: Option<i128>) -> bool
-    ensures { result ≡ is_negative number }
-{
-    !at_most(Some(0), number)
-}
-
-fn is_high_negative(data_type: DataType, section: &TextSection<'_, '_>) -> bool
-    ensures { result ≡ is_high_negative data_type (section_view section.now) }
-{
-    match section.property(b"HighLimit") {
-        Some(limit) => is_negative(number_of(data_type, limit.value)),
+    match limit {
+        Some(limit) => !is_in_type(data_type, limit.number),
         None => false,
     }
 }
 
-fn high_fact(negative: bool, line: usize) -> About
-    ensures { result ≡ high_fact negative line }
+fn below_fact(number: i128, low: Option<Bound>) -> Option<Fact>
+    ensures { result ≡ option_and_then (below_fact number) low }
 {
-    if negative {
-        About::Fact(Fact::AboveNegative(line))
-    } else {
-        About::Fact(Fact::AboveHigh(line))
+    match low {
+        Some(low) if !at_most(Some(low.number), Some(number)) => {
+            Some(Fact::BelowLow(low.line, low.number))
+        }
+        _ => None,
     }
 }
 
-fn crossed_fact(negative: bool, line: usize) -> About
-    ensures { result ≡ crossed_fact negative line }
+fn high_fact(high: Bound) -> Fact
+    ensures { result ≡ high_fact high }
 {
-    if negative {
-        About::Fact(Fact::NegativeHigh(line))
+    if at_most(Some(0), Some(high.number)) {
+        Fact::AboveHigh(high.line, high.number)
     } else {
-        About::Fact(Fact::LimitsCrossed(line))
+        Fact::AboveNegative(high.line, high.number)
     }
 }
 
-// the limit that a number exceeds
-fn limit_passed(data_type: DataType, number: Option<i128>, section: &TextSection<'_, '_>) -> About
+fn above_fact(number: i128, high: Option<Bound>) -> Option<Fact>
+    ensures { result ≡ option_and_then (above_fact number) high }
+{
+    match high {
+        Some(high) if !at_most(Some(number), Some(high.number)) => Some(high_fact(high)),
+        _ => None,
+    }
+}
+
+fn about_fact(found: Option<Fact>) -> About
+    ensures { result ≡ about_fact found }
+{
+    match found {
+        Some(fact) => About::Fact(fact),
+        None => About::Line,
+    }
+}
+
+// the limit that a number within the type exceeds: LowLimit comes first, last where it is outside
+// the type
+fn limit_passed(data_type: DataType, number: i128, section: &TextSection<'_, '_>) -> About
     ensures { result ≡ limit_passed data_type number (section_view section.now) }
 {
-    match below_low(data_type, number, section) {
-        Some(line) => About::Fact(Fact::BelowLow(line)),
-        None => match above_high(data_type, number, section) {
-            Some(line) => high_fact(is_high_negative(data_type, section), line),
-            None => About::Line,
-        },
+    let low = bound_at(data_type, b"LowLimit", section);
+    let below = below_fact(number, low);
+    let above = above_fact(number, bound_at(data_type, b"HighLimit", section));
+    if is_outside(data_type, low) {
+        about_fact(above.or(below))
+    } else {
+        about_fact(below.or(above))
     }
 }
 
@@ -144,10 +156,9 @@ fn value_in(section: &TextSection<'_, '_>, text: &[u8]) -> About
         return pairs_fact(section);
     };
     match number_of(data_type, key_value(text)) {
-        Some(number) if is_in_type(data_type, number) => {
-            limit_passed(data_type, Some(number), section)
-        }
-        _ => About::Line,
+        Some(number) if is_in_type(data_type, number) => limit_passed(data_type, number, section),
+        Some(_) => About::Fact(Fact::ValueOutside(data_type)),
+        None => About::Line,
     }
 }
 
@@ -161,16 +172,28 @@ pub fn bad_default(sections: &[TextSection<'_, '_>], line: usize, text: &[u8]) -
     }
 }
 
+fn crossed_fact(number: i128, line: usize) -> Fact
+    ensures { result ≡ crossed_fact number line }
+{
+    if at_most(Some(0), Some(number)) {
+        Fact::LimitsCrossed(line)
+    } else {
+        Fact::NegativeHigh(line)
+    }
+}
+
 // which of both a limit that is a number is: outside the type, or below LowLimit
 fn limit_of(section: &TextSection<'_, '_>, data_type: DataType, number: i128) -> About
     ensures { result ≡ limit_of (section_view section.now) data_type (Some number) }
 {
     if !is_in_type(data_type, number) {
-        return About::Fact(Fact::LimitOutside);
+        return About::Fact(Fact::LimitOutside(data_type));
     }
-    match below_low(data_type, Some(number), section) {
-        Some(line) => crossed_fact(is_negative(Some(number)), line),
-        None => About::Line,
+    match bound_at(data_type, b"LowLimit", section) {
+        Some(low) if !at_most(Some(low.number), Some(number)) => {
+            About::Fact(crossed_fact(number, low.line))
+        }
+        _ => About::Line,
     }
 }
 

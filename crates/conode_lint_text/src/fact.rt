@@ -1,13 +1,16 @@
 //! What a sheet has at a finding, as numbers, and its sentence.
 
 ghost use Rattle.std.specs.Prelude.{◌≡◌, ◌++◌, map, OnOk, string_bytes};
+ghost use Rattle.std.specs.Fmt.{signed_decimal};
 ghost use Rattle.conode_lint_text.specs.FactTexts.{
+  bound_texts,
   fact_text,
   hexadecimal,
   missing_text,
   not_listed,
   numbers,
   part_text,
+  range_texts,
   texts_of,
   words_of,
 };
@@ -15,6 +18,7 @@ ghost use Rattle.conode_lint_text.specs.FactTexts.{
 use crate::meant_section::{MeantSection, meant_text};
 use co_sheet_warnings::{KnownKey, device_keys, file_keys};
 use co_text::{push_decimal, push_u16};
+use co_value::DataType;
 use conode_text::{HasText, push_filled};
 use std::alloc::AllocError;
 
@@ -37,6 +41,8 @@ pub enum Fact {
     LargeText,
     /// A value that is no number.
     NoValue,
+    /// An ObjectType that is no number, as a name.
+    NoObjectType,
     /// A byte order mark of UTF-8.
     ByteOrderMark,
     /// The section that a misspelt name means.
@@ -88,14 +94,16 @@ pub enum Fact {
     Identity(u64, u64),
     /// The number of the identity object, where that of DeviceInfo can't be read.
     NoIdentity(u64),
-    /// A value below its LowLimit, by the line of the limit.
-    BelowLow(usize),
-    /// A value above its HighLimit, by the line of the limit.
-    AboveHigh(usize),
+    /// A value below its LowLimit, by the line of the limit and its number.
+    BelowLow(usize, i128),
+    /// A value above its HighLimit, by the line of the limit and its number.
+    AboveHigh(usize, i128),
     /// The same, where that limit is below 0.
-    AboveNegative(usize),
+    AboveNegative(usize, i128),
+    /// A value outside the range of its type.
+    ValueOutside(DataType),
     /// A limit outside the range of its type.
-    LimitOutside,
+    LimitOutside(DataType),
     /// A HighLimit below its LowLimit, by the line of LowLimit.
     LimitsCrossed(usize),
     /// The same, where HighLimit is below 0.
@@ -111,6 +119,8 @@ pub(crate) enum Part {
     Code(u16),
     /// A number as sheets have it, in hexadecimal digits after `0x`.
     Hexadecimal(u64),
+    /// A number with its sign, in decimal digits.
+    Signed(i128),
 }
 
 #[tactic(auto, unfolding(crate::specs::FactTexts::hexadecimal))]
@@ -118,6 +128,13 @@ fn push_hexadecimal(text: &mut String, number: u64) -> Result<(), AllocError>
     ensures { OnOk result (string_bytes text.new ≡ string_bytes text.old ++ hexadecimal number) }
 {
     write!(text, "0x{number:X}")
+}
+
+fn push_signed(text: &mut String, number: i128) -> Result<(), AllocError>
+    ensures { OnOk result
+        (string_bytes text.new ≡ string_bytes text.old ++ signed_decimal number) }
+{
+    write!(text, "{number}")
 }
 
 impl HasText for Part {
@@ -128,6 +145,7 @@ impl HasText for Part {
             Part::Number(number) => push_decimal(text, number),
             Part::Code(code) => push_u16(text, code),
             Part::Hexadecimal(number) => push_hexadecimal(text, number),
+            Part::Signed(number) => push_signed(text, number),
         }
     }
 }
@@ -161,6 +179,7 @@ fn words_of(fact: Fact) -> &'static str
         Fact::NotListed(device, error, identity) => not_listed(device, error, identity),
         Fact::LargeText => "the text has more than 1,048,576 bytes",
         Fact::NoValue => "the value is no whole number of at most 64 bits",
+        Fact::NoObjectType => "ObjectType is a number, and this is none",
         Fact::MeantSection(section) => meant_text(section),
         Fact::ByteOrderMark => {
             "the text begins with a byte order mark of UTF-8, which older tools read as characters"
@@ -198,12 +217,13 @@ fn words_of(fact: Fact) -> &'static str
         Fact::NoTpdoCount(_) => "NrOfTXPDO is no number, and the number of the sheet's TPDOs is %",
         Fact::Identity(_, _) => "the number is %, and that of the identity object is %",
         Fact::NoIdentity(_) => "the number can't be read, and that of the identity object is %",
-        Fact::BelowLow(_) => "the value is below the LowLimit of line %",
-        Fact::AboveHigh(_) => "the value is above the HighLimit of line %",
-        Fact::AboveNegative(_) => {
-            "the value is above the HighLimit of line %, which is a negative number"
+        Fact::BelowLow(_, _) => "the value is below the LowLimit of line %, which is %",
+        Fact::AboveHigh(_, _) => "the value is above the HighLimit of line %, which is %",
+        Fact::AboveNegative(_, _) => {
+            "the value is above the HighLimit of line %, which is a negative number, %"
         }
-        Fact::LimitOutside => "the limit is outside the type's range",
+        Fact::ValueOutside(_) => "the value is outside the type's range, % to %",
+        Fact::LimitOutside(_) => "the limit is outside the type's range, % to %",
         Fact::LimitsCrossed(_) => "HighLimit is below the LowLimit of line %",
         Fact::NegativeHigh(_) => "HighLimit is a negative number, below the LowLimit of line %",
     }
@@ -217,6 +237,28 @@ fn numbers(first: u64, second: u64, third: u64) -> [Part; 3]
         Part::Number(first),
         Part::Number(second),
         Part::Number(third),
+    ]
+}
+
+// the line and the number of a limit
+fn bound(line: usize, number: i128) -> [Part; 3]
+    ensures { map part_text result ≡ bound_texts line number }
+{
+    [
+        Part::Number(line as u64),
+        Part::Signed(number),
+        Part::Number(0),
+    ]
+}
+
+// the range of a numeric type
+fn range(data_type: DataType) -> [Part; 3]
+    ensures { map part_text result ≡ range_texts data_type }
+{
+    [
+        Part::Signed(data_type.least().unwrap_or(0)),
+        Part::Signed(data_type.greatest().unwrap_or(0)),
+        Part::Number(0),
     ]
 }
 
@@ -235,12 +277,13 @@ fn values_of(fact: Fact) -> [Part; 3]
         Fact::NoSubNumber(number)
         | Fact::NoRpdoCount(number)
         | Fact::NoTpdoCount(number)
-        | Fact::BelowLow(number)
-        | Fact::AboveHigh(number)
-        | Fact::AboveNegative(number)
         | Fact::HighIndex(number)
         | Fact::LimitsCrossed(number)
         | Fact::NegativeHigh(number) => numbers(number as u64, 0, 0),
+        Fact::BelowLow(line, number) => bound(line, number),
+        Fact::AboveHigh(line, number) => bound(line, number),
+        Fact::AboveNegative(line, number) => bound(line, number),
+        Fact::ValueOutside(data_type) | Fact::LimitOutside(data_type) => range(data_type),
         Fact::Identity(number, other) => [
             Part::Hexadecimal(number),
             Part::Hexadecimal(other),

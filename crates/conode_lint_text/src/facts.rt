@@ -38,6 +38,7 @@ ghost use Rattle.conode_lint_text.specs.Facts.{
   missing_key,
   missing_section,
   no_pdo_fact,
+  number_fact,
   odd_value,
   other_type,
   pdo_count,
@@ -220,16 +221,25 @@ fn is_value_key(name: &[u8]) -> bool
     same_name(name, b"DefaultValue") || same_name(name, b"ParameterValue")
 }
 
-/// Of the BadNumber of a line: quotes or a comment in its value, which may be a sum with `$NODEID`.
+// what is said of a key whose value is no number
+fn number_fact(name: &[u8]) -> About
+    ensures { result ≡ number_fact name.now }
+{
+    if is_value_key(name) {
+        About::Fact(Fact::NoValue)
+    } else if same_name(name, b"ObjectType") {
+        About::Fact(Fact::NoObjectType)
+    } else {
+        About::Line
+    }
+}
+
+/// Of the BadNumber of a line: quotes or a comment in its value, which may be a sum with `$NODEID`;
+/// or the name of an object type.
 pub fn bad_number(text: &[u8]) -> About
     ensures { result ≡ bad_number text.now }
 {
-    let other = if is_value_key(key_name(text)) {
-        About::Fact(Fact::NoValue)
-    } else {
-        About::Line
-    };
-    odd_value(key_value(text), other)
+    odd_value(key_value(text), number_fact(key_name(text)))
 }
 
 /// Of the BadAccess of a line: quotes or a comment in its value.

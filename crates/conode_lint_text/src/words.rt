@@ -90,6 +90,9 @@ pub(crate) fn fix_of<'a>(finding: &Finding<'a>) -> &'a str
         About::Fact(Fact::NoValue) => {
             "write decimal digits, 0x and hexadecimal digits, or a sum as $NODEID+0x180"
         }
+        About::Fact(Fact::NoObjectType) => {
+            "write 0x7 for a VAR, 0x8 for an ARRAY, 0x9 for a RECORD, 0x2 for a DOMAIN"
+        }
         About::Fact(Fact::ByteOrderMark) => "save it without the mark",
         About::Fact(Fact::CommentInValue) => "put the comment on a line of its own",
         About::Fact(Fact::QuotedValue) => "take the quotes out",

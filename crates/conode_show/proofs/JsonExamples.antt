@@ -16,7 +16,8 @@ use Rattle.conode_json.specs.Members.{array_begin, flag_member, number_member, o
 use Rattle.conode_json.specs.Characters.{characters_of, windows_1252}
 use Rattle.conode_show_text.specs.declared.meaning.Meaning.TheVariants.{PdoCobId}
 use Rattle.conode_show_text.specs.Numbers.{hex_text}
-use Rattle.conode_show_text.specs.Texts.{plain_text, property_text, shown_character}
+use Rattle.conode_lint_text.specs.Characters.{shown}
+use Rattle.conode_show_text.specs.Texts.{plain_text, property_text}
 use Rattle.conode_show_text.specs.CobIds.{cob_id_text, identifier_text, pdo_cob_id_text}
 use Rattle.conode_show_text.specs.Meanings.{mapped_text, millis_text, said, time_text, word_text}
 use Rattle.conode_show_text.specs.Entries.{entry_type, type_name, type_text}
@@ -92,14 +93,14 @@ object_of_variable = refl
 -- an object without a type: its ObjectType is there and empty
 object_without_type : section_tokens None (section (SubIndex (key_at 0x1018 0)) [] ∷ []) (section (Object 0x1018) (property (codes "ObjectType") [] ∷ []))
     ≡ begin_object ∷ key (codes "index") ∷ number (codes "4120") ∷ end_object ∷ []
-unfolding object_tokens property_member number_member property_text plain_text shown_character characters_of is_utf8 chars encode digits
+unfolding object_tokens property_member number_member property_text plain_text shown characters_of is_utf8 chars encode digits
 object_without_type = refl
 
 -- an ObjectType that is no number: the sections of sub-indices tell that it is an object, and DataType
 -- isn't its type
 unread_object : section_tokens None (section (SubIndex (key_at 0x2000 0)) [] ∷ []) (section (Object 0x2000) (property (codes "ObjectType") (codes "ARRAY") ∷ property (codes "DataType") (codes "5") ∷ []))
     ≡ begin_object ∷ key (codes "index") ∷ number (codes "8192") ∷ key (codes "type") ∷ string (codes "ARRAY") ∷ end_object ∷ []
-unfolding object_tokens property_member text_member number_member property_text plain_text shown_character characters_of is_utf8 chars encode digits
+unfolding object_tokens property_member text_member number_member property_text plain_text shown characters_of is_utf8 chars encode digits
 unread_object = refl
 
 bare_entry : section_tokens None [] (section (Object 0x1001) [])
@@ -171,5 +172,5 @@ not_multiplexed = refl
 
 mapped_unread : mapped_tokens None [] (mapped_word (codes "x"))
     ≡ begin_object ∷ key (codes "words") ∷ string (codes "x") ∷ end_object ∷ []
-unfolding mapped_tokens text_member said plain_text shown_character characters_of is_utf8 chars encode
+unfolding mapped_tokens text_member said plain_text shown characters_of is_utf8 chars encode
 mapped_unread = refl

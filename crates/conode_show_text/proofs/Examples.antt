@@ -10,7 +10,8 @@ use Rattle.co_value.specs.declared.data_type.DataType.TheVariants.{Integer16, Un
 use Rattle.conode_show_text.specs.declared.format.Format.TheVariants.{Text, Markdown}
 use Rattle.conode_show_text.specs.declared.meaning.Meaning.TheVariants.{PdoCobId, CobId, SyncCobId, SyncPeriod, SyncWindow, SyncOverflow, TimeCobId, Transmission, Reception, PdoInhibit, EventTimer, EmcyInhibit, Consumer, Producer, Mapped}
 use Rattle.conode_show_text.specs.Numbers.{hex_text, in_parentheses, number_text}
-use Rattle.conode_show_text.specs.Texts.{plain_text, shown_character}
+use Rattle.conode_lint_text.specs.Characters.{shown}
+use Rattle.conode_show_text.specs.Texts.{plain_text}
 use Rattle.conode_show_text.specs.Layout.{Part, placed, line_of}
 use Rattle.conode_show_text.specs.declared.values.Word.{Word}
 use Rattle.conode_show_text.specs.Values.{sum_text, known_text, quoted, value_text, unnumbered_text, word_of}
@@ -55,45 +56,55 @@ sum_without_node : value_text None (Some Unsigned32) (codes "$NODEID+0x600") ≡
 unfolding value_text known_text sum_text hex_text digits
 sum_without_node = refl
 
-sum_of_node : value_text (Some 5) (Some Unsigned32) (codes "0x600 + $nodeid") ≡ codes "$NODEID+600h = 605h"
+sum_of_node : value_text (Some 5) (Some Unsigned32) (codes "0x600 + $nodeid") ≡ codes "$NODEID+600h = 1541 (605h)"
 unfolding value_text known_text sum_text hex_text digits
 sum_of_node = refl
 
-node_alone : value_text (Some 5) (Some Unsigned8) (codes "$NODEID") ≡ codes "$NODEID = 5h"
+-- on both sides of 10, whose digits differ
+sums_in_both_bases : map (λ node. value_text (Some node) (Some Unsigned8) (codes "$NODEID+1")) (8 ∷ 9 ∷ []) ≡ codes "$NODEID+1h = 9" ∷ codes "$NODEID+1h = 10 (Ah)" ∷ []
+unfolding value_text known_text sum_text hex_text digits
+sums_in_both_bases = refl
+
+node_alone : value_text (Some 5) (Some Unsigned8) (codes "$NODEID") ≡ codes "$NODEID = 5"
 unfolding value_text known_text sum_text hex_text digits
 node_alone = refl
 
 no_number : value_text None (Some Unsigned8) (codes "010") ≡ codes "010"
-unfolding value_text known_text plain_text shown_character characters_of is_utf8 chars encode
+unfolding value_text known_text plain_text shown characters_of is_utf8 chars encode
 no_number = refl
 
 string : value_text None (Some VisibleString) (codes "a b") ≡ codes "\"a b\""
-unfolding value_text unnumbered_text quoted plain_text shown_character characters_of is_utf8 chars encode
+unfolding value_text unnumbered_text quoted plain_text shown characters_of is_utf8 chars encode
 string = refl
 
 octets : value_text None (Some OctetString) (codes "00A1FF") ≡ codes "00A1FF"
-unfolding value_text unnumbered_text plain_text shown_character characters_of is_utf8 chars encode
+unfolding value_text unnumbered_text plain_text shown characters_of is_utf8 chars encode
 octets = refl
 
 -- ---- texts
 
-with_control : plain_text (codes "a\tb") ≡ codes "a\\x09b"
-unfolding plain_text shown_character characters_of is_utf8 chars encode digits_text
+with_control : plain_text (codes "a\tb") ≡ codes "a\\tb"
+unfolding plain_text shown characters_of is_utf8 chars encode digits_text
 with_control = refl
 
 -- the first and the last control character, the no-break space, and what is beside them: U+001F, U+0020;
 -- U+007E, U+007F, U+0080, U+009F, U+00A0, U+00A1
 edges : plain_text (31 ∷ 32 ∷ 126 ∷ 127 ∷ 0xC2 ∷ 0x80 ∷ 0xC2 ∷ 0x9F ∷ 0xC2 ∷ 0xA0 ∷ 0xC2 ∷ 0xA1 ∷ []) ≡ codes "\\x1F ~\\x7F\\x80\\x9F\\xA0" ++ 0xC2 ∷ 0xA1 ∷ []
-unfolding plain_text shown_character characters_of is_utf8 chars encode digits_text
+unfolding plain_text shown characters_of is_utf8 chars encode digits_text
 edges = refl
+
+-- U+202E, which turns the text around, and U+2070, a digit that is seen
+turning : plain_text (97 ∷ 0xE2 ∷ 0x80 ∷ 0xAE ∷ 0xE2 ∷ 0x81 ∷ 0xB0 ∷ []) ≡ codes "a\\u202E" ++ 0xE2 ∷ 0x81 ∷ 0xB0 ∷ []
+unfolding plain_text shown characters_of is_utf8 chars encode digits
+turning = refl
 
 -- no UTF-8: a letter, the euro sign, and a byte that Windows-1252 leaves open
 from_windows : plain_text (77 ∷ 0xFC ∷ 0x80 ∷ 0x9D ∷ []) ≡ 77 ∷ 0xC3 ∷ 0xBC ∷ 0xE2 ∷ 0x82 ∷ 0xAC ∷ codes "\\x9D"
-unfolding plain_text shown_character characters_of windows_1252 is_utf8 chars encode digits_text
+unfolding plain_text shown characters_of windows_1252 is_utf8 chars encode digits_text
 from_windows = refl
 
 umlaut : plain_text (77 ∷ 0xC3 ∷ 0xBC ∷ []) ≡ 77 ∷ 0xC3 ∷ 0xBC ∷ []
-unfolding plain_text shown_character characters_of is_utf8 chars encode
+unfolding plain_text shown characters_of is_utf8 chars encode
 umlaut = refl
 
 -- ---- lines

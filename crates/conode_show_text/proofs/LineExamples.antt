@@ -13,7 +13,8 @@ use Rattle.co_sheet_text.specs.Sections.{TextSection, Property}
 use Rattle.conode_show_text.specs.declared.format.Format.TheVariants.{Text, Markdown}
 use Rattle.conode_show_text.specs.declared.service.Service.TheVariants.{Sync, SyncPeriod, SyncWindow, SyncOverflow, Time, Emcy, EmcyInhibitTime, HeartbeatConsumer, HeartbeatProducer, SdoRequests, SdoResponses, ClientRequests, ClientResponses}
 use Rattle.conode_show_text.specs.Numbers.{hex_text, in_parentheses, number_text}
-use Rattle.conode_show_text.specs.Texts.{plain_text, property_text, shown_character}
+use Rattle.conode_lint_text.specs.Characters.{shown}
+use Rattle.conode_show_text.specs.Texts.{plain_text, property_text}
 use Rattle.conode_show_text.specs.Layout.{placed}
 use Rattle.conode_show_text.specs.Values.{default_text, known_text, limit_text, limits_text, property_value, sum_text, value_text}
 use Rattle.conode_show_text.specs.CobIds.{cob_id_text, identifier_text, pdo_cob_id_text}
@@ -37,27 +38,27 @@ section kind properties = record { kind = kind; name = []; line = 1; properties 
 
 whole_entry : section_text Text None [] (section (SubIndex (key 0x2000 1)) (property (codes "ParameterName") (codes "Gain") ∷ property (codes "DataType") (codes "0x0003") ∷ property (codes "AccessType") (codes "rw") ∷ property (codes "PDOMapping") (codes "1") ∷ property (codes "DefaultValue") (codes "10") ∷ property (codes "LowLimit") (codes "0xFF9C") ∷ property (codes "HighLimit") (codes "100") ∷ []))
     ≡ codes "2000:01 Gain                          INTEGER16      rw     PDO 10 (Ah)                -100..100\n"
-unfolding entry_line one_line placed property_text plain_text shown_character characters_of is_utf8 chars encode type_text entry_type type_name mappable_text default_text property_value value_text known_text number_text in_parentheses hex_text limits_text limit_text digits digits_text
+unfolding entry_line one_line placed property_text plain_text shown characters_of is_utf8 chars encode type_text entry_type type_name mappable_text default_text property_value value_text known_text number_text in_parentheses hex_text limits_text limit_text digits digits_text
 whole_entry = refl
 
 variable : section_text Text None [] (section (Object 0x1001) (property (codes "DataType") (codes "5") ∷ [])) ≡ codes "1001:00                               UNSIGNED8\n"
-unfolding entry_line one_line object_heading placed property_text plain_text shown_character characters_of is_utf8 chars encode type_text entry_type type_name mappable_text default_text property_value limits_text limit_text digits digits_text
+unfolding entry_line one_line object_heading placed property_text plain_text shown characters_of is_utf8 chars encode type_text entry_type type_name mappable_text default_text property_value limits_text limit_text digits digits_text
 variable = refl
 
 -- the longest name before a column, and the longest type: neither moves what is right of it
 long_name : section_text Text None [] (section (Object 0x1009) (property (codes "ParameterName") (codes "Manufacturer hardware version") ∷ property (codes "DataType") (codes "9") ∷ property (codes "AccessType") (codes "const") ∷ []))
     ≡ codes "1009:00 Manufacturer hardware version VISIBLE_STRING const\n"
-unfolding entry_line one_line object_heading placed property_text plain_text shown_character characters_of is_utf8 chars encode type_text entry_type type_name mappable_text default_text property_value limits_text limit_text digits digits_text
+unfolding entry_line one_line object_heading placed property_text plain_text shown characters_of is_utf8 chars encode type_text entry_type type_name mappable_text default_text property_value limits_text limit_text digits digits_text
 long_name = refl
 
 object_of_records : section_text Text None [] (section (Object 0x1018) (property (codes "ObjectType") (codes "9") ∷ property (codes "ParameterName") (codes "Identity") ∷ [])) ≡ codes "1018    Identity                      RECORD\n"
-unfolding object_heading object_line placed property_text plain_text shown_character characters_of is_utf8 chars encode type_text digits_text
+unfolding object_heading object_line placed property_text plain_text shown characters_of is_utf8 chars encode type_text digits_text
 object_of_records = refl
 
 -- in Markdown an object with sub-indices has a heading and a row
 table_of_records : section_text Markdown None [] (section (Object 0x1018) (property (codes "ObjectType") (codes "9") ∷ property (codes "ParameterName") (codes "Identity") ∷ []))
     ≡ codes "\n### 1018h Identity\n\n| Entry | Name | Type | Access | PDO | Default | Limits |\n| --- | --- | --- | --- | --- | --- | --- |\n| 1018 | Identity | RECORD |  |  |  |  |\n"
-unfolding object_heading object_line placed property_text plain_text shown_character characters_of is_utf8 chars encode type_text digits_text
+unfolding object_heading object_line placed property_text plain_text shown characters_of is_utf8 chars encode type_text digits_text
 table_of_records = refl
 
 -- the first sub-index of an object without a section has a heading, in Markdown; one of an object with a section has none, nor a later one
@@ -82,11 +83,11 @@ abbrev sub_index_of : ℕ → List TextSection
 sub_index_of index = section (SubIndex (key index 0)) [] ∷ []
 
 unread_object : section_text Text None (sub_index_of 0x1018) (section (Object 0x1018) unread) ≡ codes "1018    Identity                      RECORD\n"
-unfolding object_heading object_line placed property_text plain_text shown_character characters_of is_utf8 chars encode type_text entry_type digits_text
+unfolding object_heading object_line placed property_text plain_text shown characters_of is_utf8 chars encode type_text entry_type digits_text
 unread_object = refl
 
 unread_entry : section_text Text None (sub_index_of 0x1019) (section (Object 0x1018) unread) ≡ codes "1018:00 Identity                      RECORD\n"
-unfolding entry_line one_line object_heading placed property_text plain_text shown_character characters_of is_utf8 chars encode type_text entry_type mappable_text default_text property_value limits_text limit_text digits_text
+unfolding entry_line one_line object_heading placed property_text plain_text shown characters_of is_utf8 chars encode type_text entry_type mappable_text default_text property_value limits_text limit_text digits_text
 unread_entry = refl
 
 -- the same with a data type, which is that of its entries
@@ -94,11 +95,11 @@ abbrev unread_array : List Property
 unread_array = property (codes "ObjectType") (codes "ARRAY") ∷ property (codes "DataType") (codes "5") ∷ []
 
 unread_array_object : section_text Text None (sub_index_of 0x2000) (section (Object 0x2000) unread_array) ≡ codes "2000                                  ARRAY\n"
-unfolding object_heading object_line placed property_text plain_text shown_character characters_of is_utf8 chars encode digits_text
+unfolding object_heading object_line placed property_text plain_text shown characters_of is_utf8 chars encode digits_text
 unread_array_object = refl
 
 unread_array_entry : section_text Text None [] (section (Object 0x2000) unread_array) ≡ codes "2000:00                               UNSIGNED8\n"
-unfolding entry_line one_line object_heading placed property_text plain_text shown_character characters_of is_utf8 chars encode type_text entry_type type_name mappable_text default_text property_value limits_text limit_text digits digits_text
+unfolding entry_line one_line object_heading placed property_text plain_text shown characters_of is_utf8 chars encode type_text entry_type type_name mappable_text default_text property_value limits_text limit_text digits digits_text
 unread_array_entry = refl
 
 array_object : section_text Text None [] (section (Object 0x2000) (property (codes "ObjectType") (codes "8") ∷ property (codes "DataType") (codes "5") ∷ [])) ≡ codes "2000                                  ARRAY\n"
@@ -108,7 +109,7 @@ array_object = refl
 -- without ObjectType it is a VAR, whatever sections there are: its type, its access and its default stay
 without_object_type : section_text Text None (sub_index_of 0x2000) (section (Object 0x2000) (property (codes "DataType") (codes "5") ∷ property (codes "AccessType") (codes "rw") ∷ property (codes "DefaultValue") (codes "7") ∷ property (codes "HighLimit") (codes "9") ∷ []))
     ≡ codes "2000:00                               UNSIGNED8      rw         7                      ..9\n"
-unfolding entry_line one_line object_heading placed property_text plain_text shown_character characters_of is_utf8 chars encode type_text entry_type type_name mappable_text default_text property_value value_text known_text number_text in_parentheses hex_text limits_text limit_text digits digits_text
+unfolding entry_line one_line object_heading placed property_text plain_text shown characters_of is_utf8 chars encode type_text entry_type type_name mappable_text default_text property_value value_text known_text number_text in_parentheses hex_text limits_text limit_text digits digits_text
 without_object_type = refl
 
 -- an empty ObjectType is no number
@@ -142,7 +143,7 @@ unfolding mappable_text
 mappable = refl
 
 beside_default : default_text (Some 5) (section (Object 0x1014) (property (codes "DataType") (codes "7") ∷ property (codes "DefaultValue") (codes "$NODEID+0x80") ∷ property (codes "ParameterValue") (codes "0x85") ∷ []))
-    ≡ codes "133 (85h), default $NODEID+80h = 85h"
+    ≡ codes "133 (85h), default $NODEID+80h = 133 (85h)"
 unfolding default_text property_value value_text known_text sum_text number_text in_parentheses hex_text digits
 beside_default = refl
 
@@ -324,11 +325,11 @@ unfolding said word_text pdo_cob_id_text cob_id_text identifier_text hex_text di
 cob_id_of_node = refl
 
 past_32_bits : said PdoCobId None (section (SubIndex (key 0x1800 1)) (property (codes "DefaultValue") (codes "0x100000185") ∷ [])) ≡ codes "0x100000185"
-unfolding said plain_text shown_character characters_of is_utf8 chars encode
+unfolding said plain_text shown characters_of is_utf8 chars encode
 past_32_bits = refl
 
 no_cob_id : said PdoCobId None (section (SubIndex (key 0x1800 1)) (property (codes "DefaultValue") (codes "x") ∷ [])) ≡ codes "x"
-unfolding said plain_text shown_character characters_of is_utf8 chars encode
+unfolding said plain_text shown characters_of is_utf8 chars encode
 no_cob_id = refl
 
 abbrev consumer_said : Option ℕ → List ℕ
@@ -348,7 +349,7 @@ name_with node value =
     mapped_name node (section (Object 0x2000) (property (codes "ParameterName") (codes "a") ∷ []) ∷ []) (section (SubIndex (key 0x1A00 1)) (property (codes "DefaultValue") value ∷ []))
 
 name_of_number : name_with None (codes "0x20000008") ≡ codes "a"
-unfolding mapped_name property_text plain_text shown_character characters_of is_utf8 chars encode
+unfolding mapped_name property_text plain_text shown characters_of is_utf8 chars encode
 name_of_number = refl
 
 name_without_node : name_with None (codes "$NODEID+0x20000003") ≡ []
@@ -356,7 +357,7 @@ unfolding mapped_name
 name_without_node = refl
 
 name_of_node : name_with (Some 5) (codes "$NODEID+0x20000003") ≡ codes "a"
-unfolding mapped_name property_text plain_text shown_character characters_of is_utf8 chars encode
+unfolding mapped_name property_text plain_text shown characters_of is_utf8 chars encode
 name_of_node = refl
 
 abbrev size_is : List ℕ → List TextSection

@@ -1,5 +1,5 @@
 -- The values that a sheet states (CiA 306, object description, device configuration file).
-use Rattle.std.specs.Prelude.{ℕ, ◌+◌, ◌^◌, ◌==◌, nat_lt, Bool, true, false, if◌then◌else◌, List, [], ◌∷◌, ◌++◌, ℤ, pos, negsuc, codes, Option, Some, None, is_some, option_map, option_and_then, unwrap_or, ◌&&◌, ◌||◌}
+use Rattle.std.specs.Prelude.{ℕ, ◌+◌, ◌^◌, ◌==◌, nat_lt, Bool, true, false, if◌then◌else◌, List, [], ◌∷◌, ◌++◌, ℤ, pos, negsuc, codes, decimal, Option, Some, None, is_some, option_map, option_and_then, unwrap_or, ◌&&◌, ◌||◌}
 use Rattle.std.specs.Option.{option_map_or, option_or}
 use Rattle.std.specs.Result.{result_ok}
 use Rattle.std.specs.Fmt.{signed_decimal}
@@ -24,11 +24,14 @@ numeric_value t value = unwrap_or (result_ok (numeric_default t value)) absent
 abbrev pub addend_text : ℕ → List ℕ
 addend_text addend = codes "$NODEID" ++ (if addend == 0 then [] else codes "+" ++ hex_text addend)
 
--- the same, and its value for a given node, as `$NODEID+600h = 605h`
+-- the same, and its value for a given node as other numbers are printed, as `$NODEID+600h = 1541 (605h)`
+abbrev pub both_bases : ℕ → List ℕ
+both_bases n = decimal n ++ (if nat_lt n 10 then [] else codes " (" ++ hex_text n ++ codes ")")
+
 unfoldable pub sum_text : Option ℕ → ℕ → List ℕ
 sum_text node addend =
     addend_text addend
-    ++ option_map_or (λ sum. codes " = " ++ hex_text sum) (option_and_then (λ id. if_small (addend + id)) node) []
+    ++ option_map_or (λ sum. codes " = " ++ both_bases sum) (option_and_then (λ id. if_small (addend + id)) node) []
 
 -- a numeric value of so many bytes; any other text is printed as it is
 unfoldable pub known_text : Option ℕ → ℕ → List ℕ → Default → List ℕ

@@ -44,9 +44,10 @@ use crate::cob_ids::{cob_id, pdo_cob_id, sync_name, time_name, use_name};
 use crate::names::name_among;
 use crate::phrase::{Phrase, Piece, alone, push_phrase, with_number};
 use crate::texts::push_plain;
-use crate::values::{Word, sum, value_of, word_of};
+use crate::values::{Word, value_of, word_of};
 use co_sheet_text::TextSection;
 use co_value::Key;
+use conode_text::HasText;
 use std::alloc::AllocError;
 
 /// The meaning of a number in the communication profile.
@@ -336,13 +337,12 @@ fn is_cob_id(meaning: Meaning) -> bool
 }
 
 // a sum with a node-ID that isn't known: only a COB-ID has words
-#[tactic(auto, unfolding(crate::specs::Values::sum_text))]
 fn push_relative(text: &mut String, meaning: Meaning, word: Word) -> Result<(), AllocError>
     ensures { OnOk result
         (string_bytes text.new ≡ string_bytes text.old ++ relative_text meaning word) }
 {
     if !is_cob_id(meaning) {
-        return push_phrase(text, &sum(None, word.number));
+        return Piece::Sum(word.number).push(text);
     }
     attempt!(text.push_str("$NODEID+"));
     push_phrase(text, &meaning_of(meaning, word))

@@ -6,6 +6,7 @@ ghost use Rattle.std.specs.Fmt.{signed_decimal};
 ghost use Rattle.conode_text.specs.Filled.{filled};
 ghost use Rattle.conode_show_text.specs.Numbers.{hex_text};
 ghost use Rattle.conode_show_text.specs.Phrases.{phrase_text, piece_text};
+ghost use Rattle.conode_show_text.specs.Values.{addend_text};
 
 use crate::texts::push_plain;
 use co_text::push_decimal;
@@ -25,6 +26,8 @@ pub(crate) enum Piece<'p> {
     Signed(i128),
     /// A number in hexadecimal digits, as many as it needs, with `h`.
     Hexadecimal(u64),
+    /// A sum of the node-ID and a number, as it is written.
+    Sum(u64),
     Key(Key),
     /// The code of a data type without a name.
     TypeCode(u64),
@@ -46,6 +49,16 @@ fn push_hexadecimal(text: &mut String, number: u64) -> Result<(), AllocError>
     write!(text, "{number:X}h")
 }
 
+fn push_sum(text: &mut String, addend: u64) -> Result<(), AllocError>
+    ensures { OnOk result (string_bytes text.new ≡ string_bytes text.old ++ addend_text addend) }
+{
+    if addend == 0 {
+        return text.push_str("$NODEID");
+    }
+    attempt!(text.push_str("$NODEID+"));
+    push_hexadecimal(text, addend)
+}
+
 #[tactic(auto, unfolding(crate::specs::Numbers::hex_text))]
 fn push_type_code(text: &mut String, code: u64) -> Result<(), AllocError>
     ensures { OnOk result (string_bytes text.new
@@ -64,6 +77,7 @@ impl HasText for Piece<'_> {
             Piece::Number(number) => push_decimal(text, number),
             Piece::Signed(number) => push_signed(text, number),
             Piece::Hexadecimal(number) => push_hexadecimal(text, number),
+            Piece::Sum(addend) => push_sum(text, addend),
             Piece::Key(key) => text.push_str(key.text().as_str()),
             Piece::TypeCode(code) => push_type_code(text, code),
             Piece::Plain(bytes) => push_plain(text, bytes),

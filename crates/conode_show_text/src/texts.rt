@@ -4,58 +4,22 @@
 ghost use Rattle.std.specs.Prelude.{◌≡◌, ◌++◌, OnOk, string_bytes};
 ghost use Rattle.co_sheet_text.specs.Views.{section_view};
 ghost use Rattle.conode_show_text.specs.Phrases.{piece_text};
-ghost use Rattle.conode_show_text.specs.Texts.{
-  is_escaped,
-  plain_text,
-  property_text,
-  shown_character,
-  shown_characters,
-};
+ghost use Rattle.conode_show_text.specs.Texts.{plain_text, property_text};
 
 use crate::phrase::Piece;
 use co_sheet_text::TextSection;
-use co_text::push_byte;
 use conode_json::characters_of;
+use conode_lint_text::push_all_shown;
 use std::alloc::AllocError;
 
-// whether a character is a control character or a no-break space
-fn is_escaped(character: char) -> bool
-    ensures { result ≡ is_escaped character }
-{
-    character.is_control() || character == '\u{A0}'
-}
-
-#[tactic(auto, unfolding(crate::specs::Texts::shown_character))]
-fn push_character(text: &mut String, character: char) -> Result<(), AllocError>
-    ensures { OnOk result
-        (string_bytes text.new ≡ string_bytes text.old ++ shown_character character) }
-{
-    if is_escaped(character) {
-        attempt!(text.push_str("\\x"));
-        push_byte(text, character as u8)
-    } else {
-        text.push(character)
-    }
-}
-
-fn push_characters(text: &mut String, characters: &[char]) -> Result<(), AllocError>
-    ensures { OnOk result
-        (string_bytes text.new ≡ string_bytes text.old ++ shown_characters characters.now) }
-{
-    for character in characters {
-        attempt!(push_character(text, *character));
-    }
-    Ok(())
-}
-
 /// Appends a text of the sheet: read as UTF-8 if it is valid, else as Windows-1252, with control
-/// characters and no-break spaces escaped.
+/// characters, and others that can't be seen or turn the text around, escaped.
 #[tactic(auto, unfolding(crate::specs::Texts::plain_text))]
 pub(crate) fn push_plain(text: &mut String, bytes: &[u8]) -> Result<(), AllocError>
     ensures { OnOk result (string_bytes text.new ≡ string_bytes text.old ++ plain_text bytes.now) }
 {
     let characters = attempt!(characters_of(*text.allocator(), bytes));
-    push_characters(text, characters.as_slice())
+    push_all_shown(text, characters.as_slice())
 }
 
 /// The text of a property, nothing if the section has none.

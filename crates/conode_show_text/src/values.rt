@@ -73,25 +73,25 @@ fn sum_of(node: Option<u8>, addend: u64) -> Option<u64>
     }
 }
 
-/// A sum with the node-ID as it is written, and its value for a given node.
+// a sum with the node-ID as it is written, and its value for a given node
 #[tactic(auto, unfolding(crate::specs::Values::sum_text, conode_text::specs::Filled::filled))]
-pub(crate) fn sum(node: Option<u8>, addend: u64) -> Phrase<'static>
+fn sum(node: Option<u8>, addend: u64) -> Phrase<'static>
     ensures { phrase_text result ≡ sum_text node addend }
 {
-    let sum = sum_of(node, addend);
-    if addend == 0 {
-        return match sum {
-            None => alone(Piece::Words("$NODEID")),
-            Some(sum) => with_one("$NODEID = %", Piece::Hexadecimal(sum)),
-        };
-    }
-    match sum {
-        None => with_one("$NODEID+%", Piece::Hexadecimal(addend)),
-        Some(sum) => Phrase {
-            words: "$NODEID+% = %",
-            first: Piece::Hexadecimal(addend),
-            second: Piece::Hexadecimal(sum),
+    match sum_of(node, addend) {
+        None => alone(Piece::Sum(addend)),
+        Some(sum) if sum < 10 => Phrase {
+            words: "% = %",
+            first: Piece::Sum(addend),
+            second: Piece::Number(sum),
             third: Piece::Nothing,
+            fourth: Piece::Nothing,
+        },
+        Some(sum) => Phrase {
+            words: "% = % (%)",
+            first: Piece::Sum(addend),
+            second: Piece::Number(sum),
+            third: Piece::Hexadecimal(sum),
             fourth: Piece::Nothing,
         },
     }

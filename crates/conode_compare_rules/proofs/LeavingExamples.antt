@@ -1,0 +1,154 @@
+-- A device that may still be stopped after a command that leads out of stopped, on both sides of each edge.
+use Rattle.std.proofs.Common.{◌≡◌, ℕ, Bool, true, false, [], ◌∷◌, map, Option, Some, None, refl}
+use Rattle.co_frame.specs.declared.nmt.NmtService.TheVariants.{Start, Stop, EnterPreOperational, ResetNode}
+use Rattle.conode_explain_transfers.specs.declared.kinds.Side.TheVariants.{Client, Server}
+use Rattle.conode_explain_transfers.specs.declared.kinds.What.TheVariants.{Part}
+use Rattle.conode_compare_pdos.specs.declared.parameters.Parameters.{Parameters}
+use Rattle.conode_compare_pdos.specs.declared.pdos.Pdos.{Pdos}
+use Rattle.conode_compare_pdos.specs.Followed.{framed, sighting, unknown_pdos}
+use Rattle.conode_compare_pdos.specs.Tpdos.{booted_tpdo}
+use Rattle.conode_compare_transfers.specs.declared.dialogue.Asked.{Asked}
+use Rattle.conode_compare_transfers.specs.declared.dialogue.Exchange.{Exchange}
+use Rattle.conode_compare_rules.specs.declared.entries.Entries.{Entries}
+use Rattle.conode_compare_rules.specs.declared.entries.Facts.{Facts}
+use Rattle.conode_compare_rules.specs.declared.finding.NmtState.{NmtState}
+use Rattle.conode_compare_rules.specs.declared.finding.NmtState.TheVariants.{Unknown, Initialising, PreOperational, Operational, Stopped}
+use Rattle.conode_compare_rules.specs.declared.leaving.Leaving.{Leaving}
+use Rattle.conode_compare_rules.specs.declared.leaving.Leaving.TheVariants.{Nothing, Awaited, Shown}
+use Rattle.conode_compare_rules.specs.declared.limits.Subject.{Subject}
+use Rattle.conode_compare_rules.specs.declared.nmt.Nmt.{Nmt}
+use Rattle.conode_compare_rules.specs.declared.progress.Progress.{Progress}
+use Rattle.conode_compare_rules.specs.Heartbeats.{overdue_by}
+use Rattle.conode_compare_rules.specs.OtherClients.{no_clients}
+use Rattle.conode_compare_rules.specs.Progresses.{after_emergency, after_process, before_recording, emergency_noted, moment_at, nmt_heard}
+use Rattle.conode_compare_rules.specs.States.{after_boot_up, after_command, after_control, after_other, awaits_boot_up, is_settled, nothing_commanded}
+use Rattle.conode_compare_rules.proofs.Examples.{limits}
+
+-- ---- a command
+
+abbrev in_state : NmtState → Nmt
+in_state state = record nothing_commanded { state = state }
+
+-- where it may be stopped, as far as is known
+started : map (λ state. (after_command (in_state state) Start false 100000).leaving) (Stopped ∷ Unknown ∷ PreOperational ∷ Operational ∷ Initialising ∷ [])
+    ≡ Awaited ∷ Awaited ∷ Nothing ∷ Nothing ∷ Nothing ∷ []
+unfolding after_command
+started = refl
+
+-- another command, and one that it may have sent itself
+commanded : map (λ own. (after_command (in_state Stopped) EnterPreOperational own 100000).leaving) (false ∷ true ∷ []) ≡ Awaited ∷ Awaited ∷ []
+unfolding after_command
+commanded = refl
+
+-- by the first command it is operational, as far as is known; whether it followed it isn't
+abbrev starting : Nmt
+starting = record nothing_commanded {
+  state = Operational;
+  commanded = Some (record { service = Start; micros = 100000 });
+  due = Operational;
+  leaving = Awaited;
+}
+
+once_more : (after_command starting EnterPreOperational false 200000).leaving ≡ Awaited
+unfolding after_command
+once_more = refl
+
+-- shown before: a Stop and another Start
+stopped_again : (after_command (after_command (record starting { leaving = Shown 150000 }) Stop false 200000) Start false 300000).leaving ≡ Awaited
+unfolding after_command
+stopped_again = refl
+
+only_stopped : (after_command (record starting { leaving = Shown 150000 }) Stop false 200000).leaving ≡ Shown 150000
+unfolding after_command
+only_stopped = refl
+
+boots_up : (after_boot_up limits starting 20000000).leaving ≡ Nothing
+unfolding after_boot_up
+boots_up = refl
+
+-- ---- a heartbeat
+
+-- operational, pre-operational, stopped, no state
+heartbeats : map (λ byte. (after_control limits 0 starting 110001 110002 byte).leaving) (5 ∷ 127 ∷ 4 ∷ 6 ∷ []) ≡ Shown 110002 ∷ Shown 110002 ∷ Awaited ∷ Awaited ∷ []
+unfolding after_control after_other awaits_boot_up is_settled
+heartbeats = refl
+
+-- within the tolerance after the command it may be one of before
+too_soon : (after_control limits 0 starting 110000 110002 5).leaving ≡ Awaited
+unfolding after_control after_other awaits_boot_up is_settled
+too_soon = refl
+
+-- the first one counts; and only after such a command
+first_heartbeat : map (λ leaving. (after_control limits 0 (record starting { leaving = leaving }) 200000 200000 5).leaving) (Shown 110002 ∷ Nothing ∷ []) ≡ Shown 110002 ∷ Nothing ∷ []
+unfolding after_control after_other awaits_boot_up is_settled
+first_heartbeat = refl
+
+-- ---- an answer
+
+abbrev answered : Bool → ℕ → Exchange
+answered certain asked = record {
+  heard = record { what = Part; of = None; ended = None };
+  asked = Some (record { key = record { index = 0x1000; sub = 0 }; micros = asked; writes = false; switches = false });
+  owed = false;
+  certain = certain;
+  breach = None;
+  awaited = None;
+}
+
+-- to a request within the tolerance after the command, and later; where an earlier request can be answered
+answers : map (λ asked. (nmt_heard limits 0 starting 120000 Server (answered true asked)).leaving) (110000 ∷ 110001 ∷ []) ≡ Awaited ∷ Shown 120000 ∷ []
+unfolding is_settled
+answers = refl
+
+doubtful_answer : (nmt_heard limits 0 starting 120000 Server (answered false 110001)).leaving ≡ Awaited
+unfolding is_settled
+doubtful_answer = refl
+
+request : (nmt_heard limits 0 starting 120000 Client (answered true 110001)).leaving ≡ Awaited
+request = refl
+
+no_request : (nmt_heard limits 0 starting 120000 Server (record (answered true 110001) { asked = None })).leaving ≡ Awaited
+no_request = refl
+
+-- ---- an EMCY, a TPDO
+
+abbrev event_driven : Parameters
+event_driven = record { id = Some 0x185; kind = Some 255; inhibit = Some 0; timer = Some 0; length = Some 4 }
+
+abbrev sheet : Entries
+sheet = record { period = Some 1000; emergencies = true; inhibit = Some 0; inhibit_shown = None }
+
+abbrev pdos : Pdos
+pdos = record unknown_pdos { first = booted_tpdo None event_driven }
+
+abbrev facts : Facts
+facts = record { before = sheet; booted = sheet; pdos = pdos; clients = no_clients; starts_itself = false; modular = false; stores = false; as_sheet = true }
+
+abbrev subject : Subject
+subject = record {
+  node = 5;
+  limits = limits;
+  facts = facts;
+  held = record { entries = record { items = [] } };
+  rooms = record { strings = None; domains = None };
+}
+
+abbrev at : ℕ → Progress
+at free = record (before_recording subject) { newest = Some free; free = free; nmt = starting; pdos = pdos }
+
+-- within the tolerance after the command, and later; where it isn't surely the device's
+emergencies : map (λ free. (emergency_noted subject (at free) 120000).nmt.leaving) (110000 ∷ 110001 ∷ []) ≡ Awaited ∷ Shown 120000 ∷ []
+unfolding after_emergency is_settled overdue_by
+emergencies = refl
+
+another_emergency : (emergency_noted subject (record (at 110001) { entries = record sheet { emergencies = false } }) 120000).nmt.leaving ≡ Awaited
+unfolding after_emergency is_settled overdue_by
+another_emergency = refl
+
+tpdos : map (λ free. (after_process subject (at free) 120000 0x185 4).nmt.leaving) (110000 ∷ 110001 ∷ []) ≡ Awaited ∷ Shown 120000 ∷ []
+unfolding after_process is_settled overdue_by sighting moment_at
+tpdos = refl
+
+another_pdo : (after_process subject (at 110001) 120000 0x186 4).nmt.leaving ≡ Awaited
+unfolding after_process is_settled overdue_by sighting moment_at
+another_pdo = refl
