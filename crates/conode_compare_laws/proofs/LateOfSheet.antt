@@ -10,7 +10,7 @@ use Rattle.co_node_model.specs.Moments.{Constants}
 use Rattle.co_sheet.specs.Content.{Row}
 use Rattle.co_sheet.specs.SheetLaws.{IsSheetRow}
 use Rattle.conode_compare_rules.specs.declared.limits.Subject.{Subject}
-use Rattle.conode_compare_rules.specs.EntriesInForce.{facts_of, is_constant}
+use Rattle.conode_compare_rules.specs.EntriesInForce.{facts_of, is_constant, with_master}
 use Rattle.conode_compare_laws.specs.AnswerSenders.{HaveBytes}
 use Rattle.conode_compare_laws.specs.Differences.{differences_in, late_differences}
 use Rattle.conode_compare_laws.specs.Identifiers.{AreElsewhere}
@@ -36,15 +36,15 @@ abbrev Keeps : Type 0
 Keeps = (plan : Plan) (k : Constants) (inputs : List Stamped) → IsBuilt plan k → is_constant plan.rows producer_key ≡ true → AllKeepPeriod (number_at k.start producer_key) k [] inputs
 
 abbrev Knows : Type 0
-Knows = (plan : Plan) (k : Constants) (subject : Subject) (configured : Bool) → IsBuilt plan k → All IsSheetRow plan.rows → subject.facts ≡ facts_of plan.rows plan.node configured → KnowsPeriod (number_at k.start producer_key) subject
+Knows = (plan : Plan) (k : Constants) (subject : Subject) (configured : Bool) (master : Bool) → IsBuilt plan k → All IsSheetRow plan.rows → subject.facts ≡ with_master master (facts_of plan.rows plan.node configured) → KnowsPeriod (number_at k.start producer_key) subject
 
 abbrev Unknown : Type 0
-Unknown = (plan : Plan) (subject : Subject) (configured : Bool) → subject.facts ≡ facts_of plan.rows plan.node configured → is_constant plan.rows producer_key ≡ false → subject.facts.before.period ≡ None
+Unknown = (plan : Plan) (subject : Subject) (configured : Bool) (master : Bool) → subject.facts ≡ with_master master (facts_of plan.rows plan.node configured) → is_constant plan.rows producer_key ≡ false → subject.facts.before.period ≡ None
 
-pub by_sheet : OfConstant → OfWritten → Keeps → Knows → Unknown → (plan : Plan) (k : Constants) (subject : Subject) (rows : List Row) (configured : Bool) (inputs : List Stamped) → IsBuilt plan k → All IsSheetRow plan.rows → subject.node ≡ k.description.node
-    → subject.facts ≡ facts_of plan.rows plan.node configured → AllWriteSeen subject.facts.clients producer_key k [] inputs → NoneLate k subject rows inputs
-by_sheet constant written keeps knows unknown plan k subject rows configured inputs built lawful is facts by = at (is_constant plan.rows producer_key) refl
+pub by_sheet : OfConstant → OfWritten → Keeps → Knows → Unknown → (plan : Plan) (k : Constants) (subject : Subject) (rows : List Row) (configured : Bool) (master : Bool) (inputs : List Stamped) → IsBuilt plan k → All IsSheetRow plan.rows → subject.node ≡ k.description.node
+    → subject.facts ≡ with_master master (facts_of plan.rows plan.node configured) → AllWriteSeen subject.facts.clients producer_key k [] inputs → NoneLate k subject rows inputs
+by_sheet constant written keeps knows unknown plan k subject rows configured master inputs built lawful is facts by = at (is_constant plan.rows producer_key) refl
   where
     at : (b : Bool) → is_constant plan.rows producer_key ≡ b → NoneLate k subject rows inputs
-    at true on = constant plan k subject rows (number_at k.start producer_key) inputs built lawful is refl (keeps plan k inputs built on) (knows plan k subject configured built lawful facts)
-    at false off = written plan k subject rows inputs built lawful is by (knows plan k subject configured built lawful facts) (unknown plan subject configured facts off)
+    at true on = constant plan k subject rows (number_at k.start producer_key) inputs built lawful is refl (keeps plan k inputs built on) (knows plan k subject configured master built lawful facts)
+    at false off = written plan k subject rows inputs built lawful is by (knows plan k subject configured master built lawful facts) (unknown plan subject configured master facts off)

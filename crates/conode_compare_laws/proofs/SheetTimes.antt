@@ -30,7 +30,7 @@ use Rattle.conode_compare_pdos.specs.SheetNumbers.{preset_at, small, time_at}
 use Rattle.conode_compare_rules.specs.declared.entries.Entries.{Entries}
 use Rattle.conode_compare_rules.specs.declared.entries.Facts.{Facts}
 use Rattle.conode_compare_rules.specs.declared.limits.Subject.{Subject}
-use Rattle.conode_compare_rules.specs.EntriesInForce.{facts_of, has_object, initial_entries, is_constant, sheet_entries}
+use Rattle.conode_compare_rules.specs.EntriesInForce.{facts_of, has_object, initial_entries, is_constant, sheet_entries, with_master}
 use Rattle.conode_compare_rules.specs.OtherClients.{clients_of, has_hidden_channel}
 use Rattle.conode_compare_laws.specs.Periods.{KnowsInhibit, KnowsPeriod}
 use Rattle.conode_compare_laws.proofs.Begins.{node_ok, to_127}
@@ -112,12 +112,21 @@ module _ (plan : Plan) (k : Constants) (is : IsBuilt plan k) (lawful : All IsShe
     unfolding facts_of
     booted_are = either AreOf (has_object plan.rows store_parameters || (configured || has_hidden_channel plan.rows plan.node)) _ _ initial_are sheet_are
 
-    module _ (subject : Subject) (same : subject.facts ≡ facts_of plan.rows plan.node configured) where
+    -- a device that may be the NMT master has them, too
+    before_with : (master : Bool) → AreOf (with_master master (facts_of plan.rows plan.node configured)).before
+    before_with true = before_are
+    before_with false = before_are
+
+    booted_with : (master : Bool) → AreOf (with_master master (facts_of plan.rows plan.node configured)).booted
+    booted_with true = booted_are
+    booted_with false = booted_are
+
+    module _ (master : Bool) (subject : Subject) (same : subject.facts ≡ with_master master (facts_of plan.rows plan.node configured)) where
       before_of : AreOf subject.facts.before
-      before_of = subst (λ (f : Facts). AreOf f.before) (sym same) before_are
+      before_of = subst (λ (f : Facts). AreOf f.before) (sym same) (before_with master)
 
       booted_of : AreOf subject.facts.booted
-      booted_of = subst (λ (f : Facts). AreOf f.booted) (sym same) booted_are
+      booted_of = subst (λ (f : Facts). AreOf f.booted) (sym same) (booted_with master)
 
       pub knows_period : KnowsPeriod (number_at k.start producer_key) subject
       knows_period = record { before = before_of.period; booted = booted_of.period }
@@ -130,8 +139,12 @@ unknown_facts : (plan : Plan) (configured : Bool) → is_constant plan.rows prod
 unfolding facts_of initial_entries
 unknown_facts plan configured off = ap (λ b. if b then (sheet_entries plan.rows plan.node).period else None) off
 
-pub unknown_before : (plan : Plan) (configured : Bool) (subject : Subject) → subject.facts ≡ facts_of plan.rows plan.node configured → is_constant plan.rows producer_key ≡ false → subject.facts.before.period ≡ None
-unknown_before plan configured subject same off = ap (λ (f : Facts). f.before.period) same ∙ unknown_facts plan configured off
+unknown_with : (plan : Plan) (configured : Bool) (master : Bool) → is_constant plan.rows producer_key ≡ false → (with_master master (facts_of plan.rows plan.node configured)).before.period ≡ None
+unknown_with plan configured true off = unknown_facts plan configured off
+unknown_with plan configured false off = unknown_facts plan configured off
+
+pub unknown_before : (plan : Plan) (configured : Bool) (master : Bool) (subject : Subject) → subject.facts ≡ with_master master (facts_of plan.rows plan.node configured) → is_constant plan.rows producer_key ≡ false → subject.facts.before.period ≡ None
+unknown_before plan configured master subject same off = ap (λ (f : Facts). f.before.period) same ∙ unknown_with plan configured master off
 
 -- ---- the clients of other SDO channels
 
@@ -139,5 +152,9 @@ clients_in : (plan : Plan) (configured : Bool) → (facts_of plan.rows plan.node
 unfolding facts_of
 clients_in plan configured = refl
 
-pub clients_are : (plan : Plan) (configured : Bool) (subject : Subject) → subject.facts ≡ facts_of plan.rows plan.node configured → subject.facts.clients ≡ clients_of plan.rows plan.node
-clients_are plan configured subject same = ap (λ (f : Facts). f.clients) same ∙ clients_in plan configured
+clients_with : (plan : Plan) (configured : Bool) (master : Bool) → (with_master master (facts_of plan.rows plan.node configured)).clients ≡ clients_of plan.rows plan.node
+clients_with plan configured true = clients_in plan configured
+clients_with plan configured false = clients_in plan configured
+
+pub clients_are : (plan : Plan) (configured : Bool) (master : Bool) (subject : Subject) → subject.facts ≡ with_master master (facts_of plan.rows plan.node configured) → subject.facts.clients ≡ clients_of plan.rows plan.node
+clients_are plan configured master subject same = ap (λ (f : Facts). f.clients) same ∙ clients_with plan configured master

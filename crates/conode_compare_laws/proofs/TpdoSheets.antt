@@ -15,10 +15,11 @@ use Rattle.co_pdo.specs.Mappings.{mapping_of, total_of}
 use Rattle.co_pdo.specs.Tpdos.{tpdo_key}
 use Rattle.co_node.specs.Built.{IsBuilt}
 use Rattle.co_node_model.specs.Moments.{Constants}
-use Rattle.conode_compare_pdos.specs.Followed.{cycle_of, pdos_of}
+use Rattle.conode_compare_pdos.specs.declared.tpdo.Tpdo.{Tpdo}
+use Rattle.conode_compare_pdos.specs.Followed.{cycle_of, pdos_of, uncounted}
 use Rattle.conode_compare_pdos.specs.PdoParameters.{identifier_of, length_of, parameters_of}
 use Rattle.conode_compare_pdos.specs.SheetNumbers.{preset_at, time_at, tiny}
-use Rattle.conode_compare_pdos.specs.Tpdos.{booted_tpdo}
+use Rattle.conode_compare_pdos.specs.Tpdos.{booted_tpdo, without_cycle}
 use Rattle.conode_compare_laws.specs.TpdoParameters.{AreTpdosOf, IsTpdoOf, is_alone}
 use Rattle.conode_compare_laws.specs.TpdoSheets.{AreOnTheirOwn}
 use Rattle.conode_compare_laws.proofs.Begins.{node_ok, to_127}
@@ -73,3 +74,22 @@ module _ (plan : Plan) (last : plan.node ≤ 127) (lawful : All IsSheetRow plan.
 
 pub sheet_known : (plan : Plan) (k : Constants) → IsBuilt plan k → All IsSheetRow plan.rows → AreOnTheirOwn k (pdos_of plan.rows plan.node) → AreTpdosOf k (pdos_of plan.rows plan.node)
 sheet_known plan k is lawful own = known plan (to_127 plan.node (node_ok plan is.faultless)) lawful (none_out plan is.faultless) k is own
+
+-- ---- SYNCs aren't counted
+
+tpdo_uncounted : (k : Constants) (number : ℕ) (sheet : Tpdo) → IsTpdoOf k number sheet → IsTpdoOf k number (without_cycle sheet)
+unfolding is_alone
+tpdo_uncounted k number sheet of = record { alone = of.alone; kind = of.kind; inhibit = of.inhibit; timer = of.timer; length = of.length; unsent = of.unsent }
+
+pub sheet_uncounted : (plan : Plan) (k : Constants) → IsBuilt plan k → All IsSheetRow plan.rows → AreOnTheirOwn k (pdos_of plan.rows plan.node) → AreTpdosOf k (uncounted (pdos_of plan.rows plan.node))
+sheet_uncounted plan k is lawful own =
+    let pdos = pdos_of plan.rows plan.node in
+    let known = sheet_known plan k is lawful own in
+    record {
+      sync = known.sync;
+      apart = known.apart;
+      first = tpdo_uncounted k 0 pdos.first known.first;
+      second = tpdo_uncounted k 1 pdos.second known.second;
+      third = tpdo_uncounted k 2 pdos.third known.third;
+      fourth = tpdo_uncounted k 3 pdos.fourth known.fourth;
+    }

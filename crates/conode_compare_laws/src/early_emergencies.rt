@@ -11,7 +11,7 @@ ghost use Rattle.co_sheet.specs.SheetLaws.{IsSheetRow};
 ghost use Rattle.co_node_laws.specs.Apart.{BeginsApart};
 ghost use Rattle.co_node_model.specs.Moments.{Constants};
 ghost use Rattle.conode_compare_rules.specs.declared.limits.Subject.{Subject};
-ghost use Rattle.conode_compare_rules.specs.EntriesInForce.{facts_of};
+ghost use Rattle.conode_compare_rules.specs.EntriesInForce.{facts_of, with_master};
 ghost use Rattle.conode_compare_laws.specs.AnswerSenders.{BeginsOther, HaveBytes};
 ghost use Rattle.conode_compare_laws.specs.Differences.{differences_in, inhibit_differences};
 ghost use Rattle.conode_compare_laws.specs.Identifiers.{
@@ -106,16 +106,16 @@ pub fn built_no_early_emergencies()
 }
 
 /// So has the recording of each such device where `compare` has the facts of its data sheet
-/// (`facts_of`), without a condition on what is known of 1015:00. Conditions: the rows are those of
+/// (`facts_of`, `with_master`), without a condition on what is known of 1015:00. Conditions: the rows are those of
 /// a sheet that was read (`IsSheetRow`); `compare` has the device's node-ID; whoever writes 1015:00
 /// writes the number that it began with (`AllWriteFirst`), as where it is constant
 /// (`constant_unwritten`); and those of `no_early_emergencies_shown` on the stamps and the frames.
 /// This is a law: a call of it changes nothing.
 pub fn sheet_no_early_emergencies()
     ensures { (plan : Plan) (k : Constants) (subject : Subject) (rows : List Row)
-        (configured : Bool) (inputs : List Stamped) → IsBuilt plan k →
+        (configured : Bool) (master : Bool) (inputs : List Stamped) → IsBuilt plan k →
         All IsSheetRow plan.rows → subject.node ≡ k.description.node →
-        subject.facts ≡ facts_of plan.rows plan.node configured →
+        subject.facts ≡ with_master master (facts_of plan.rows plan.node configured) →
         AllWriteFirst emergency_inhibit_key k [] inputs → AreUnhurried inputs →
         HaveBytes inputs → AreElsewhere (0x700 + k.description.node) inputs →
         AreElsewhere (0x80 + k.description.node) inputs →

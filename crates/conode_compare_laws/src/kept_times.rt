@@ -11,7 +11,7 @@ ghost use Rattle.co_sheet.specs.SheetLaws.{IsSheetRow};
 ghost use Rattle.co_node_model.specs.Moments.{Constants};
 ghost use Rattle.conode_compare_rules.specs.declared.clients.OtherClients.{OtherClients};
 ghost use Rattle.conode_compare_rules.specs.declared.limits.Subject.{Subject};
-ghost use Rattle.conode_compare_rules.specs.EntriesInForce.{facts_of, is_constant};
+ghost use Rattle.conode_compare_rules.specs.EntriesInForce.{facts_of, is_constant, with_master};
 ghost use Rattle.conode_compare_rules.specs.OtherClients.{clients_of, has_hidden_channel};
 ghost use Rattle.conode_compare_laws.specs.OtherWriters.{AllGiven, AllToTold, AllWriteNot};
 ghost use Rattle.conode_compare_laws.specs.Periods.{
@@ -121,25 +121,29 @@ pub fn leaves_asked()
     stays_apart();
 }
 
-/// What `compare` knows of 1017:00 and 1015:00 by a data sheet (`facts_of`), before a boot-up and
+/// What `compare` knows of 1017:00 and 1015:00 by a data sheet (`facts_of`, `with_master`), before a boot-up and
 /// after one, is nothing, or the number with which a device that is built of the sheet begins
 /// (`period`, `inhibit`); and before a boot-up nothing is known of 1017:00, unless it is constant
 /// (`unknown`). `clients`: the clients of other SDO channels are those of the sheet. Conditions: the rows
 /// are those of a sheet that was read (`IsSheetRow`). This is a
 /// law: a call of it changes nothing.
 pub fn times_of_sheet()
-    ensures period { (plan : Plan) (k : Constants) (subject : Subject) (configured : Bool) →
+    ensures period { (plan : Plan) (k : Constants) (subject : Subject) (configured : Bool)
+        (master : Bool) →
         IsBuilt plan k → All IsSheetRow plan.rows →
-        subject.facts ≡ facts_of plan.rows plan.node configured →
+        subject.facts ≡ with_master master (facts_of plan.rows plan.node configured) →
         KnowsPeriod (number_at k.start producer_key) subject }
-    ensures inhibit { (plan : Plan) (k : Constants) (subject : Subject) (configured : Bool) →
+    ensures inhibit { (plan : Plan) (k : Constants) (subject : Subject) (configured : Bool)
+        (master : Bool) →
         IsBuilt plan k → All IsSheetRow plan.rows →
-        subject.facts ≡ facts_of plan.rows plan.node configured →
+        subject.facts ≡ with_master master (facts_of plan.rows plan.node configured) →
         KnowsInhibit (number_at k.start emergency_inhibit_key) subject }
-    ensures unknown { (plan : Plan) (subject : Subject) (configured : Bool) →
-        subject.facts ≡ facts_of plan.rows plan.node configured →
+    ensures unknown { (plan : Plan) (subject : Subject) (configured : Bool)
+        (master : Bool) →
+        subject.facts ≡ with_master master (facts_of plan.rows plan.node configured) →
         is_constant plan.rows producer_key ≡ false → subject.facts.before.period ≡ None }
-    ensures clients { (plan : Plan) (subject : Subject) (configured : Bool) →
-        subject.facts ≡ facts_of plan.rows plan.node configured →
+    ensures clients { (plan : Plan) (subject : Subject) (configured : Bool)
+        (master : Bool) →
+        subject.facts ≡ with_master master (facts_of plan.rows plan.node configured) →
         subject.facts.clients ≡ clients_of plan.rows plan.node }
 {}

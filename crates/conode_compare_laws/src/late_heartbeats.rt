@@ -11,7 +11,7 @@ ghost use Rattle.co_sheet.specs.SheetLaws.{IsSheetRow};
 ghost use Rattle.co_node_laws.specs.Apart.{BeginsApart};
 ghost use Rattle.co_node_model.specs.Moments.{Constants};
 ghost use Rattle.conode_compare_rules.specs.declared.limits.Subject.{Subject};
-ghost use Rattle.conode_compare_rules.specs.EntriesInForce.{facts_of};
+ghost use Rattle.conode_compare_rules.specs.EntriesInForce.{facts_of, with_master};
 ghost use Rattle.conode_compare_rules.specs.OtherClients.{has_hidden_channel};
 ghost use Rattle.conode_compare_laws.specs.AnswerSenders.{BeginsOther, HaveBytes};
 ghost use Rattle.conode_compare_laws.specs.Differences.{differences_in, late_differences};
@@ -152,7 +152,7 @@ pub fn built_no_late_heartbeats_written()
 }
 
 /// So has the recording of each such device where `compare` has the facts of its data sheet
-/// (`facts_of`), without a condition on what is known of 1017:00: if that is constant, nothing writes
+/// (`facts_of`, `with_master`), without a condition on what is known of 1017:00: if that is constant, nothing writes
 /// it (`constant_unwritten`). Conditions: the rows are those of a sheet that was read (`IsSheetRow`); `compare` has
 /// the device's node-ID; no stamp is later than the ticks have it (`AreTimed`); frames have bytes
 /// (`HaveBytes`); and no other node sends on the identifiers of its error control and of the answers
@@ -162,17 +162,17 @@ pub fn built_no_late_heartbeats_written()
 /// a law: a call of it changes nothing.
 pub fn sheet_no_late_heartbeats()
     ensures seen { (plan : Plan) (k : Constants) (subject : Subject) (rows : List Row)
-        (configured : Bool) (inputs : List Stamped) → IsBuilt plan k →
+        (configured : Bool) (master : Bool) (inputs : List Stamped) → IsBuilt plan k →
         All IsSheetRow plan.rows → subject.node ≡ k.description.node →
-        subject.facts ≡ facts_of plan.rows plan.node configured →
+        subject.facts ≡ with_master master (facts_of plan.rows plan.node configured) →
         AllWriteSeen subject.facts.clients producer_key k [] inputs → AreTimed inputs →
         HaveBytes inputs → AreElsewhere (0x700 + k.description.node) inputs →
         AreElsewhere (0x580 + k.description.node) inputs →
         differences_in late_differences subject rows (recording k inputs) ≡ [] }
     ensures told { (plan : Plan) (k : Constants) (subject : Subject) (rows : List Row)
-        (configured : Bool) (inputs : List Stamped) → IsBuilt plan k →
+        (configured : Bool) (master : Bool) (inputs : List Stamped) → IsBuilt plan k →
         All IsSheetRow plan.rows → subject.node ≡ k.description.node →
-        subject.facts ≡ facts_of plan.rows plan.node configured →
+        subject.facts ≡ with_master master (facts_of plan.rows plan.node configured) →
         AllWriteNot producer_key inputs → AllGiven plan.node plan.rows →
         has_hidden_channel plan.rows plan.node ≡ false → AreTimed inputs →
         HaveBytes inputs → AreElsewhere (0x700 + k.description.node) inputs →

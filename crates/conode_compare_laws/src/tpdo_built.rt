@@ -7,7 +7,7 @@ ghost use Rattle.co_node.specs.Built.{IsBuilt};
 ghost use Rattle.co_node_model.specs.Moments.{Constants};
 ghost use Rattle.co_sheet.specs.Content.{Row};
 ghost use Rattle.co_sheet.specs.SheetLaws.{IsSheetRow};
-ghost use Rattle.conode_compare_pdos.specs.Followed.{pdos_of};
+ghost use Rattle.conode_compare_pdos.specs.Followed.{pdos_of, uncounted};
 ghost use Rattle.conode_compare_rules.specs.declared.limits.Subject.{Subject};
 ghost use Rattle.conode_compare_laws.specs.Differences.{differences_in};
 ghost use Rattle.conode_compare_laws.specs.Identifiers.{AreElsewhere};
@@ -47,11 +47,15 @@ pub fn keeps_tpdos()
 /// which a device that is built of it begins: a mapping that the dictionary would refuse is a fault
 /// of the sheet, `BadMapping` (CiA 301, 7.5.2.38). Conditions: the rows are those of a sheet that
 /// was read (`IsSheetRow`); no other TPDO has the identifier of one of the four, nor SYNC
-/// (`AreOnTheirOwn`). This is a law: a call of it changes nothing.
+/// (`AreOnTheirOwn`). `master`: so they are where SYNCs aren't counted, as of a device that may be the
+/// NMT master (`uncounted`). This is a law: a call of it changes nothing.
 pub fn tpdos_of_sheet()
-    ensures { (plan : Plan) (k : Constants) → IsBuilt plan k → All IsSheetRow plan.rows →
+    ensures counted { (plan : Plan) (k : Constants) → IsBuilt plan k → All IsSheetRow plan.rows →
         AreOnTheirOwn k (pdos_of plan.rows plan.node) →
         AreTpdosOf k (pdos_of plan.rows plan.node) }
+    ensures master { (plan : Plan) (k : Constants) → IsBuilt plan k → All IsSheetRow plan.rows →
+        AreOnTheirOwn k (pdos_of plan.rows plan.node) →
+        AreTpdosOf k (uncounted (pdos_of plan.rows plan.node)) }
 {}
 
 /// The recording of a device that is built from a data sheet has no `pdo-length` (CiA 301,
