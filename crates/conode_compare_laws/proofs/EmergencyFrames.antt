@@ -140,7 +140,7 @@ inhibit_none limits entries (Some last) micros = with_none limits entries.inhibi
 finding_none : (limits : Limits) (entries : Entries) (state : NmtState) (settled : Bool) (last : Option ℕ) (micros code register : ℕ) → is_stopped state ≡ false → has_register code register ≡ true
     → besides_inhibit (emergency_finding limits entries state settled last micros code register) ≡ []
 unfolding emergency_finding
-finding_none limits entries state settled last micros code register up odd = by (not entries.emergencies || is_initialising state) settled (is_stopped state) (fits_register entries.inhibit code register) up (ap (λ b. b || ((register == 0) && may_wait entries.inhibit)) odd)
+finding_none limits entries state settled last micros code register up odd = by (not entries.emergencies || is_initialising state) settled (is_stopped state) (fits_register (may_wait limits entries last) code register) up (ap (λ b. b || ((register == 0) && may_wait limits entries last)) odd)
   where
     by : (unknown settled stopped has : Bool) → stopped ≡ false → has ≡ true
         → besides_inhibit (if unknown then None else (if settled && stopped then Some EmergencyStopped else (if not has then Some (EmergencyRegister code register) else inhibit_finding limits entries last micros))) ≡ []

@@ -166,6 +166,19 @@ code_alone : map (λ inhibit. emergency_finding limits (record entries { inhibit
 unfolding emergency_finding inhibit_finding
 code_alone = refl
 
+-- a transfer showed 0 at 5 µs, which counts from the first EMCY that comes 10 ms after that; where no EMCY is known, one
+-- may have come before
+had_time : map (λ last. emergency_finding limits (record entries { inhibit = Some 0; inhibit_shown = Some 5 }) PreOperational true last 20006 0x100 0) (Some 4 ∷ Some 10005 ∷ Some 10006 ∷ None ∷ [])
+    ≡ None ∷ None ∷ Some (EmergencyRegister 0x100 0) ∷ None ∷ []
+unfolding emergency_finding inhibit_finding
+had_time = refl
+
+-- the data sheet has 0
+had_none : map (λ last. emergency_finding limits (record entries { inhibit = Some 0 }) PreOperational true last 20006 0x100 0) (Some 4 ∷ None ∷ [])
+    ≡ Some (EmergencyRegister 0x100 0) ∷ Some (EmergencyRegister 0x100 0) ∷ []
+unfolding emergency_finding
+had_none = refl
+
 waited_without_bit_0 : map (λ inhibit. emergency_finding limits (record entries { inhibit = inhibit }) PreOperational true None 0 0x100 2) (Some 0 ∷ None ∷ [])
     ≡ Some (EmergencyRegister 0x100 2) ∷ Some (EmergencyRegister 0x100 2) ∷ []
 unfolding emergency_finding
