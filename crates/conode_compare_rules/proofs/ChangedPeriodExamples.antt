@@ -12,7 +12,7 @@ use Rattle.conode_compare_rules.specs.declared.heartbeats.Heartbeats.{Heartbeats
 use Rattle.conode_compare_rules.specs.declared.kind.FrameKind.TheVariants.{Control}
 use Rattle.conode_compare_rules.specs.declared.progress.Progress.{Progress}
 use Rattle.conode_compare_rules.specs.EntriesInForce.{asked_to_write, shown_inhibit, shown_period}
-use Rattle.conode_compare_rules.specs.Heartbeats.{early_remark, former_after, former_asked, late_finding, longest, overdue_by, runs_still}
+use Rattle.conode_compare_rules.specs.Heartbeats.{answered_at, early_remark, former_after, former_asked, late_finding, longest, overdue_by, runs_still}
 use Rattle.conode_compare_rules.specs.Progresses as progresses
 use Rattle.conode_compare_rules.specs.Progresses.{begun, booted, channel_heard, control_findings, exchange_at, progress_with}
 use Rattle.conode_compare_rules.specs.States as states
@@ -34,6 +34,11 @@ written = refl
 not_written : former_asked (Some 1000) (Some 1000) None ∷ former_asked None None (Some 5) ∷ former_asked None (Some 1000) (Some 5) ∷ [] ≡ None ∷ Some 5 ∷ Some 5 ∷ []
 not_written = refl
 
+-- the stamp of the answer, by which it is known again; it is known still, not yet, not any more
+answers : answered_at None (Some 1000) (Some 5) 7 ∷ answered_at (Some 1000) (Some 500) (Some 5) 7 ∷ answered_at None None (Some 5) 7 ∷ answered_at (Some 1000) None (Some 5) 7 ∷ []
+    ≡ Some 7 ∷ Some 5 ∷ Some 5 ∷ Some 5 ∷ []
+answers = refl
+
 -- ---- until when: 10000 ms, 10 ms and 1 % after 5 µs
 
 runs : map (runs_still limits (Some 10000) (Some 5)) (10110005 ∷ 10110006 ∷ []) ≡ true ∷ false ∷ []
@@ -43,7 +48,7 @@ none_runs : runs_still limits (Some 10000) None 6 ∷ runs_still limits None (So
 none_runs = refl
 
 abbrev late_at : Option ℕ → ℕ → Option Finding
-late_at former free = late_finding limits (Some 1000) (record pulse { former = former }) free free
+late_at former free = late_finding limits (Some 1000) (record pulse { former = former; answered = Some 5 }) free free
 
 -- so until then no heartbeat is late by the new period; a shorter one changes nothing
 long_one : map (late_at (Some 10000)) (1020006 ∷ 10110005 ∷ 10110006 ∷ []) ≡ None ∷ None ∷ Some (HeartbeatLate 10110001 1000) ∷ []
@@ -71,11 +76,24 @@ abbrev former_of : Progress → ℕ → ℕ → Option ℕ
 former_of progress micros byte = (progress_with subject progress micros (Control byte)).heartbeats.former
 
 abbrev changing : Progress
-changing = record waiting { heartbeats = record waiting.heartbeats { former = Some 10000 } }
+changing = record waiting { heartbeats = record waiting.heartbeats { former = Some 10000; answered = Some 5 } }
 
 by_heartbeat : former_of changing 1010000 5 ≡ None
 unfolding progress_with begun progresses.after_control control_findings overdue_by
 by_heartbeat = refl
+
+-- of two in a row, the first of which comes 5 ms after the answer, the second one counts by the answer
+abbrev first_of_two : Progress
+first_of_two = progress_with subject (record waiting { heartbeats = record waiting.heartbeats { former = Some 10000; answered = Some 1000000 } }) 1005000 (Control 5)
+
+in_a_row : map (λ micros. former_of first_of_two micros 5) (1010000 ∷ 1010001 ∷ []) ≡ Some 10000 ∷ None ∷ []
+unfolding progress_with begun progresses.after_control control_findings overdue_by
+in_a_row = refl
+
+-- and no heartbeat is awaited longer for it
+late_in_a_row : map (λ since. late_finding limits (Some 1000) (record pulse { since = Some since; former = Some 10000; answered = Some 5 }) 10110006 10110006) (9090005 ∷ 9090006 ∷ []) ≡ Some (HeartbeatLate 1020001 1000) ∷ None ∷ []
+unfolding late_finding overdue_by
+late_in_a_row = refl
 
 by_boot_up : former_of changing 1010000 0 ≡ None
 unfolding progress_with begun booted

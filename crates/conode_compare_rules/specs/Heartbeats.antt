@@ -15,7 +15,7 @@ use Rattle.conode_compare_transfers.specs.Times.{is_past, micros_of}
 use Rattle.conode_compare_rules.specs.Times.{drift_of}
 
 abbrev pub no_heartbeat : Heartbeats
-no_heartbeat = record { guarded = false; since = None; sent = None; shown = None; slow = None; former = None }
+no_heartbeat = record { guarded = false; since = None; sent = None; shown = None; slow = None; former = None; answered = None }
 
 -- A heartbeat came, or an answer of node guarding. It may have waited since the bus was free last,
 -- `free`.
@@ -27,6 +27,7 @@ after_byte heartbeats free micros byte = record {
   shown = heartbeats.shown;
   slow = heartbeats.slow;
   former = heartbeats.former;
+  answered = heartbeats.answered;
 }
 
 -- With a transfer of 1017:00 the wait for the next one begins anew. By a download the device counts
@@ -65,22 +66,30 @@ abbrev pub former_asked : Option ℕ → Option ℕ → Option ℕ → Option �
 former_asked (Some period) None former = Some (longest former period)
 former_asked before after former = former
 
-abbrev pub with_former : Heartbeats → Option ℕ → Option ℕ → Heartbeats
-with_former heartbeats before after = record heartbeats { former = former_asked before after heartbeats.former }
+-- a frame comes with which it is known again: the answer
+abbrev pub answered_at : Option ℕ → Option ℕ → Option ℕ → ℕ → Option ℕ
+answered_at None (Some period) answered micros = Some micros
+answered_at before after answered micros = answered
+
+abbrev pub with_former : Heartbeats → Option ℕ → Option ℕ → ℕ → Heartbeats
+with_former heartbeats before after micros = record heartbeats {
+  former = former_asked before after heartbeats.former;
+  answered = answered_at before after heartbeats.answered micros;
+}
 
 -- it may still run: since the answer no more time has passed than until a heartbeat would be late by it
 abbrev pub runs_still : Limits → Option ℕ → Option ℕ → ℕ → Bool
-runs_still limits None since free = false
+runs_still limits None answered free = false
 runs_still limits (Some former) None free = false
-runs_still limits (Some former) (Some since) free = nat_le (free - since) (allowance limits former)
+runs_still limits (Some former) (Some answered) free = nat_le (free - answered) (allowance limits former)
 
 -- After a heartbeat what 1017:00 has runs. One that comes within the tolerance after the answer may have been on its
 -- way before the device took what was written.
 abbrev pub former_after : Limits → Option ℕ → Option ℕ → Option ℕ → ℕ → Option ℕ
-former_after limits None period since free = None
-former_after limits (Some former) None since free = Some former
+former_after limits None period answered free = None
+former_after limits (Some former) None answered free = Some former
 former_after limits (Some former) (Some period) None free = None
-former_after limits (Some former) (Some period) (Some since) free = if is_past since limits.tolerance free then None else Some former
+former_after limits (Some former) (Some period) (Some answered) free = if is_past answered limits.tolerance free then None else Some former
 
 -- ---- gaps
 
@@ -115,7 +124,7 @@ overdue_with limits (Some period) heartbeats free micros = overdue_since limits 
 -- nor while a period may still run that 1017:00 had before
 unfoldable pub overdue_by : Limits → Option ℕ → Heartbeats → ℕ → ℕ → Option (ℕ × ℕ)
 overdue_by limits period heartbeats free micros =
-    if runs_still limits heartbeats.former heartbeats.since free then None else overdue_with limits period heartbeats free micros
+    if runs_still limits heartbeats.former heartbeats.answered free then None else overdue_with limits period heartbeats free micros
 
 -- `heartbeat-late`: the device sends, and its next heartbeat is late
 unfoldable pub late_finding : Limits → Option ℕ → Heartbeats → ℕ → ℕ → Option Finding

@@ -287,7 +287,7 @@ abbrev pub slow_then : Subject → Progress → ℕ → Option ℕ
 slow_then subject progress micros = slow_after subject.limits progress.entries.period progress.heartbeats progress.free micros
 
 abbrev pub former_then : Subject → Progress → Option ℕ
-former_then subject progress = former_after subject.limits progress.heartbeats.former progress.entries.period progress.heartbeats.since progress.free
+former_then subject progress = former_after subject.limits progress.heartbeats.former progress.entries.period progress.heartbeats.answered progress.free
 
 unfoldable pub after_control : Subject → Progress → ℕ → ℕ → Progress
 after_control subject progress micros byte = record progress {
@@ -461,7 +461,7 @@ channel_heard subject progress micros side frame =
     let entries = with_sharing (shares_id subject.node side frame) (asked_by side frame (entries_heard progress.entries shown next.asked)) in
     record progress {
       nmt = nmt_heard subject.limits progress.started progress.nmt micros side (exchange_at subject progress micros side frame);
-      heartbeats = with_former (after_transfer progress.heartbeats ended micros) progress.entries.period entries.period;
+      heartbeats = with_former (after_transfer progress.heartbeats ended micros) progress.entries.period entries.period micros;
       entries = entries;
       pdos = pdos_by side frame (pdos_heard beside shown next.asked micros) micros;
       dialogue = next;

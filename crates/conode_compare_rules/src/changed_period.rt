@@ -3,6 +3,7 @@
 
 ghost use Rattle.std.specs.Prelude.{◌≡◌};
 ghost use Rattle.conode_compare_rules.specs.Heartbeats.{
+  answered_at,
   former_after,
   former_asked,
   longest,
@@ -34,11 +35,32 @@ fn former_asked(before: Option<u16>, after: Option<u16>, former: Option<u16>) ->
     }
 }
 
+// when the answer came since which what 1017:00 has is known again
+fn answered_at(
+    before: Option<u16>,
+    after: Option<u16>,
+    answered: Option<u64>,
+    micros: u64,
+) -> Option<u64>
+    ensures { result ≡ answered_at before after answered micros }
+{
+    match (before, after) {
+        (None, Some(_)) => Some(micros),
+        _ => answered,
+    }
+}
+
 impl Heartbeats {
     /// A frame of the SDO channel came, and what is known of 1017:00 before it and after it: where
-    /// it is asked to be written, its period may still run.
-    pub(crate) fn with_former(self, before: Option<u16>, after: Option<u16>) -> Heartbeats
-        ensures { result ≡ with_former self before after }
+    /// it is asked to be written, its period may still run, and where it is known again, that is the
+    /// answer.
+    pub(crate) fn with_former(
+        self,
+        before: Option<u16>,
+        after: Option<u16>,
+        micros: u64,
+    ) -> Heartbeats
+        ensures { result ≡ with_former self before after micros }
     {
         Heartbeats {
             guarded: self.guarded,
@@ -47,16 +69,17 @@ impl Heartbeats {
             shown: self.shown,
             slow: self.slow,
             former: former_asked(before, after, self.former),
+            answered: answered_at(before, after, self.answered, micros),
         }
     }
 
     /// Whether a period that ran when 1017:00 was written may still run.
     pub(crate) fn runs_still(&self, limits: &Limits, free: u64) -> bool
-        ensures { result ≡ runs_still limits.now self.now.former self.now.since free }
+        ensures { result ≡ runs_still limits.now self.now.former self.now.answered free }
     {
-        match (self.since, self.former) {
-            (Some(since), Some(former)) => {
-                free.saturating_sub(since) <= allowance(limits, former)
+        match (self.answered, self.former) {
+            (Some(answered), Some(former)) => {
+                free.saturating_sub(answered) <= allowance(limits, former)
             }
             _ => false,
         }
@@ -70,10 +93,10 @@ impl Heartbeats {
         period: Option<u16>,
         free: u64,
     ) -> Option<u16>
-        ensures { result ≡ former_after limits.now self.now.former period self.now.since free }
+        ensures { result ≡ former_after limits.now self.now.former period self.now.answered free }
     {
-        match (period, self.since) {
-            (Some(_), Some(since)) if !is_past(since, limits.tolerance, free) => self.former,
+        match (period, self.answered) {
+            (Some(_), Some(answered)) if !is_past(answered, limits.tolerance, free) => self.former,
             (Some(_), _) => None,
             (None, _) => self.former,
         }

@@ -205,7 +205,7 @@ impl Progress {
         let entries = entries.with_sharing(shares);
         self.entries = entries;
         let heartbeats = self.heartbeats.heard(&exchange.heard.ended, micros);
-        self.heartbeats = heartbeats.with_former(period, entries.period);
+        self.heartbeats = heartbeats.with_former(period, entries.period, micros);
         leave_pdos(&mut self.pdos, unknown, &exchange.heard.ended);
         hear_pdos(
             &mut self.pdos,

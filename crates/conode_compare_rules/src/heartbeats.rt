@@ -51,6 +51,8 @@ pub(crate) struct Heartbeats {
     pub(crate) slow: Option<u64>,
     /// The longest period that may still run, though 1017:00 was written since.
     pub(crate) former: Option<u16>,
+    /// When the answer came since which what 1017:00 has is known again.
+    pub(crate) answered: Option<u64>,
 }
 
 /// After how many microseconds a heartbeat is late.
@@ -123,6 +125,7 @@ impl Heartbeats {
             shown: None,
             slow: None,
             former: None,
+            answered: None,
         }
     }
 
@@ -137,6 +140,7 @@ impl Heartbeats {
             shown: self.shown,
             slow: self.slow,
             former: self.former,
+            answered: self.answered,
         }
     }
 
@@ -156,6 +160,7 @@ impl Heartbeats {
                 shown: self.shown,
                 slow: None,
                 former: self.former,
+                answered: self.answered,
             },
             _ => self,
         }
