@@ -6,6 +6,7 @@ use Rattle.conode_explain_transfers.specs.declared.kinds.Side.TheVariants.{Clien
 use Rattle.conode_compare_transfers.specs.Breaches.{breach_at}
 use Rattle.conode_compare_transfers.specs.Dialogues.{dialogue_heard, exchange_in, is_certain}
 use Rattle.conode_compare_transfers.specs.NewestFrames.{newest_after, newest_with}
+use Rattle.conode_compare_rules.specs.declared.entries.Entries.{Entries}
 use Rattle.conode_compare_rules.specs.declared.finding.Finding.{Finding}
 use Rattle.conode_compare_rules.specs.declared.finding.Finding.TheVariants.{HeartbeatLate}
 use Rattle.conode_compare_rules.specs.declared.heartbeats.Heartbeats.{Heartbeats}
@@ -62,14 +63,14 @@ short_one = refl
 -- ---- a heartbeat ends it
 
 -- later than the tolerance after the answer; where it isn't known when that came
-ended : map (former_after limits (Some 10000) (Some 1000) (Some 5)) (10005 ∷ 10006 ∷ []) ≡ Some 10000 ∷ None ∷ []
+ended : map (former_after limits false (Some 10000) (Some 1000) (Some 5)) (10005 ∷ 10006 ∷ []) ≡ Some 10000 ∷ None ∷ []
 ended = refl
 
-ended_anyhow : former_after limits (Some 10000) (Some 1000) None 10005 ≡ None
+ended_anyhow : former_after limits false (Some 10000) (Some 1000) None 10005 ≡ None
 ended_anyhow = refl
 
 -- not between the request and its answer
-not_ended : former_after limits (Some 10000) None (Some 5) 9000000 ≡ Some 10000
+not_ended : former_after limits false (Some 10000) None (Some 5) 9000000 ≡ Some 10000
 not_ended = refl
 
 abbrev former_of : Progress → ℕ → ℕ → Option ℕ
@@ -79,15 +80,27 @@ abbrev changing : Progress
 changing = record waiting { heartbeats = record waiting.heartbeats { former = Some 10000; answered = Some 5 } }
 
 by_heartbeat : former_of changing 1010000 5 ≡ None
-unfolding progress_with begun progresses.after_control control_findings overdue_by
+unfolding progress_with begun progresses.after_control control_findings overdue_by early_remark
 by_heartbeat = refl
+
+-- not by an early one, as at a change of the state: sooner than 1000 ms less 10 ms and 1 %
+early : former_after limits true (Some 10000) (Some 1000) (Some 5) 10006 ≡ Some 10000
+early = refl
+
+early_heartbeat : map (λ sent. former_of (record changing { heartbeats = record changing.heartbeats { sent = Some sent } }) 1010000 5) (30000 ∷ 30001 ∷ []) ≡ None ∷ Some 10000 ∷ []
+unfolding progress_with begun progresses.after_control control_findings overdue_by early_remark
+early_heartbeat = refl
+
+-- a period that isn't longer than the tolerance: no heartbeat is early by it
+abbrev brief : Entries
+brief = record { period = Some 5; emergencies = true; inhibit = Some 0; inhibit_shown = None }
 
 -- of two in a row, the first of which comes 5 ms after the answer, the second one counts by the answer
 abbrev first_of_two : Progress
-first_of_two = progress_with subject (record waiting { heartbeats = record waiting.heartbeats { former = Some 10000; answered = Some 1000000 } }) 1005000 (Control 5)
+first_of_two = progress_with subject (record waiting { heartbeats = record waiting.heartbeats { former = Some 10000; answered = Some 1000000 }; entries = brief }) 1005000 (Control 5)
 
 in_a_row : map (λ micros. former_of first_of_two micros 5) (1010000 ∷ 1010001 ∷ []) ≡ Some 10000 ∷ None ∷ []
-unfolding progress_with begun progresses.after_control control_findings overdue_by
+unfolding progress_with begun progresses.after_control control_findings overdue_by early_remark
 in_a_row = refl
 
 -- and no heartbeat is awaited longer for it

@@ -84,12 +84,14 @@ runs_still limits (Some former) None free = false
 runs_still limits (Some former) (Some answered) free = nat_le (free - answered) (allowance limits former)
 
 -- After a heartbeat what 1017:00 has runs. One that comes within the tolerance after the answer may have been on its
--- way before the device took what was written.
-abbrev pub former_after : Limits → Option ℕ → Option ℕ → Option ℕ → ℕ → Option ℕ
-former_after limits None period answered free = None
-former_after limits (Some former) None answered free = Some former
-former_after limits (Some former) (Some period) None free = None
-former_after limits (Some former) (Some period) (Some answered) free = if is_past answered limits.tolerance free then None else Some former
+-- way before the device took what was written. One that is early by what 1017:00 has may be sent at a change of the
+-- state, and the period that runs goes on.
+abbrev pub former_after : Limits → Bool → Option ℕ → Option ℕ → Option ℕ → ℕ → Option ℕ
+former_after limits early None period answered free = None
+former_after limits early (Some former) None answered free = Some former
+former_after limits early (Some former) (Some period) None free = None
+former_after limits early (Some former) (Some period) (Some answered) free =
+    if early || not (is_past answered limits.tolerance free) then Some former else None
 
 -- ---- gaps
 

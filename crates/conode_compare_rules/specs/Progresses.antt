@@ -286,15 +286,16 @@ control_findings subject progress micros byte = heartbeat_findings subject progr
 abbrev pub slow_then : Subject → Progress → ℕ → Option ℕ
 slow_then subject progress micros = slow_after subject.limits progress.entries.period progress.heartbeats progress.free micros
 
-abbrev pub former_then : Subject → Progress → Option ℕ
-former_then subject progress = former_after subject.limits progress.heartbeats.former progress.entries.period progress.heartbeats.answered progress.free
+abbrev pub former_then : Subject → Progress → ℕ → ℕ → Option ℕ
+former_then subject progress micros byte =
+    former_after subject.limits (comes_early subject progress micros byte) progress.heartbeats.former progress.entries.period progress.heartbeats.answered progress.free
 
 unfoldable pub after_control : Subject → Progress → ℕ → ℕ → Progress
 after_control subject progress micros byte = record progress {
   nmt = with_odd (odd_after (byte_finding subject progress micros byte) byte progress.nmt.odd)
       (after_turn subject progress.started progress.heartbeats.guarded (comes_early subject progress micros byte) progress.nmt progress.free byte
       (states.after_control subject.limits progress.started progress.nmt progress.free micros byte));
-  heartbeats = record (after_byte progress.heartbeats progress.free micros byte) { slow = slow_then subject progress micros; former = former_then subject progress };
+  heartbeats = record (after_byte progress.heartbeats progress.free micros byte) { slow = slow_then subject progress micros; former = former_then subject progress micros byte };
   pdos = if byte == 5 then progress.pdos else tpdos.commanded progress.pdos;
   dialogue = if is_some (silence_at subject progress micros byte) then given_up progress.dialogue micros else progress.dialogue;
   remark = early_remark subject.limits progress.entries.period progress.heartbeats micros byte;

@@ -86,17 +86,22 @@ impl Heartbeats {
     }
 
     /// Which such period may still run after a heartbeat, by what 1017:00 has: none. One that comes
-    /// within the tolerance after the answer may have been on its way before the write.
+    /// within the tolerance after the answer may have been on its way before the write, and one that
+    /// is `early` may be sent at a change of the state, while the period goes on.
     pub(crate) fn former_after(
         &self,
         limits: &Limits,
+        early: bool,
         period: Option<u16>,
         free: u64,
     ) -> Option<u16>
-        ensures { result ≡ former_after limits.now self.now.former period self.now.answered free }
+        ensures { result
+            ≡ former_after limits.now early self.now.former period self.now.answered free }
     {
         match (period, self.answered) {
-            (Some(_), Some(answered)) if !is_past(answered, limits.tolerance, free) => self.former,
+            (Some(_), Some(answered)) if early || !is_past(answered, limits.tolerance, free) => {
+                self.former
+            }
             (Some(_), _) => None,
             (None, _) => self.former,
         }

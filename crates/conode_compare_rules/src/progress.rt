@@ -379,7 +379,7 @@ impl Progress {
             .slow_after(limits, &self.entries, self.free, micros);
         let former = self
             .heartbeats
-            .former_after(limits, self.entries.period, self.free);
+            .former_after(limits, early, self.entries.period, self.free);
         self.remark = self
             .heartbeats
             .early_remark(limits, &self.entries, micros, byte);
