@@ -13,7 +13,7 @@ use Rattle.conode_compare_rules.specs.declared.finding.NmtState.TheVariants.{Unk
 use Rattle.conode_compare_rules.specs.declared.limits.Limits.{Limits}
 use Rattle.conode_compare_rules.specs.declared.limits.Subject.{Subject}
 use Rattle.conode_compare_rules.specs.declared.nmt.Commanded.{Commanded}
-use Rattle.conode_compare_rules.specs.declared.leaving.Leaving.TheVariants.{Nothing}
+use Rattle.conode_compare_rules.specs.declared.leaving.Leaving.TheVariants.{Nothing, Awaited}
 use Rattle.conode_compare_rules.specs.declared.repeated.Odd.{Odd}
 use Rattle.conode_compare_rules.specs.declared.repeated.Odd.TheVariants.{Byte, Length}
 use Rattle.conode_compare_rules.specs.declared.nmt.Nmt.{Nmt}
@@ -132,7 +132,7 @@ restart_remark nmt micros =
     if not (is_up nmt.state) || (nmt.several || is_some (second_boot_up nmt.booted micros)) then None else Some Restarted
 
 -- After a boot-up a device is pre-operational. Where another command than a reset came shortly
--- before, it may have taken it.
+-- before, it may have taken it, and others before that: it may be stopped still.
 abbrev pub boots_known : Limits → Option Commanded → ℕ → Bool
 boots_known limits commanded micros = option_map_or (λ c. is_reset c.service || is_past c.micros limits.boot micros) commanded true
 
@@ -149,7 +149,7 @@ after_boot_up limits nmt micros = record {
   strayed = Unknown;
   mixed = false;
   odd = None;
-  leaving = Nothing;
+  leaving = if boots_known limits nmt.commanded micros then Nothing else Awaited;
 }
 
 -- more than one boot-up may still come: the newest reset isn't so old that its boot-up would be

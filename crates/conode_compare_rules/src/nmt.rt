@@ -448,7 +448,11 @@ impl Nmt {
             strayed: NmtState::Unknown,
             mixed: false,
             odd: None,
-            leaving: Leaving::Nothing,
+            leaving: if known {
+                Leaving::Nothing
+            } else {
+                Leaving::Awaited
+            },
         }
     }
 
