@@ -21,8 +21,6 @@ use Rattle.std.specs.Prelude.{
   map,
   codes,
   is_none,
-  Option,
-  option_and_then,
 }
 use Rattle.std.specs.Option.{option_map_or}
 use Rattle.co_sheet_text.specs.declared.section_kind.SectionKind.{SectionKind}
@@ -91,7 +89,6 @@ is_highest_by_rule index =
     not ((index == 0x1003) || (index == 0x1027) || is_within 0x1600 0x17FF index
     || is_within 0x1A00 0x1BFF index)
 
--- the number that an entry begins with, where it is one
 -- a number of one byte, other than the highest sub-index
 abbrev pub other_number : ℕ → Property → List ℕ
 other_number highest k =

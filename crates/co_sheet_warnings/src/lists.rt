@@ -5,7 +5,6 @@ ghost use Rattle.std.specs.Prelude.{
   ◌++◌,
   ◌||◌,
   ◌&&◌,
-  not,
   ℕ,
   nat_eq,
   map,

@@ -9,7 +9,6 @@ ghost use Rattle.co_sheet_text.specs.Views.{section_view};
 ghost use Rattle.conode_lint_marks.specs.Doubts.{
   begun_name,
   has_parameter,
-  is_again,
   is_in_doubt,
   is_value_key,
   kind_again,

@@ -1,14 +1,14 @@
 -- The forms, evaluated.
 use Rattle.std.proofs.Common.{◌≡◌, ℕ, List, Bor, true, false, [], ◌∷◌, ◌++◌, codes, map, refl}
-use Rattle.std.specs.Prelude.{replicate}
 use Rattle.std.specs.Fmt.{digits}
 use Rattle.std.specs.Str.{chars, is_utf8}
 use Rattle.json.specs.Token.{Token, end_object}
 use Rattle.co_text.specs.Printed.{digits_text}
 use Rattle.conode_text.specs.Filled.{filled}
+use Rattle.conode_text.specs.Unseen.{code_text}
 use Rattle.conode_json.specs.Characters.{characters_of, utf8_of}
 use Rattle.conode_json.specs.Members.{count_member, object_begin, text_member}
-use Rattle.conode_lint_text.specs.Characters.{is_invisible, shown, shown_all}
+use Rattle.conode_lint_text.specs.Characters.{shown, shown_all}
 use Rattle.conode_lint_text.specs.declared.finding.Finding.{Finding}
 use Rattle.conode_lint_text.specs.declared.finding.Place.TheVariants.{Beginning, Value}
 use Rattle.conode_lint_text.specs.declared.finding.Severity.TheVariants.{Error, Warning}
@@ -19,16 +19,18 @@ use Rattle.conode_lint_text.specs.TextForm.{counted, finding_lines, more_line, p
 
 -- a tab, a control character below 20h and one above 7Fh, a blank and a letter
 controls : shown_all (9 ∷ 27 ∷ 0x7F ∷ 0x9B ∷ 32 ∷ 65 ∷ []) ≡ codes "\\t\\x1B\\x7F\\x9B A"
-unfolding shown digits_text lib.Utf8.encode
+unfolding shown code_text digits_text lib.Utf8.encode
 controls = refl
 
--- a no-break space and what can't be seen; on both sides of each range
-invisible : shown_all (0xA0 ∷ 0x2000 ∷ 0x200F ∷ 0x2028 ∷ 0x202E ∷ 0x202F ∷ 0x2060 ∷ 0x206F ∷ 0xFEFF ∷ []) ≡ codes "\\xA0\\u2000\\u200F\\u2028\\u202E\\u202F\\u2060\\u206F\\uFEFF"
-unfolding shown digits_text digits
-invisible = refl
+-- a no-break space and what can't be seen
+unseen : shown_all (0xA0 ∷ 0xAD ∷ 0x61C ∷ 0x202E ∷ 0xFEFF ∷ 0xE0001 ∷ []) ≡ codes "\\xA0\\xAD\\u061C\\u202E\\uFEFF\\U000E0001"
+unfolding shown code_text digits_text
+unseen = refl
 
-visible : map is_invisible (0xA1 ∷ 0x1FFF ∷ 0x2010 ∷ 0x2027 ∷ 0x2030 ∷ 0x205F ∷ 0x2070 ∷ 0xFEFE ∷ 0xFF00 ∷ []) ≡ replicate 9 false
-visible = refl
+-- and what is seen beside them
+seen : shown_all (0xA1 ∷ 0xE4 ∷ 0x61B ∷ 0x1F600 ∷ []) ≡ 0xC2 ∷ 0xA1 ∷ 0xC3 ∷ 0xA4 ∷ 0xD8 ∷ 0x9B ∷ 0xF0 ∷ 0x9F ∷ 0x98 ∷ 0x80 ∷ []
+unfolding shown lib.Utf8.encode
+seen = refl
 
 -- after `=` and blanks; without `=` where the line begins
 values : value_place (codes "a = 5") ∷ value_place (codes "a=5") ∷ value_place (codes "  a") ∷ value_place (codes "a=") ∷ [] ≡ 4 ∷ 2 ∷ 2 ∷ 2 ∷ []

@@ -5,8 +5,9 @@ use Rattle.std.specs.Fmt.{digits}
 use Rattle.std.specs.Str.{is_utf8, chars}
 use lib.Utf8.{encode}
 use Rattle.co_text.specs.Printed.{digits_text}
+use Rattle.conode_text.specs.Unseen.{code_text}
 use Rattle.conode_json.specs.Characters.{characters_of, windows_1252}
-use Rattle.co_value.specs.declared.data_type.DataType.TheVariants.{Integer16, Unsigned8, Unsigned16, Unsigned32, VisibleString, OctetString}
+use Rattle.co_value.specs.declared.data_type.DataType.TheVariants.{Boolean, Integer8, Integer16, Unsigned8, Unsigned16, Unsigned32, VisibleString, OctetString}
 use Rattle.conode_show_text.specs.declared.format.Format.TheVariants.{Text, Markdown}
 use Rattle.conode_show_text.specs.declared.meaning.Meaning.TheVariants.{PdoCobId, CobId, SyncCobId, SyncPeriod, SyncWindow, SyncOverflow, TimeCobId, Transmission, Reception, PdoInhibit, EventTimer, EmcyInhibit, Consumer, Producer, Mapped}
 use Rattle.conode_show_text.specs.Numbers.{hex_text, in_parentheses, number_text}
@@ -14,7 +15,7 @@ use Rattle.conode_lint_text.specs.Characters.{shown}
 use Rattle.conode_show_text.specs.Texts.{plain_text}
 use Rattle.conode_show_text.specs.Layout.{Part, placed, line_of}
 use Rattle.conode_show_text.specs.declared.values.Word.{Word}
-use Rattle.conode_show_text.specs.Values.{sum_text, known_text, quoted, value_text, unnumbered_text, word_of}
+use Rattle.conode_show_text.specs.Values.{sum_text, known_text, quoted, value_text, unnumbered_text, value_number, word_of}
 use Rattle.conode_show_text.specs.CobIds.{identifier_text, cob_id_text, pdo_cob_id_text, sync_text, time_cob_id_text}
 use Rattle.conode_show_text.specs.Meanings.{meaning_text, word_text, transmission_text, reception_text, counted_syncs, micros_text, millis_text, overflow_text, time_text, consumer_text, mapped_text}
 use Rattle.conode_show_text.specs.Pdos.{type_meaning}
@@ -57,16 +58,33 @@ unfolding value_text known_text sum_text hex_text digits
 sum_without_node = refl
 
 sum_of_node : value_text (Some 5) (Some Unsigned32) (codes "0x600 + $nodeid") ≡ codes "$NODEID+600h = 1541 (605h)"
-unfolding value_text known_text sum_text hex_text digits
+unfolding value_text known_text sum_text number_text in_parentheses hex_text digits
 sum_of_node = refl
 
 -- on both sides of 10, whose digits differ
 sums_in_both_bases : map (λ node. value_text (Some node) (Some Unsigned8) (codes "$NODEID+1")) (8 ∷ 9 ∷ []) ≡ codes "$NODEID+1h = 9" ∷ codes "$NODEID+1h = 10 (Ah)" ∷ []
-unfolding value_text known_text sum_text hex_text digits
+unfolding value_text known_text sum_text number_text in_parentheses hex_text digits
 sums_in_both_bases = refl
 
+-- the greatest number of a type, and the next one, which is none of it
+sums_in_type : map (λ node. value_text (Some node) (Some Unsigned16) (codes "$NODEID+0xFFFE")) (1 ∷ 2 ∷ []) ≡ codes "$NODEID+FFFEh = 65535 (FFFFh)" ∷ codes "$NODEID+FFFEh" ∷ []
+unfolding value_text known_text sum_text number_text in_parentheses hex_text digits
+sums_in_type = refl
+
+signed_sums : map (λ node. value_text (Some node) (Some Integer8) (codes "$NODEID+0x7A")) (5 ∷ 6 ∷ []) ≡ codes "$NODEID+7Ah = 127 (7Fh)" ∷ codes "$NODEID+7Ah" ∷ []
+unfolding value_text known_text sum_text number_text in_parentheses hex_text digits
+signed_sums = refl
+
+truth_sums : map (λ node. value_text (Some node) (Some Boolean) (codes "$NODEID")) (1 ∷ 2 ∷ []) ≡ codes "$NODEID = 1" ∷ codes "$NODEID" ∷ []
+unfolding value_text known_text sum_text number_text in_parentheses hex_text digits
+truth_sums = refl
+
+numbers_of_sums : value_number (Some 1) (Some Unsigned16) (codes "$NODEID+0xFFFE") ∷ value_number (Some 2) (Some Unsigned16) (codes "$NODEID+0xFFFE") ∷ value_number None (Some Unsigned16) (codes "$NODEID+0xFFFE") ∷ []
+    ≡ Some (pos 65535) ∷ None ∷ None ∷ []
+numbers_of_sums = refl
+
 node_alone : value_text (Some 5) (Some Unsigned8) (codes "$NODEID") ≡ codes "$NODEID = 5"
-unfolding value_text known_text sum_text hex_text digits
+unfolding value_text known_text sum_text number_text hex_text digits
 node_alone = refl
 
 no_number : value_text None (Some Unsigned8) (codes "010") ≡ codes "010"
@@ -90,17 +108,22 @@ with_control = refl
 -- the first and the last control character, the no-break space, and what is beside them: U+001F, U+0020;
 -- U+007E, U+007F, U+0080, U+009F, U+00A0, U+00A1
 edges : plain_text (31 ∷ 32 ∷ 126 ∷ 127 ∷ 0xC2 ∷ 0x80 ∷ 0xC2 ∷ 0x9F ∷ 0xC2 ∷ 0xA0 ∷ 0xC2 ∷ 0xA1 ∷ []) ≡ codes "\\x1F ~\\x7F\\x80\\x9F\\xA0" ++ 0xC2 ∷ 0xA1 ∷ []
-unfolding plain_text shown characters_of is_utf8 chars encode digits_text
+unfolding plain_text shown code_text characters_of is_utf8 chars encode digits_text
 edges = refl
 
--- U+202E, which turns the text around, and U+2070, a digit that is seen
+-- U+202E, which turns the text around, and U+2070, a digit that is seen; U+00AD, U+061C and U+E0041, which can't
+-- be seen
 turning : plain_text (97 ∷ 0xE2 ∷ 0x80 ∷ 0xAE ∷ 0xE2 ∷ 0x81 ∷ 0xB0 ∷ []) ≡ codes "a\\u202E" ++ 0xE2 ∷ 0x81 ∷ 0xB0 ∷ []
-unfolding plain_text shown characters_of is_utf8 chars encode digits
+unfolding plain_text shown code_text characters_of is_utf8 chars encode digits_text
 turning = refl
+
+hidden : plain_text (0xC2 ∷ 0xAD ∷ 0xD8 ∷ 0x9C ∷ 0xF3 ∷ 0xA0 ∷ 0x81 ∷ 0x81 ∷ []) ≡ codes "\\xAD\\u061C\\U000E0041"
+unfolding plain_text shown code_text characters_of is_utf8 chars encode digits_text
+hidden = refl
 
 -- no UTF-8: a letter, the euro sign, and a byte that Windows-1252 leaves open
 from_windows : plain_text (77 ∷ 0xFC ∷ 0x80 ∷ 0x9D ∷ []) ≡ 77 ∷ 0xC3 ∷ 0xBC ∷ 0xE2 ∷ 0x82 ∷ 0xAC ∷ codes "\\x9D"
-unfolding plain_text shown characters_of windows_1252 is_utf8 chars encode digits_text
+unfolding plain_text shown code_text characters_of windows_1252 is_utf8 chars encode digits_text
 from_windows = refl
 
 umlaut : plain_text (77 ∷ 0xC3 ∷ 0xBC ∷ []) ≡ 77 ∷ 0xC3 ∷ 0xBC ∷ []

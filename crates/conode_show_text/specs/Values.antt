@@ -1,5 +1,5 @@
 -- The values that a sheet states (CiA 306, object description, device configuration file).
-use Rattle.std.specs.Prelude.{ℕ, ◌+◌, ◌^◌, ◌==◌, nat_lt, Bool, true, false, if◌then◌else◌, List, [], ◌∷◌, ◌++◌, ℤ, pos, negsuc, codes, decimal, Option, Some, None, is_some, option_map, option_and_then, unwrap_or, ◌&&◌, ◌||◌}
+use Rattle.std.specs.Prelude.{ℕ, ◌+◌, ◌^◌, ◌==◌, nat_lt, Bool, true, false, if◌then◌else◌, List, [], ◌∷◌, ◌++◌, ℤ, pos, negsuc, codes, Option, Some, None, is_some, option_map, option_and_then, unwrap_or, ◌&&◌, ◌||◌}
 use Rattle.std.specs.Option.{option_map_or, option_or}
 use Rattle.std.specs.Result.{result_ok}
 use Rattle.std.specs.Fmt.{signed_decimal}
@@ -9,9 +9,9 @@ use Rattle.co_value.specs.Types.{code_of, width_of}
 use Rattle.co_sheet_text.specs.Sections.{TextSection, Property, property_at}
 use Rattle.co_sheet_text.specs.Properties.{number_at}
 use Rattle.co_sheet.specs.Entries.{data_type_with}
-use Rattle.co_sheet.specs.Limits.{Default, absent, number, node_id, numeric_default, number_at_type}
+use Rattle.co_sheet.specs.Limits.{Default, absent, number, node_id, numeric_default, number_at_type, is_in_type}
 use Rattle.conode_show_text.specs.declared.values.Word.{Word}
-use Rattle.conode_show_text.specs.Numbers.{hex_text, number_text, if_small}
+use Rattle.conode_show_text.specs.Numbers.{hex_text, number_text}
 use Rattle.conode_show_text.specs.Texts.{plain_text}
 
 -- ---- what an entry begins with
@@ -24,20 +24,23 @@ numeric_value t value = unwrap_or (result_ok (numeric_default t value)) absent
 abbrev pub addend_text : ℕ → List ℕ
 addend_text addend = codes "$NODEID" ++ (if addend == 0 then [] else codes "+" ++ hex_text addend)
 
--- the same, and its value for a given node as other numbers are printed, as `$NODEID+600h = 1541 (605h)`
-abbrev pub both_bases : ℕ → List ℕ
-both_bases n = decimal n ++ (if nat_lt n 10 then [] else codes " (" ++ hex_text n ++ codes ")")
+-- its value for a given node, where that is one of the type
+abbrev pub sum_for : DataType → Option ℕ → ℕ → Option ℤ
+sum_for t given addend =
+    option_and_then (λ id. if is_in_type t (pos (addend + id)) then Some (pos (addend + id)) else None) given
 
-unfoldable pub sum_text : Option ℕ → ℕ → List ℕ
-sum_text node addend =
+-- a sum as it is written, and its value of so many bytes, if there is one, as other numbers are printed:
+-- `$NODEID+600h = 1541 (605h)`
+unfoldable pub sum_text : DataType → Option ℕ → ℕ → ℕ → List ℕ
+sum_text t given width addend =
     addend_text addend
-    ++ option_map_or (λ sum. codes " = " ++ both_bases sum) (option_and_then (λ id. if_small (addend + id)) node) []
+    ++ option_map_or (λ sum. codes " = " ++ number_text width sum) (sum_for t given addend) []
 
 -- a numeric value of so many bytes; any other text is printed as it is
-unfoldable pub known_text : Option ℕ → ℕ → List ℕ → Default → List ℕ
-known_text given width value (number z) = number_text width z
-known_text given width value (node_id addend) = sum_text given addend
-known_text given width value other = plain_text value
+unfoldable pub known_text : DataType → Option ℕ → ℕ → List ℕ → Default → List ℕ
+known_text t given width value (number z) = number_text width z
+known_text t given width value (node_id addend) = sum_text t given width addend
+known_text t given width value other = plain_text value
 
 -- a string in double quotes
 unfoldable pub quoted : List ℕ → List ℕ
@@ -51,20 +54,20 @@ unnumbered_text t value = if code_of t == 0x09 then quoted value else plain_text
 unfoldable pub value_text : Option ℕ → Option DataType → List ℕ → List ℕ
 value_text given None value = plain_text value
 value_text given (Some t) value =
-    option_map_or (λ width. known_text given width value (numeric_value t value)) (width_of t)
+    option_map_or (λ width. known_text t given width value (numeric_value t value)) (width_of t)
     (unnumbered_text t value)
 
--- the number of a value; a sum with the node-ID needs the given node
-abbrev pub number_for : Option ℕ → Default → Option ℤ
-number_for given (number z) = Some z
-number_for given (node_id addend) = option_map (λ id. pos (addend + id)) given
-number_for given other = None
+-- the number of a value; a sum with the node-ID needs the given node, and has to be one of the type
+abbrev pub number_for : DataType → Option ℕ → Default → Option ℤ
+number_for t given (number z) = Some z
+number_for t given (node_id addend) = sum_for t given addend
+number_for t given other = None
 
 -- the number of a text, if its type is numeric
 abbrev pub value_number : Option ℕ → Option DataType → List ℕ → Option ℤ
 value_number given None value = None
 value_number given (Some t) value =
-    option_and_then (λ width. number_for given (numeric_value t value)) (width_of t)
+    option_and_then (λ width. number_for t given (numeric_value t value)) (width_of t)
 
 -- the data type of a section, if its code is a supported one
 abbrev pub type_of : TextSection → Option DataType

@@ -1,9 +1,21 @@
 //! Numbers in both bases.
 
-ghost use Rattle.std.specs.Prelude.{◌≡◌, ◌≤◌, ◌*◌, ◌^◌, [], if◌then◌else◌, pos};
+ghost use Rattle.std.specs.Prelude.{
+  ◌≡◌,
+  ◌≤◌,
+  ◌*◌,
+  ◌^◌,
+  ◌++◌,
+  [],
+  codes,
+  if◌then◌else◌,
+  pos,
+};
+ghost use Rattle.std.specs.Fmt.{signed_decimal};
 ghost use Rattle.co_value.specs.Numbers.{bits_of};
 ghost use Rattle.conode_show_text.specs.Numbers.{if_small, is_one_digit, number_text};
 ghost use Rattle.conode_show_text.specs.Phrases.{phrase_text};
+ghost use Rattle.conode_show_text.specs.Values.{addend_text};
 
 use crate::phrase::{Phrase, Piece, alone};
 
@@ -65,5 +77,43 @@ pub(crate) fn number_of(width: usize, number: i128) -> Phrase<'static>
             fourth: Piece::Nothing,
         },
         None => alone(Piece::Signed(number)),
+    }
+}
+
+// a sum and its value in decimal
+#[tactic(auto, unfolding(conode_text::specs::Filled::filled))]
+fn sum_alone(addend: u64, number: i128) -> Phrase<'static>
+    ensures { phrase_text result
+        ≡ addend_text addend ++ codes " = " ++ signed_decimal number }
+{
+    Phrase {
+        words: "% = %",
+        first: Piece::Sum(addend),
+        second: Piece::Signed(number),
+        third: Piece::Nothing,
+        fourth: Piece::Nothing,
+    }
+}
+
+/// A sum with the node-ID as it is written, and its value in a type of `width` bytes as `number_of`
+/// prints it.
+#[tactic(auto, unfolding(crate::specs::Numbers::number_text, crate::specs::Numbers::in_parentheses, conode_text::specs::Filled::filled))]
+pub(crate) fn sum_of(width: usize, addend: u64, number: i128) -> Phrase<'static>
+    requires { width ≤ 8 }
+    ensures { phrase_text result
+        ≡ addend_text addend ++ codes " = " ++ number_text width number }
+{
+    if is_one_digit(number) {
+        return sum_alone(addend, number);
+    }
+    match small_bits(width, number) {
+        Some(bits) => Phrase {
+            words: "% = % (%)",
+            first: Piece::Sum(addend),
+            second: Piece::Signed(number),
+            third: Piece::Hexadecimal(bits),
+            fourth: Piece::Nothing,
+        },
+        None => sum_alone(addend, number),
     }
 }

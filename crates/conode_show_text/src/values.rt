@@ -4,16 +4,13 @@
 ghost use Rattle.std.specs.Prelude.{
   ◌≡◌,
   ◌++◌,
-  ◌+◌,
   ◌≤◌,
   OnOk,
   option_map,
-  option_and_then,
   string_bytes,
 };
 ghost use Rattle.co_sheet_text.specs.Views.{property_view, section_view};
 ghost use Rattle.co_sheet.specs.Views.{default_view};
-ghost use Rattle.conode_show_text.specs.Numbers.{if_small};
 ghost use Rattle.conode_show_text.specs.Phrases.{phrase_text, piece_text};
 ghost use Rattle.conode_show_text.specs.Values.{
   default_text,
@@ -26,6 +23,7 @@ ghost use Rattle.conode_show_text.specs.Values.{
   numeric_value,
   property_value,
   small_number,
+  sum_for,
   sum_text,
   type_of,
   unnumbered_text,
@@ -36,9 +34,9 @@ ghost use Rattle.conode_show_text.specs.Values.{
   word_of,
 };
 
-use crate::numbers::{number_of, words_if};
+use crate::numbers::{number_of, sum_of, words_if};
 use crate::phrase::{Phrase, Piece, alone, push_phrase, with_one};
-use co_sheet::{data_type_with, numeric_default};
+use co_sheet::{data_type_with, is_in_type, numeric_default};
 use co_sheet_rows::Preset;
 use co_sheet_text::{Property, TextSection, signed_numeral};
 use co_value::DataType;
@@ -63,49 +61,49 @@ fn numeric_value(data_type: DataType, text: &[u8]) -> Preset<'static>
     }
 }
 
-// the sum with a node-ID, of at most 64 bits
-fn sum_of(node: Option<u8>, addend: u64) -> Option<u64>
-    ensures { result ≡ option_and_then (λ id. if_small (addend + id)) node }
+// the value of a sum for a node, if it is one of the type
+fn sum_for(data_type: DataType, node: Option<u8>, addend: u64) -> Option<i128>
+    ensures { result ≡ sum_for data_type node addend }
 {
-    match node {
-        Some(node_id) => addend.checked_add(node_id as u64),
-        None => None,
+    let Some(node_id) = node else {
+        return None;
+    };
+    let sum = addend as i128 + node_id as i128;
+    if is_in_type(data_type, sum) {
+        Some(sum)
+    } else {
+        None
     }
 }
 
-// a sum with the node-ID as it is written, and its value for a given node
-#[tactic(auto, unfolding(crate::specs::Values::sum_text, conode_text::specs::Filled::filled))]
-fn sum(node: Option<u8>, addend: u64) -> Phrase<'static>
-    ensures { phrase_text result ≡ sum_text node addend }
+// a sum with the node-ID as it is written, and its value of so many bytes for a given node
+#[tactic(auto, unfolding(crate::specs::Values::sum_text))]
+fn sum(data_type: DataType, node: Option<u8>, width: usize, addend: u64) -> Phrase<'static>
+    requires { width ≤ 8 }
+    ensures { phrase_text result ≡ sum_text data_type node width addend }
 {
-    match sum_of(node, addend) {
+    match sum_for(data_type, node, addend) {
+        Some(sum) => sum_of(width, addend, sum),
         None => alone(Piece::Sum(addend)),
-        Some(sum) if sum < 10 => Phrase {
-            words: "% = %",
-            first: Piece::Sum(addend),
-            second: Piece::Number(sum),
-            third: Piece::Nothing,
-            fourth: Piece::Nothing,
-        },
-        Some(sum) => Phrase {
-            words: "% = % (%)",
-            first: Piece::Sum(addend),
-            second: Piece::Number(sum),
-            third: Piece::Hexadecimal(sum),
-            fourth: Piece::Nothing,
-        },
     }
 }
 
 // a numeric value of so many bytes
 #[tactic(auto, unfolding(crate::specs::Values::known_text))]
-fn known<'p>(node: Option<u8>, width: usize, value: &'p [u8], known: Preset<'static>) -> Phrase<'p>
+fn known<'p>(
+    data_type: DataType,
+    node: Option<u8>,
+    width: usize,
+    value: &'p [u8],
+    known: Preset<'static>,
+) -> Phrase<'p>
     requires { width ≤ 8 }
-    ensures { phrase_text result ≡ known_text node width value.now (default_view known.entry) }
+    ensures { phrase_text result
+        ≡ known_text data_type node width value.now (default_view known.entry) }
 {
     match known {
         Preset::Number(number) => number_of(width, number),
-        Preset::NodeId(addend) => sum(node, addend),
+        Preset::NodeId(addend) => sum(data_type, node, width, addend),
         Preset::Absent | Preset::Text(_) | Preset::Pairs(_) => alone(Piece::Plain(value)),
     }
 }
@@ -122,23 +120,24 @@ fn unnumbered<'p>(data_type: DataType, value: &'p [u8]) -> Phrase<'p>
     }
 }
 
-fn number_for(node: Option<u8>, value: Preset<'static>) -> Option<i128>
-    ensures { result ≡ number_for node (default_view value.entry) }
+fn number_for(data_type: DataType, node: Option<u8>, value: Preset<'static>) -> Option<i128>
+    ensures { result ≡ number_for data_type node (default_view value.entry) }
 {
-    match (value, node) {
-        (Preset::Number(number), _) => Some(number),
-        (Preset::NodeId(addend), Some(node_id)) => Some(addend as i128 + node_id as i128),
-        _ => None,
+    match value {
+        Preset::Number(number) => Some(number),
+        Preset::NodeId(addend) => sum_for(data_type, node, addend),
+        Preset::Absent | Preset::Text(_) | Preset::Pairs(_) => None,
     }
 }
 
-/// The number of a text, if the type is numeric; a sum with the node-ID needs the given node.
+/// The number of a text, if the type is numeric; a sum with the node-ID needs the given node, and has
+/// to be one of the type.
 pub fn value_number(node: Option<u8>, data_type: Option<DataType>, value: &[u8]) -> Option<i128>
     ensures { result ≡ value_number node data_type value.now }
 {
     match data_type {
         Some(data_type) if data_type.width().is_some() => {
-            number_for(node, numeric_value(data_type, value))
+            number_for(data_type, node, numeric_value(data_type, value))
         }
         _ => None,
     }
@@ -172,7 +171,13 @@ fn value_in<'p>(
         return alone(Piece::Plain(value));
     };
     match data_type.width() {
-        Some(width) => known(node, width, value, numeric_value(data_type, value)),
+        Some(width) => known(
+            data_type,
+            node,
+            width,
+            value,
+            numeric_value(data_type, value),
+        ),
         None => unnumbered(data_type, value),
     }
 }

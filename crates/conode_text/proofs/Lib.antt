@@ -1,3 +1,4 @@
 pub mod Appending
 mod FilledLaws
 mod Examples
+mod UnseenExamples

@@ -1,3 +1,4 @@
 pub mod Appended
 pub mod Filled
+pub mod Unseen
 pub mod Values

@@ -3,8 +3,10 @@
 
 mod filled;
 mod text;
+mod unseen;
 mod value;
 
 pub use filled::{HasText, push_filled};
 pub use text::Text;
+pub use unseen::{is_unseen, push_code};
 pub use value::Value;
