@@ -4,6 +4,7 @@ pub mod AssumedLemmas
 pub mod Explaining
 mod ChangeExamples
 mod FilterExamples
+mod InterfaceExamples
 pub mod LogLemmas
 pub mod NodeDigitsTable
 pub mod NodeExamples

@@ -36,9 +36,9 @@ by_kind : (channels : List Track) (frame : Record) (id : ℕ) (bytes : List ℕ)
 unfolding telling
 by_kind channels frame id bytes answer request boot = rw (answer, request, boot) (rw boot refl)
 
-untold_data : (channels : List Track) (frame : Record) (id : ℕ) (bytes : List ℕ) → (ltb 0x580 id && (ltb id 0x680 || is_zero bytes)) ≡ false
+nothing_said_data : (channels : List Track) (frame : Record) (id : ℕ) (bytes : List ℕ) → (ltb 0x580 id && (ltb id 0x680 || is_zero bytes)) ≡ false
     → telling_by channels frame (record { id = id; bytes = bytes }) ≡ record { told = None; tracks = channels }
-untold_data channels frame id bytes is = by_test (ltb 0x580 id)
+nothing_said_data channels frame id bytes is = by_test (ltb 0x580 id)
     (λ above.
     let parts = or_parts (ltb id 0x680) (is_zero bytes) (by_first (ltb 0x580 id) (ltb id 0x680 || is_zero bytes) above is) in
     let low : ltb id 0x600 ≡ false = grind (arith, nat_tests, parts.0) in
@@ -49,18 +49,18 @@ untold_data channels frame id bytes is = by_test (ltb 0x580 id)
     let control : ltb 0x700 id ≡ false = grind (arith, nat_tests, below) in
     by_kind channels frame id bytes (rw below refl) (rw request refl) (rw control refl))
 
-untold_in : (channels : List Track) (frame : Record) (id : Identifier) (has : Content) → may_be_told id has ≡ false
+nothing_said_in : (channels : List Track) (frame : Record) (id : Identifier) (has : Content) → may_be_told id has ≡ false
     → telling_in channels frame (packed_of id has) ≡ record { told = None; tracks = channels }
-untold_in channels frame (Base id) (Data bytes) is = untold_data channels frame id bytes is
-untold_in channels frame (Base id) (Remote count) is = refl
-untold_in channels frame (Base id) (Fd flags bytes) is = refl
-untold_in channels frame (Extended id) has is = refl
-untold_in channels frame (Error class) has is = refl
+nothing_said_in channels frame (Base id) (Data bytes) is = nothing_said_data channels frame id bytes is
+nothing_said_in channels frame (Base id) (Remote count) is = refl
+nothing_said_in channels frame (Base id) (Fd flags bytes) is = refl
+nothing_said_in channels frame (Extended id) has is = refl
+nothing_said_in channels frame (Error class) has is = refl
 
-pub untold : (channels : List Track) (frame : Record) → may_be_told frame.id frame.content ≡ false
+pub nothing_said : (channels : List Track) (frame : Record) → may_be_told frame.id frame.content ≡ false
     → telling_of channels frame ≡ record { told = None; tracks = channels }
 unfolding telling_of
-untold channels frame is = untold_in channels frame frame.id frame.content is
+nothing_said channels frame is = nothing_said_in channels frame frame.id frame.content is
 
 -- so most frames have the lines of one of no channel
 pub quiet_lines : (form : Layout) (sheets : List KnownSheet) (progress : Progress) (frame : Record) → place_for sheets progress frame ≡ None → may_be_told frame.id frame.content ≡ false
@@ -68,11 +68,11 @@ pub quiet_lines : (form : Layout) (sheets : List KnownSheet) (progress : Progres
 unfolding frame_lines
 quiet_lines form sheets progress frame none quiet =
     ap (λ (place : Option Place). lines_by form sheets (heard_at progress frame place) place frame (told_at progress frame place)) none
-    ∙ ap (λ (telling : Telling). lines_by form sheets (record progress { channels = telling.tracks }) None frame telling.told) (untold progress.channels frame quiet)
+    ∙ ap (λ (telling : Telling). lines_by form sheets (record progress { channels = telling.tracks }) None frame telling.told) (nothing_said progress.channels frame quiet)
 
 pub quiet_progress : (form : Layout) (sheets : List KnownSheet) (progress : Progress) (frame : Record) → place_for sheets progress frame ≡ None → may_be_told frame.id frame.content ≡ false
     → progress_with form sheets progress frame ≡ progress_by form sheets progress None frame None
 unfolding progress_with
 quiet_progress form sheets progress frame none quiet =
     ap (λ (place : Option Place). progress_by form sheets (heard_at progress frame place) place frame (told_at progress frame place)) none
-    ∙ ap (λ (telling : Telling). progress_by form sheets (record progress { channels = telling.tracks }) None frame telling.told) (untold progress.channels frame quiet)
+    ∙ ap (λ (telling : Telling). progress_by form sheets (record progress { channels = telling.tracks }) None frame telling.told) (nothing_said progress.channels frame quiet)

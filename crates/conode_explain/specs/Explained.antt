@@ -40,7 +40,7 @@ use Rattle.conode_explain_filter.specs.Changes.{Said}
 use Rattle.conode_explain_filter.specs.declared.kind.Kind.{Kind}
 use Rattle.conode_explain_filter.specs.declared.subject.Subject.{Subject}
 use Rattle.conode_explain_forms.specs.EndLines.{end_json_line}
-use Rattle.conode_explain_forms.specs.JsonLines.{json_line}
+use Rattle.conode_explain_forms.specs.JsonLines.{json_line, of_several}
 use Rattle.conode_explain_forms.specs.Fields.{field_of}
 use Rattle.conode_explain_forms.specs.Lines.{has_one, header, signal_line}
 use Rattle.conode_explain_services.specs.declared.node.Node.{Node}
@@ -117,10 +117,15 @@ line_by Json colours tone kind whose parts = json_line kind whose parts
 abbrev pub line_as : Layout → Tone → Kind → Option ℕ → List Part → List ℕ
 line_as form tone kind whose parts = line_by form.format form.colours tone kind whose parts
 
+-- an object of JSON has its interface always, a line of text where there are several
+abbrev pub seen_for : LineFormat → SoFar → SoFar
+seen_for Text so_far = so_far
+seen_for Json so_far = of_several so_far
+
 -- the line of a frame that says these words
 unfoldable pub frame_line : Layout → SoFar → Subject → Record → List ℕ → List ℕ
 frame_line form so_far subject frame words =
-    line_as form (frame_tone so_far subject frame) subject.kind subject.node (line_parts form.stamps so_far frame words)
+    line_as form (frame_tone so_far subject frame) subject.kind subject.node (line_parts form.stamps (seen_for form.format so_far) frame words)
 
 -- where it says something new
 abbrev pub news_lines : Layout → SoFar → List Said → Subject → Record → List ℕ → List (List ℕ)
@@ -172,7 +177,7 @@ end_line_as form node e parts = end_line_by form.format form.colours node e part
 unfoldable pub end_line : Layout → List KnownSheet → SoFar → ℕ → List ℕ → ℕ → Option ChannelIds → Ended → List ℕ
 end_line form sheets so_far micros interface node ids e =
     end_line_as form node e
-    (own_parts form.stamps (times_at so_far micros) (shows_interface so_far interface) interface (ended_words (names_for sheets interface node) node ids e))
+    (own_parts form.stamps (times_at so_far micros) (shows_interface (seen_for form.format so_far) interface) interface (ended_words (names_for sheets interface node) node ids e))
 
 abbrev pub ended_lines : Layout → List KnownSheet → SoFar → ℕ → List ℕ → ℕ → Option ChannelIds → Option Ended → List (List ℕ)
 ended_lines form sheets so_far micros interface node ids None = []

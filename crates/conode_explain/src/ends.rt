@@ -12,6 +12,7 @@ ghost use Rattle.conode_explain.specs.Explained.{
   ended_lines,
   interrupted_at,
   interrupted_in,
+  seen_for,
   unfinished_in,
   unfinished_on,
 };
@@ -44,10 +45,10 @@ fn set_end_line(
 ) -> Result<(), AllocError>
     ensures { OnOk result (room.new.line.items ≡ end_line_as form.now node ended.now
         (own_parts form.now.stamps (times_at seen.now micros)
-        (shows_interface seen.now interface.now) interface.now (string_bytes room.old.said))) }
+        (shows_interface (seen_for form.now.format seen.now) interface.now) interface.now
+        (string_bytes room.old.said))) }
 {
     let times = seen.times(micros);
-    let shows = seen.shows_interface(interface);
     match form.format {
         LineFormat::Text => {
             attempt!(set_own_line(
@@ -55,7 +56,7 @@ fn set_end_line(
                 &mut room.text,
                 form.stamps,
                 times,
-                shows,
+                seen.shows_interface(interface),
                 interface,
                 room.said.as_bytes(),
             ));
@@ -67,7 +68,6 @@ fn set_end_line(
                 room.alloc,
                 form.stamps,
                 times,
-                shows,
                 interface,
                 room.said.as_bytes(),
                 node,

@@ -49,6 +49,7 @@ mod explain_file;
 mod explained;
 mod filtered;
 mod frame_words;
+mod no_channel;
 mod node_digits;
 mod progress;
 mod settings;
@@ -56,7 +57,6 @@ mod sheets;
 mod step;
 mod told_words;
 mod transfer;
-mod untold;
 mod whose;
 mod writes;
 

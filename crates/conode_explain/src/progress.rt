@@ -187,7 +187,7 @@ pub(crate) fn last_of(nodes: &Nodes, id: Identifier, frame: &Record<'_>) -> Last
 #[tactic(auto, unfolding(crate::specs::Explained::telling_of))]
 fn tell(channels: &mut Channels, frame: &Record<'_>) -> Result<Option<Told>, AllocError>
     requires { IsIdentifier frame.now.id }
-    ensures told { IfOk result (λ told. told ≡ (telling_of channels.old frame.now).told) }
+    ensures said { IfOk result (λ said. said ≡ (telling_of channels.old frame.now).told) }
     ensures channels { OnOk result
         (channels.new ≡ (telling_of channels.old frame.now).tracks) }
 {
@@ -208,7 +208,7 @@ fn tell_further(
     place: Place,
 ) -> Result<Option<Told>, AllocError>
     requires { IsIdentifier frame.now.id }
-    ensures told { IfOk result (λ told. told ≡ (further_of further.old frame.now place).told) }
+    ensures said { IfOk result (λ said. said ≡ (further_of further.old frame.now place).told) }
     ensures channels { OnOk result
         (further.new ≡ (further_of further.old frame.now place).channels) }
 {
@@ -241,7 +241,7 @@ impl Progress {
         place: Option<Place>,
     ) -> Result<Option<Told>, AllocError>
         requires { IsIdentifier frame.now.id }
-        ensures told { IfOk result (λ told. told ≡ told_at self.old frame.now place) }
+        ensures said { IfOk result (λ said. said ≡ told_at self.old frame.now place) }
         ensures channels { OnOk result
             (self.new.channels ≡ (heard_at self.old frame.now place).channels) }
         ensures further { OnOk result

@@ -22,9 +22,9 @@ ghost use Rattle.conode_explain.specs.Sheets.{sheets_of};
 
 use crate::bad_words::bad_words;
 use crate::ends::{write_unfinished_default, write_unfinished_further};
+use crate::no_channel::NoChannel;
 use crate::progress::Progress;
 use crate::settings::Settings;
-use crate::untold::Untold;
 use crate::writes::{Room, write_frame};
 use co_stream::{BoundedLines, Found};
 use conode_convert::{TOO_LONG, add_frame, name_bad_line, name_cut, read_fault};
@@ -44,7 +44,7 @@ pub(crate) struct Explaining {
     room: Room,
     frame: Vec<u8>,
     claims: Vec<Claim>,
-    untold: Untold,
+    no_channel: NoChannel,
 }
 
 // Takes a line in the form of `candump -L`, and writes the line of its frame, if it has one. Returns
@@ -55,7 +55,7 @@ fn explain_record<W: Write>(
     claims: &mut Vec<Claim>,
     progress: &mut Progress,
     settings: &Settings<'_, '_, '_, '_>,
-    untold: &Untold,
+    no_channel: &NoChannel,
     line: &[u8],
     out: &mut W,
 ) -> Result<Option<&'static str>, CmdFault>
@@ -71,7 +71,7 @@ fn explain_record<W: Write>(
     match RecordLine::read(line) {
         Ok(RecordLine::Skipped) => Ok(None),
         Ok(RecordLine::Frame(frame)) => {
-            attempt!(write_frame(room, claims, progress, settings, untold, &frame, out));
+            attempt!(write_frame(room, claims, progress, settings, no_channel, &frame, out));
             Ok(None)
         }
         Err(bad) => Ok(Some(bad_words(bad))),
@@ -145,7 +145,7 @@ impl Explaining {
             },
             frame: Vec::new(alloc),
             claims: Vec::new(alloc),
-            untold: Untold::new(),
+            no_channel: NoChannel::new(),
         }
     }
 
@@ -182,16 +182,16 @@ impl Explaining {
         let room = &mut self.room;
         let claims = &mut self.claims;
         let progress = &mut self.progress;
-        let untold = &self.untold;
+        let no_channel = &self.no_channel;
         let line = self.lines.line();
         if let Form::Candump = self.log.form {
-            return explain_record(room, claims, progress, settings, untold, line, out);
+            return explain_record(room, claims, progress, settings, no_channel, line, out);
         }
         match take_any(&mut self.frame, &mut self.log, line) {
             Ok(Said::Nothing) => Ok(None),
             Ok(Said::Line) => {
                 let line = self.frame.as_slice();
-                explain_record(room, claims, progress, settings, untold, line, out)
+                explain_record(room, claims, progress, settings, no_channel, line, out)
             }
             Ok(Said::Bad(words)) => Ok(Some(words)),
             Err(_) => Err(CmdFault::Memory),

@@ -28,10 +28,10 @@ ghost use Rattle.conode_explain_forms.specs.Places.{read_as};
 
 use crate::ends::write_told_ends;
 use crate::filtered::{is_news, shows_frame, subject_by};
+use crate::no_channel::NoChannel;
 use crate::progress::{Layout, LineFormat, Progress, may_be_told};
 use crate::settings::Settings;
 use crate::told_words::set_told_words;
-use crate::untold::Untold;
 use crate::whose::{Whose, is_named, read_by, whose_of};
 use conode_explain_entries::{Entries, Place, push_moved};
 use conode_explain_filter::Lasts;
@@ -429,14 +429,14 @@ fn write_heard<W: Write>(
 }
 
 /// Writes the lines of a frame, and adds it to what the recording showed; `claims` is scratch space
-/// for its PDOs, `untold` is what is said of most frames.
-#[tactic(auto, unfolding(crate::specs::Explained::frame_lines, crate::specs::Explained::progress_with), using(crate::proofs::TellingLemmas::untold))]
+/// for its PDOs, `no_channel` has what is said of a frame of no SDO channel.
+#[tactic(auto, unfolding(crate::specs::Explained::frame_lines, crate::specs::Explained::progress_with), using(crate::proofs::TellingLemmas::nothing_said))]
 pub(crate) fn write_frame<W: Write>(
     room: &mut Room,
     claims: &mut Vec<Claim>,
     progress: &mut Progress,
     settings: &Settings<'_, '_, '_, '_>,
-    untold: &Untold,
+    no_channel: &NoChannel,
     frame: &Record<'_>,
     out: &mut W,
 ) -> Result<(), CmdFault>
@@ -450,7 +450,7 @@ pub(crate) fn write_frame<W: Write>(
     match place_of(bus, frame.id, &frame.content, settings.channels) {
         // most frames are of no SDO channel
         None if !may_be_told(frame.id, &frame.content) => {
-            let told = untold.told();
+            let told = no_channel.said();
             write_by(room, claims, progress, settings, None, frame, told, out)
         }
         place => write_heard(room, claims, progress, settings, place, frame, out),

@@ -29,7 +29,7 @@ use Rattle.conode_explain_text.specs.SoFar.{nothing_seen, seen_with}
 use Rattle.conode_explain_text.specs.Stamps.{date_text, moment_text, time_of_day_text}
 use Rattle.conode_json.specs.Members.{flag_member, number_member, numbers_member, text_member}
 use Rattle.conode_explain_forms.specs.EndLines.{abort_members, end_json_line, end_tokens, protocol_members, result_members, result_name, subject_members}
-use Rattle.conode_explain_forms.specs.JsonLines.{data_members, json_line, kind_members, line_tokens, part_tokens, stamp_member}
+use Rattle.conode_explain_forms.specs.JsonLines.{data_members, json_line, kind_members, line_tokens, of_several, part_tokens, stamp_member}
 
 -- ---- times
 
@@ -124,15 +124,20 @@ of_no_node = refl
 sync : ℕ → List ℕ → Record
 sync micros name = record { micros = micros; interface = name; id = Base 0x80; content = Data (7 ∷ []); direction = None }
 
-first_line : json_line Sync None (line_parts Relative nothing_seen (sync 5 (codes "can0")) (codes "SYNC \"7\""))
-    ≡ codes "{\"stamp\":0,\"gap\":0,\"id\":\"080\",\"frame\":\"data\",\"length\":1,\"data\":[7],\"raw\":\"07\",\"text\":\"SYNC \\\"7\\\"\",\"kind\":\"sync\"}\n"
+first_line : json_line Sync None (line_parts Relative (of_several nothing_seen) (sync 5 (codes "can0")) (codes "SYNC \"7\""))
+    ≡ codes "{\"stamp\":0,\"gap\":0,\"interface\":\"can0\",\"id\":\"080\",\"frame\":\"data\",\"length\":1,\"data\":[7],\"raw\":\"07\",\"text\":\"SYNC \\\"7\\\"\",\"kind\":\"sync\"}\n"
 unfolding sync json_line line_tokens line_parts odd_words stamp_member kind_members data_members numbers_member text_member number_member characters_of is_utf8 chars encode digits_text digits print_from escape_byte
 first_line = refl
 
-line_back_on_another : json_line Sync None (line_parts Relative (seen_with nothing_seen 5 (codes "can0")) (sync 4 (codes "can1")) (codes "SYNC"))
+line_back_on_another : json_line Sync None (line_parts Relative (of_several (seen_with nothing_seen 5 (codes "can0"))) (sync 4 (codes "can1")) (codes "SYNC"))
     ≡ codes "{\"stamp\":-1,\"gap\":-1,\"interface\":\"can1\",\"id\":\"080\",\"frame\":\"data\",\"length\":1,\"data\":[7],\"raw\":\"07\",\"text\":\"SYNC\",\"note\":\"the stamp steps back\",\"kind\":\"sync\"}\n"
 unfolding sync json_line line_tokens line_parts odd_words stamp_member kind_members data_members numbers_member text_member number_member characters_of is_utf8 chars encode digits_text digits print_from escape_byte
 line_back_on_another = refl
+
+line_on_the_same : json_line Sync None (line_parts Relative (of_several (seen_with nothing_seen 5 (codes "can0"))) (sync 6 (codes "can0")) (codes "SYNC"))
+    ≡ codes "{\"stamp\":1,\"gap\":1,\"interface\":\"can0\",\"id\":\"080\",\"frame\":\"data\",\"length\":1,\"data\":[7],\"raw\":\"07\",\"text\":\"SYNC\",\"kind\":\"sync\"}\n"
+unfolding sync json_line line_tokens line_parts odd_words stamp_member kind_members data_members numbers_member text_member number_member characters_of is_utf8 chars encode digits_text digits print_from escape_byte
+line_on_the_same = refl
 
 -- ---- transfers that ended
 
@@ -156,8 +161,8 @@ done_line : end_json_line 5 (transfer Download Block 1024 (Done true)) (own_part
 unfolding times end_json_line end_tokens subject_members result_members own_parts stamp_member kind_members text_member number_member characters_of is_utf8 chars encode digits_text digits print_from escape_byte
 done_line = refl
 
-aborted_line : end_json_line 127 (transfer Upload Undecided 0 (Aborted Server (record { 0 = 0x06020000 }))) (own_parts Relative (times 5 5 5) false (codes "can1") (codes "x"))
-    ≡ codes "{\"stamp\":0,\"text\":\"x\",\"kind\":\"sdo\",\"node\":127,\"index\":8448,\"subIndex\":1,\"direction\":\"upload\",\"result\":\"aborted\",\"bytes\":0,\"frames\":150,\"duration\":182000,\"abortedBy\":\"server\",\"abortCode\":\"06020000\"}\n"
+aborted_line : end_json_line 127 (transfer Upload Undecided 0 (Aborted Server (record { 0 = 0x06020000 }))) (own_parts Relative (times 5 5 5) true (codes "can1") (codes "x"))
+    ≡ codes "{\"stamp\":0,\"interface\":\"can1\",\"text\":\"x\",\"kind\":\"sdo\",\"node\":127,\"index\":8448,\"subIndex\":1,\"direction\":\"upload\",\"result\":\"aborted\",\"bytes\":0,\"frames\":150,\"duration\":182000,\"abortedBy\":\"server\",\"abortCode\":\"06020000\"}\n"
 unfolding times end_json_line end_tokens subject_members result_members own_parts stamp_member kind_members text_member number_member characters_of is_utf8 chars encode digits_text digits print_from escape_byte
 aborted_line = refl
 

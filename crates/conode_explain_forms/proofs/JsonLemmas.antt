@@ -1,8 +1,7 @@
 -- The tokens of a line in the order in which they are written.
-use Rattle.std.specs.Prelude.{Bool, Option, Some}
+use Rattle.std.specs.Prelude.{true, Option, Some}
 use Rattle.std.proofs.Common.{◌≡◌, ℕ, List, [], ◌∷◌, ◌++◌, refl, sym, ap, ◌∙◌, append_assoc}
 use Rattle.std.specs.List.{flat_map}
-use Rattle.std.proofs.lemmas.Grind.{flat_map-append}
 use Rattle.json.specs.Token.{Token, begin_object, end_object}
 use Rattle.json.specs.Print.{print}
 use Rattle.conode_record.specs.declared.line.Record.{Record}
@@ -11,43 +10,36 @@ use Rattle.conode_explain_filter.specs.declared.kind.Kind.{Kind}
 use Rattle.conode_explain_filter.specs.declared.kind.Kind.TheVariants.{Sdo}
 use Rattle.conode_explain_text.specs.declared.so_far.Times.{Times}
 use Rattle.conode_explain_text.specs.declared.stamps.StampForm.{StampForm}
-use Rattle.conode_explain_text.specs.Lines.{Part, content, gap, identifier, interface_parts, line_parts, notes, own_parts, said, stamp}
-use Rattle.conode_explain_text.specs.SoFar.{SoFar, shows_interface, times_at}
+use Rattle.conode_explain_text.specs.Lines.{Part, content, gap, identifier, interface, line_parts, notes, own_parts, said, stamp}
+use Rattle.conode_explain_text.specs.SoFar.{SoFar, times_at}
 use Rattle.conode_explain_forms.specs.EndLines.{end_json_line, end_tokens, result_members, subject_members}
-use Rattle.conode_explain_forms.specs.JsonLines.{front_tokens, json_line, kind_members, line_tokens, part_tokens}
+use Rattle.conode_explain_forms.specs.JsonLines.{front_tokens, json_line, kind_members, line_tokens, of_several, part_tokens}
 
 regrouped : (b s g m i c w n k e : List Token) → b ++ ((s ++ (g ++ (m ++ (i ++ (c ++ (w ++ n)))))) ++ k ++ e) ≡ b ++ (s ++ g ++ m ++ i ++ c) ++ w ++ n ++ k ++ e
 regrouped b s g m i c w n k e = simp append_assoc refl
 
--- the parts between the gap and what follows may be none
-split : (first second : Part) (middle rest : List Part)
-    → flat_map part_tokens (first ∷ second ∷ (middle ++ rest)) ≡ part_tokens first ++ (part_tokens second ++ (flat_map part_tokens middle ++ flat_map part_tokens rest))
-split first second middle rest = ap (λ (others : List Token). part_tokens first ++ (part_tokens second ++ others)) (flat_map-append part_tokens middle rest)
+regrouped_end : (b s m w k u r e : List Token) → b ++ ((s ++ (m ++ (w ++ []))) ++ k ++ u ++ r ++ e) ≡ b ++ s ++ m ++ w ++ k ++ u ++ r ++ e
+regrouped_end b s m w k u r e = simp append_assoc refl
 
 pub line_written : (kind : Kind) (node : Option ℕ) (form : StampForm) (so_far : SoFar) (frame : Record) (words : List ℕ)
-    → line_tokens kind node (line_parts form so_far frame words)
-    ≡ begin_object ∷ [] ++ front_tokens form (times_at so_far frame.micros) (shows_interface so_far frame.interface) frame ++ part_tokens (said words)
+    → line_tokens kind node (line_parts form (of_several so_far) frame words)
+    ≡ begin_object ∷ [] ++ front_tokens form (times_at so_far frame.micros) frame ++ part_tokens (said words)
     ++ flat_map part_tokens (notes (times_at so_far frame.micros)) ++ kind_members kind node ++ end_object ∷ []
 unfolding line_tokens line_parts front_tokens
 line_written kind node form so_far frame words =
-    ap (λ (tokens : List Token). begin_object ∷ [] ++ (tokens ++ kind_members kind node ++ end_object ∷ []))
-    (split (stamp form (times_at so_far frame.micros)) (gap (times_at so_far frame.micros))
-    (interface_parts (shows_interface so_far frame.interface) frame.interface)
-    (identifier frame.id ∷ content frame.content ∷ said words ∷ notes (times_at so_far frame.micros)))
-    ∙ regrouped (begin_object ∷ []) (part_tokens (stamp form (times_at so_far frame.micros))) (part_tokens (gap (times_at so_far frame.micros)))
-    (flat_map part_tokens (interface_parts (shows_interface so_far frame.interface) frame.interface)) (part_tokens (identifier frame.id))
+    regrouped (begin_object ∷ []) (part_tokens (stamp form (times_at so_far frame.micros))) (part_tokens (gap (times_at so_far frame.micros)))
+    (part_tokens (interface frame.interface)) (part_tokens (identifier frame.id))
     (part_tokens (content frame.content)) (part_tokens (said words)) (flat_map part_tokens (notes (times_at so_far frame.micros)))
     (kind_members kind node) (end_object ∷ [])
 
-pub end_written : (node : ℕ) (e : Ended) (form : StampForm) (times : Times) (shows : Bool) (name words : List ℕ)
-    → end_tokens node e (own_parts form times shows name words)
-    ≡ begin_object ∷ [] ++ part_tokens (stamp form times) ++ flat_map part_tokens (interface_parts shows name) ++ part_tokens (said words)
+pub end_written : (node : ℕ) (e : Ended) (form : StampForm) (times : Times) (name words : List ℕ)
+    → end_tokens node e (own_parts form times true name words)
+    ≡ begin_object ∷ [] ++ part_tokens (stamp form times) ++ part_tokens (interface name) ++ part_tokens (said words)
     ++ kind_members Sdo (Some node) ++ subject_members e ++ result_members e ++ end_object ∷ []
 unfolding end_tokens own_parts
-end_written node e form times shows name words =
-    ap (λ (tokens : List Token). begin_object ∷ [] ++ ((part_tokens (stamp form times) ++ tokens) ++ kind_members Sdo (Some node) ++ subject_members e ++ result_members e ++ end_object ∷ []))
-    (flat_map-append part_tokens (interface_parts shows name) (said words ∷ []))
-    ∙ simp append_assoc refl
+end_written node e form times name words =
+    regrouped_end (begin_object ∷ []) (part_tokens (stamp form times)) (part_tokens (interface name)) (part_tokens (said words)) (kind_members Sdo (Some node))
+    (subject_members e) (result_members e) (end_object ∷ [])
 
 -- the text of what was written
 pub line_text_of : (kind : Kind) (of : Option ℕ) (parts : List Part) (written tokens : List Token) (line : List ℕ)

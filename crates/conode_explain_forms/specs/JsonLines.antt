@@ -1,5 +1,5 @@
 -- A line of an explained recording as an object of JSON, in tokens (RFC 8259).
-use Rattle.std.specs.Prelude.{ℕ, Bool, true, List, [], ◌∷◌, ◌++◌, length, ℤ, pos, ◌-ℤ◌, codes, Option, Some, None}
+use Rattle.std.specs.Prelude.{ℕ, true, List, [], ◌∷◌, ◌++◌, length, ℤ, pos, ◌-ℤ◌, codes, Option, Some, None}
 use Rattle.std.specs.List.{flat_map}
 use Rattle.std.specs.Option.{option_map_or}
 use Rattle.json.specs.Token.{Token, begin_object, end_object}
@@ -18,7 +18,8 @@ use Rattle.conode_explain_text.specs.declared.so_far.Times.{Times}
 use Rattle.conode_explain_text.specs.declared.stamps.StampForm.{StampForm}
 use Rattle.conode_explain_text.specs.declared.stamps.StampForm.TheVariants.{Relative, Absolute, Delta, Date as AsDate}
 use Rattle.conode_explain_text.specs.Columns.{escaped_name, id_text}
-use Rattle.conode_explain_text.specs.Lines.{Part, stamp, gap, interface, identifier, content, said, note, interface_parts}
+use Rattle.conode_explain_text.specs.Lines.{Part, stamp, gap, interface, identifier, content, said, note}
+use Rattle.conode_explain_text.specs.SoFar.{SoFar}
 use Rattle.conode_explain_text.specs.Stamps.{moment_text}
 
 -- ---- the parts of a line
@@ -90,10 +91,14 @@ unfoldable pub line_tokens : Kind → Option ℕ → List Part → List Token
 line_tokens kind node parts =
     begin_object ∷ (flat_map part_tokens parts ++ kind_members kind node ++ end_object ∷ [])
 
+-- an object has its interface always, as a line of text has where frames of several interfaces came
+abbrev pub of_several : SoFar → SoFar
+of_several so_far = record so_far { several = true }
+
 -- of a frame, up to what it says
-unfoldable pub front_tokens : StampForm → Times → Bool → Record → List Token
-front_tokens form times shows frame =
-    part_tokens (stamp form times) ++ part_tokens (gap times) ++ flat_map part_tokens (interface_parts shows frame.interface)
+unfoldable pub front_tokens : StampForm → Times → Record → List Token
+front_tokens form times frame =
+    part_tokens (stamp form times) ++ part_tokens (gap times) ++ part_tokens (interface frame.interface)
     ++ part_tokens (identifier frame.id) ++ part_tokens (content frame.content)
 
 -- its text, and a line feed

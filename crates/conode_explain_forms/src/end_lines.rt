@@ -1,10 +1,9 @@
 //! The line of an SDO transfer that ended, as an object of JSON.
 
-ghost use Rattle.std.specs.Prelude.{◌≡◌, ◌++◌, ◌∷◌, [], IfOk, OnOk, Some};
-ghost use Rattle.std.specs.List.{flat_map};
+ghost use Rattle.std.specs.Prelude.{◌≡◌, ◌++◌, ◌∷◌, [], true, IfOk, OnOk, Some};
 ghost use Rattle.json.specs.Token.{begin_object, end_object};
 ghost use Rattle.conode_explain_entries.specs.Ends.{direction_text, side_text};
-ghost use Rattle.conode_explain_text.specs.Lines.{interface_parts, own_parts, said, stamp};
+ghost use Rattle.conode_explain_text.specs.Lines.{interface, own_parts, said, stamp};
 ghost use Rattle.conode_explain_forms.specs.EndLines.{
   abort_members,
   end_json_line,
@@ -122,21 +121,20 @@ fn put_end_line(
     text: &mut String,
     form: StampForm,
     times: Times,
-    shows: bool,
     name: &[u8],
     words: &[u8],
     node: u8,
     ended: &Ended,
 ) -> Result<(), AllocError>
     ensures { OnOk result (writer.new ≡ writer.old ++ begin_object ∷ []
-        ++ part_tokens (stamp form times)
-        ++ flat_map part_tokens (interface_parts shows name.now) ++ part_tokens (said words.now)
+        ++ part_tokens (stamp form times) ++ part_tokens (interface name.now)
+        ++ part_tokens (said words.now)
         ++ kind_members Kind.Sdo (Some node) ++ subject_members ended.now
         ++ result_members ended.now ++ end_object ∷ []) }
 {
     attempt!(writer.begin_object());
     attempt!(put_stamp(alloc, writer, text, form, times));
-    attempt!(put_interface(writer, text, shows, name));
+    attempt!(put_interface(writer, text, name));
     attempt!(put_said(alloc, writer, words));
     attempt!(put_kind(alloc, writer, Kind::Sdo, Some(node)));
     attempt!(put_subject(alloc, writer, ended));
@@ -145,20 +143,19 @@ fn put_end_line(
 }
 
 /// The line of a node's SDO transfer that ended, with these words, as an object of JSON and a line
-/// feed: the stamp of the frame that ended it, its interface, where it `shows`, the words, the
-/// kind, the node, and what is known of the transfer. On an `Err` memory ran out.
+/// feed: the stamp of the frame that ended it, its interface, the words, the kind, the node, and
+/// what is known of the transfer. On an `Err` memory ran out.
 pub fn end_json_line(
     alloc: Global,
     form: StampForm,
     times: Times,
-    shows: bool,
     name: &[u8],
     words: &[u8],
     node: u8,
     ended: &Ended,
 ) -> Result<Vec<u8>, AllocError>
     ensures { IfOk result (λ line. line.items
-        ≡ end_json_line node ended.now (own_parts form times shows name.now words.now)) }
+        ≡ end_json_line node ended.now (own_parts form times true name.now words.now)) }
 {
     let mut text = String::new(alloc);
     let mut writer = JsonWriter::new(alloc);
@@ -168,7 +165,6 @@ pub fn end_json_line(
         &mut text,
         form,
         times,
-        shows,
         name,
         words,
         node,

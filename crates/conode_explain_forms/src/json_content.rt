@@ -1,9 +1,8 @@
 //! Interface, identifier, length and data of a frame as members.
 
 ghost use Rattle.std.specs.Prelude.{◌≡◌, ◌≤◌, ◌++◌, OnOk, string_bytes, length};
-ghost use Rattle.std.specs.List.{flat_map};
 ghost use Rattle.conode_record.specs.Grammar.{IsIdentifier};
-ghost use Rattle.conode_explain_text.specs.Lines.{content, identifier, interface_parts};
+ghost use Rattle.conode_explain_text.specs.Lines.{content, identifier, interface};
 ghost use Rattle.conode_explain_forms.specs.JsonLines.{data_members, frame_members, part_tokens};
 
 use co_text::push_bytes;
@@ -12,19 +11,14 @@ use conode_json::JsonWriter;
 use conode_record::{Content, Identifier};
 use std::alloc::{AllocError, Global};
 
-/// The interface, where the line names it; `text` is scratch space.
+/// The interface; `text` is scratch space.
 pub(crate) fn put_interface(
     writer: &mut JsonWriter,
     text: &mut String,
-    shows: bool,
     name: &[u8],
 ) -> Result<(), AllocError>
-    ensures { OnOk result
-        (writer.new ≡ writer.old ++ flat_map part_tokens (interface_parts shows name.now)) }
+    ensures { OnOk result (writer.new ≡ writer.old ++ part_tokens (interface name.now)) }
 {
-    if !shows {
-        return Ok(());
-    }
     text.clear();
     attempt!(push_name(text, name));
     writer.put_text("interface", text.as_str())

@@ -4,19 +4,13 @@ ghost use Rattle.std.specs.Prelude.{◌≡◌, ◌++◌, ◌∷◌, [], ◌-ℤ�
 ghost use Rattle.std.specs.List.{flat_map};
 ghost use Rattle.json.specs.Token.{begin_object, end_object};
 ghost use Rattle.conode_record.specs.Grammar.{IsIdentifier};
-ghost use Rattle.conode_explain_text.specs.Lines.{
-  gap,
-  interface_parts,
-  line_parts,
-  notes,
-  said,
-  stamp,
-};
-ghost use Rattle.conode_explain_text.specs.SoFar.{shows_interface, times_at};
+ghost use Rattle.conode_explain_text.specs.Lines.{gap, line_parts, notes, said, stamp};
+ghost use Rattle.conode_explain_text.specs.SoFar.{times_at};
 ghost use Rattle.conode_explain_forms.specs.JsonLines.{
   front_tokens,
   json_line,
   kind_members,
+  of_several,
   part_tokens,
   stamp_member,
   stamp_number,
@@ -111,7 +105,7 @@ pub(crate) fn put_kind(
     }
 }
 
-// the times of a frame, its interface, where the line names it, its identifier and its data
+// the times of a frame, its interface, its identifier and its data
 #[tactic(auto, unfolding(crate::specs::JsonLines::front_tokens))]
 fn put_front(
     alloc: Global,
@@ -119,17 +113,14 @@ fn put_front(
     text: &mut String,
     form: StampForm,
     times: Times,
-    shows: bool,
     frame: &Record<'_>,
 ) -> Result<(), AllocError>
     requires { IsIdentifier frame.now.id }
-    ensures { OnOk result
-        (writer.new ≡ writer.old ++ front_tokens form times shows frame.now) }
+    ensures { OnOk result (writer.new ≡ writer.old ++ front_tokens form times frame.now) }
 {
     attempt!(put_stamp(alloc, writer, text, form, times));
     attempt!(put_gap(alloc, writer, times));
-    let name = frame.interface.bytes();
-    attempt!(put_interface(writer, text, shows, name));
+    attempt!(put_interface(writer, text, frame.interface.bytes()));
     attempt!(put_id(writer, text, frame.id));
     put_content(alloc, writer, text, &frame.content)
 }
@@ -148,16 +139,14 @@ fn put_line(
 ) -> Result<(), AllocError>
     requires { IsIdentifier frame.now.id }
     ensures { OnOk result (writer.new ≡ writer.old ++ begin_object ∷ []
-        ++ front_tokens form (times_at seen.now frame.now.micros)
-        (shows_interface seen.now frame.now.interface) frame.now
+        ++ front_tokens form (times_at seen.now frame.now.micros) frame.now
         ++ part_tokens (said words.now)
         ++ flat_map part_tokens (notes (times_at seen.now frame.now.micros))
         ++ kind_members kind node ++ end_object ∷ []) }
 {
     let times = seen.times(frame.micros);
-    let shows = seen.shows_interface(frame.interface.bytes());
     attempt!(writer.begin_object());
-    attempt!(put_front(alloc, writer, text, form, times, shows, frame));
+    attempt!(put_front(alloc, writer, text, form, times, frame));
     attempt!(put_said(alloc, writer, words));
     attempt!(put_notes(writer, times));
     attempt!(put_kind(alloc, writer, kind, node));
@@ -166,10 +155,9 @@ fn put_line(
 
 /// The line of a frame that says these words, as an object of JSON and a line feed, where `seen` is
 /// what the recording showed before it: its stamp and the time since the frame before it in
-/// microseconds (a stamp as a date in the form `Date`), its interface where there are several, its
-/// identifier as it is printed, its length and its data as numbers and as hexadecimal digits, the
-/// words, a note where its stamp is odd, its kind and its node, where it is of one. On an `Err`
-/// memory ran out.
+/// microseconds (a stamp as a date in the form `Date`), its interface, its identifier as it is
+/// printed, its length and its data as numbers and as hexadecimal digits, the words, a note where
+/// its stamp is odd, its kind and its node, where it is of one. On an `Err` memory ran out.
 pub fn json_line(
     alloc: Global,
     form: StampForm,
@@ -181,7 +169,7 @@ pub fn json_line(
 ) -> Result<Vec<u8>, AllocError>
     requires { IsIdentifier frame.now.id }
     ensures { IfOk result (λ line. line.items
-        ≡ json_line kind node (line_parts form seen.now frame.now words.now)) }
+        ≡ json_line kind node (line_parts form (of_several seen.now) frame.now words.now)) }
 {
     let mut text = String::new(alloc);
     let mut writer = JsonWriter::new(alloc);

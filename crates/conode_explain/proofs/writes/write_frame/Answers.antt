@@ -16,7 +16,7 @@ returns-in-None-clause-lines g c =
     let none : place_for sheets progress frame ≡ None =
     ap (λ (bus : Bus). place_of bus frame.id frame.content) (sym c.bus_of-bus.ensures) ∙ sym c.place_of.ensures ∙ c.in-None.is in
     let quiet : may_be_told frame.id frame.content ≡ false = sym c.may_be_told.ensures ∙ c.if-not-may_be_told.true in
-    rw (quiet_lines form sheets progress frame none quiet) (rw c.told-told.ensures at c.write_by.ensures.lines)
+    rw (quiet_lines form sheets progress frame none quiet) (rw c.said-told.ensures at c.write_by.ensures.lines)
 
 pub returns-in-None-clause-progress : goal.returns-in-None-clause-progress
 returns-in-None-clause-progress g c =
@@ -27,4 +27,4 @@ returns-in-None-clause-progress g c =
     let none : place_for sheets progress frame ≡ None =
     ap (λ (bus : Bus). place_of bus frame.id frame.content) (sym c.bus_of-bus.ensures) ∙ sym c.place_of.ensures ∙ c.in-None.is in
     let quiet : may_be_told frame.id frame.content ≡ false = sym c.may_be_told.ensures ∙ c.if-not-may_be_told.true in
-    rw (quiet_progress form sheets progress frame none quiet) (rw c.told-told.ensures at c.write_by.ensures.progress)
+    rw (quiet_progress form sheets progress frame none quiet) (rw c.said-told.ensures at c.write_by.ensures.progress)
