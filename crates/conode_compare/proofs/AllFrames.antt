@@ -59,7 +59,7 @@ use Rattle.conode_compare.specs.Compared.{
   so_far_after,
   taken_lines,
 }
-use Rattle.conode_compare.specs.ComparedFrames.{AreAllOn, BadLine, EndsWhole, FrameIn, IsBad, IsWhole, LineRead, chosen_frames, compared_frames, frames_from, frames_read, line_frames, lines_shown, picked, program_from_lines, program_over_lines, records_of, said_frames, shown_from, shown_in, tally_of}
+use Rattle.conode_compare.specs.ComparedFrames.{AreAllOn, BadLine, EndsWhole, FrameIn, IsBad, IsWhole, LineRead, chosen_frames, compared_frames, lines_shown, picked, program_from_lines, program_over_lines, read_of_line, read_of_lines, read_of_said, read_of_text, records_of, shown_from, shown_in, tally_of}
 use Rattle.conode_compare.specs.Noted.{nothing_noted, notes_with}
 
 module _ (c : Comparison) where
@@ -87,37 +87,37 @@ module _ (c : Comparison) where
 
   said_written : (number : ℕ) (so_far : Comparing) (said : Option RecordLine) (rest : List LineRead) (more : Comparing → List (List ℕ)) → so_far.report ≡ None
       → ((after : Comparing) → after.report ≡ None → more after ≡ lines_after after rest)
-      → said_lines c number so_far said ++ more (said_with c so_far said) ≡ lines_after so_far (said_frames number said ++ rest)
+      → said_lines c number so_far said ++ more (said_with c so_far said) ≡ lines_after so_far (read_of_said number said ++ rest)
   said_written number so_far (Some (Frame frame)) rest more silent h = frame_written number so_far frame rest more silent h
   said_written number so_far (Some Skipped) rest more silent h = h so_far silent
   said_written number so_far None rest more silent h = h (bad_noted so_far) (ap (option_map bad_line_kept) silent)
 
   line_written : (number : ℕ) (s : SoFar) (line : List ℕ) (rest : Log → List LineRead) (more : SoFar → List (List ℕ)) → s.comparing.report ≡ None
       → ((after : SoFar) → after.comparing.report ≡ None → more after ≡ lines_after after.comparing (rest after.log))
-      → line_lines c number s line ++ more (line_with c s line) ≡ lines_after s.comparing (line_frames number s.log line ++ rest (log_after s.log line))
+      → line_lines c number s line ++ more (line_with c s line) ≡ lines_after s.comparing (read_of_line number s.log line ++ rest (log_after s.log line))
   line_written number s line rest more silent h = by (nat_lt 512 (length line))
     where
       by : (long : Bool)
           → (if long then [] else said_lines c number (line_noted s.comparing line) (line_at s.log line))
           ++ more (if long then record s { comparing = long_noted s.comparing } else record { log = (says s.log line).0; comparing = said_with c (line_noted s.comparing line) (line_at s.log line) })
-          ≡ lines_after s.comparing ((if long then BadLine ∷ [] else said_frames number (line_at s.log line)) ++ rest (if long then s.log else (says s.log line).0))
+          ≡ lines_after s.comparing ((if long then BadLine ∷ [] else read_of_said number (line_at s.log line)) ++ rest (if long then s.log else (says s.log line).0))
       by true = h (record s { comparing = long_noted s.comparing }) (ap (λ (r : Option Kept). option_map bad_line_kept (option_map (λ kept. with_line kept []) r)) silent)
       by false =
           said_written number (line_noted s.comparing line) (line_at s.log line) (rest (says s.log line).0) (λ after. more (record { log = (says s.log line).0; comparing = after })) (ap (option_map (λ kept. with_line kept line)) silent)
           (λ after quiet. h (record { log = (says s.log line).0; comparing = after }) quiet)
 
-  all_written : (closed : Bool) (number : ℕ) (s : SoFar) (ls : List (List ℕ)) → s.comparing.report ≡ None → compared_from c closed number s ls ≡ lines_after s.comparing (frames_from closed number s.log ls)
-  unfolding compared_from frames_from
+  all_written : (closed : Bool) (number : ℕ) (s : SoFar) (ls : List (List ℕ)) → s.comparing.report ≡ None → compared_from c closed number s ls ≡ lines_after s.comparing (read_of_lines closed number s.log ls)
+  unfolding compared_from read_of_lines
   all_written closed number s [] silent = refl
   all_written closed number s (line ∷ []) silent = by (counts closed line)
     where
-      by : (b : Bool) → (if b then line_lines c number s line else []) ≡ lines_after s.comparing (if b then line_frames number s.log line else [])
+      by : (b : Bool) → (if b then line_lines c number s line else []) ≡ lines_after s.comparing (if b then read_of_line number s.log line else [])
       by true =
           sym (append-nil (line_lines c number s line)) ∙ line_written number s line (λ log. []) (λ after. []) silent (λ after quiet. refl)
-          ∙ ap (lines_after s.comparing) (append-nil (line_frames number s.log line))
+          ∙ ap (lines_after s.comparing) (append-nil (read_of_line number s.log line))
       by false = refl
   all_written closed number s (line ∷ next ∷ more) silent =
-      line_written number s line (λ log. frames_from closed (number + 1) log (next ∷ more)) (λ after. compared_from c closed (number + 1) after (next ∷ more)) silent
+      line_written number s line (λ log. read_of_lines closed (number + 1) log (next ∷ more)) (λ after. compared_from c closed (number + 1) after (next ∷ more)) silent
       (λ after quiet. all_written closed (number + 1) after (next ∷ more) quiet)
 
   -- ---- how many frames have which verdict
@@ -138,31 +138,31 @@ module _ (c : Comparison) where
       by false = h (other_seen c.interface so_far)
 
   said_counted : (number : ℕ) (so_far : Comparing) (said : Option RecordLine) (rest : List LineRead) (more : Comparing → Tally) → ((after : Comparing) → more after ≡ tally_after after rest)
-      → more (said_with c so_far said) ≡ tally_after so_far (said_frames number said ++ rest)
+      → more (said_with c so_far said) ≡ tally_after so_far (read_of_said number said ++ rest)
   said_counted number so_far (Some (Frame frame)) rest more h = frame_counted number so_far frame rest more h
   said_counted number so_far (Some Skipped) rest more h = h so_far
   said_counted number so_far None rest more h = h (bad_noted so_far)
 
   line_counted : (number : ℕ) (s : SoFar) (line : List ℕ) (rest : Log → List LineRead) (more : SoFar → Tally) → ((after : SoFar) → more after ≡ tally_after after.comparing (rest after.log))
-      → more (line_with c s line) ≡ tally_after s.comparing (line_frames number s.log line ++ rest (log_after s.log line))
+      → more (line_with c s line) ≡ tally_after s.comparing (read_of_line number s.log line ++ rest (log_after s.log line))
   line_counted number s line rest more h = by (nat_lt 512 (length line))
     where
       by : (long : Bool)
           → more (if long then record s { comparing = long_noted s.comparing } else record { log = (says s.log line).0; comparing = said_with c (line_noted s.comparing line) (line_at s.log line) })
-          ≡ tally_after s.comparing ((if long then BadLine ∷ [] else said_frames number (line_at s.log line)) ++ rest (if long then s.log else (says s.log line).0))
+          ≡ tally_after s.comparing ((if long then BadLine ∷ [] else read_of_said number (line_at s.log line)) ++ rest (if long then s.log else (says s.log line).0))
       by true = h (record s { comparing = long_noted s.comparing })
       by false = said_counted number (line_noted s.comparing line) (line_at s.log line) (rest (says s.log line).0) (λ after. more (record { log = (says s.log line).0; comparing = after })) (λ after. h (record { log = (says s.log line).0; comparing = after }))
 
-  all_counted : (closed : Bool) (number : ℕ) (s : SoFar) (ls : List (List ℕ)) → (so_far_after c closed s ls).comparing.tally ≡ tally_after s.comparing (frames_from closed number s.log ls)
-  unfolding so_far_after frames_from
+  all_counted : (closed : Bool) (number : ℕ) (s : SoFar) (ls : List (List ℕ)) → (so_far_after c closed s ls).comparing.tally ≡ tally_after s.comparing (read_of_lines closed number s.log ls)
+  unfolding so_far_after read_of_lines
   all_counted closed number s [] = refl
   all_counted closed number s (line ∷ []) = by (counts closed line)
     where
-      by : (b : Bool) → (if b then line_with c s line else s).comparing.tally ≡ tally_after s.comparing (if b then line_frames number s.log line else [])
-      by true = line_counted number s line (λ log. []) (λ after. after.comparing.tally) (λ after. refl) ∙ ap (tally_after s.comparing) (append-nil (line_frames number s.log line))
+      by : (b : Bool) → (if b then line_with c s line else s).comparing.tally ≡ tally_after s.comparing (if b then read_of_line number s.log line else [])
+      by true = line_counted number s line (λ log. []) (λ after. after.comparing.tally) (λ after. refl) ∙ ap (tally_after s.comparing) (append-nil (read_of_line number s.log line))
       by false = refl
   all_counted closed number s (line ∷ next ∷ more) =
-      line_counted number s line (λ log. frames_from closed (number + 1) log (next ∷ more)) (λ after. (so_far_after c closed after (next ∷ more)).comparing.tally)
+      line_counted number s line (λ log. read_of_lines closed (number + 1) log (next ∷ more)) (λ after. (so_far_after c closed after (next ∷ more)).comparing.tally)
       (λ after. all_counted closed (number + 1) after (next ∷ more))
 
 -- ---- of a text
@@ -231,8 +231,8 @@ named_from name first (FrameIn number frame ∷ later) all =
     (ap (bytes_eq name) all.0 ∙ (bytes_eq-Decides name name).1 refl) (named_from name (first_with first frame.interface) later all.1)
 named_from name first (BadLine ∷ later) all = ap (λ (l : List LineRead). BadLine ∷ l) (named_from name first later all.1)
 
-pub all_named : (name : List ℕ) (form : Form) (text : List ℕ) → AreAllOn name (frames_read form text) → compared_frames (Some name) form text ≡ frames_read form text
-all_named name form text all = named_from name (record { items = [] }) (frames_read form text) all
+pub all_named : (name : List ℕ) (form : Form) (text : List ℕ) → AreAllOn name (read_of_text form text) → compared_frames (Some name) form text ≡ read_of_text form text
+all_named name form text all = named_from name (record { items = [] }) (read_of_text form text) all
 
 -- no frame came, or one of this interface
 abbrev BeginsOn : List ℕ → ArrayVec ℕ → Type 0
@@ -256,5 +256,5 @@ first_from name first (FrameIn number frame ∷ later) on all =
     (ap (λ (i : List ℕ). is_first first.items || bytes_eq first.items i) all.0 ∙ on) (first_from name (first_with first frame.interface) later (next_on name first frame.interface all.0 on) all.1)
 first_from name first (BadLine ∷ later) on all = ap (λ (l : List LineRead). BadLine ∷ l) (first_from name first later on all.1)
 
-pub all_of_first : (name : List ℕ) (form : Form) (text : List ℕ) → AreAllOn name (frames_read form text) → compared_frames None form text ≡ frames_read form text
-all_of_first name form text all = first_from name (record { items = [] }) (frames_read form text) refl all
+pub all_of_first : (name : List ℕ) (form : Form) (text : List ℕ) → AreAllOn name (read_of_text form text) → compared_frames None form text ≡ read_of_text form text
+all_of_first name form text all = first_from name (record { items = [] }) (read_of_text form text) refl all

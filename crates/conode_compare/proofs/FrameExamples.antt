@@ -10,7 +10,7 @@ use Rattle.conode_compare_rules.specs.declared.limits.Limits.{Limits}
 use Rattle.conode_compare_rules.specs.declared.limits.Subject.{Subject}
 use Rattle.conode_compare_rules.specs.declared.progress.Progress.{Progress}
 use Rattle.conode_compare_rules.specs.Progresses.{before_recording, begins_anew, with_bad_line}
-use Rattle.conode_compare.specs.ComparedFrames.{AreAllOn, BadLine, FrameIn, IsWhole, LineRead, compared_frames, frames_from, frames_read, line_frames, records_of}
+use Rattle.conode_compare.specs.ComparedFrames.{AreAllOn, BadLine, FrameIn, IsWhole, LineRead, compared_frames, read_of_line, read_of_lines, read_of_text, records_of}
 
 -- a comment, a bad line, frames of two interfaces, and a last line without its line feed
 abbrev text : List ℕ
@@ -24,27 +24,27 @@ number BadLine = 0
 abbrev numbers : List LineRead → List ℕ
 numbers lines = map number lines
 
-all_frames : numbers (frames_read Unknown text) ≡ 2 ∷ 0 ∷ 4 ∷ 5 ∷ []
-unfolding logs_on_lines line_at frames_from
+all_frames : numbers (read_of_text Unknown text) ≡ 2 ∷ 0 ∷ 4 ∷ 5 ∷ []
+unfolding logs_on_lines line_at read_of_lines
 all_frames = refl
 
 first_interface : numbers (compared_frames None Unknown text) ≡ 2 ∷ 0 ∷ 5 ∷ []
-unfolding logs_on_lines line_at frames_from
+unfolding logs_on_lines line_at read_of_lines
 first_interface = refl
 
 named_interface : numbers (compared_frames (Some (codes "can1")) Unknown text) ≡ 0 ∷ 4 ∷ []
-unfolding logs_on_lines line_at frames_from
+unfolding logs_on_lines line_at read_of_lines
 named_interface = refl
 
 with_last_line : map (λ frame. frame.micros) (records_of (compared_frames None Unknown (text ++ codes "\n"))) ≡ 1000000 ∷ 3000000 ∷ 4000000 ∷ []
-unfolding logs_on_lines line_at frames_from
+unfolding logs_on_lines line_at read_of_lines
 with_last_line = refl
 
-too_long : line_frames 1 (at_start Unknown) (codes "(1.000000) can0 705#00" ++ replicate 491 32) ≡ BadLine ∷ []
+too_long : read_of_line 1 (at_start Unknown) (codes "(1.000000) can0 705#00" ++ replicate 491 32) ≡ BadLine ∷ []
 too_long = refl
 
 one_interface : AreAllOn (codes "can0") (compared_frames None Unknown text)
-unfolding logs_on_lines line_at frames_from
+unfolding logs_on_lines line_at read_of_lines
 one_interface = (refl, (tt, (refl, tt)))
 
 -- ---- after a bad line the recording begins anew, whatever is known, and however soon a frame comes

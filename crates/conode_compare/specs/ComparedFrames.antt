@@ -39,26 +39,26 @@ pub data LineRead : Type 0 where
   BadLine : LineRead
 
 -- of a line that says this
-abbrev pub said_frames : ℕ → Option RecordLine → List LineRead
-said_frames number (Some (Frame frame)) = FrameIn number frame ∷ []
-said_frames number (Some Skipped) = []
-said_frames number None = BadLine ∷ []
+abbrev pub read_of_said : ℕ → Option RecordLine → List LineRead
+read_of_said number (Some (Frame frame)) = FrameIn number frame ∷ []
+read_of_said number (Some Skipped) = []
+read_of_said number None = BadLine ∷ []
 
 -- of a line; one of more than 512 bytes is bad
-abbrev pub line_frames : ℕ → Log → List ℕ → List LineRead
-line_frames number log line = if nat_lt 512 (length line) then BadLine ∷ [] else said_frames number (line_at log line)
+abbrev pub read_of_line : ℕ → Log → List ℕ → List LineRead
+read_of_line number log line = if nat_lt 512 (length line) then BadLine ∷ [] else read_of_said number (line_at log line)
 
 -- of lines from this number on; the last one counts only where it has its line feed
-unfoldable pub frames_from : Bool → ℕ → Log → List (List ℕ) → List LineRead
-frames_from closed number log [] = []
-frames_from closed number log (line ∷ []) = if counts closed line then line_frames number log line else []
-frames_from closed number log (line ∷ next ∷ more) = line_frames number log line ++ frames_from closed (number + 1) (log_after log line) (next ∷ more)
+unfoldable pub read_of_lines : Bool → ℕ → Log → List (List ℕ) → List LineRead
+read_of_lines closed number log [] = []
+read_of_lines closed number log (line ∷ []) = if counts closed line then read_of_line number log line else []
+read_of_lines closed number log (line ∷ next ∷ more) = read_of_line number log line ++ read_of_lines closed (number + 1) (log_after log line) (next ∷ more)
 
--- all that a text says
-abbrev pub frames_read : Form → List ℕ → List LineRead
-frames_read form text = frames_from (is_closed text) 1 (at_start form) (lines text)
+-- of all lines of a text
+abbrev pub read_of_text : Form → List ℕ → List LineRead
+read_of_text form text = read_of_lines (is_closed text) 1 (at_start form) (lines text)
 
--- of these frames the ones that are compared: of the interface that is named, else of that of the first
+-- of these the frames that are compared: of the interface that is named, else of that of the first
 -- frame; bad lines may be of any
 abbrev pub chosen_frames : Option (List ℕ) → ArrayVec ℕ → List LineRead → List LineRead
 chosen_frames interface first [] = []
@@ -68,7 +68,7 @@ chosen_frames interface first (FrameIn number frame ∷ later) =
 chosen_frames interface first (BadLine ∷ later) = BadLine ∷ chosen_frames interface first later
 
 abbrev pub compared_frames : Option (List ℕ) → Form → List ℕ → List LineRead
-compared_frames interface form text = chosen_frames interface (record { items = [] }) (frames_read form text)
+compared_frames interface form text = chosen_frames interface (record { items = [] }) (read_of_text form text)
 
 -- the frames alone
 abbrev pub records_of : List LineRead → List Record
@@ -76,16 +76,17 @@ records_of [] = []
 records_of (FrameIn number frame ∷ later) = frame ∷ records_of later
 records_of (BadLine ∷ later) = records_of later
 
--- no bad line has a frame before it and one after it
 abbrev pub IsBad : LineRead → Type 0
 IsBad (FrameIn number frame) = ⊥
 IsBad BadLine = ⊤
 
+-- after the first frame: no frame follows a bad line
 abbrev pub EndsWhole : List LineRead → Type 0
 EndsWhole [] = ⊤
 EndsWhole (FrameIn number frame ∷ later) = EndsWhole later
 EndsWhole (BadLine ∷ later) = AllByRecursion IsBad later
 
+-- no bad line has a frame before it and one after it
 abbrev pub IsWhole : List LineRead → Type 0
 IsWhole [] = ⊤
 IsWhole (FrameIn number frame ∷ later) = EndsWhole later

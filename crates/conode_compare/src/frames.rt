@@ -16,10 +16,10 @@ ghost use Rattle.conode_compare.specs.ComparedFrames.{
   IsWhole,
   LineRead,
   compared_frames,
-  frames_read,
   lines_shown,
   picked,
   program_over_lines,
+  read_of_text,
   records_of,
   shown_in,
   tally_of,
@@ -48,8 +48,9 @@ pub fn compares_frames()
         program_over_lines these subject rows lines
         ≡ program_over these subject rows (records_of lines) }
     ensures named { (name : List ℕ) (form : Form) (text : List ℕ) →
-        AreAllOn name (frames_read form text) →
-        compared_frames (Some name) form text ≡ frames_read form text }
+        AreAllOn name (read_of_text form text) →
+        compared_frames (Some name) form text ≡ read_of_text form text }
     ensures first { (name : List ℕ) (form : Form) (text : List ℕ) →
-        AreAllOn name (frames_read form text) → compared_frames None form text ≡ frames_read form text }
+        AreAllOn name (read_of_text form text) →
+        compared_frames None form text ≡ read_of_text form text }
 {}

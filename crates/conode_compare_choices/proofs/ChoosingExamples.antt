@@ -161,6 +161,18 @@ after_boot_up : booted.idle ∷ booted.first.free ∷ booted.first.awaited ∷ [
 unfolding phases_with
 after_boot_up = refl
 
+-- a client asked to write an entry of the communication profile within the tolerance before that, or earlier
+abbrev asking : ℕ → Progress
+asking at = record (shows PreOperational 1000000) { free = 1000000; asked_at = Some at }
+
+phases_asked : map (λ at. (phases_with subject rows no_phases (Control 0) (asking at)).first.free) (989999 ∷ 990000 ∷ []) ≡ true ∷ false ∷ []
+unfolding phases_with
+phases_asked = refl
+
+errors_asked : map (λ at. (errors_with subject rows no_errors (Control 0) (asking at)).settled) (989999 ∷ 990000 ∷ []) ≡ Some 1000000 ∷ None ∷ []
+unfolding errors_with booted_errors
+errors_asked = refl
+
 abbrev begun : Phases
 begun = phases_with subject rows booted (Command Start) (shows Operational 2)
 
@@ -223,11 +235,16 @@ taken_types : map is_taken (None ∷ Some 0 ∷ Some 240 ∷ Some 241 ∷ Some 2
 taken_types = refl
 
 -- after a boot-up; nothing where values may be stored
-rpdo_by_the_sheet : (booted_errors subject rows 1000).first ≡ record { id = Some 0x205; length = Some 2 }
+rpdo_by_the_sheet : (booted_errors subject false rows 1000).first ≡ record { id = Some 0x205; length = Some 2 }
 unfolding booted_errors length_of counted_bytes
 rpdo_by_the_sheet = refl
 
-where_values_are_stored : booted_errors storing rows 1000 ≡ no_errors
+-- nor where a client asked to write an entry right before
+where_asked : booted_errors subject true rows 1000 ≡ no_errors
+unfolding booted_errors
+where_asked = refl
+
+where_values_are_stored : booted_errors storing false rows 1000 ≡ no_errors
 unfolding booted_errors
 where_values_are_stored = refl
 

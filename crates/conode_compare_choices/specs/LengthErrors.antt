@@ -25,6 +25,7 @@ use Rattle.conode_compare_rules.specs.declared.kind.FrameKind.TheVariants.{Comma
 use Rattle.conode_compare_rules.specs.declared.limits.Limits.{Limits}
 use Rattle.conode_compare_rules.specs.declared.limits.Subject.{Subject}
 use Rattle.conode_compare_rules.specs.declared.progress.Progress.{Progress}
+use Rattle.conode_compare_rules.specs.Progresses.{was_asked}
 use Rattle.conode_compare_rules.specs.States.{is_operational}
 use Rattle.conode_compare_choices.specs.declared.choice.Choice.{Choice}
 use Rattle.conode_compare_choices.specs.declared.choice.Choice.TheVariants.{NoEmergency, OtherEmergency}
@@ -79,10 +80,11 @@ rpdo_id rows node number =
 abbrev pub rpdo_of : List Row → ℕ → ℕ → Rpdo
 rpdo_of rows node number = record { id = rpdo_id rows node number; length = length_of rows node (0x1600 + number) }
 
--- after a boot-up, where entries have what the data sheet says
-unfoldable pub booted_errors : Subject → List Row → ℕ → LengthErrors
-booted_errors subject rows micros =
-    if has_presets subject then record {
+-- after a boot-up, where entries have what the data sheet says; `asked`: a client asked to write an entry right
+-- before the boot-up frame
+unfoldable pub booted_errors : Subject → Bool → List Row → ℕ → LengthErrors
+booted_errors subject asked rows micros =
+    if not asked && has_presets subject then record {
       sync = sync_length rows subject.node;
       settled = Some micros;
       first = rpdo_of rows subject.node 0;
@@ -188,7 +190,7 @@ after_exchange frame (Some exchange) errors = after_part frame exchange.heard.wh
 
 abbrev pub after_control : Subject → List Row → ℕ → ℕ → Progress → LengthErrors → LengthErrors
 after_control subject rows byte micros progress errors =
-    if byte == 0 then booted_errors subject rows micros
+    if byte == 0 then booted_errors subject (was_asked subject progress) rows micros
     else record errors { awaited = awaited_still subject.limits progress.entries.inhibit micros errors.awaited }
 
 abbrev pub after_kind : Subject → List Row → ℕ → FrameKind → Progress → LengthErrors → LengthErrors

@@ -27,6 +27,7 @@ use Rattle.conode_compare_rules.specs.declared.kind.FrameKind.{FrameKind}
 use Rattle.conode_compare_rules.specs.declared.kind.FrameKind.TheVariants.{Command, CommandToAll, Control, Polled, Process, Sdo}
 use Rattle.conode_compare_rules.specs.declared.limits.Subject.{Subject}
 use Rattle.conode_compare_rules.specs.declared.progress.Progress.{Progress}
+use Rattle.conode_compare_rules.specs.Progresses.{was_asked}
 use Rattle.conode_compare_rules.specs.States.{is_operational}
 use Rattle.conode_compare_choices.specs.declared.choice.Choice.{Choice}
 use Rattle.conode_compare_choices.specs.declared.choice.Choice.TheVariants.{Phase as PhaseChoice}
@@ -68,12 +69,12 @@ is_row_open subject (Some row) = has_presets subject && option_map_or (λ n. n =
 abbrev pub is_open : Subject → List Row → ℕ → Bool
 is_open subject rows number = is_row_open subject (row_at rows (start_key number))
 
--- after a boot-up
-abbrev pub booted_phase : Subject → List Row → ℕ → Phase
-booted_phase subject rows number = record { free = is_open subject rows number; awaited = false }
+-- after a boot-up; `asked`: a client asked to write an entry right before the boot-up frame
+abbrev pub booted_phase : Subject → Bool → List Row → ℕ → Phase
+booted_phase subject asked rows number = record { free = not asked && is_open subject rows number; awaited = false }
 
-abbrev pub booted_phases : Subject → List Row → Phases → Phases
-booted_phases subject rows phases = each (λ number phase. booted_phase subject rows number) phases
+abbrev pub booted_phases : Subject → Bool → List Row → Phases → Phases
+booted_phases subject asked rows phases = each (λ number phase. booted_phase subject asked rows number) phases
 
 -- ---- which first frames are awaited
 
@@ -142,7 +143,7 @@ after_exchange frame None phases = phases
 after_exchange frame (Some exchange) phases = after_part frame exchange.heard.what phases
 
 abbrev pub after_kind : Subject → List Row → Phases → FrameKind → Progress → Phases
-after_kind subject rows phases (Control byte) progress = if byte == 0 then booted_phases subject rows phases else phases
+after_kind subject rows phases (Control byte) progress = if byte == 0 then booted_phases subject (was_asked subject progress) rows phases else phases
 after_kind subject rows phases (Command service) progress = after_command subject phases service progress.nmt.state
 after_kind subject rows phases (CommandToAll service) progress = after_command subject phases service progress.nmt.state
 after_kind subject rows phases (Process id length) progress = after_data progress.pdos id phases

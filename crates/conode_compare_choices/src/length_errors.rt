@@ -346,13 +346,13 @@ impl LengthErrors {
         }
     }
 
-    // The device booted up.
+    // The device booted up; `asked`: a client asked to write an entry right before.
     #[tactic(auto, unfolding(crate::specs::LengthErrors::booted_errors))]
-    fn booted(subject: &Subject, rows: &[EntryRow<'_>], micros: u64) -> LengthErrors
+    fn booted(subject: &Subject, asked: bool, rows: &[EntryRow<'_>], micros: u64) -> LengthErrors
         requires { AllPairs (λ e f. is_key_before e.key f.key ≡ true) rows.now }
-        ensures { result ≡ booted_errors subject.now (map row_view rows.now) micros }
+        ensures { result ≡ booted_errors subject.now asked (map row_view rows.now) micros }
     {
-        if !has_presets(subject) {
+        if asked || !has_presets(subject) {
             return LengthErrors::unknown();
         }
         LengthErrors {
@@ -462,7 +462,7 @@ impl LengthErrors {
             ≡ after_control subject.now (map row_view rows.now) byte micros progress.now self.old }
     {
         if byte == 0 {
-            *self = LengthErrors::booted(subject, rows, micros);
+            *self = LengthErrors::booted(subject, progress.was_asked(subject), rows, micros);
         } else {
             let inhibit = progress.entries().inhibit;
             self.awaited = awaited_still(&subject.limits, inhibit, micros, self.awaited);

@@ -127,13 +127,13 @@ impl Phase {
         }
     }
 
-    // The device booted up.
-    fn booted(subject: &Subject, rows: &[EntryRow<'_>], number: u8) -> Phase
+    // The device booted up; `asked`: a client asked to write an entry right before.
+    fn booted(subject: &Subject, asked: bool, rows: &[EntryRow<'_>], number: u8) -> Phase
         requires { AllPairs (λ e f. is_key_before e.key f.key ≡ true) rows.now }
-        ensures { result ≡ booted_phase subject.now (map row_view rows.now) number }
+        ensures { result ≡ booted_phase subject.now asked (map row_view rows.now) number }
     {
         Phase {
-            free: is_open(subject, rows, number),
+            free: !asked && is_open(subject, rows, number),
             awaited: false,
         }
     }
@@ -216,15 +216,15 @@ impl Phases {
         }
     }
 
-    // The device booted up.
-    fn boot(&mut self, subject: &Subject, rows: &[EntryRow<'_>])
+    // The device booted up; `asked`: a client asked to write an entry right before.
+    fn boot(&mut self, subject: &Subject, asked: bool, rows: &[EntryRow<'_>])
         requires { AllPairs (λ e f. is_key_before e.key f.key ≡ true) rows.now }
-        ensures { self.new ≡ booted_phases subject.now (map row_view rows.now) self.old }
+        ensures { self.new ≡ booted_phases subject.now asked (map row_view rows.now) self.old }
     {
-        self.first = Phase::booted(subject, rows, 0);
-        self.second = Phase::booted(subject, rows, 1);
-        self.third = Phase::booted(subject, rows, 2);
-        self.fourth = Phase::booted(subject, rows, 3);
+        self.first = Phase::booted(subject, asked, rows, 0);
+        self.second = Phase::booted(subject, asked, rows, 1);
+        self.third = Phase::booted(subject, asked, rows, 2);
+        self.fourth = Phase::booted(subject, asked, rows, 3);
     }
 
     // The first frames are awaited from now on.
@@ -326,7 +326,7 @@ impl Phases {
             ≡ after_kind subject.now (map row_view rows.now) self.old kind.now progress.now }
     {
         match kind {
-            FrameKind::Control(0) => self.boot(subject, rows),
+            FrameKind::Control(0) => self.boot(subject, progress.was_asked(subject), rows),
             FrameKind::Command(service) => self.take_command(subject, *service, progress.state()),
             FrameKind::CommandToAll(service) => {
                 self.take_command(subject, *service, progress.state())

@@ -510,7 +510,7 @@ of_recording k subject rows (s ∷ later) answers control bytes aside other sync
     let state : Progress → Type 0 = Holds (IsIdle k []) (IsIn k []) (runs node.PreOperational) in
     then_none answer_differences subj rows s.micros (boot_up k ∷ []) (heard_from k [] (s ∷ later)) p (λ q. FitsAt s.micros (runs node.PreOperational) q × state q)
     (both answer_differences subj rows s.micros (boot_up k ∷ []) p (runs node.PreOperational) state
-    (let g = boot_goes subj rows s.micros p (fits_nothing s.micros boots) in (g.none, g.fits))
+    (let g = boot_goes subj rows s.micros p (fits_nothing s.micros boots None) in (g.none, g.fits))
     (frame_runs subj rows s.micros p (boot_up k) (Control 0) state (life_kind k.description.node BootUp) (boot_quiet (IsIdle k []) (IsIn k []) subj rows (begun subj p s.micros) s.micros (runs node.PreOperational) (λ i. false≢true i))))
     (λ q g. all_none k subject rows (s ∷ later) [] q answers control bytes aside other sync all g.0 g.1)
 

@@ -40,7 +40,6 @@ use Rattle.conode_compare_rules.specs.Progresses.{
   after_process,
   answer_findings,
   answer_nmt,
-  answer_noted,
   anew_after,
   begins_anew,
   begun,

@@ -25,7 +25,7 @@ use Rattle.conode_compare_rules.specs.declared.kind.FrameKind.TheVariants.{Sdo}
 use Rattle.conode_compare_rules.specs.declared.limits.Subject.{Subject}
 use Rattle.conode_compare_rules.specs.declared.progress.Progress.{Progress}
 use Rattle.conode_compare_rules.specs.EmergencyRules.{is_stopped}
-use Rattle.conode_compare_rules.specs.Progresses.{answer_nmt, answer_noted, begun}
+use Rattle.conode_compare_rules.specs.Progresses.{answer_nmt, begun}
 use Rattle.conode_compare_laws.specs.AnswerFindings.{answer_differences}
 use Rattle.conode_compare_laws.proofs.Runs.{AllRun}
 use Rattle.conode_compare_laws.proofs.Shown.{Stage}

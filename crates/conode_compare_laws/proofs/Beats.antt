@@ -224,7 +224,7 @@ none_with limits (Some n) p micros period ago same since few free = none_since l
 none_alone : (subject : Subject) (p : Progress) (micros period ago : ℕ) → (period ≡ 0) ⊎ (ago ≤ period * 1000) → Begun period micros ago p → late_alone subject p micros ≡ None
 unfolding late_finding overdue_by
 none_alone subject p micros period ago few h =
-    ap (λ o. option_map (λ (late : ℕ × ℕ). HeartbeatLate late.0 late.1) o) (by (runs_still subject.limits p.heartbeats.former p.heartbeats.since p.free))
+    ap (λ o. option_map (λ (late : ℕ × ℕ). HeartbeatLate late.0 late.1) o) (by (runs_still subject.limits p.heartbeats.former p.heartbeats.answered p.free))
   where
     by : (b : Bool) → (if b then None else overdue_with subject.limits p.entries.period p.heartbeats p.free micros) ≡ None
     by true = refl

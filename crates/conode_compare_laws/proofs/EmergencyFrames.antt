@@ -140,7 +140,7 @@ inhibit_none limits entries (Some last) micros = with_none limits entries.inhibi
 finding_none : (limits : Limits) (entries : Entries) (state : NmtState) (settled : Bool) (last : Option ℕ) (micros code register : ℕ) → is_stopped state ≡ false → has_register code register ≡ true
     → besides_inhibit (emergency_finding limits entries state settled last micros code register) ≡ []
 unfolding emergency_finding
-finding_none limits entries state settled last micros code register up odd = by (not entries.emergencies || is_initialising state) settled (is_stopped state) (fits_register entries.inhibit code register) up (ap (λ b. b || ((register == 0) && may_wait entries.inhibit)) odd)
+finding_none limits entries state settled last micros code register up odd = by (not entries.emergencies || is_initialising state) settled (is_stopped state) (fits_register (may_wait limits entries last) code register) up (ap (λ b. b || ((register == 0) && may_wait limits entries last)) odd)
   where
     by : (unknown settled stopped has : Bool) → stopped ≡ false → has ≡ true
         → besides_inhibit (if unknown then None else (if settled && stopped then Some EmergencyStopped else (if not has then Some (EmergencyRegister code register) else inhibit_finding limits entries last micros))) ≡ []
@@ -309,7 +309,7 @@ of_recording k subject rows [] no_events control emergency aside without = refl
 of_recording k subject rows (s ∷ later) no_events control emergency aside without =
     let subj : Subject = of_device k subject in
     let g : Goes state_differences subj rows s.micros (before_recording subj) (boot_up k) (runs node.PreOperational) =
-    boot_goes subj rows s.micros (before_recording subj) (fits_nothing s.micros boots) in
+    boot_goes subj rows s.micros (before_recording subj) (fits_nothing s.micros boots None) in
     then_none emergency_differences subj rows s.micros (boot_up k ∷ []) (heard_from k [] (s ∷ later)) (before_recording subj) (runs node.PreOperational)
     (instead subj rows s.micros (boot_up k ∷ []) (before_recording subj) (runs node.PreOperational) (λ e. omega arith, tt) (g.none, g.fits))
     (λ q h. all_none k subject rows (s ∷ later) [] q no_events tt control emergency aside without h)

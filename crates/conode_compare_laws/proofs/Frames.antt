@@ -46,14 +46,11 @@ use Rattle.conode_compare_rules.specs.Progresses.{
   emergency_findings,
   exchange_at,
   exchange_noted,
-  findings_at,
   findings_in,
   heartbeat_findings,
   late_by_tpdo,
   late_noted,
-  moment_at,
   process_findings,
-  progress_with,
   request_findings,
   sighting_findings,
   with_gap,
@@ -83,7 +80,7 @@ either micros stage false x y p q = q
 
 pub begun_fits : (subject : Subject) (p : Progress) (micros now : ℕ) (stage : Stage) → FitsAt micros stage p → FitsAt micros stage (begun subject p now)
 unfolding begun
-begun_fits subject p micros now stage h = either micros stage (begins_anew subject.limits p now) _ _ (fits_nothing micros stage) h
+begun_fits subject p micros now stage h = either micros stage (begins_anew subject.limits p now) _ _ (fits_nothing micros stage _) h
 
 -- ---- a boot-up that is missing
 

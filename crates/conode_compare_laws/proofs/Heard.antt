@@ -186,7 +186,7 @@ of_recording k subject rows [] foreign aside = refl
 of_recording k subject rows (s ∷ later) foreign aside =
     let subj : Subject = of_device k subject in
     let g : Goes state_differences subj rows s.micros (before_recording subj) (boot_up k) (runs node.PreOperational) =
-    boot_goes subj rows s.micros (before_recording subj) (fits_nothing s.micros boots) in
+    boot_goes subj rows s.micros (before_recording subj) (fits_nothing s.micros boots None) in
     then_none state_differences subj rows s.micros (boot_up k ∷ []) (heard_from k [] (s ∷ later)) (before_recording subj) (runs node.PreOperational) (g.none, g.fits)
     (λ q h. all_none k subject rows (s ∷ later) [] q foreign aside h)
 

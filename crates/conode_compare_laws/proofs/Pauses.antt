@@ -29,7 +29,7 @@ use Rattle.conode_compare_rules.specs.declared.kind.FrameKind.TheVariants.{Comma
 use Rattle.conode_compare_rules.specs.declared.limits.Limits.{Limits}
 use Rattle.conode_compare_rules.specs.declared.limits.Subject.{Subject}
 use Rattle.conode_compare_rules.specs.declared.progress.Progress.{Progress}
-use Rattle.conode_compare_rules.specs.EmergencyRules.{emergency_finding, fits_register, gap_finding, inhibit_finding, inhibit_with, is_in_force, is_stopped, least_gap}
+use Rattle.conode_compare_rules.specs.EmergencyRules.{emergency_finding, fits_register, gap_finding, inhibit_finding, inhibit_with, is_in_force, is_stopped, least_gap, may_wait}
 use Rattle.conode_compare_rules.specs.EntriesInForce.{asked_by, asked_to_write, done_word, overwritten, shown_inhibit, shown_period, with_inhibit, with_period}
 use Rattle.conode_compare_rules.specs.OtherClients.{is_channel}
 use Rattle.conode_compare_rules.specs.FrameKinds.{command_kind, command_to, control_kind, data_kind, emergency_kind, emergency_with, length_of, long_command_in}
@@ -374,7 +374,7 @@ finding_none : (limits : Limits) (entries : Entries) (state : NmtState) (settled
     → only_inhibit (emergency_finding limits entries state settled last micros code register) ≡ []
 unfolding emergency_finding
 finding_none limits entries state settled last micros code register h =
-    by (not entries.emergencies || is_initialising state) (settled && is_stopped state) (fits_register entries.inhibit code register) (inhibit_finding limits entries last micros) h
+    by (not entries.emergencies || is_initialising state) (settled && is_stopped state) (fits_register (may_wait limits entries last) code register) (inhibit_finding limits entries last micros) h
   where
     by : (unknown stopped has : Bool) (f : Option Finding) → f ≡ None → only_inhibit (if unknown then None else (if stopped then Some EmergencyStopped else (if not has then Some (EmergencyRegister code register) else f))) ≡ []
     by true stopped has f h = refl

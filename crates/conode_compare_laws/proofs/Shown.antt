@@ -50,9 +50,9 @@ Fits micros (runs actual) state reset booted = is_shown state actual ≡ true
 
 -- ---- nothing is known
 
-pub fits_nothing : (micros : ℕ) (stage : Stage) → Fits micros stage Unknown None None
-fits_nothing micros boots = (refl, tt)
-fits_nothing micros (runs actual) = refl
+pub fits_nothing : (micros : ℕ) (stage : Stage) (reset : Option ℕ) → Fits micros stage Unknown reset None
+fits_nothing micros boots reset = (refl, tt)
+fits_nothing micros (runs actual) reset = refl
 
 -- ---- another frame of the device
 

@@ -1,5 +1,5 @@
 -- A device sends TPDOs while operational alone, and compare never has it in another state then.
-use Rattle.std.proofs.Common.{◌≡◌, ℕ, ◌+◌, Bool, true, false, List, [], ◌∷◌, ◌++◌, map, refl, sym, ap, ◌∙◌, subst, ◌⊎◌, inl, inr}
+use Rattle.std.proofs.Common.{◌≡◌, ℕ, ◌+◌, Bool, true, false, List, [], ◌∷◌, ◌++◌, map, None, refl, sym, ap, ◌∙◌, subst, ◌⊎◌, inl, inr}
 use Rattle.std.specs.Prelude.{if◌then◌else◌, ◌&&◌, not, is_some}
 use Rattle.std.specs.List.{AllByRecursion}
 use Rattle.std.proofs.lemmas.Bool.{ne_eqb}
@@ -221,7 +221,7 @@ of_recording k subject rows (s ∷ later) control no_tpdos aside off none =
     let subj : Subject = of_device k subject in
     let these : FrameKind → Findings → List Finding = tpdo_differences is_pdo_state in
     let g : Goes state_differences subj rows s.micros (before_recording subj) (boot_up k) (runs node.PreOperational) =
-    boot_goes subj rows s.micros (before_recording subj) (fits_nothing s.micros boots) in
+    boot_goes subj rows s.micros (before_recording subj) (fits_nothing s.micros boots None) in
     then_none these subj rows s.micros (boot_up k ∷ []) (heard_from k [] (s ∷ later)) (before_recording subj) (λ q. FitsAt s.micros (runs node.PreOperational) q × Holds (Knows subject.facts.pdos) q)
     (with_fits these subj rows s.micros (boot_up k ∷ []) (before_recording subj) (runs node.PreOperational) (Holds (Knows subject.facts.pdos)) (g.none, g.fits)
     (others.boots is_pdo_state (Knows subject.facts.pdos) subj rows s.micros (before_recording subj) (knows_sheet subject.facts.pdos) tt tt))

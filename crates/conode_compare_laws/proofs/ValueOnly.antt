@@ -29,7 +29,7 @@ use Rattle.conode_compare_rules.specs.declared.nmt.Nmt.{Nmt}
 use Rattle.conode_compare_rules.specs.declared.progress.Progress.{Progress}
 use Rattle.conode_compare_rules.specs.Answers.{answer_finding, breach_finding, confirmed_finding, ended_finding, finding_of, held_finding, is_abort, known_answer, known_finding, late_answer, overdue_answer, stopped_finding, stopped_with, transfer_breach, what_finding}
 use Rattle.conode_compare_rules.specs.EmergencyRules.{is_stopped}
-use Rattle.conode_compare_rules.specs.Progresses.{answer_findings, answer_nmt, answer_noted, confirmed_findings, exchange_at, findings_in, late_noted, request_findings}
+use Rattle.conode_compare_rules.specs.Progresses.{answer_findings, answer_nmt, confirmed_findings, exchange_at, findings_in, late_noted, request_findings}
 use Rattle.conode_compare_rules.specs.States.{is_settled, is_steady, judged_state}
 use Rattle.conode_compare_rules.specs.Verdicts.{found}
 use Rattle.conode_compare_laws.proofs.AnswerFollowed.{reads}

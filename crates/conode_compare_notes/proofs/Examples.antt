@@ -23,6 +23,8 @@ use Rattle.conode_explain_transfers.specs.declared.kinds.What.TheVariants.{Initi
 use Rattle.conode_compare_transfers.specs.declared.dialogue.Exchange.{Exchange}
 use Rattle.conode_compare_rules.specs.declared.entries.Entries.{Entries}
 use Rattle.conode_compare_rules.specs.declared.limits.Subject.{Subject}
+use Rattle.conode_compare_rules.specs.declared.progress.Progress.{Progress}
+use Rattle.conode_compare_rules.specs.Progresses.{before_recording}
 use Rattle.conode_compare_rules.specs.EntriesInForce.{facts_of}
 use Rattle.conode_compare_rules.specs.declared.finding.Remark.TheVariants.{EarlyHeartbeat, Restarted as RestartedRemark}
 use Rattle.conode_compare_rules.specs.declared.kind.FrameKind.TheVariants.{Command, Control}
@@ -296,17 +298,25 @@ not_in_the_sheet_requested = refl
 restored : after_request kept (booted_up (number_at 0x2000 1 (Some 8) ∷ [])) (record { index = 0x1011; sub = 1 }) ≡ nothing_watched
 restored = refl
 
+-- no client asked to write an entry
+abbrev quiet : Progress
+quiet = record (before_recording subject) { free = 1000000 }
+
 -- a boot-up and a reset
-after_boot_up : after_other subject (booted_up (number_at 0x2000 1 (Some 8) ∷ [])) (Control 0) ≡ booted_up []
+after_boot_up : after_other subject (booted_up (number_at 0x2000 1 (Some 8) ∷ [])) (Control 0) quiet ≡ booted_up []
 after_boot_up = refl
 
-after_reset : after_other subject (booted_up (number_at 0x2000 1 (Some 8) ∷ [])) (Command ResetNode) ≡ nothing_watched
+-- a client asked to write an entry of the communication profile within the tolerance before that
+after_asked : map (λ asked. (after_other subject (booted_up []) (Control 0) (record quiet { asked_at = Some asked })).fresh) (989999 ∷ 990000 ∷ []) ≡ true ∷ false ∷ []
+after_asked = refl
+
+after_reset : after_other subject (booted_up (number_at 0x2000 1 (Some 8) ∷ [])) (Command ResetNode) quiet ≡ nothing_watched
 after_reset = refl
 
-after_start : after_other subject (booted_up []) (Command Start) ≡ booted_up []
+after_start : after_other subject (booted_up []) (Command Start) quiet ≡ booted_up []
 after_start = refl
 
-after_heartbeat : after_other subject (booted_up []) (Control 5) ≡ booted_up []
+after_heartbeat : after_other subject (booted_up []) (Control 5) quiet ≡ booted_up []
 after_heartbeat = refl
 
 restart : map remark_warning (Some RestartedRemark ∷ Some (EarlyHeartbeat 1 2) ∷ None ∷ []) ≡ Some Restarted ∷ None ∷ None ∷ []

@@ -27,7 +27,7 @@ use Rattle.conode_compare_rules.specs.declared.kind.FrameKind.{FrameKind}
 use Rattle.conode_compare_rules.specs.declared.kind.FrameKind.TheVariants.{Command, CommandToAll, LongCommand, Control, Emergency, Sdo}
 use Rattle.conode_compare_rules.specs.declared.limits.Subject.{Subject}
 use Rattle.conode_compare_rules.specs.declared.progress.Progress.{Progress}
-use Rattle.conode_compare_rules.specs.Progresses.{is_begun}
+use Rattle.conode_compare_rules.specs.Progresses.{is_begun, was_asked}
 use Rattle.conode_compare_rules.specs.States.{is_reset}
 use Rattle.conode_compare_notes.specs.declared.contents.Content.{Content}
 use Rattle.conode_compare_notes.specs.declared.contents.Content.TheVariants.{Number, Bytes}
@@ -162,17 +162,18 @@ with_request rows watched Server what frame = watched
 abbrev pub watched_before : Watched → Progress → Watched
 watched_before watched progress = if is_begun progress then nothing_watched else watched
 
--- after a boot-up all entries have the data sheet's values, or stored ones
-abbrev pub booted : Subject → Watched
-booted subject = record nothing_watched { fresh = subject.facts.stores }
+-- After a boot-up all entries have the data sheet's values, or stored ones; or what a client asked to write right
+-- before the boot-up frame.
+abbrev pub booted : Subject → Progress → Watched
+booted subject progress = record nothing_watched { fresh = subject.facts.stores && not (was_asked subject progress) }
 
 -- by another frame than one of the SDO channel; a reset ends what is known
-abbrev pub after_other : Subject → Watched → FrameKind → Watched
-after_other subject watched (Control byte) = if byte == 0 then booted subject else watched
-after_other subject watched (Command service) = if is_reset service then nothing_watched else watched
-after_other subject watched (CommandToAll service) = if is_reset service then nothing_watched else watched
-after_other subject watched (LongCommand service) = if is_reset service then nothing_watched else watched
-after_other subject watched kind = watched
+abbrev pub after_other : Subject → Watched → FrameKind → Progress → Watched
+after_other subject watched (Control byte) progress = if byte == 0 then booted subject progress else watched
+after_other subject watched (Command service) progress = if is_reset service then nothing_watched else watched
+after_other subject watched (CommandToAll service) progress = if is_reset service then nothing_watched else watched
+after_other subject watched (LongCommand service) progress = if is_reset service then nothing_watched else watched
+after_other subject watched kind progress = watched
 
 -- by a frame of the SDO channel: it may end a transfer, or request one
 unfoldable pub exchanged : Subject → List Row → Watched → Side → FrameContent → Exchange → Watched
@@ -184,15 +185,15 @@ heard subject rows watched side frame None = watched
 heard subject rows watched side frame (Some exchange) = exchanged subject rows watched side frame exchange
 
 -- by what the frame is to the device, and on its SDO channel
-abbrev pub watched_at : Subject → List Row → Watched → FrameKind → Option Exchange → Watched
-watched_at subject rows watched (Sdo side frame) exchange = heard subject rows watched side frame exchange
-watched_at subject rows watched kind exchange = after_other subject watched kind
+abbrev pub watched_at : Subject → List Row → Watched → FrameKind → Progress → Watched
+watched_at subject rows watched (Sdo side frame) progress = heard subject rows watched side frame progress.exchange
+watched_at subject rows watched kind progress = after_other subject watched kind progress
 
 -- after a frame, by what the recording shows with it
 unfoldable pub watched_with : Subject → List Row → Watched → FrameKind → Progress → Watched
 watched_with subject rows watched kind progress =
     let before = watched_before watched progress in
-    record (watched_at subject rows before kind progress.exchange) { errors = errors_with subject.limits before.errors kind progress }
+    record (watched_at subject rows before kind progress) { errors = errors_with subject.limits before.errors kind progress }
 
 -- ---- the warning of a frame
 

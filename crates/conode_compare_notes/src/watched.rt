@@ -352,13 +352,13 @@ impl Watched {
     }
 
     // A frame that isn't one of the SDO channel.
-    fn take_other(&mut self, subject: &Subject, kind: &FrameKind)
-        ensures { self.new ≡ after_other subject.now self.old kind.now }
+    fn take_other(&mut self, subject: &Subject, kind: &FrameKind, progress: &Progress)
+        ensures { self.new ≡ after_other subject.now self.old kind.now progress.now }
     {
         match kind {
             FrameKind::Control(0) => {
                 self.forget();
-                self.fresh = subject.facts.stores;
+                self.fresh = subject.facts.stores && !progress.was_asked(subject);
             }
             FrameKind::Command(service) if is_reset(*service) => self.forget(),
             FrameKind::CommandToAll(service) if is_reset(*service) => self.forget(),
@@ -379,7 +379,7 @@ impl Watched {
         ensures warning { IfOk result (λ warning. warning ≡ frame_warning
             subject.now (map row_view rows.now) self.old kind.now progress.now) }
         ensures next { OnOk result (self.new ≡ watched_at
-            subject.now (map row_view rows.now) self.old kind.now progress.now.exchange) }
+            subject.now (map row_view rows.now) self.old kind.now progress.now) }
     {
         match (kind, &progress.exchange) {
             (FrameKind::Sdo(side, frame), Some(exchange)) => {
@@ -387,7 +387,7 @@ impl Watched {
             }
             (FrameKind::Sdo(_, _), None) => Ok(None),
             _ => {
-                self.take_other(subject, kind);
+                self.take_other(subject, kind, progress);
                 Ok(other_warning(kind, progress))
             }
         }

@@ -30,7 +30,7 @@ limits = record { tolerance = 10; drift = 1; answer = 1000; boot = 10000; time =
 -- ---- heartbeats
 
 abbrev pub pulse : Heartbeats
-pulse = record { guarded = false; since = Some 5; sent = Some 4; shown = None; slow = None; former = None }
+pulse = record { guarded = false; since = Some 5; sent = Some 4; shown = None; slow = None; former = None; answered = None }
 
 -- late after 1000 ms, 10 ms and 1 %
 in_time : late_finding limits (Some 1000) pulse 1020005 1020005 ≡ None
@@ -111,7 +111,7 @@ unfolding early_remark
 toggled = refl
 
 -- one that waited counts from when the bus was free
-waited : after_byte pulse 1000 2000 5 ≡ record { guarded = false; since = Some 2000; sent = Some 1000; shown = None; slow = None; former = None }
+waited : after_byte pulse 1000 2000 5 ≡ record { guarded = false; since = Some 2000; sent = Some 1000; shown = None; slow = None; former = None; answered = None }
 waited = refl
 
 -- more than three periods without a frame are a gap
@@ -165,6 +165,19 @@ code_alone : map (λ inhibit. emergency_finding limits (record entries { inhibit
     ≡ Some (EmergencyRegister 0x100 0) ∷ None ∷ None ∷ []
 unfolding emergency_finding inhibit_finding
 code_alone = refl
+
+-- a transfer showed 0 at 5 µs, which counts from the first EMCY that comes 10 ms after that; where no EMCY is known, one
+-- may have come before
+had_time : map (λ last. emergency_finding limits (record entries { inhibit = Some 0; inhibit_shown = Some 5 }) PreOperational true last 20006 0x100 0) (Some 4 ∷ Some 10005 ∷ Some 10006 ∷ None ∷ [])
+    ≡ None ∷ None ∷ Some (EmergencyRegister 0x100 0) ∷ None ∷ []
+unfolding emergency_finding inhibit_finding
+had_time = refl
+
+-- the data sheet has 0
+had_none : map (λ last. emergency_finding limits (record entries { inhibit = Some 0 }) PreOperational true last 20006 0x100 0) (Some 4 ∷ None ∷ [])
+    ≡ Some (EmergencyRegister 0x100 0) ∷ Some (EmergencyRegister 0x100 0) ∷ []
+unfolding emergency_finding
+had_none = refl
 
 waited_without_bit_0 : map (λ inhibit. emergency_finding limits (record entries { inhibit = inhibit }) PreOperational true None 0 0x100 2) (Some 0 ∷ None ∷ [])
     ≡ Some (EmergencyRegister 0x100 2) ∷ Some (EmergencyRegister 0x100 2) ∷ []
@@ -245,11 +258,11 @@ other_written = refl
 abbrev after_period : Direction → Heartbeats
 after_period direction = after_transfer pulse (Some (record (transferred (key 0x1017 0) Expedited) { direction = direction })) 90
 
-begun_anew : after_period Download ≡ record { guarded = false; since = Some 90; sent = Some 1; shown = None; slow = None; former = None }
+begun_anew : after_period Download ≡ record { guarded = false; since = Some 90; sent = Some 1; shown = None; slow = None; former = None; answered = None }
 unfolding shown_period
 begun_anew = refl
 
-read_period : after_period Upload ≡ record { guarded = false; since = Some 90; sent = Some 4; shown = None; slow = None; former = None }
+read_period : after_period Upload ≡ record { guarded = false; since = Some 90; sent = Some 4; shown = None; slow = None; former = None; answered = None }
 unfolding shown_period
 read_period = refl
 

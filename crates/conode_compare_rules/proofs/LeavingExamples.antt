@@ -62,9 +62,14 @@ only_stopped : (after_command (record starting { leaving = Shown 150000 }) Stop 
 unfolding after_command
 only_stopped = refl
 
-boots_up : (after_boot_up limits starting 20000000).leaving ≡ Nothing
+-- a boot-up within 10 s after the command, which the device may have taken, and another one before it; and later
+boots_up : map (λ micros. (after_boot_up limits (record starting { leaving = Nothing }) micros).leaving) (10100000 ∷ 10100001 ∷ []) ≡ Awaited ∷ Nothing ∷ []
 unfolding after_boot_up
 boots_up = refl
+
+boots_up_later : (after_boot_up limits starting 20000000).leaving ≡ Nothing
+unfolding after_boot_up
+boots_up_later = refl
 
 -- ---- a heartbeat
 

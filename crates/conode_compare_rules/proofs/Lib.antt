@@ -1,4 +1,5 @@
 mod AnswerExamples
+mod BeginExamples
 mod ChangedPeriodExamples
 mod ChannelExamples
 mod Examples

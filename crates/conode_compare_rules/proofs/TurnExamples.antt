@@ -55,7 +55,7 @@ sheet = record { period = Some 1000; emergencies = true; inhibit = Some 0; inhib
 abbrev pdos : Pdos
 pdos = record unknown_pdos { first = booted_tpdo None event_driven }
 
-abbrev subject : Subject
+abbrev pub subject : Subject
 subject = record {
   node = 5;
   limits = limits;
@@ -65,11 +65,11 @@ subject = record {
 }
 
 -- frames with their stamps, one after another, and what is found of each; the last one's alone
-abbrev after : Progress → List (ℕ × FrameKind) → Progress
+abbrev pub after : Progress → List (ℕ × FrameKind) → Progress
 after progress [] = progress
 after progress (frame ∷ later) = after (progress_with subject progress frame.0 frame.1) later
 
-abbrev last_found : List (ℕ × FrameKind) → ℕ → FrameKind → Option Finding
+abbrev pub last_found : List (ℕ × FrameKind) → ℕ → FrameKind → Option Finding
 last_found before micros kind = (findings_at subject [] (after (before_recording subject) before) micros kind).frame
 
 abbrev last_verdict : List (ℕ × FrameKind) → ℕ → FrameKind → Option Verdict

@@ -1,5 +1,5 @@
 -- EMCY messages (CiA 301, 7.2.7, 7.5.2.2 and 7.5.2.18).
-use Rattle.std.specs.Prelude.{ℕ, ◌-◌, ◌*◌, ◌/◌, ◌%◌, ◌==◌, nat_lt, Bool, true, false, not, ◌&&◌, ◌||◌, if◌then◌else◌, Option, Some, None}
+use Rattle.std.specs.Prelude.{ℕ, ◌-◌, ◌*◌, ◌/◌, ◌%◌, ◌==◌, nat_lt, Bool, true, false, not, ◌&&◌, ◌||◌, if◌then◌else◌, Option, Some, None, is_some}
 use Rattle.std.specs.Option.{option_map_or}
 use Rattle.conode_compare_rules.specs.declared.entries.Entries.{Entries}
 use Rattle.conode_compare_rules.specs.declared.finding.Finding.{Finding}
@@ -17,13 +17,8 @@ use Rattle.conode_compare_rules.specs.Times.{drift_of}
 abbrev pub has_register : ℕ → ℕ → Bool
 has_register code register = (register % 2 == 1) || ((register == 0) && nat_lt code 0x100)
 
--- One that may have waited for the inhibit time has the register of the moment at which it is sent: the error may
--- be over.
-abbrev pub may_wait : Option ℕ → Bool
-may_wait inhibit = not (is_number inhibit 0)
-
-abbrev pub fits_register : Option ℕ → ℕ → ℕ → Bool
-fits_register inhibit code register = has_register code register || ((register == 0) && may_wait inhibit)
+abbrev pub fits_register : Bool → ℕ → ℕ → Bool
+fits_register waits code register = has_register code register || ((register == 0) && waits)
 
 -- how many microseconds two EMCY are apart at least, with an inhibit time in 100 µs
 abbrev pub least_gap : Limits → ℕ → ℕ
@@ -36,6 +31,17 @@ gap_finding limits inhibit passed = if nat_lt passed (least_gap limits inhibit) 
 -- over
 abbrev pub is_in_force : Limits → Option ℕ → ℕ → Bool
 is_in_force limits shown last = option_map_or (λ s. is_past s limits.tolerance last) shown true
+
+-- it was when the last EMCY came; where none is known, unless a transfer showed it
+abbrev pub was_in_force : Limits → Option ℕ → Option ℕ → Bool
+was_in_force limits shown None = not (is_some shown)
+was_in_force limits shown (Some last) = is_in_force limits shown last
+
+-- One that may have waited for the inhibit time has the register of the moment at which it is sent: the error may
+-- be over. None waits where 1015:00 has 0, unless it has that only since the last one: the time that ran then may
+-- still run.
+abbrev pub may_wait : Limits → Entries → Option ℕ → Bool
+may_wait limits entries last = not (is_number entries.inhibit 0 && was_in_force limits entries.inhibit_shown last)
 
 -- `emcy-inhibit`: a second EMCY within the inhibit time
 abbrev pub inhibit_with : Limits → Option ℕ → Option ℕ → ℕ → ℕ → Option Finding
@@ -57,7 +63,7 @@ unfoldable pub emergency_finding : Limits → Entries → NmtState → Bool → 
 emergency_finding limits entries state settled last micros code register =
     if not entries.emergencies || is_initialising state then None
     else (if settled && is_stopped state then Some EmergencyStopped
-    else (if not (fits_register entries.inhibit code register) then Some (EmergencyRegister code register)
+    else (if not (fits_register (may_wait limits entries last) code register) then Some (EmergencyRegister code register)
     else inhibit_finding limits entries last micros))
 
 -- `emcy-length`

@@ -1,8 +1,16 @@
 -- Heartbeats that are late, and those that come early (CiA 301, 7.2.8.3.2).
-use Rattle.std.specs.Prelude.{ℕ, ◌+◌, ◌-◌, ◌*◌, ◌==◌, nat_lt, nat_le, Bool, false, not, ◌&&◌, ◌||◌, if◌then◌else◌, Option, Some, None, is_some, option_map}
+use Rattle.std.specs.Prelude.{ℕ, ◌+◌, ◌-◌, ◌*◌, ◌==◌, nat_lt, nat_le, Bool, false, not, ◌&&◌, ◌||◌, if◌then◌else◌, Option, Some, None, is_some, option_map, unwrap_or}
+use Rattle.co_frame.specs.FrameContent.{FrameContent}
+use Rattle.co_profile.specs.Keys.{producer_key}
+use Rattle.co_value.specs.declared.key.Key.{Key}
+use Rattle.co_value.specs.Keys.{same_key}
 use Rattle.conode_explain_transfers.specs.declared.ended.Ended.{Ended}
 use Rattle.conode_explain_transfers.specs.declared.kinds.Direction.{Direction}
 use Rattle.conode_explain_transfers.specs.declared.kinds.Direction.TheVariants.{Download, Upload}
+use Rattle.conode_explain_transfers.specs.declared.kinds.Side.{Side}
+use Rattle.conode_explain_transfers.specs.declared.kinds.Side.TheVariants.{Client, Server}
+use Rattle.conode_compare_transfers.specs.Breaches.{key_in}
+use Rattle.conode_compare_transfers.specs.Dialogues.{asks_to_write}
 use Rattle.conode_compare_rules.specs.declared.finding.Finding.{Finding}
 use Rattle.conode_compare_rules.specs.declared.finding.Finding.TheVariants.{HeartbeatLate}
 use Rattle.conode_compare_rules.specs.declared.finding.Remark.{Remark}
@@ -10,12 +18,19 @@ use Rattle.conode_compare_rules.specs.declared.finding.Remark.TheVariants.{Early
 use Rattle.conode_compare_rules.specs.declared.heartbeats.Heartbeats.{Heartbeats}
 use Rattle.conode_compare_rules.specs.declared.limits.Limits.{Limits}
 use Rattle.conode_compare_rules.specs.EntriesInForce.{shown_period}
-use Rattle.conode_compare_rules.specs.States.{is_guarded_state}
+use Rattle.conode_compare_rules.specs.OtherClients.{is_channel}
+use Rattle.conode_compare_rules.specs.declared.nmt.Nmt.{Nmt}
+use Rattle.conode_compare_rules.specs.States.{is_guarded_state, same_state, state_of}
 use Rattle.conode_compare_transfers.specs.Times.{is_past, micros_of}
 use Rattle.conode_compare_rules.specs.Times.{drift_of}
 
+-- the longest period: 1017:00 has 16 bits (CiA 301, 7.5.2.20)
+abbrev pub longest_period : ℕ
+longest_period = 65535
+
+-- No heartbeat came. What was written to 1017:00 before the recording isn't known, so any period may run.
 abbrev pub no_heartbeat : Heartbeats
-no_heartbeat = record { guarded = false; since = None; sent = None; shown = None; slow = None; former = None }
+no_heartbeat = record { guarded = false; since = None; sent = None; shown = None; slow = None; former = Some longest_period; answered = None }
 
 -- A heartbeat came, or an answer of node guarding. It may have waited since the bus was free last,
 -- `free`.
@@ -27,6 +42,7 @@ after_byte heartbeats free micros byte = record {
   shown = heartbeats.shown;
   slow = heartbeats.slow;
   former = heartbeats.former;
+  answered = heartbeats.answered;
 }
 
 -- With a transfer of 1017:00 the wait for the next one begins anew. By a download the device counts
@@ -55,32 +71,59 @@ allowance limits period = micros_of period + micros_of limits.tolerance + drift_
 -- ---- a period that changes
 
 -- CiA 301 doesn't say when a change of 1017:00 takes effect, so the period that ran when it was asked to be
--- written may end first: of several the longest.
+-- written may end first. Where that isn't known, it may be any; so where a client asks to write the parameters of
+-- another SDO channel, whose client may write 1017:00 then.
+abbrev pub period_asked : Key → Option ℕ → Option ℕ
+period_asked key period =
+    if is_channel key then Some longest_period
+    else (if same_key key producer_key then Some (unwrap_or period longest_period) else None)
+
+-- by a frame, whatever it is in the transfers of the channel, as in `asked_by`
+abbrev pub period_asked_by : Side → FrameContent → Option ℕ → Option ℕ
+period_asked_by Client frame period = if asks_to_write frame then period_asked (key_in frame) period else None
+period_asked_by Server frame period = None
+
+-- of several the longest
 abbrev pub longest : Option ℕ → ℕ → ℕ
 longest None period = period
 longest (Some former) period = if nat_le period former then former else period
 
--- a frame comes with which what 1017:00 has isn't known any more
-abbrev pub former_asked : Option ℕ → Option ℕ → Option ℕ → Option ℕ
-former_asked (Some period) None former = Some (longest former period)
-former_asked before after former = former
+abbrev pub former_asked : Option ℕ → Option ℕ → Option ℕ
+former_asked (Some period) former = Some (longest former period)
+former_asked None former = former
 
-abbrev pub with_former : Heartbeats → Option ℕ → Option ℕ → Heartbeats
-with_former heartbeats before after = record heartbeats { former = former_asked before after heartbeats.former }
+-- a frame comes with which what 1017:00 has is known again: the answer
+abbrev pub answered_at : Option ℕ → Option ℕ → Option ℕ → ℕ → Option ℕ
+answered_at None (Some period) answered micros = Some micros
+answered_at before after answered micros = answered
+
+-- `asked`: the period that may run, where the frame asks to write it
+abbrev pub with_former : Heartbeats → Option ℕ → Option ℕ → Option ℕ → ℕ → Heartbeats
+with_former heartbeats asked before after micros = record heartbeats {
+  former = former_asked asked heartbeats.former;
+  answered = answered_at before after heartbeats.answered micros;
+}
 
 -- it may still run: since the answer no more time has passed than until a heartbeat would be late by it
 abbrev pub runs_still : Limits → Option ℕ → Option ℕ → ℕ → Bool
-runs_still limits None since free = false
+runs_still limits None answered free = false
 runs_still limits (Some former) None free = false
-runs_still limits (Some former) (Some since) free = nat_le (free - since) (allowance limits former)
+runs_still limits (Some former) (Some answered) free = nat_le (free - answered) (allowance limits former)
+
+-- A heartbeat may be sent at a change of the state: it is the first that shows this one, or the one that a command
+-- leads to.
+abbrev pub may_be_of_change : Nmt → ℕ → Bool
+may_be_of_change nmt byte = not (same_state (state_of byte) nmt.state) || same_state (state_of byte) nmt.due
 
 -- After a heartbeat what 1017:00 has runs. One that comes within the tolerance after the answer may have been on its
--- way before the device took what was written.
-abbrev pub former_after : Limits → Option ℕ → Option ℕ → Option ℕ → ℕ → Option ℕ
-former_after limits None period since free = None
-former_after limits (Some former) None since free = Some former
-former_after limits (Some former) (Some period) None free = None
-former_after limits (Some former) (Some period) (Some since) free = if is_past since limits.tolerance free then None else Some former
+-- way before the device took what was written. After one that may be sent `aside`, at a change of the state or early by
+-- what 1017:00 has, the period that runs goes on.
+abbrev pub former_after : Limits → Bool → Option ℕ → Option ℕ → Option ℕ → ℕ → Option ℕ
+former_after limits aside None period answered free = None
+former_after limits aside (Some former) None answered free = Some former
+former_after limits aside (Some former) (Some period) None free = None
+former_after limits aside (Some former) (Some period) (Some answered) free =
+    if aside || not (is_past answered limits.tolerance free) then Some former else None
 
 -- ---- gaps
 
@@ -112,10 +155,10 @@ abbrev pub overdue_with : Limits → Option ℕ → Heartbeats → ℕ → ℕ �
 overdue_with limits None heartbeats free micros = None
 overdue_with limits (Some period) heartbeats free micros = overdue_since limits heartbeats.guarded period heartbeats.since free micros
 
--- nor while a period may still run that 1017:00 had before
+-- not while a period may still run that 1017:00 had before
 unfoldable pub overdue_by : Limits → Option ℕ → Heartbeats → ℕ → ℕ → Option (ℕ × ℕ)
 overdue_by limits period heartbeats free micros =
-    if runs_still limits heartbeats.former heartbeats.since free then None else overdue_with limits period heartbeats free micros
+    if runs_still limits heartbeats.former heartbeats.answered free then None else overdue_with limits period heartbeats free micros
 
 -- `heartbeat-late`: the device sends, and its next heartbeat is late
 unfoldable pub late_finding : Limits → Option ℕ → Heartbeats → ℕ → ℕ → Option Finding

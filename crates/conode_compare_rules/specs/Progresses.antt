@@ -39,9 +39,9 @@ use Rattle.conode_compare_values.specs.HeldNumbers.{is_kept, nothing_written, un
 use Rattle.conode_compare_rules.specs.EmergencyRules.{emergency_finding, is_stopped, length_finding}
 use Rattle.conode_compare_rules.specs.EntriesInForce.{asked_by, asked_to_write, ended_entries, overwritten, reset_entries, shares_id, with_sharing}
 use Rattle.conode_compare_rules.specs.OtherClients.{has_clients, is_channel, may_send}
-use Rattle.conode_compare_rules.specs.Heartbeats.{after_byte, after_transfer, early_remark, follows_closely, former_after, late_finding, no_heartbeat, is_gap, is_late_again, is_missing, overdue_by, slow_after, with_former, with_shown}
+use Rattle.conode_compare_rules.specs.Heartbeats.{after_byte, after_transfer, early_remark, follows_closely, former_after, late_finding, longest_period, may_be_of_change, no_heartbeat, is_gap, is_late_again, is_missing, overdue_with, period_asked_by, slow_after, with_former, with_shown}
 use Rattle.conode_compare_rules.specs.States as states
-use Rattle.conode_compare_rules.specs.States.{boot_finding, control_finding, has_followed, is_operational, is_reset, is_same_byte, is_same_length, is_settled, is_steady, judged_state, nothing_commanded, after_turn, odd_after, odd_finding, restart_remark, with_followed, with_left, with_odd}
+use Rattle.conode_compare_rules.specs.States.{at_begin, boot_finding, control_finding, has_followed, is_operational, is_reset, is_same_byte, is_same_length, is_settled, is_steady, judged_state, nothing_commanded, after_turn, odd_after, odd_finding, restart_remark, with_followed, with_left, with_odd}
 use Rattle.conode_compare_transfers.specs.Times.{is_past}
 use Rattle.conode_compare_rules.specs.Verdicts.{found, nothing_found}
 
@@ -102,7 +102,12 @@ client_since subject progress = progress.other_client || (progress.damaged && ha
 abbrev pub asked_since : Progress → ℕ → Option ℕ
 asked_since progress micros = if progress.damaged then Some micros else None
 
--- then nothing is known; where it was quiet, no request is
+-- It begins anew: a frame came before, whether its line, or a later one, is bad or not.
+abbrev pub anew_since : Progress → ℕ → Option ℕ
+anew_since progress micros = if is_some progress.newest || progress.damaged then Some micros else None
+
+-- then nothing is known, and a command that came before may be followed; where it was quiet, no request is
+-- known
 unfoldable pub begun : Subject → Progress → ℕ → Progress
 begun subject progress micros =
     if begins_anew subject.limits progress micros then record (before_recording subject) {
@@ -110,6 +115,7 @@ begun subject progress micros =
       started = micros;
       begins = true;
       free = micros;
+      nmt = at_begin (anew_since progress micros);
       dialogue = still_awaited progress.dialogue micros;
       other_client = client_since subject progress;
       asked_at = asked_since progress micros;
@@ -141,7 +147,7 @@ with_gap progress micros = record progress {
 
 -- an error frame: what came with it may be missing in the recording
 unfoldable pub after_fault : Progress → ℕ → Progress
-after_fault progress micros = record (with_gap progress micros) { nmt = nothing_commanded; started = micros; begins = true }
+after_fault progress micros = record (with_gap progress micros) { nmt = at_begin (Some micros); started = micros; begins = true }
 
 -- ---- commands and node guarding
 
@@ -184,12 +190,20 @@ booted_entries subject progress = if may_differ subject progress then subject.fa
 abbrev pub booted_pdos : Subject → Progress → Pdos
 booted_pdos subject progress = if may_differ subject progress then tpdos.unknown_pdos else subject.facts.pdos
 
+-- A client may have written 1017:00 since, so any period may run: also one of another SDO channel whose frames can't be
+-- told, where the sheet's period isn't known though nothing is stored and no master writes it.
+abbrev pub may_be_written : Subject → Progress → Bool
+may_be_written subject progress = may_differ subject progress || (subject.facts.as_sheet && not (is_some subject.facts.booted.period))
+
+abbrev pub booted_former : Subject → Progress → Option ℕ
+booted_former subject progress = if may_be_written subject progress then Some longest_period else None
+
 -- the entries have that, and the next heartbeat is awaited; no earlier request is answered any more,
 -- however long it took
 unfoldable pub booted : Subject → Progress → ℕ → Progress
 booted subject progress micros = record progress {
   nmt = states.after_control subject.limits progress.started progress.nmt progress.free micros 0;
-  heartbeats = record progress.heartbeats { since = Some micros; sent = Some progress.free; slow = None; former = None };
+  heartbeats = record progress.heartbeats { since = Some micros; sent = Some progress.free; slow = None; former = booted_former subject progress };
   entries = booted_entries subject progress;
   emergency = None;
   dialogue = record (interrupted progress.dialogue micros) { slow = nothing_left; sub_block = false };
@@ -209,11 +223,11 @@ is_known state = true
 abbrev pub settled_when_free : Subject → Progress → Bool
 settled_when_free subject progress = is_settled subject.limits progress.started progress.nmt.commanded progress.free
 
--- The next heartbeat was late when the bus was free last: the device may have been switched off and on. The
--- frames of its new life may come before its boot-up, which has the lowest priority.
+-- By what 1017:00 has the next heartbeat was late when the bus was free last, whichever period runs: the device may have
+-- been switched off and on. The frames of its new life may come before its boot-up, which has the lowest priority.
 abbrev pub is_overdue : Subject → Progress → Bool
 is_overdue subject progress =
-    is_some (overdue_by subject.limits progress.entries.period progress.heartbeats progress.free progress.free)
+    is_some (overdue_with subject.limits progress.entries.period progress.heartbeats progress.free progress.free)
 
 -- and since a heartbeat showed that it left operational or stopped, or entered stopped; and none is late
 abbrev pub steady_when_free : Subject → Progress → Bool
@@ -286,15 +300,19 @@ control_findings subject progress micros byte = heartbeat_findings subject progr
 abbrev pub slow_then : Subject → Progress → ℕ → Option ℕ
 slow_then subject progress micros = slow_after subject.limits progress.entries.period progress.heartbeats progress.free micros
 
-abbrev pub former_then : Subject → Progress → Option ℕ
-former_then subject progress = former_after subject.limits progress.heartbeats.former progress.entries.period progress.heartbeats.since progress.free
+abbrev pub comes_aside : Subject → Progress → ℕ → ℕ → Bool
+comes_aside subject progress micros byte = comes_early subject progress micros byte || may_be_of_change progress.nmt byte
+
+abbrev pub former_then : Subject → Progress → ℕ → ℕ → Option ℕ
+former_then subject progress micros byte =
+    former_after subject.limits (comes_aside subject progress micros byte) progress.heartbeats.former progress.entries.period progress.heartbeats.answered progress.free
 
 unfoldable pub after_control : Subject → Progress → ℕ → ℕ → Progress
 after_control subject progress micros byte = record progress {
   nmt = with_odd (odd_after (byte_finding subject progress micros byte) byte progress.nmt.odd)
       (after_turn subject progress.started progress.heartbeats.guarded (comes_early subject progress micros byte) progress.nmt progress.free byte
       (states.after_control subject.limits progress.started progress.nmt progress.free micros byte));
-  heartbeats = record (after_byte progress.heartbeats progress.free micros byte) { slow = slow_then subject progress micros; former = former_then subject progress };
+  heartbeats = record (after_byte progress.heartbeats progress.free micros byte) { slow = slow_then subject progress micros; former = former_then subject progress micros byte };
   pdos = if byte == 5 then progress.pdos else tpdos.commanded progress.pdos;
   dialogue = if is_some (silence_at subject progress micros byte) then given_up progress.dialogue micros else progress.dialogue;
   remark = early_remark subject.limits progress.entries.period progress.heartbeats micros byte;
@@ -461,7 +479,7 @@ channel_heard subject progress micros side frame =
     let entries = with_sharing (shares_id subject.node side frame) (asked_by side frame (entries_heard progress.entries shown next.asked)) in
     record progress {
       nmt = nmt_heard subject.limits progress.started progress.nmt micros side (exchange_at subject progress micros side frame);
-      heartbeats = with_former (after_transfer progress.heartbeats ended micros) progress.entries.period entries.period;
+      heartbeats = with_former (after_transfer progress.heartbeats ended micros) (period_asked_by side frame progress.entries.period) progress.entries.period entries.period micros;
       entries = entries;
       pdos = pdos_by side frame (pdos_heard beside shown next.asked micros) micros;
       dialogue = next;

@@ -13,7 +13,8 @@ use Rattle.conode_compare_rules.specs.declared.finding.NmtState.TheVariants.{Unk
 use Rattle.conode_compare_rules.specs.declared.limits.Limits.{Limits}
 use Rattle.conode_compare_rules.specs.declared.limits.Subject.{Subject}
 use Rattle.conode_compare_rules.specs.declared.nmt.Commanded.{Commanded}
-use Rattle.conode_compare_rules.specs.declared.leaving.Leaving.TheVariants.{Nothing}
+use Rattle.conode_compare_rules.specs.declared.leaving.Leaving.{Leaving}
+use Rattle.conode_compare_rules.specs.declared.leaving.Leaving.TheVariants.{Nothing, Awaited}
 use Rattle.conode_compare_rules.specs.declared.repeated.Odd.{Odd}
 use Rattle.conode_compare_rules.specs.declared.repeated.Odd.TheVariants.{Byte, Length}
 use Rattle.conode_compare_rules.specs.declared.nmt.Nmt.{Nmt}
@@ -34,6 +35,17 @@ nothing_commanded = record {
   mixed = false;
   odd = None;
   leaving = Nothing;
+}
+
+-- A recording begins: a device may follow a command that came before, out of stopped too, at any time. Where
+-- the recording begins anew with a frame at this time, that may have been a reset too, whose boot-up is still
+-- to come, also after that of another one.
+abbrev pub at_begin : Option ℕ → Nmt
+at_begin anew = record nothing_commanded {
+  reset = anew;
+  several = is_some anew;
+  due = Operational;
+  leaving = Awaited;
 }
 
 -- ---- commands
@@ -132,9 +144,24 @@ restart_remark nmt micros =
     if not (is_up nmt.state) || (nmt.several || is_some (second_boot_up nmt.booted micros)) then None else Some Restarted
 
 -- After a boot-up a device is pre-operational. Where another command than a reset came shortly
--- before, it may have taken it.
+-- before, it may have taken it, and others before that: it may be stopped still.
 abbrev pub boots_known : Limits → Option Commanded → ℕ → Bool
 boots_known limits commanded micros = option_map_or (λ c. is_reset c.service || is_past c.micros limits.boot micros) commanded true
+
+-- Shortly before it the recording began anew, and no command came since: one of before, which is forgotten or
+-- missing, may be followed still.
+abbrev pub boots_after_loss : Limits → Nmt → ℕ → Bool
+boots_after_loss limits nmt micros =
+    not (is_some nmt.commanded) && option_map_or (λ anew. not (is_past anew limits.boot micros)) nmt.reset false
+
+abbrev pub due_booted : Limits → Nmt → ℕ → NmtState
+due_booted limits nmt micros =
+    if boots_after_loss limits nmt micros then Operational
+    else (if boots_known limits nmt.commanded micros then Unknown else nmt.due)
+
+abbrev pub leaving_booted : Limits → Nmt → ℕ → Leaving
+leaving_booted limits nmt micros =
+    if boots_known limits nmt.commanded micros && not (boots_after_loss limits nmt micros) then Nothing else Awaited
 
 unfoldable pub after_boot_up : Limits → Nmt → ℕ → Nmt
 after_boot_up limits nmt micros = record {
@@ -143,13 +170,13 @@ after_boot_up limits nmt micros = record {
   reset = nmt.reset;
   several = nmt.several;
   booted = if nmt.several then None else Some micros;
-  due = if boots_known limits nmt.commanded micros then Unknown else nmt.due;
+  due = due_booted limits nmt micros;
   followed = None;
   changed = None;
   strayed = Unknown;
   mixed = false;
   odd = None;
-  leaving = Nothing;
+  leaving = leaving_booted limits nmt micros;
 }
 
 -- more than one boot-up may still come: the newest reset isn't so old that its boot-up would be
@@ -250,6 +277,17 @@ with_back back micros nmt = record nmt {
   followed = if back then None else nmt.followed;
   changed = if back then Some micros else nmt.changed;
 }
+
+-- ---- what came before the recording
+
+-- No command came since the recording began, and a device has followed each that came before by now: it takes
+-- no longer than from a reset to the boot-up.
+abbrev pub is_over : Limits → ℕ → Option Commanded → ℕ → Bool
+is_over limits started commanded free = not (is_some commanded) && is_past started limits.boot free
+
+-- then nothing is due any more
+abbrev pub with_over : Bool → Nmt → Nmt
+with_over over nmt = record nmt { due = if over then Unknown else nmt.due }
 
 -- ---- heartbeats
 
@@ -363,9 +401,15 @@ abbrev pub shows_back : Limits → ℕ → Nmt → ℕ → ℕ → Bool
 shows_back limits started nmt free byte =
     shows_state limits started nmt free byte && is_back limits nmt free (state_of byte)
 
+-- a heartbeat shows the state once that is over
+abbrev pub shows_over : Limits → ℕ → Nmt → ℕ → ℕ → Bool
+shows_over limits started nmt free byte =
+    shows_state limits started nmt free byte && is_over limits started nmt.commanded free
+
 unfoldable pub after_control : Limits → ℕ → Nmt → ℕ → ℕ → ℕ → Nmt
 after_control limits started nmt free micros byte =
     if byte == 0 then after_boot_up limits nmt micros
-    else with_back (shows_back limits started nmt free byte) micros
+    else with_over (shows_over limits started nmt free byte)
+    (with_back (shows_back limits started nmt free byte) micros
     (if shows_state limits started nmt free byte then with_state (after_other limits nmt micros) (state_of byte) micros
-    else after_other limits nmt micros)
+    else after_other limits nmt micros))

@@ -1,18 +1,53 @@
 //! A period of heartbeats that may still run once 1017:00 has another: CiA 301 doesn't say when a
-//! change takes effect.
+//! change takes effect. Where the old one isn't known, it may be any.
 
 ghost use Rattle.std.specs.Prelude.{◌≡◌};
 ghost use Rattle.conode_compare_rules.specs.Heartbeats.{
+  answered_at,
   former_after,
   former_asked,
   longest,
+  may_be_of_change,
+  period_asked,
+  period_asked_by,
   runs_still,
   with_former,
 };
 
-use crate::heartbeats::{Heartbeats, allowance};
+use crate::clients::is_channel;
+use crate::heartbeats::{Heartbeats, LONGEST_PERIOD, allowance};
 use crate::limits::Limits;
-use conode_compare_transfers::is_past;
+use crate::nmt::{Nmt, same_state, state_of};
+use co_frame::Frame;
+use co_profile::keys::PRODUCER_HEARTBEAT;
+use co_value::Key;
+use conode_compare_transfers::{asks_to_write, is_past, key_in};
+use conode_explain_transfers::Side;
+
+// the longest period that may run, where a client asks to write this entry: what 1017:00 has, or
+// any, where that isn't known, or the client of another SDO channel may write it then
+fn period_asked(key: Key, period: Option<u16>) -> Option<u16>
+    ensures { result ≡ period_asked key period }
+{
+    if is_channel(key) {
+        Some(LONGEST_PERIOD)
+    } else if key == PRODUCER_HEARTBEAT {
+        Some(period.unwrap_or(LONGEST_PERIOD))
+    } else {
+        None
+    }
+}
+
+/// The longest period that may run, where a frame asks to write 1017:00, or to let another client
+/// write it; `period`: what that has, where it is known.
+pub(crate) fn period_asked_by(side: Side, frame: &Frame, period: Option<u16>) -> Option<u16>
+    ensures { result ≡ period_asked_by side frame.now period }
+{
+    match side {
+        Side::Client if asks_to_write(frame) => period_asked(key_in(frame), period),
+        _ => None,
+    }
+}
 
 // the longest of the periods that may run
 fn longest(former: Option<u16>, period: u16) -> u16
@@ -24,21 +59,54 @@ fn longest(former: Option<u16>, period: u16) -> u16
     }
 }
 
-// the longest period that may run, where 1017:00 had one before a frame, and another one after it
-fn former_asked(before: Option<u16>, after: Option<u16>, former: Option<u16>) -> Option<u16>
-    ensures { result ≡ former_asked before after former }
+// the longest period that may run, where that which ran is asked to be replaced
+fn former_asked(asked: Option<u16>, former: Option<u16>) -> Option<u16>
+    ensures { result ≡ former_asked asked former }
+{
+    match asked {
+        Some(period) => Some(longest(former, period)),
+        None => former,
+    }
+}
+
+// when the answer came since which what 1017:00 has is known again
+fn answered_at(
+    before: Option<u16>,
+    after: Option<u16>,
+    answered: Option<u64>,
+    micros: u64,
+) -> Option<u64>
+    ensures { result ≡ answered_at before after answered micros }
 {
     match (before, after) {
-        (Some(period), None) => Some(longest(former, period)),
-        _ => former,
+        (None, Some(_)) => Some(micros),
+        _ => answered,
+    }
+}
+
+impl Nmt {
+    /// Whether a heartbeat may be sent at a change of the state: it is the first that shows this one, or
+    /// the one that a command leads to.
+    pub(crate) fn may_be_of_change(&self, byte: u8) -> bool
+        ensures { result ≡ may_be_of_change self.now byte }
+    {
+        let shown = state_of(byte);
+        !same_state(shown, self.state) || same_state(shown, self.due)
     }
 }
 
 impl Heartbeats {
     /// A frame of the SDO channel came, and what is known of 1017:00 before it and after it: where
-    /// it is asked to be written, its period may still run.
-    pub(crate) fn with_former(self, before: Option<u16>, after: Option<u16>) -> Heartbeats
-        ensures { result ≡ with_former self before after }
+    /// that is known again, it is the answer. `asked`: the longest period that may run, where it asks
+    /// to write that.
+    pub(crate) fn with_former(
+        self,
+        asked: Option<u16>,
+        before: Option<u16>,
+        after: Option<u16>,
+        micros: u64,
+    ) -> Heartbeats
+        ensures { result ≡ with_former self asked before after micros }
     {
         Heartbeats {
             guarded: self.guarded,
@@ -46,34 +114,40 @@ impl Heartbeats {
             sent: self.sent,
             shown: self.shown,
             slow: self.slow,
-            former: former_asked(before, after, self.former),
+            former: former_asked(asked, self.former),
+            answered: answered_at(before, after, self.answered, micros),
         }
     }
 
     /// Whether a period that ran when 1017:00 was written may still run.
     pub(crate) fn runs_still(&self, limits: &Limits, free: u64) -> bool
-        ensures { result ≡ runs_still limits.now self.now.former self.now.since free }
+        ensures { result ≡ runs_still limits.now self.now.former self.now.answered free }
     {
-        match (self.since, self.former) {
-            (Some(since), Some(former)) => {
-                free.saturating_sub(since) <= allowance(limits, former)
+        match (self.answered, self.former) {
+            (Some(answered), Some(former)) => {
+                free.saturating_sub(answered) <= allowance(limits, former)
             }
             _ => false,
         }
     }
 
     /// Which such period may still run after a heartbeat, by what 1017:00 has: none. One that comes
-    /// within the tolerance after the answer may have been on its way before the write.
+    /// within the tolerance after the answer may have been on its way before the write, and after one
+    /// that may be sent `aside`, early or at a change of the state, the period goes on.
     pub(crate) fn former_after(
         &self,
         limits: &Limits,
+        aside: bool,
         period: Option<u16>,
         free: u64,
     ) -> Option<u16>
-        ensures { result ≡ former_after limits.now self.now.former period self.now.since free }
+        ensures { result
+            ≡ former_after limits.now aside self.now.former period self.now.answered free }
     {
-        match (period, self.since) {
-            (Some(_), Some(since)) if !is_past(since, limits.tolerance, free) => self.former,
+        match (period, self.answered) {
+            (Some(_), Some(answered)) if aside || !is_past(answered, limits.tolerance, free) => {
+                self.former
+            }
             (Some(_), _) => None,
             (None, _) => self.former,
         }

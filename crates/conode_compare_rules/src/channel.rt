@@ -31,6 +31,7 @@ ghost use Rattle.conode_compare_rules.specs.Progresses.{
 };
 
 use crate::answers::{answer_finding, confirmed_finding, held_finding, stopped_finding};
+use crate::changed_period::period_asked_by;
 use crate::clients::is_channel;
 use crate::entries::{Entries, shares_id};
 use crate::finding::Finding;
@@ -205,7 +206,8 @@ impl Progress {
         let entries = entries.with_sharing(shares);
         self.entries = entries;
         let heartbeats = self.heartbeats.heard(&exchange.heard.ended, micros);
-        self.heartbeats = heartbeats.with_former(period, entries.period);
+        let longest = period_asked_by(side, frame, period);
+        self.heartbeats = heartbeats.with_former(longest, period, entries.period, micros);
         leave_pdos(&mut self.pdos, unknown, &exchange.heard.ended);
         hear_pdos(
             &mut self.pdos,

@@ -11,6 +11,7 @@ ghost use Rattle.conode_compare_rules.specs.EmergencyRules.{
   length_finding,
   least_gap,
   may_wait,
+  was_in_force,
 };
 
 use crate::entries::Entries;
@@ -26,19 +27,12 @@ fn has_register(code: u16, register: u8) -> bool
     register % 2 == 1 || (register == 0 && code < 0x100)
 }
 
-// whether an EMCY may have waited for the inhibit time: it isn't known to be 0
-fn may_wait(inhibit: Option<u16>) -> bool
-    ensures { result ≡ may_wait inhibit }
-{
-    !matches!(inhibit, Some(0))
-}
-
 // whether the error register of an EMCY is right: one that waited has that of the moment at which
 // it is sent
-fn fits_register(inhibit: Option<u16>, code: u16, register: u8) -> bool
-    ensures { result ≡ fits_register inhibit code register }
+fn fits_register(waits: bool, code: u16, register: u8) -> bool
+    ensures { result ≡ fits_register waits code register }
 {
-    has_register(code, register) || (register == 0 && may_wait(inhibit))
+    has_register(code, register) || (register == 0 && waits)
 }
 
 // how many microseconds two EMCY are apart at least
@@ -67,6 +61,27 @@ fn is_in_force(limits: &Limits, shown: Option<u64>, last: u64) -> bool
     match shown {
         Some(shown) => is_past(shown, limits.tolerance, last),
         None => true,
+    }
+}
+
+// whether it was when the last EMCY came; where none is known, unless a transfer showed it
+fn was_in_force(limits: &Limits, shown: Option<u64>, last: Option<u64>) -> bool
+    ensures { result ≡ was_in_force limits.now shown last }
+{
+    match last {
+        Some(last) => is_in_force(limits, shown, last),
+        None => shown.is_none(),
+    }
+}
+
+// whether an EMCY may have waited for the inhibit time: it isn't known to be 0, or wasn't when the
+// last one came
+fn may_wait(limits: &Limits, entries: &Entries, last: Option<u64>) -> bool
+    ensures { result ≡ may_wait limits.now entries.now last }
+{
+    match entries.inhibit {
+        Some(0) => !was_in_force(limits, entries.inhibit_shown, last),
+        _ => true,
     }
 }
 
@@ -111,7 +126,7 @@ pub(crate) fn emergency_finding(
     if settled && matches!(state, NmtState::Stopped) {
         return Some(Finding::EmergencyStopped);
     }
-    if !fits_register(entries.inhibit, code, register) {
+    if !fits_register(may_wait(limits, entries, last), code, register) {
         return Some(Finding::EmergencyRegister(code, register));
     }
     inhibit_finding(limits, entries, last, micros)

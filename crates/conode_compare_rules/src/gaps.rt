@@ -3,6 +3,7 @@
 ghost use Rattle.std.specs.Prelude.{◌≡◌};
 ghost use Rattle.conode_compare_rules.specs.Progresses.{
   after_fault,
+  anew_since,
   asked_since,
   begins_anew,
   begun,
@@ -67,6 +68,17 @@ impl Progress {
         if self.damaged { Some(micros) } else { None }
     }
 
+    // When the recording begins anew, if a frame came before.
+    fn anew_since(&self, micros: u64) -> Option<u64>
+        ensures { result ≡ anew_since self.now micros }
+    {
+        if self.newest.is_some() || self.damaged {
+            Some(micros)
+        } else {
+            None
+        }
+    }
+
     /// A line of the recording is bad: what it had is unknown, so with the next frame the recording
     /// begins anew.
     pub fn note_bad_line(&mut self)
@@ -78,7 +90,8 @@ impl Progress {
 
     /// A frame comes. Where the recording begins anew, nothing is known, but that an answer which
     /// may take long is awaited, and that a sub-block may be open; where it was quiet, no request is
-    /// known. After a bad line a client may have asked to write until now.
+    /// known. After a bad line a client may have asked to write until now. A command that came before
+    /// may still be followed.
     #[tactic(auto, unfolding(crate::specs::Progresses::begun))]
     pub(crate) fn begin(&mut self, subject: &Subject, micros: u64)
         ensures { self.new ≡ begun subject.now self.old micros }
@@ -89,7 +102,9 @@ impl Progress {
             let sub_block = self.dialogue.sub_block;
             let other_client = self.client_since(subject);
             let asked_at = self.asked_since(micros);
+            let anew = self.anew_since(micros);
             *self = Progress::new(subject);
+            self.nmt = Nmt::at_begin(anew);
             self.started = micros;
             self.asked_at = asked_at;
             self.begins = true;
@@ -131,7 +146,7 @@ impl Progress {
         ensures { self.new ≡ after_fault self.old micros }
     {
         self.break_off(micros);
-        self.nmt = Nmt::new();
+        self.nmt = Nmt::at_begin(Some(micros));
         self.started = micros;
         self.begins = true;
     }

@@ -9,6 +9,7 @@ ghost use Rattle.conode_compare_rules.specs.Heartbeats.{
   late_finding,
   no_heartbeat,
   overdue_by,
+  overdue_with,
   comes_late,
   is_as_slow,
   is_gap,
@@ -33,6 +34,9 @@ use crate::nmt::is_guarded_state;
 use conode_compare_transfers::{is_past, micros_of};
 use conode_explain_transfers::{Direction, Ended};
 
+/// The longest period, in ms: 1017:00 has 16 bits.
+pub(crate) const LONGEST_PERIOD: u16 = 65535;
+
 /// What a recording shows of a device's heartbeats.
 #[derive(Clone, Copy)]
 pub(crate) struct Heartbeats {
@@ -49,8 +53,11 @@ pub(crate) struct Heartbeats {
     /// The longest time that one of the newest heartbeats took, which all came late; where the
     /// newest one did.
     pub(crate) slow: Option<u64>,
-    /// The longest period that may still run, though 1017:00 was written since.
+    /// The longest period that may still run, though 1017:00 was written since; or may have been,
+    /// before the recording.
     pub(crate) former: Option<u16>,
+    /// When the answer came since which what 1017:00 has is known again.
+    pub(crate) answered: Option<u64>,
 }
 
 /// After how many microseconds a heartbeat is late.
@@ -112,7 +119,7 @@ fn longer(slow: Option<u64>, taken: Option<u64>) -> Option<u64>
 }
 
 impl Heartbeats {
-    /// No heartbeat came.
+    /// No heartbeat came, and what was written to 1017:00 before isn't known.
     pub(crate) fn new() -> Heartbeats
         ensures { result ≡ no_heartbeat }
     {
@@ -122,7 +129,8 @@ impl Heartbeats {
             sent: None,
             shown: None,
             slow: None,
-            former: None,
+            former: Some(LONGEST_PERIOD),
+            answered: None,
         }
     }
 
@@ -137,6 +145,7 @@ impl Heartbeats {
             shown: self.shown,
             slow: self.slow,
             former: self.former,
+            answered: self.answered,
         }
     }
 
@@ -156,6 +165,7 @@ impl Heartbeats {
                 shown: self.shown,
                 slow: None,
                 former: self.former,
+                answered: self.answered,
             },
             _ => self,
         }
@@ -185,9 +195,28 @@ impl Heartbeats {
         Some(Remark::EarlyHeartbeat(passed, period))
     }
 
-    /// How late the next heartbeat is, where it is, and the period.
+    /// How long the next heartbeat is awaited, where that is too long by what 1017:00 has, and that.
+    pub(crate) fn overdue_with(
+        &self,
+        limits: &Limits,
+        entries: &Entries,
+        free: u64,
+        micros: u64,
+    ) -> Option<(u64, u16)>
+        ensures { result ≡ overdue_with limits.now entries.now.period self.now free micros }
+    {
+        let period = entries.period?;
+        let since = self.since?;
+        let waited = free.saturating_sub(since);
+        if self.guarded || period == 0 || waited <= allowance(limits, period) {
+            return None;
+        }
+        Some((micros.saturating_sub(since), period))
+    }
+
+    // how long it is awaited, where it is late by each period that may run
     #[tactic(auto, unfolding(crate::specs::Heartbeats::overdue_by))]
-    pub(crate) fn overdue_by(
+    fn overdue_by(
         &self,
         limits: &Limits,
         entries: &Entries,
@@ -197,15 +226,10 @@ impl Heartbeats {
         ensures { result ≡ overdue_by limits.now entries.now.period self.now free micros }
     {
         if self.runs_still(limits, free) {
-            return None;
+            None
+        } else {
+            self.overdue_with(limits, entries, free, micros)
         }
-        let period = entries.period?;
-        let since = self.since?;
-        let waited = free.saturating_sub(since);
-        if self.guarded || period == 0 || waited <= allowance(limits, period) {
-            return None;
-        }
-        Some((micros.saturating_sub(since), period))
     }
 
     // whether an EMCY or a TPDO showed that the device sends while the next heartbeat is late

@@ -6,14 +6,18 @@ ghost use Rattle.conode_compare_rules.specs.States.{
   after_command,
   after_control,
   after_other,
+  at_begin,
   awaits_boot_up,
   boot_finding,
+  boots_after_loss,
   boots_known,
   control_finding,
+  due_booted,
   either_state,
   freer,
   goes_to,
   is_guarded_state,
+  is_over,
   is_reset,
   is_settled,
   is_state,
@@ -22,6 +26,7 @@ ghost use Rattle.conode_compare_rules.specs.States.{
   is_up,
   is_wrong,
   judged_state,
+  leaving_booted,
   same_state,
   state_after,
   state_commanded,
@@ -58,16 +63,17 @@ pub(crate) struct Nmt {
     pub(crate) state: NmtState,
     /// The newest command.
     pub(crate) commanded: Option<Commanded>,
-    /// The stamp of the newest reset command.
+    /// The stamp of the newest reset command, or of the frame with which the recording began anew:
+    /// one may have come before that.
     pub(crate) reset: Option<u64>,
     /// Whether more than one boot-up may come, since a reset was commanded before the boot-up of
-    /// another one.
+    /// another one, or may have been.
     pub(crate) several: bool,
     /// The stamp of its newest boot-up, where no heartbeat, answer or EMCY came since, no reset was
     /// commanded, and no other boot-up may come.
     pub(crate) booted: Option<u64>,
     /// The state that the newest command leads to, until a heartbeat shows it: the device may reach
-    /// it at any time.
+    /// it at any time. Where a command may have come before the recording, operational: so each.
     pub(crate) due: NmtState,
     /// The stamp of the first frame after a heartbeat that only the state that is due allows, and
     /// not the one that the heartbeat showed: the device has followed the command.
@@ -254,6 +260,27 @@ impl Nmt {
         }
     }
 
+    /// A recording begins; `anew`: the stamp of the frame with which it begins anew. A device may
+    /// follow a command that came before.
+    pub(crate) fn at_begin(anew: Option<u64>) -> Nmt
+        ensures { result ≡ at_begin anew }
+    {
+        Nmt {
+            state: NmtState::Unknown,
+            commanded: None,
+            reset: anew,
+            several: anew.is_some(),
+            booted: None,
+            due: NmtState::Operational,
+            followed: None,
+            changed: None,
+            strayed: NmtState::Unknown,
+            mixed: false,
+            odd: None,
+            leaving: Leaving::Awaited,
+        }
+    }
+
     /// The state by which frames are judged: CiA 301 sets no time for a transition, so before and
     /// after that which the newest command leads to either state is right.
     pub(crate) fn judged_state(&self) -> NmtState
@@ -400,6 +427,41 @@ impl Nmt {
         }
     }
 
+    // whether the recording began anew shortly before a boot-up, and no command came since
+    fn boots_after_loss(&self, limits: &Limits, micros: u64) -> bool
+        ensures { result ≡ boots_after_loss limits.now self.now micros }
+    {
+        match (self.commanded, self.reset) {
+            (None, Some(anew)) => !is_past(anew, limits.boot, micros),
+            _ => false,
+        }
+    }
+
+    // the state that may be due after a boot-up
+    fn due_booted(&self, limits: &Limits, micros: u64) -> NmtState
+        ensures { result ≡ due_booted limits.now self.now micros }
+    {
+        if self.boots_after_loss(limits, micros) {
+            return NmtState::Operational;
+        }
+        if self.boots_known(limits, micros) {
+            NmtState::Unknown
+        } else {
+            self.due
+        }
+    }
+
+    // whether it may be stopped after a boot-up
+    fn leaving_booted(&self, limits: &Limits, micros: u64) -> Leaving
+        ensures { result ≡ leaving_booted limits.now self.now micros }
+    {
+        if self.boots_known(limits, micros) && !self.boots_after_loss(limits, micros) {
+            Leaving::Nothing
+        } else {
+            Leaving::Awaited
+        }
+    }
+
     /// A command came; `own`: the device may have sent it itself, as the NMT master, and needn't
     /// follow it.
     #[tactic(auto, unfolding(crate::specs::States::after_command))]
@@ -431,9 +493,8 @@ impl Nmt {
     fn after_boot_up(self, limits: &Limits, micros: u64) -> Nmt
         ensures { result ≡ after_boot_up limits.now self micros }
     {
-        let known = self.boots_known(limits, micros);
         Nmt {
-            state: if known {
+            state: if self.boots_known(limits, micros) {
                 NmtState::PreOperational
             } else {
                 NmtState::Unknown
@@ -442,13 +503,13 @@ impl Nmt {
             reset: self.reset,
             several: self.several,
             booted: if self.several { None } else { Some(micros) },
-            due: if known { NmtState::Unknown } else { self.due },
+            due: self.due_booted(limits, micros),
             followed: None,
             changed: None,
             strayed: NmtState::Unknown,
             mixed: false,
             odd: None,
-            leaving: Leaving::Nothing,
+            leaving: self.leaving_booted(limits, micros),
         }
     }
 
@@ -521,6 +582,13 @@ impl Nmt {
         }
     }
 
+    // whether a device has followed by now each command that came before the recording
+    fn is_over(&self, limits: &Limits, started: u64, free: u64) -> bool
+        ensures { result ≡ is_over limits.now started self.now.commanded free }
+    {
+        self.commanded.is_none() && is_past(started, limits.boot, free)
+    }
+
     // whether a heartbeat shows the state: it was settled when the bus was free last, no boot-up is
     // awaited, and not two devices send
     fn shows_state(&self, limits: &Limits, started: u64, free: u64, byte: u8) -> bool
@@ -555,6 +623,9 @@ impl Nmt {
         let mut next = next.with_state(shown, micros);
         if self.is_back(limits, free, shown) {
             next.leave_due(micros);
+        }
+        if self.is_over(limits, started, free) {
+            next.due = NmtState::Unknown;
         }
         next
     }

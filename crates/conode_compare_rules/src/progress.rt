@@ -13,6 +13,7 @@ ghost use Rattle.conode_compare_rules.specs.Progresses.{
   boot_findings,
   booted,
   booted_entries,
+  booted_former,
   booted_pdos,
   byte_finding,
   comes_early,
@@ -31,6 +32,7 @@ ghost use Rattle.conode_compare_rules.specs.Progresses.{
   late_alone,
   late_at,
   late_by,
+  may_be_written,
   may_differ,
   odd_control_findings,
   odd_emergency_findings,
@@ -44,7 +46,7 @@ use crate::answers::silence_finding;
 use crate::emergencies::{emergency_finding, length_finding};
 use crate::entries::Entries;
 use crate::finding::{Finding, NmtState, Remark};
-use crate::heartbeats::Heartbeats;
+use crate::heartbeats::{Heartbeats, LONGEST_PERIOD};
 use crate::kind::FrameKind;
 use crate::limits::Subject;
 use crate::nmt::{Nmt, is_reset};
@@ -173,6 +175,26 @@ impl Progress {
         }
     }
 
+    // whether a client may have written 1017:00 since the boot-up: also one of another SDO channel
+    // whose frames can't be told
+    fn may_be_written(&self, subject: &Subject) -> bool
+        ensures { result ≡ may_be_written subject.now self.now }
+    {
+        let facts = &subject.facts;
+        self.may_differ(subject) || facts.as_sheet && facts.booted.period.is_none()
+    }
+
+    // the longest period that may run after a boot-up, beside what 1017:00 has
+    fn booted_former(&self, subject: &Subject) -> Option<u16>
+        ensures { result ≡ booted_former subject.now self.now }
+    {
+        if self.may_be_written(subject) {
+            Some(LONGEST_PERIOD)
+        } else {
+            None
+        }
+    }
+
     // a boot-up
     #[tactic(auto, unfolding(crate::specs::Progresses::booted, crate::specs::Progresses::with_gap))]
     fn take_boot_up(&mut self, subject: &Subject, micros: u64) -> Findings
@@ -200,17 +222,17 @@ impl Progress {
         self.pdos = self.booted_pdos(subject);
         self.heartbeats.since = Some(micros);
         self.heartbeats.sent = Some(self.free);
-        self.heartbeats.former = None;
+        self.heartbeats.former = self.booted_former(subject);
         Findings::of(None, None, None, frame, true)
     }
 
-    /// Whether the next heartbeat was late when the bus was free last: the device may have been
-    /// switched off and on since.
+    /// Whether the next heartbeat was late when the bus was free last, by what 1017:00 has: the
+    /// device may have been switched off and on since.
     pub(crate) fn is_overdue(&self, subject: &Subject) -> bool
         ensures { result ≡ is_overdue subject.now self.now }
     {
         self.heartbeats
-            .overdue_by(&subject.limits, &self.entries, self.free, self.free)
+            .overdue_with(&subject.limits, &self.entries, self.free, self.free)
             .is_some()
     }
 
@@ -377,9 +399,10 @@ impl Progress {
         let slow = self
             .heartbeats
             .slow_after(limits, &self.entries, self.free, micros);
+        let aside = early || self.nmt.may_be_of_change(byte);
         let former = self
             .heartbeats
-            .former_after(limits, self.entries.period, self.free);
+            .former_after(limits, aside, self.entries.period, self.free);
         self.remark = self
             .heartbeats
             .early_remark(limits, &self.entries, micros, byte);
