@@ -134,17 +134,25 @@ PERIODS = {"io-module.eds": 0, "temperature-sensor.eds": 1000, "temperature-sens
 
 
 def beats(sheet, node, frames, frame):
-    """Since when a heartbeat is awaited, with which period, where that is known, and the next frame of error control."""
-    since, period = None, PERIODS[sheet]
+    """Since when a heartbeat is awaited, with which period, where that is known; until when the one before a write may run; and the next
+    frame of error control."""
+    since, period, until, ended = None, PERIODS[sheet], 0, 0
     for each in frames[: frames.index(frame)]:
         shown = each.id == 0x580 + node and each.data[:4] == bytes.fromhex("4B171000")
         written = each.id == 0x600 + node and each.data[:4] == bytes.fromhex("2B171000")
         if each.id == 0x700 + node:
-            since, period = each.micros, PERIODS[sheet] if each.data == b"\0" else period
+            # the first one after a write may be sent at a change of the state
+            since, ended = each.micros, ended + 1
+            if each.data == b"\0":
+                period, until = PERIODS[sheet], 0
+            elif ended > 1:
+                until = 0
         elif shown or written:
+            if written:
+                until, ended = max(until, each.micros + (65535 if period is None else period) * 1010 + 20_000), 0
             since, period = each.micros, int.from_bytes(each.data[4:6], "little")
     later = [each for each in frames[frames.index(frame) + 1 :] if each.id == 0x700 + node]
-    return since, period, later[0] if later else None
+    return since, period, until, later[0] if later else None
 
 
 def untold_control(how, what, sheet, node, frames, frame, new):
@@ -154,10 +162,10 @@ def untold_control(how, what, sheet, node, frames, frame, new):
         return "a heartbeat comes twice"
     if what == "length":
         return None
-    since, period, after = beats(sheet, node, frames, frame)
+    since, period, until, after = beats(sheet, node, frames, frame)
     # after a boot-up the time counts anew
     first = min([each for each in (after, new if how == "delayed" else None) if each], key=lambda each: each.micros, default=None)
-    is_late = period and since and first and first.data != b"\0" and first.micros - since > period * 1010 + 10_000
+    is_late = period and since and first and first.data != b"\0" and first.micros > max(since + period * 1010 + 10_000, until)
     return None if is_late else "no heartbeat is due, or the next one isn't late"
 
 
