@@ -11,7 +11,7 @@ use Rattle.conode_compare_pdos.specs.Followed.{unknown_pdos}
 use Rattle.conode_compare_values.specs.HeldNumbers.{held_mismatch}
 use Rattle.conode_compare_values.specs.SheetValues.{mismatch_at}
 use Rattle.conode_compare_transfers.specs.Breaches.{breach_at}
-use Rattle.conode_compare_transfers.specs.Dialogues.{dialogue_heard, exchange_in, is_certain}
+use Rattle.conode_compare_transfers.specs.Dialogues.{dialogue_heard, exchange_in, is_certain, exchange_of, dialogue_with}
 use Rattle.conode_compare_transfers.specs.NewestFrames.{newest_after, newest_with}
 use Rattle.conode_compare_rules.specs.declared.entries.Entries.{Entries}
 use Rattle.conode_compare_rules.specs.declared.finding.Finding.{Finding}
@@ -77,7 +77,7 @@ sooner_heard = refl
 
 before_timeout : timeouts_found sooner ≡ Transfer (Early (record { index = 0x2001; sub = 0 }) 1100 2) ∷ []
 unfolding findings_at progress_with begun booted found states.after_control after_boot_up after_other awaits_boot_up is_settled progresses.after_control control_findings heartbeat_findings silence_finding channel_heard exchange_at exchange_noted late_noted
-    request_findings confirmed_finding answer_findings answer_finding stopped_finding held_finding what_finding held_mismatch dialogue_heard exchange_in is_certain newest_with newest_after breach_at shown_period shown_inhibit asked_to_write mismatch_at request_row_in response_row_in overdue_by late_finding is_missing
+    request_findings confirmed_finding answer_findings answer_finding stopped_finding held_finding what_finding held_mismatch dialogue_heard dialogue_with exchange_in exchange_of is_certain newest_with newest_after breach_at shown_period shown_inhibit asked_to_write mismatch_at request_row_in response_row_in overdue_by late_finding is_missing
 before_timeout = refl
 
 -- ---- as before, but the request comes with a tick: the device aborts the transfer after its 2 ms
@@ -108,7 +108,7 @@ found_by time recorded = differences_in timeout_differences (record subject { li
 other_times : map (λ time. found_by time after_timeout) (2 ∷ 1 ∷ 0 ∷ 3 ∷ [])
     ≡ [] ∷ [] ∷ (Transfer (Early (record { index = 0x2001; sub = 0 }) 2000 0) ∷ []) ∷ (Transfer (Early (record { index = 0x2001; sub = 0 }) 2000 3) ∷ []) ∷ []
 unfolding findings_at progress_with begun booted found states.after_control after_boot_up after_other awaits_boot_up is_settled progresses.after_control control_findings heartbeat_findings silence_finding channel_heard exchange_at exchange_noted late_noted
-    request_findings confirmed_finding answer_findings answer_finding stopped_finding held_finding what_finding held_mismatch dialogue_heard exchange_in is_certain newest_with newest_after breach_at shown_period shown_inhibit asked_to_write mismatch_at request_row_in response_row_in overdue_by late_finding is_missing
+    request_findings confirmed_finding answer_findings answer_finding stopped_finding held_finding what_finding held_mismatch dialogue_heard dialogue_with exchange_in exchange_of is_certain newest_with newest_after breach_at shown_period shown_inhibit asked_to_write mismatch_at request_row_in response_row_in overdue_by late_finding is_missing
 other_times = refl
 
 -- ---- another device aborts it
@@ -123,7 +123,7 @@ foreign_abort = with_stamp 0 (frame 0x705 1 0)
 
 other_abort : timeouts_found foreign_abort ≡ Transfer (Early (record { index = 0x2001; sub = 0 }) 500 2) ∷ []
 unfolding findings_at progress_with begun booted found states.after_control after_boot_up after_other awaits_boot_up is_settled progresses.after_control control_findings heartbeat_findings silence_finding channel_heard exchange_at exchange_noted late_noted
-    request_findings confirmed_finding answer_findings answer_finding stopped_finding held_finding what_finding held_mismatch dialogue_heard exchange_in is_certain newest_with newest_after breach_at shown_period shown_inhibit asked_to_write mismatch_at request_row_in response_row_in overdue_by late_finding is_missing
+    request_findings confirmed_finding answer_findings answer_finding stopped_finding held_finding what_finding held_mismatch dialogue_heard dialogue_with exchange_in exchange_of is_certain newest_with newest_after breach_at shown_period shown_inhibit asked_to_write mismatch_at request_row_in response_row_in overdue_by late_finding is_missing
 other_abort = refl
 
 -- ---- the second segment of a block upload of 2100:00, which is the last: its bytes are those of such an abort, but for the number 2
@@ -140,5 +140,5 @@ uploaded = with_stamp 0 (frame 0x705 1 0)
 
 looks_like_abort : timeouts_found uploaded ≡ []
 unfolding findings_at progress_with begun booted found states.after_control after_boot_up after_other awaits_boot_up is_settled progresses.after_control control_findings heartbeat_findings silence_finding channel_heard exchange_at exchange_noted late_noted
-    request_findings confirmed_finding answer_findings answer_finding stopped_finding held_finding what_finding held_mismatch dialogue_heard exchange_in is_certain newest_with newest_after breach_at shown_period shown_inhibit asked_to_write mismatch_at request_row_in response_row_in overdue_by late_finding is_missing
+    request_findings confirmed_finding answer_findings answer_finding stopped_finding held_finding what_finding held_mismatch dialogue_heard dialogue_with exchange_in exchange_of is_certain newest_with newest_after breach_at shown_period shown_inhibit asked_to_write mismatch_at request_row_in response_row_in overdue_by late_finding is_missing
 looks_like_abort = refl

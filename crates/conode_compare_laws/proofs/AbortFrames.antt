@@ -27,7 +27,7 @@ use Rattle.conode_compare_transfers.specs.declared.dialogue.Dialogue.{Dialogue}
 use Rattle.conode_compare_transfers.specs.declared.newest.Newest.{Newest}
 use Rattle.conode_compare_transfers.specs.declared.newest.Newest.TheVariants.{Acknowledge, AllAcknowledged, Answer, Data, LastData, LaterAcknowledge, LaterData, Request}
 use Rattle.conode_compare_transfers.specs.Breaches.{breach_at, byte_at, ending_breach, is_padded, key_in, keyed_breach, may_refuse_next, names_none, server_breach}
-use Rattle.conode_compare_transfers.specs.Dialogues.{awaited_for, dialogue_heard, exchange_in, newest_heard, owes_nothing}
+use Rattle.conode_compare_transfers.specs.Dialogues.{awaited_for, dialogue_heard, exchange_in, newest_heard, owes_nothing, exchange_of, dialogue_with}
 use Rattle.conode_compare_transfers.specs.NewestFrames.{all_after, asks_after, goes_on, newest_after, newest_with}
 use Rattle.conode_compare_transfers.specs.Timeouts.{drift_of, early_abort, early_breach, early_end, is_early, times_out}
 use Rattle.conode_compare_transfers.specs.Times.{micros_of}
@@ -87,7 +87,7 @@ no_breach (Some newest) side says frame = by says.ended
     by (Some e) = no_end newest frame e e.direction e.ending
 
 breach_none : (answer started : ℕ) (d : Dialogue) (micros : ℕ) (side : Side) (frame : FrameContent) → of_timeouts (breach_finding (exchange_in answer started d micros side frame).breach) ≡ []
-unfolding exchange_in
+unfolding exchange_in exchange_of
 breach_none answer started d micros side frame = no_breach d.newest side (followed d.channel micros side frame.bytes).says frame
 
 -- ---- an answer that isn't an early abort
@@ -123,14 +123,14 @@ unawaited tolerance drift time (Some e) = by (times_out e.ending)
     by false = refl
 
 pub while_owing : (subject : Subject) (started : ℕ) (d : Dialogue) (micros : ℕ) (frame : FrameContent) → owes_nothing d.newest ≡ false → IsInTime subject started d micros frame
-unfolding exchange_in
+unfolding exchange_in exchange_of
 while_owing subject started d micros frame h =
     ap (λ b. option_and_then (early_end subject.limits.tolerance subject.limits.drift subject.limits.time (if b then Some (micros - d.requested) else None)) (followed d.channel micros Server frame.bytes).says.ended) h
     ∙ unawaited subject.limits.tolerance subject.limits.drift subject.limits.time (followed d.channel micros Server frame.bytes).says.ended
 
 -- where no transfer ends
 pub without_end : (subject : Subject) (started : ℕ) (d : Dialogue) (micros : ℕ) (frame : FrameContent) → (reads d.channel micros Server frame.bytes).says.ended ≡ None → IsInTime subject started d micros frame
-unfolding exchange_in
+unfolding exchange_in exchange_of
 without_end subject started d micros frame h =
     ap (λ o. option_and_then (early_end subject.limits.tolerance subject.limits.drift subject.limits.time (awaited_for d.newest d.requested micros)) o)
     (ap (λ f. f.says.ended) (same_reading d.channel.heard d.channel.transfer micros Server frame.bytes frame.bytes).followed ∙ h)
@@ -165,7 +165,7 @@ enough_of tolerance drift limit waited (Some t) is some enough =
 
 awaited_enough : (subject : Subject) (started : ℕ) (d : Dialogue) (micros : ℕ) (frame : FrameContent) (limit : ℕ) → IfSome subject.limits.time (λ t. 0 < limit → (0 < t) × (t ≤ limit)) → 0 < limit
     → owes_nothing d.newest ≡ true → limit * 1000 ≤ micros - d.requested → IsInTime subject started d micros frame
-unfolding exchange_in
+unfolding exchange_in exchange_of
 awaited_enough subject started d micros frame limit is some e enough =
     ap (λ b. option_and_then (early_end subject.limits.tolerance subject.limits.drift subject.limits.time (if b then Some (micros - d.requested) else None)) (followed d.channel micros Server frame.bytes).says.ended) e
     ∙ in_time_by subject.limits.tolerance subject.limits.drift subject.limits.time (micros - d.requested) (followed d.channel micros Server frame.bytes).says.ended
@@ -215,15 +215,15 @@ heard_owing certain (what.OutOfSequence number awaited) frame newest = on_owing 
 heard_owing certain _ frame newest = refl
 
 pub client_owing : (answer started : ℕ) (d : Dialogue) (micros : ℕ) (frame : FrameContent) → owes_nothing (dialogue_heard answer started d micros Client frame).newest ≡ false
-unfolding dialogue_heard
+unfolding dialogue_heard dialogue_with
 client_owing answer started d micros frame = heard_owing _ (followed d.channel micros Client frame.bytes).says.what frame d.newest
 
 pub client_requested : (answer started : ℕ) (d : Dialogue) (micros : ℕ) (frame : FrameContent) → (dialogue_heard answer started d micros Client frame).requested ≡ micros
-unfolding dialogue_heard
+unfolding dialogue_heard dialogue_with
 client_requested answer started d micros frame = refl
 
 pub server_requested : (answer started : ℕ) (d : Dialogue) (micros : ℕ) (frame : FrameContent) → (dialogue_heard answer started d micros Server frame).requested ≡ d.requested
-unfolding dialogue_heard
+unfolding dialogue_heard dialogue_with
 server_requested answer started d micros frame = refl
 
 -- nothing is known after an answer that goes on with none
@@ -236,7 +236,7 @@ gone certain (what.OutOfSequence number awaited) frame newest n = absurd (false�
 gone certain _ frame newest n = refl
 
 pub server_gone : (answer started : ℕ) (d : Dialogue) (micros : ℕ) (frame : FrameContent) → is_kept (reads d.channel micros Server frame.bytes).says.what ≡ false → (dialogue_heard answer started d micros Server frame).newest ≡ None
-unfolding dialogue_heard
+unfolding dialogue_heard dialogue_with
 server_gone answer started d micros frame n =
     gone _ (followed d.channel micros Server frame.bytes).says.what frame d.newest
     (ap (λ f. is_kept f.says.what) (same_reading d.channel.heard d.channel.transfer micros Server frame.bytes frame.bytes).followed ∙ n)

@@ -28,7 +28,7 @@ use Rattle.conode_compare_transfers.specs.declared.dialogue.Dialogue.{Dialogue}
 use Rattle.conode_compare_transfers.specs.declared.newest.Newest.{Newest}
 use Rattle.conode_compare_transfers.specs.declared.newest.Newest.TheVariants.{Acknowledge, AllAcknowledged, Data, LastData, LaterAcknowledge, LaterData, Request}
 use Rattle.conode_compare_transfers.specs.Breaches.{breach_at, ending_breach, key_in, keyed_breach, may_refuse_next, names_none, server_breach}
-use Rattle.conode_compare_transfers.specs.Dialogues.{dialogue_heard, exchange_in}
+use Rattle.conode_compare_transfers.specs.Dialogues.{dialogue_heard, exchange_in, exchange_of}
 use Rattle.conode_compare_rules.specs.declared.finding.Finding.{Finding}
 use Rattle.conode_compare_rules.specs.declared.finding.Finding.TheVariants.{Transfer}
 use Rattle.conode_compare_rules.specs.declared.kind.FrameKind.TheVariants.{Sdo}
@@ -101,7 +101,7 @@ ended_is : (following : Following) (micros : ℕ) (side : Side) (bytes : List �
 ended_is following micros side bytes = ap (λ (f : Followed). f.says.ended) (same_reading following.heard following.transfer micros side bytes bytes).followed
 
 no_breach : (answer started : ℕ) (d : Dialogue) (micros : ℕ) (side : Side) (frame : FrameContent) → IsWhole (reads d.channel micros side frame.bytes).says.ended → of_data (breach_finding (exchange_in answer started d micros side frame).breach) ≡ []
-unfolding exchange_in
+unfolding exchange_in exchange_of
 no_breach answer started d micros side frame h = whole_breach d.newest side (followed d.channel micros side frame.bytes).says frame (subst IsWhole (sym (ended_is d.channel micros side frame.bytes)) h)
 
 -- ---- frames one after another

@@ -17,7 +17,7 @@ use Rattle.conode_explain_laws.proofs.Readings.{Begin, begun_with, follows_by, r
 use Rattle.conode_compare_transfers.specs.declared.dialogue.Asked.{Asked}
 use Rattle.conode_compare_transfers.specs.declared.dialogue.Dialogue.{Dialogue}
 use Rattle.conode_compare_transfers.specs.declared.left.Left.{Left}
-use Rattle.conode_compare_transfers.specs.Dialogues.{asked_after, dialogue_heard, doubts_request, exchange_in, is_awaited, is_certain, is_initiate, is_of_earlier, is_in_doubt, leaves_request_open, owes, owes_nothing}
+use Rattle.conode_compare_transfers.specs.Dialogues.{asked_after, dialogue_heard, doubts_request, exchange_in, is_awaited, is_certain, is_initiate, is_of_earlier, is_in_doubt, leaves_request_open, owes, owes_nothing, dialogue_with, exchange_of}
 use Rattle.conode_compare_transfers.specs.Times.{is_past}
 use Rattle.conode_compare_laws.proofs.AnswerTurns.{Sound}
 use Rattle.conode_compare_laws.proofs.AnswerFollowed.{GoesOn, GoesOpen, Leaves, client_open, client_reading, goes_on, leaves_is, next_is, no_begin, reads, server_goes, what_is}
@@ -26,16 +26,16 @@ use Rattle.conode_compare_laws.proofs.AnswerFound.{never_past}
 module _ (answer started : ℕ) (d : Dialogue) (micros : ℕ) (side : Side) (frame : FrameContent) where
   -- by what explain says of the frame
   pub channel_is : (dialogue_heard answer started d micros side frame).channel ≡ (reads d.channel micros side frame.bytes).next
-  unfolding dialogue_heard
+  unfolding dialogue_heard dialogue_with
   channel_is = next_is d.channel micros side frame.bytes
 
   pub asked_is : (dialogue_heard answer started d micros side frame).asked ≡ asked_after (reads d.channel micros side frame.bytes).says.what micros frame
-  unfolding dialogue_heard
+  unfolding dialogue_heard dialogue_with
   asked_is = ap (λ w. asked_after w micros frame) (what_is d.channel micros side frame.bytes)
 
   pub doubted_is : (dialogue_heard answer started d micros side frame).doubted
       ≡ (if leaves_request_open (owes answer started d) (owes_nothing d.newest) side (reads d.channel micros side frame.bytes).says frame || is_in_doubt (doubts_request answer d micros frame) (reads d.channel micros side frame.bytes).says.what then Some micros else d.doubted)
-  unfolding dialogue_heard
+  unfolding dialogue_heard dialogue_with
   doubted_is =
       ap (λ b. if b || is_in_doubt (doubts_request answer d micros frame) (followed d.channel micros side frame.bytes).says.what then Some micros else d.doubted) (leaves_is (owes answer started d) (owes_nothing d.newest) d.channel micros side frame)
       ∙ ap (λ w. if leaves_request_open (owes answer started d) (owes_nothing d.newest) side (reads d.channel micros side frame.bytes).says frame || is_in_doubt (doubts_request answer d micros frame) w then Some micros else d.doubted) (what_is d.channel micros side frame.bytes)
@@ -67,11 +67,11 @@ server_heard answer started d micros frame s =
     }
 
 pub what_heard : (answer started : ℕ) (d : Dialogue) (micros : ℕ) (frame : FrameContent) → (exchange_in answer started d micros Server frame).heard.what ≡ (reads d.channel micros Server frame.bytes).says.what
-unfolding exchange_in
+unfolding exchange_in exchange_of
 what_heard answer started d micros frame = what_is d.channel micros Server frame.bytes
 
 pub asked_before : (answer started : ℕ) (d : Dialogue) (micros : ℕ) (frame : FrameContent) → (exchange_in answer started d micros Server frame).asked ≡ d.asked
-unfolding exchange_in
+unfolding exchange_in exchange_of
 asked_before answer started d micros frame = refl
 
 -- ---- in doubt
@@ -88,7 +88,7 @@ never_certain answer started slow doubted micros is =
     by false b c h = refl
 
 pub in_doubt : (answer started : ℕ) (d : Dialogue) (micros : ℕ) (frame : FrameContent) → d.doubted ≡ Some micros → (exchange_in answer started d micros Server frame).certain ≡ false
-unfolding exchange_in
+unfolding exchange_in exchange_of
 in_doubt answer started d micros frame is =
     ap (λ b. b && not (is_of_earlier answer d micros Server (followed d.channel micros Server frame.bytes).says frame)) (never_certain answer started d.slow d.doubted micros is)
 

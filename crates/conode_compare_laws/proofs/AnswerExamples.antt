@@ -9,7 +9,7 @@ use Rattle.conode_compare_pdos.specs.Followed.{unknown_pdos}
 use Rattle.conode_compare_values.specs.HeldNumbers.{held_mismatch}
 use Rattle.conode_compare_values.specs.SheetValues.{mismatch_at}
 use Rattle.conode_compare_transfers.specs.Breaches.{breach_at}
-use Rattle.conode_compare_transfers.specs.Dialogues.{dialogue_heard, exchange_in, is_certain}
+use Rattle.conode_compare_transfers.specs.Dialogues.{dialogue_heard, exchange_in, is_certain, exchange_of, dialogue_with}
 use Rattle.conode_compare_transfers.specs.NewestFrames.{newest_after, newest_with}
 use Rattle.conode_compare_rules.specs.declared.entries.Entries.{Entries}
 use Rattle.conode_compare_rules.specs.declared.finding.Finding.{Finding}
@@ -72,7 +72,7 @@ paused_heard = refl
 
 in_place_of_segment : answers_found paused ≡ []
 unfolding findings_at progress_with begun booted found states.after_control after_boot_up after_other awaits_boot_up is_settled progresses.after_control control_findings heartbeat_findings silence_finding channel_heard exchange_at exchange_noted late_noted
-    request_findings confirmed_finding answer_findings answer_finding stopped_finding held_finding what_finding held_mismatch dialogue_heard exchange_in is_certain newest_with newest_after breach_at shown_period shown_inhibit asked_to_write mismatch_at request_row_in response_row_in overdue_by late_finding is_missing
+    request_findings confirmed_finding answer_findings answer_finding stopped_finding held_finding what_finding held_mismatch dialogue_heard dialogue_with exchange_in exchange_of is_certain newest_with newest_after breach_at shown_period shown_inhibit asked_to_write mismatch_at request_row_in response_row_in overdue_by late_finding is_missing
 in_place_of_segment = refl
 
 -- ---- a second answer is another device's
@@ -87,7 +87,7 @@ twice_answered = with_stamp 0 (frame 0x705 1 0)
 
 second_answer : answers_found twice_answered ≡ Unasked ∷ []
 unfolding findings_at progress_with begun booted found states.after_control after_boot_up after_other awaits_boot_up is_settled progresses.after_control control_findings heartbeat_findings silence_finding channel_heard exchange_at exchange_noted late_noted
-    request_findings confirmed_finding answer_findings answer_finding stopped_finding held_finding what_finding held_mismatch dialogue_heard exchange_in is_certain newest_with newest_after breach_at shown_period shown_inhibit asked_to_write mismatch_at request_row_in response_row_in overdue_by late_finding is_missing
+    request_findings confirmed_finding answer_findings answer_finding stopped_finding held_finding what_finding held_mismatch dialogue_heard dialogue_with exchange_in exchange_of is_certain newest_with newest_after breach_at shown_period shown_inhibit asked_to_write mismatch_at request_row_in response_row_in overdue_by late_finding is_missing
 second_answer = refl
 
 -- ---- nor is the last segment of another device: the device has eight bytes
@@ -103,5 +103,5 @@ foreign_segment = with_stamp 0 (frame 0x705 1 0)
 
 other_size : differences_in data_differences subject [] foreign_segment ≡ Transfer (Size (record { index = 0x1008; sub = 0 }) 8 2) ∷ []
 unfolding findings_at progress_with begun booted found states.after_control after_boot_up after_other awaits_boot_up is_settled progresses.after_control control_findings heartbeat_findings silence_finding channel_heard exchange_at exchange_noted late_noted
-    request_findings confirmed_finding answer_findings answer_finding stopped_finding held_finding what_finding held_mismatch dialogue_heard exchange_in is_certain newest_with newest_after breach_at shown_period shown_inhibit asked_to_write mismatch_at request_row_in response_row_in overdue_by late_finding is_missing
+    request_findings confirmed_finding answer_findings answer_finding stopped_finding held_finding what_finding held_mismatch dialogue_heard dialogue_with exchange_in exchange_of is_certain newest_with newest_after breach_at shown_period shown_inhibit asked_to_write mismatch_at request_row_in response_row_in overdue_by late_finding is_missing
 other_size = refl

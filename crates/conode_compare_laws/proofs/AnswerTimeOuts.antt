@@ -20,7 +20,7 @@ use Rattle.conode_explain_laws.proofs.Readings.{Reading, Abort, reading_of, foll
 use Rattle.conode_explain_laws.proofs.Views.{abort_is, is_abort_reading}
 use Rattle.conode_compare_transfers.specs.declared.dialogue.Asked.{Asked}
 use Rattle.conode_compare_transfers.specs.declared.dialogue.Dialogue.{Dialogue}
-use Rattle.conode_compare_transfers.specs.Dialogues.{exchange_in, is_certain}
+use Rattle.conode_compare_transfers.specs.Dialogues.{exchange_in, is_certain, exchange_of}
 use Rattle.conode_compare_rules.specs.declared.kind.FrameKind.TheVariants.{Sdo}
 use Rattle.conode_compare_rules.specs.declared.limits.Subject.{Subject}
 use Rattle.conode_compare_rules.specs.declared.progress.Progress.{Progress}
@@ -67,7 +67,7 @@ abort_ending d micros key code = by d.channel.transfer (reading_of d.channel.tra
     by current _ h = absurd (false≢true h)
 
 owes_none : (answer started : ℕ) (d : Dialogue) (micros : ℕ) (frame : FrameContent) (a : Asked) → d.asked ≡ Some a → is_certain answer started d.slow d.doubted a.micros ≡ false → (exchange_in answer started d micros Server frame).owed ≡ false
-unfolding exchange_in
+unfolding exchange_in exchange_of
 owes_none answer started d micros frame a is h = ap (λ o. option_map_or (λ (x : Asked). is_certain answer started d.slow d.doubted x.micros) o false) is ∙ h
 
 pub abort_runs : (Idle Inside : Type 0) (subject : Subject) (rows : List Row) (micros : ℕ) (stage : Stage) (q : Progress) (id : ℕ) (log : Log) → id ≡ 0x580 + subject.node → (Idle → ⊥) → (Inside → ⊥)

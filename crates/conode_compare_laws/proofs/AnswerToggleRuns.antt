@@ -73,7 +73,7 @@ use Rattle.conode_compare_transfers.specs.declared.dialogue.Dialogue.{Dialogue}
 use Rattle.conode_compare_transfers.specs.declared.newest.Newest.{Newest}
 use Rattle.conode_compare_transfers.specs.declared.newest.Newest.TheVariants.{Acknowledge, AllAcknowledged, Data, LastData, LaterAcknowledge, LaterData, Request}
 use Rattle.conode_compare_transfers.specs.Breaches.{breach_at, ending_breach, is_padded, key_in, keyed_breach, may_refuse_next, names_none, server_breach}
-use Rattle.conode_compare_transfers.specs.Dialogues.{dialogue_heard, exchange_in, newest_heard}
+use Rattle.conode_compare_transfers.specs.Dialogues.{dialogue_heard, exchange_in, newest_heard, exchange_of, dialogue_with}
 use Rattle.conode_compare_transfers.specs.NewestFrames.{newest_after, newest_with}
 use Rattle.conode_compare_rules.specs.declared.finding.Finding.{Finding}
 use Rattle.conode_compare_rules.specs.declared.finding.Finding.TheVariants.{Transfer as Within}
@@ -162,7 +162,7 @@ abbrev IsOnce : ℕ → Dialogue → List ℕ → Type 0
 IsOnce micros d bytes = (d.newest ≡ None) ⊎ (is_again (reads d.channel micros Server bytes).says.what ≡ false)
 
 no_breach : (answer started : ℕ) (d : Dialogue) (micros : ℕ) (side : Side) (frame : FrameContent) → (side ≡ Client) ⊎ IsOnce micros d frame.bytes → of_toggles (breach_finding (exchange_in answer started d micros side frame).breach) ≡ []
-unfolding exchange_in
+unfolding exchange_in exchange_of
 no_breach answer started d micros Client frame h = client_breach d.newest (followed d.channel micros Client frame.bytes).says frame
 no_breach answer started d micros Server frame (inl client) = absurd (cc)
 no_breach answer started d micros Server frame (inr (inl none)) = server_breach_none d.newest (followed d.channel micros Server frame.bytes).says frame (inl none)
@@ -196,11 +196,11 @@ none_comes certain (what.OutOfSequence number awaited) frame newest n = absurd (
 none_comes certain _ frame newest n = refl
 
 pub newest_stays : (answer started : ℕ) (d : Dialogue) (micros : ℕ) (frame : FrameContent) → d.newest ≡ None → (dialogue_heard answer started d micros Server frame).newest ≡ None
-unfolding dialogue_heard
+unfolding dialogue_heard dialogue_with
 newest_stays answer started d micros frame none = none_after _ (followed d.channel micros Server frame.bytes).says.what frame d.newest none
 
 pub newest_gone : (answer started : ℕ) (d : Dialogue) (micros : ℕ) (frame : FrameContent) → is_kept (reads d.channel micros Client frame.bytes).says.what ≡ false → (dialogue_heard answer started d micros Client frame).newest ≡ None
-unfolding dialogue_heard
+unfolding dialogue_heard dialogue_with
 newest_gone answer started d micros frame n = none_comes _ (followed d.channel micros Client frame.bytes).says.what frame d.newest (ap is_kept (what_is d.channel micros Client frame.bytes) ∙ n)
 
 -- ---- frames one after another

@@ -35,7 +35,7 @@ use Rattle.conode_compare_transfers.specs.declared.dialogue.Dialogue.{Dialogue}
 use Rattle.conode_compare_transfers.specs.declared.newest.Newest.{Newest}
 use Rattle.conode_compare_transfers.specs.declared.breach.Breach.TheVariants.{Early}
 use Rattle.conode_compare_transfers.specs.Breaches.{breach_at, breach_by, ending_breach}
-use Rattle.conode_compare_transfers.specs.Dialogues.{dialogue_heard, doubts_request, exchange_in, is_in_doubt, leaves_request_open, owes, owes_nothing}
+use Rattle.conode_compare_transfers.specs.Dialogues.{dialogue_heard, doubts_request, exchange_in, is_in_doubt, leaves_request_open, owes, owes_nothing, exchange_of}
 use Rattle.conode_compare_rules.specs.declared.finding.Finding.{Finding}
 use Rattle.conode_compare_rules.specs.declared.finding.Finding.TheVariants.{Transfer as Within}
 use Rattle.conode_compare_rules.specs.declared.kind.FrameKind.{FrameKind}
@@ -73,7 +73,7 @@ says_is following micros side bytes =
 
 no_breach : (answer started : ℕ) (d : Dialogue) (micros : ℕ) (frame : FrameContent) → Fine frame (reads d.channel micros Server frame.bytes).says
     → of_transfers (breach_finding (exchange_in answer started d micros Server frame).breach) ≡ []
-unfolding exchange_in
+unfolding exchange_in exchange_of
 no_breach answer started d micros frame f = ap (λ h. of_transfers (breach_finding (breach_at d.newest Server h frame))) (says_is d.channel micros Server frame.bytes) ∙ f d.newest _
 
 -- it is in doubt, or nothing is found of it in its transfer
@@ -182,7 +182,7 @@ sound_in key None s = tt
 sound_in key (Some t) s = s.sound
 
 client_breach_none : (key : Key) (answer started : ℕ) (d : Dialogue) (micros : ℕ) (frame : FrameContent) → IfSome d.channel.transfer (Shape key) → of_transfers (breach_finding (exchange_in answer started d micros Client frame).breach) ≡ []
-unfolding exchange_in
+unfolding exchange_in exchange_of
 client_breach_none key answer started d micros frame s =
     client_breach d.newest (followed d.channel micros Client frame.bytes).says frame
     (subst (FineEnd frame) (sym (says_client d micros frame (sound_in key d.channel.transfer s))) (client_end key d.channel.heard d.channel.transfer (request_in frame.bytes) micros frame s))

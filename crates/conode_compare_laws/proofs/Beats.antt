@@ -81,7 +81,7 @@ use Rattle.conode_compare_rules.specs.Progresses.{
 }
 use Rattle.conode_compare_rules.specs.Times.{drift_of}
 use Rattle.conode_compare_transfers.specs.declared.dialogue.Asked.{Asked}
-use Rattle.conode_compare_transfers.specs.Dialogues.{asks_to_write, dialogue_heard, exchange_in}
+use Rattle.conode_compare_transfers.specs.Dialogues.{asks_to_write, dialogue_heard, exchange_in, exchange_of}
 use Rattle.conode_compare_transfers.specs.Breaches.{key_in}
 use Rattle.conode_compare_transfers.specs.Times.{micros_of}
 use Rattle.conode_compare_rules.specs.Verdicts.{found}
@@ -341,7 +341,7 @@ sdo_such P subject p micros side frame shows h =
 
 sdo_begun : (subject : Subject) (p : Progress) (micros : ℕ) (side : Side) (frame : FrameContent) (period ago : ℕ) → ShowsAt producer_key period p micros (Sdo side frame) → Begun period micros ago p
     → Begun period micros ago (after_sdo subject p micros side frame)
-unfolding channel_heard exchange_at exchange_in exchange_noted
+unfolding channel_heard exchange_at exchange_in exchange_of exchange_noted
 sdo_begun subject p micros side frame period ago shows h =
     let ended : Option Ended = (exchange_at subject p micros side frame).heard.ended in
     record {

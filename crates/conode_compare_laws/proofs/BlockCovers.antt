@@ -39,7 +39,7 @@ use Rattle.conode_explain_laws.proofs.Readings.{Reading, Segment, Begin, Abort, 
 use Rattle.conode_explain_laws.proofs.Views.{is_abort_reading, is_begin}
 use Rattle.conode_compare_transfers.specs.declared.dialogue.Dialogue.{Dialogue}
 use Rattle.conode_compare_transfers.specs.Breaches.{byte_at}
-use Rattle.conode_compare_transfers.specs.Dialogues.{continues, dialogue_heard, interrupted, is_aborted, leaves_block, names_other, opens_sub_block, sub_block_after}
+use Rattle.conode_compare_transfers.specs.Dialogues.{continues, dialogue_heard, interrupted, is_aborted, leaves_block, names_other, opens_sub_block, sub_block_after, dialogue_with}
 use Rattle.conode_compare_transfers.specs.Dialogues as dialogues
 use Rattle.conode_compare_laws.proofs.AnswerTurns.{in_blocks}
 use Rattle.conode_compare_laws.proofs.AnswerFollowed.{not_aborted, not_aborted_left, reads, same_block}
@@ -285,7 +285,7 @@ kept_by d side e w frame = sub_block_after side (leaves_block (names_other e fra
 
 pub sub_block_is : (answer started : ℕ) (d : Dialogue) (micros : ℕ) (side : Side) (frame : FrameContent)
     → (dialogue_heard answer started d micros side frame).sub_block ≡ kept_by d side (reads d.channel micros side frame.bytes).says.ended (reads d.channel micros side frame.bytes).says.what frame
-unfolding dialogue_heard
+unfolding dialogue_heard dialogue_with
 sub_block_is answer started d micros side frame =
     ap (λ e. kept_by d side e (followed d.channel micros side frame.bytes).says.what frame) (ended_is d.channel micros side frame.bytes)
     ∙ ap (λ w. kept_by d side (reads d.channel micros side frame.bytes).says.ended w frame) (what_is d.channel micros side frame.bytes)

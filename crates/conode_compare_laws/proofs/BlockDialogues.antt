@@ -15,7 +15,7 @@ use Rattle.conode_explain_laws.proofs.Readings.{Reading, Begin, follows_by, read
 use Rattle.conode_explain_laws.proofs.Views.{is_begin}
 use Rattle.conode_compare_transfers.specs.declared.dialogue.Asked.{Asked}
 use Rattle.conode_compare_transfers.specs.declared.dialogue.Dialogue.{Dialogue}
-use Rattle.conode_compare_transfers.specs.Dialogues.{asked_after, dialogue_heard, doubts_request, exchange_in, is_certain, is_in_doubt, leaves_request_open, owes, owes_nothing}
+use Rattle.conode_compare_transfers.specs.Dialogues.{asked_after, dialogue_heard, doubts_request, exchange_in, is_certain, is_in_doubt, leaves_request_open, owes, owes_nothing, exchange_of}
 use Rattle.conode_compare_laws.proofs.AnswerTurns.{is_turned}
 use Rattle.conode_compare_laws.proofs.AnswerFollowed.{Leaves, asks_in, block_ends, not_aborted_left, reads, what_is}
 use Rattle.conode_compare_laws.proofs.AnswerDialogues.{asked_is, channel_is, doubt_stays, doubted_by, doubted_is, none_asked}
@@ -40,7 +40,7 @@ server_heard answer started d micros frame s =
 -- what it is, where a transfer is open
 pub server_turned : (answer started : ℕ) (d : Dialogue) (micros : ℕ) (frame : FrameContent) → IfSome d.channel.transfer Live → is_some d.channel.transfer ≡ true
     → is_turned (exchange_in answer started d micros Server frame).heard.what ≡ true
-unfolding exchange_in
+unfolding exchange_in exchange_of
 server_turned answer started d micros frame s live =
     ap is_turned (what_is d.channel micros Server frame.bytes) ∙ (server_goes d.channel micros frame.bytes s).turned live
 

@@ -32,7 +32,7 @@ use Rattle.conode_compare_rules.specs.States.{after_boot_up, after_other, awaits
 use Rattle.conode_compare_rules.specs.Verdicts.{found}
 use Rattle.conode_compare_rules.specs.Answers.{confirmed_finding}
 use Rattle.conode_compare_rules.specs.OtherClients.{no_clients}
-use Rattle.conode_compare_transfers.specs.Dialogues.{dialogue_heard, exchange_in, is_certain}
+use Rattle.conode_compare_transfers.specs.Dialogues.{dialogue_heard, exchange_in, is_certain, exchange_of, dialogue_with}
 use Rattle.conode_compare_laws.specs.Differences.{differences_in, emergency_differences, inhibit_differences, late_differences, state_differences}
 use Rattle.conode_compare_laws.specs.Identifiers.{IsUnnamed, IsUnnamedAt, JudgesNone}
 use Rattle.conode_compare_laws.specs.Recordings.{Recorded, Stamped, recording, with_stamp}
@@ -185,11 +185,11 @@ late_found request response = differences_in late_differences beating []
 
 shown_otherwise : late_found 0x4017_1000_0000_0000 0x4B17_1000_6400_0000 ≡ HeartbeatLate 300000 100 ∷ []
 unfolding findings_at progress_with begun booted found states.after_control after_boot_up after_other awaits_boot_up boot_finding is_settled control_findings heartbeat_findings late_finding overdue_by channel_heard exchange_at exchange_noted late_noted
-    request_findings confirmed_finding answer_findings dialogue_heard exchange_in is_certain shown_period shown_inhibit asked_to_write request_row_in response_row_in is_missing
+    request_findings confirmed_finding answer_findings dialogue_heard dialogue_with exchange_in exchange_of is_certain shown_period shown_inhibit asked_to_write request_row_in response_row_in is_missing
 shown_otherwise = refl
 
 -- not by a transfer of 1016:01
 not_shown : late_found 0x4016_1001_0000_0000 0x4316_1001_6400_0000 ≡ []
 unfolding findings_at progress_with begun booted found states.after_control after_boot_up after_other awaits_boot_up boot_finding is_settled control_findings heartbeat_findings late_finding overdue_by channel_heard exchange_at exchange_noted late_noted
-    request_findings confirmed_finding answer_findings dialogue_heard exchange_in is_certain shown_period shown_inhibit asked_to_write request_row_in response_row_in is_missing
+    request_findings confirmed_finding answer_findings dialogue_heard dialogue_with exchange_in exchange_of is_certain shown_period shown_inhibit asked_to_write request_row_in response_row_in is_missing
 not_shown = refl

@@ -33,7 +33,7 @@ use Rattle.conode_explain_transfers.specs.Transfers.{after}
 use Rattle.conode_explain_laws.proofs.Begins.{HasKey, has_key}
 use Rattle.conode_explain_laws.proofs.Readings.{Reading, Segment, Begin, Abort, Request, Response, Nothing, beginning, follows_by, reading_of, request_reading, segment_reading, turn_of, same as same_reading}
 use Rattle.conode_explain_laws.proofs.Views.{is_begin, server_no_begin}
-use Rattle.conode_compare_transfers.specs.Dialogues.{dialogue_heard, exchange_in, given_up, interrupted, is_initiate}
+use Rattle.conode_compare_transfers.specs.Dialogues.{dialogue_heard, exchange_in, given_up, interrupted, is_initiate, exchange_of, dialogue_with}
 use Rattle.conode_compare_rules.specs.declared.finding.Finding.{Finding}
 use Rattle.conode_compare_rules.specs.declared.kind.FrameKind.{FrameKind}
 use Rattle.conode_compare_rules.specs.declared.kind.FrameKind.TheVariants.{Command, CommandToAll, LongCommand, Guarding, Control, OddControl, Emergency as Emcy, OddEmergency, Sdo, Process, Polled, Fault, Other}
@@ -263,7 +263,7 @@ begun_open P subject p micros h = by (begins_anew subject.limits p micros) _ _ t
 -- a frame of the default SDO channel: so is one that ends with it
 pub ended_such : (P : Key → Type 0) (subject : Subject) (p : Progress) (micros : ℕ) (side : Side) (frame : FrameContent) → NamesBy P side frame.bytes → IsOpenOn P p
     → IfSome (exchange_at subject p micros side frame).heard.ended (λ e. P e.key)
-unfolding exchange_at exchange_in
+unfolding exchange_at exchange_in exchange_of
 ended_such P subject p micros side frame n h = (followed_such P p.dialogue.channel micros side frame.bytes n h).ended
 
 -- where it shows nothing beside another client it is as if none had ended
@@ -272,7 +272,7 @@ beside_such P true o h = tt
 beside_such P false o h = h
 
 sdo_open : (P : Key → Type 0) (subject : Subject) (p : Progress) (micros : ℕ) (side : Side) (frame : FrameContent) → NamesBy P side frame.bytes → IsOpenOn P p → IsOpenOn P (after_sdo subject p micros side frame)
-unfolding channel_heard exchange_noted dialogue_heard
+unfolding channel_heard exchange_noted dialogue_heard dialogue_with
 sdo_open P subject p micros side frame n h = (followed_such P p.dialogue.channel micros side frame.bytes n h).next
 
 pub noted_open : (P : Key → Type 0) (subject : Subject) (p : Progress) (micros : ℕ) → IsOpenOn P p → IsOpenOn P (answer_noted subject p micros)

@@ -68,7 +68,7 @@ use Rattle.conode_compare_rules.specs.States.{is_initialising, judged_state}
 use Rattle.conode_compare_rules.specs.Times.{drift_of}
 use Rattle.conode_compare_rules.specs.Verdicts.{found}
 use Rattle.conode_compare_transfers.specs.declared.dialogue.Asked.{Asked}
-use Rattle.conode_compare_transfers.specs.Dialogues.{asks_to_write, dialogue_heard, exchange_in}
+use Rattle.conode_compare_transfers.specs.Dialogues.{asks_to_write, dialogue_heard, exchange_in, exchange_of}
 use Rattle.conode_compare_transfers.specs.Breaches.{key_in}
 use Rattle.conode_compare_transfers.specs.Times.{micros_of}
 use Rattle.conode_compare_laws.specs.Differences.{inhibit_differences, only_inhibit}
@@ -232,7 +232,7 @@ by_known inhibit entries Client frame h = by (asks_to_write frame) (forgets (sam
 
 sdo_calm : (inhibit micros : ℕ) (sent : List Sending) (subject : Subject) (p : Progress) (side : Side) (frame : FrameContent) → ShowsAt emergency_inhibit_key inhibit p micros (Sdo side frame)
     → Calm inhibit micros sent p → Calm inhibit micros sent (after_sdo subject p micros side frame)
-unfolding channel_heard exchange_at exchange_in exchange_noted
+unfolding channel_heard exchange_at exchange_in exchange_of exchange_noted
 sdo_calm inhibit micros sent subject p side frame shows h =
     let ended : Option Ended = (exchange_at subject p micros side frame).heard.ended in
     let o : Option Ended = shown_beside (hides_end subject p micros ended) ended in

@@ -16,7 +16,7 @@ use Rattle.conode_compare_values.specs.HeldNumbers.{held_mismatch, nothing_writt
 use Rattle.conode_compare_values.specs.RpdoWrites.{brought_from, fits_from, no_writes, settled_from, taken_from}
 use Rattle.conode_compare_values.specs.SheetValues.{mismatch_at, row_mismatch, value_mismatch}
 use Rattle.conode_compare_transfers.specs.Breaches.{breach_at}
-use Rattle.conode_compare_transfers.specs.Dialogues.{dialogue_heard, exchange_in, is_certain}
+use Rattle.conode_compare_transfers.specs.Dialogues.{dialogue_heard, exchange_in, is_certain, exchange_of, dialogue_with}
 use Rattle.conode_compare_transfers.specs.NewestFrames.{newest_after, newest_with}
 use Rattle.conode_compare_rules.specs.declared.entries.Entries.{Entries}
 use Rattle.conode_compare_rules.specs.declared.finding.Finding.{Finding}
@@ -88,7 +88,7 @@ of_frames kind f = option_to_list f.frame
 
 with_rpdos : program_over of_frames subject rows (map as_read written) ≡ Held (record { key = record { index = 0x2000; sub = 0 }; shown = 5; written = 0x102 }) ∷ Unasked ∷ []
 unfolding findings_at progress_with begun booted found states.after_control after_boot_up after_other awaits_boot_up is_settled progresses.after_control control_findings heartbeat_findings silence_finding channel_heard exchange_at exchange_noted late_noted
-    request_findings confirmed_finding answer_findings answer_finding stopped_finding held_finding what_finding held_mismatch dialogue_heard exchange_in is_certain newest_with newest_after breach_at shown_period shown_inhibit asked_to_write mismatch_at request_row_in response_row_in
+    request_findings confirmed_finding answer_findings answer_finding stopped_finding held_finding what_finding held_mismatch dialogue_heard dialogue_with exchange_in exchange_of is_certain newest_with newest_after breach_at shown_period shown_inhibit asked_to_write mismatch_at request_row_in response_row_in
     control_finding second_boot_up state_finding boot_finding row_mismatch value_mismatch late_finding overdue_by after_command states.after_command after_process moment_at process_findings sighting framed written_heard unmapped_from nothing_written
     receptions_with with_receptions no_receptions booted_receptions other_ids_of has_few_rpdos rpdo_of mapped_from fits_from brought_from taken_from settled_from no_writes process_received is_sure exchanged_by is_missing
 with_rpdos = refl
@@ -96,7 +96,7 @@ with_rpdos = refl
 -- without them, and but for `value-held`
 others : (differences_in of_frames subject rows written ≡ Unasked ∷ []) × (program_over all_besides_held subject rows (map as_read written) ≡ Unasked ∷ [])
 unfolding findings_at progress_with begun booted found states.after_control after_boot_up after_other awaits_boot_up is_settled progresses.after_control control_findings heartbeat_findings silence_finding channel_heard exchange_at exchange_noted late_noted
-    request_findings confirmed_finding answer_findings answer_finding stopped_finding held_finding what_finding held_mismatch dialogue_heard exchange_in is_certain newest_with newest_after breach_at shown_period shown_inhibit asked_to_write mismatch_at request_row_in response_row_in
+    request_findings confirmed_finding answer_findings answer_finding stopped_finding held_finding what_finding held_mismatch dialogue_heard dialogue_with exchange_in exchange_of is_certain newest_with newest_after breach_at shown_period shown_inhibit asked_to_write mismatch_at request_row_in response_row_in
     control_finding second_boot_up state_finding boot_finding row_mismatch value_mismatch late_finding overdue_by after_command states.after_command after_process moment_at process_findings sighting framed written_heard unmapped_from nothing_written
     receptions_with with_receptions no_receptions booted_receptions other_ids_of has_few_rpdos rpdo_of mapped_from fits_from brought_from taken_from settled_from no_writes process_received is_sure exchanged_by is_missing
 others = (refl, refl)

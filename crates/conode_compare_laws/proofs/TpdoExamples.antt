@@ -43,7 +43,7 @@ use Rattle.conode_compare_rules.specs.States as states
 use Rattle.conode_compare_rules.specs.States.{after_boot_up, awaits_boot_up, boot_finding, control_finding, is_settled, second_boot_up}
 use Rattle.conode_compare_rules.specs.Verdicts.{found}
 use Rattle.conode_compare_rules.specs.OtherClients.{no_clients}
-use Rattle.conode_compare_transfers.specs.Dialogues.{dialogue_heard, exchange_in, is_certain}
+use Rattle.conode_compare_transfers.specs.Dialogues.{dialogue_heard, exchange_in, is_certain, exchange_of, dialogue_with}
 use Rattle.conode_compare_laws.specs.Differences.{differences_in}
 use Rattle.conode_compare_laws.specs.NamedTpdos.{NameNoTpdos, NamesNoTpdo}
 use Rattle.conode_compare_laws.specs.Recordings.{Recorded, Stamped, recording, with_stamp}
@@ -216,11 +216,11 @@ shown request response = found_in is_pdo_state subject
 
 shown_otherwise : shown 0x4000_1801_0000_0000 0x4300_1801_8503_0000 ≡ Pdo 1 NotOperational ∷ []
 unfolding findings_at progress_with begun booted found control_finding second_boot_up states.after_control after_boot_up states.after_other awaits_boot_up boot_finding process_findings moment_at sighting deviation_at time_deviation is_settled after_process framed
-    channel_heard exchange_at exchange_noted late_noted request_findings confirmed_finding answer_findings dialogue_heard exchange_in is_certain shown_period shown_inhibit asked_to_write request_row_in response_row_in transferred late_finding overdue_by is_missing
+    channel_heard exchange_at exchange_noted late_noted request_findings confirmed_finding answer_findings dialogue_heard dialogue_with exchange_in exchange_of is_certain shown_period shown_inhibit asked_to_write request_row_in response_row_in transferred late_finding overdue_by is_missing
 shown_otherwise = refl
 
 -- not by an upload of 1A00:01
 not_shown : shown 0x4000_1A01_0000_0000 0x4300_1A01_0800_0020 ≡ []
 unfolding findings_at progress_with begun booted found control_finding second_boot_up states.after_control after_boot_up states.after_other awaits_boot_up boot_finding process_findings moment_at sighting deviation_at time_deviation is_settled after_process framed
-    channel_heard exchange_at exchange_noted late_noted request_findings confirmed_finding answer_findings dialogue_heard exchange_in is_certain shown_period shown_inhibit asked_to_write request_row_in response_row_in transferred late_finding overdue_by is_missing
+    channel_heard exchange_at exchange_noted late_noted request_findings confirmed_finding answer_findings dialogue_heard dialogue_with exchange_in exchange_of is_certain shown_period shown_inhibit asked_to_write request_row_in response_row_in transferred late_finding overdue_by is_missing
 not_shown = refl

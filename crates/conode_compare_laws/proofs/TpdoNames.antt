@@ -22,7 +22,7 @@ use Rattle.conode_compare_rules.specs.OtherClients.{is_channel}
 use Rattle.conode_compare_rules.specs.Progresses.{after_sdo, channel_heard, exchange_at, exchange_noted, hides_end, leaves_unknown_at, pdos_asked, pdos_beside, pdos_by, pdos_ended, pdos_heard, shown_beside}
 use Rattle.conode_compare_transfers.specs.declared.dialogue.Asked.{Asked}
 use Rattle.conode_compare_transfers.specs.Breaches as breaches
-use Rattle.conode_compare_transfers.specs.Dialogues.{asked_after, asks_to_write, dialogue_heard, is_initiate}
+use Rattle.conode_compare_transfers.specs.Dialogues.{asked_after, asks_to_write, dialogue_heard, is_initiate, dialogue_with}
 use Rattle.conode_compare_laws.specs.Identifiers.{AreNoSdo}
 use Rattle.conode_compare_laws.specs.NamedTpdos.{AreNoSdoSyncs, NameNoTpdos, NamesNoTpdo, NamesNone, is_tpdo_communication, is_tpdo_mapping_or_sync}
 use Rattle.conode_compare_laws.specs.Recordings.{Recorded, stamped}
@@ -159,7 +159,7 @@ long_by Server frame n = tt
 
 asked_heard : (subject : Subject) (p : Progress) (micros : ℕ) (side : Side) (frame : FrameContent) → NamesNoneBy side frame
     → IfSome (dialogue_heard subject.limits.answer p.started p.dialogue micros side frame).asked WritesNone
-unfolding dialogue_heard
+unfolding dialogue_heard dialogue_with
 asked_heard subject p micros side frame n =
     asked_none (followed p.dialogue.channel micros side frame.bytes).says.what micros frame
     (initiated ((length frame.bytes ≡ 8) × NamesNone frame) p.dialogue.channel micros side frame.bytes (long_by side frame n))

@@ -22,7 +22,7 @@ use Rattle.conode_explain_transfers.specs.declared.ended.Ended.{Ended}
 use Rattle.conode_explain_transfers.specs.declared.kinds.Side.{Side}
 use Rattle.conode_explain_transfers.specs.declared.kinds.Side.TheVariants.{Client, Server}
 use Rattle.conode_compare_transfers.specs.Breaches as breaches
-use Rattle.conode_compare_transfers.specs.Dialogues.{asks_to_write, exchange_in}
+use Rattle.conode_compare_transfers.specs.Dialogues.{asks_to_write, exchange_in, exchange_of}
 use Rattle.conode_compare_rules.specs.declared.clients.OtherClients.{OtherClients}
 use Rattle.conode_compare_rules.specs.declared.kind.FrameKind.{FrameKind}
 use Rattle.conode_compare_rules.specs.declared.kind.FrameKind.TheVariants.{Command, CommandToAll, LongCommand, Control, Emergency as Emcy, OddEmergency, Other, Process, Sdo}
@@ -166,7 +166,7 @@ module _ (w v : ℕ) (differ : w ≢ v) where
 
   sdo_unknown : (subject : Subject) (p : Progress) (micros : ℕ) (side : Side) (frame : FrameContent) → ShowsAt producer_key w p micros (Sdo side frame) → ShowsAt producer_key v p micros (Sdo side frame) → IsUnknown p
       → IsUnknown (after_sdo subject p micros side frame)
-  unfolding exchange_at exchange_in
+  unfolding exchange_at exchange_in exchange_of
   sdo_unknown subject p micros side frame a b h =
       let ended : Option Ended = (exchange_at subject p micros side frame).heard.ended in
       sdo_such (λ n. ⊥) subject p micros side frame (beside_such (λ e. IfSome (shown_period e) (λ n. ⊥)) (hides_end subject p micros ended) ended (none_shown ended a b)) h

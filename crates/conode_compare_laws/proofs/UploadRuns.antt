@@ -21,7 +21,7 @@ use Rattle.conode_compare_transfers.specs.declared.breach.Breach.TheVariants.{Ea
 use Rattle.conode_compare_transfers.specs.declared.dialogue.Dialogue.{Dialogue}
 use Rattle.conode_compare_transfers.specs.declared.newest.Newest.{Newest}
 use Rattle.conode_compare_transfers.specs.Breaches.{breach_at, breach_by}
-use Rattle.conode_compare_transfers.specs.Dialogues.{dialogue_heard, exchange_in, is_initiate, newest_heard}
+use Rattle.conode_compare_transfers.specs.Dialogues.{dialogue_heard, exchange_in, is_initiate, newest_heard, exchange_of, dialogue_with}
 use Rattle.conode_compare_transfers.specs.NewestFrames.{newest_after, newest_with}
 use Rattle.conode_compare_rules.specs.declared.finding.Finding.{Finding}
 use Rattle.conode_compare_rules.specs.declared.finding.Finding.TheVariants.{Transfer as Within}
@@ -73,7 +73,7 @@ request_breach (Some newest) says frame (inr h) = by says.ended h
     by (Some e) h = h newest
 
 no_request_breach : (answer started : ℕ) (d : Dialogue) (micros : ℕ) (frame : FrameContent) → IsFineRequest micros d frame → of_transfers (breach_finding (exchange_in answer started d micros Client frame).breach) ≡ []
-unfolding exchange_in
+unfolding exchange_in exchange_of
 no_request_breach answer started d micros frame (inl none) = request_breach d.newest (followed d.channel micros Client frame.bytes).says frame (inl none)
 no_request_breach answer started d micros frame (inr h) = request_breach d.newest (followed d.channel micros Client frame.bytes).says frame (inr (subst (FineEnd frame) (sym (ended_is d.channel micros Client frame.bytes)) h))
 
@@ -94,7 +94,7 @@ none_breach None side says frame e = refl
 none_breach (Some newest) side says frame e = absurd (cc)
 
 unknown_breach : (answer started : ℕ) (d : Dialogue) (micros : ℕ) (frame : FrameContent) → d.newest ≡ None → of_transfers (breach_finding (exchange_in answer started d micros Server frame).breach) ≡ []
-unfolding exchange_in
+unfolding exchange_in exchange_of
 unknown_breach answer started d micros frame e = none_breach d.newest Server (followed d.channel micros Server frame.bytes).says frame e
 
 pub unknown_quiet : (subject : Subject) (rows : List Row) (p : Progress) (micros : ℕ) (frame : FrameContent) (After : Option ℕ → Dialogue → Type 0) → p.dialogue.newest ≡ None
@@ -123,7 +123,7 @@ none_kept certain w frame newest none h = subst (λ n. newest_heard certain Clie
 
 newest_none : (answer started : ℕ) (d : Dialogue) (micros : ℕ) (frame : FrameContent) → d.newest ≡ None → is_initiate (reads d.channel micros Client frame.bytes).says.what ≡ false
     → (dialogue_heard answer started d micros Client frame).newest ≡ None
-unfolding dialogue_heard
+unfolding dialogue_heard dialogue_with
 newest_none answer started d micros frame none w = none_kept _ (followed d.channel micros Client frame.bytes).says.what frame d.newest none (ap is_initiate (what_is d.channel micros Client frame.bytes) ∙ w)
 
 pub unknown_later : (answer started : ℕ) (d : Dialogue) (micros : ℕ) (frame : FrameContent) → initiates (request_in frame.bytes) ≡ false → Unknown d → Unknown (dialogue_heard answer started d micros Client frame)

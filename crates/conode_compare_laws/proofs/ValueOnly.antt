@@ -18,7 +18,7 @@ use Rattle.conode_compare_transfers.specs.declared.breach.Breach.{Breach}
 use Rattle.conode_compare_transfers.specs.declared.dialogue.Asked.{Asked}
 use Rattle.conode_compare_transfers.specs.declared.dialogue.Dialogue.{Dialogue}
 use Rattle.conode_compare_transfers.specs.declared.dialogue.Exchange.{Exchange}
-use Rattle.conode_compare_transfers.specs.Dialogues.{exchange_in, is_timed}
+use Rattle.conode_compare_transfers.specs.Dialogues.{exchange_in, is_timed, exchange_of}
 use Rattle.conode_compare_transfers.specs.Times.{is_past}
 use Rattle.conode_compare_rules.specs.declared.finding.Finding.{Finding}
 use Rattle.conode_compare_rules.specs.declared.finding.Finding.TheVariants.{AnswerStopped, Held, NoAnswer, Unasked, Value}
@@ -137,7 +137,7 @@ module _ (only : Option Finding → List Finding) (nothing : only None ≡ []) (
 
   -- by explain's reading of the frame
   ended_as : (answer started : ℕ) (d : Dialogue) (micros : ℕ) (side : Side) (frame : FrameContent) → (exchange_in answer started d micros side frame).heard.ended ≡ (reads d.channel micros side frame.bytes).says.ended
-  unfolding exchange_in
+  unfolding exchange_in exchange_of
   ended_as answer started d micros side frame = ap (λ (f : Followed). f.says.ended) (same_reading d.channel.heard d.channel.transfer micros side frame.bytes frame.bytes).followed
 
   pub none_found : (subject : Subject) (rows : List Row) (p : Progress) (micros : ℕ) (side : Side) (frame : FrameContent)

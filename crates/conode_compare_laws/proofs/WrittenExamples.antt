@@ -24,7 +24,7 @@ use Rattle.conode_compare_rules.specs.Verdicts.{found}
 use Rattle.conode_compare_rules.specs.Answers.{confirmed_finding, silence_finding}
 use Rattle.conode_compare_rules.specs.OtherClients.{no_clients}
 use Rattle.conode_compare_transfers.specs.NewestFrames.{newest_after, newest_with}
-use Rattle.conode_compare_transfers.specs.Dialogues.{dialogue_heard, exchange_in, is_certain}
+use Rattle.conode_compare_transfers.specs.Dialogues.{dialogue_heard, exchange_in, is_certain, exchange_of, dialogue_with}
 use Rattle.conode_compare_laws.specs.Differences.{differences_in, late_differences}
 use Rattle.conode_compare_laws.specs.Periods.{FollowsPeriod, period_after}
 use Rattle.conode_compare_laws.specs.ShownWords.{KeepsWord}
@@ -87,5 +87,5 @@ late_found before = differences_in late_differences (subject before) []
 
 begun_anew : map late_found (Some 1000 ∷ None ∷ []) ≡ (HeartbeatLate 1900000 1000 ∷ []) ∷ [] ∷ []
 unfolding findings_at progress_with begun booted found progresses.after_control states.after_control silence_finding newest_with newest_after after_boot_up after_other awaits_boot_up boot_finding is_settled control_findings heartbeat_findings late_finding overdue_by channel_heard exchange_at exchange_noted late_noted
-    request_findings confirmed_finding answer_findings dialogue_heard exchange_in is_certain shown_period shown_inhibit asked_to_write request_row_in response_row_in is_missing
+    request_findings confirmed_finding answer_findings dialogue_heard dialogue_with exchange_in exchange_of is_certain shown_period shown_inhibit asked_to_write request_row_in response_row_in is_missing
 begun_anew = refl

@@ -5,7 +5,7 @@ use Rattle.co_frame.specs.SdoRequests.{request_row_in}
 use Rattle.conode_explain_transfers.specs.declared.kinds.Side.TheVariants.{Client, Server}
 use Rattle.co_value.specs.declared.key.Key.{Key}
 use Rattle.conode_compare_transfers.specs.Breaches.{breach_at}
-use Rattle.conode_compare_transfers.specs.Dialogues.{dialogue_heard, exchange_in, is_certain}
+use Rattle.conode_compare_transfers.specs.Dialogues.{dialogue_heard, exchange_in, is_certain, exchange_of, dialogue_with}
 use Rattle.conode_compare_transfers.specs.NewestFrames.{newest_after, newest_with}
 use Rattle.conode_compare_rules.specs.declared.entries.Entries.{Entries}
 use Rattle.conode_compare_rules.specs.declared.finding.Finding.{Finding}
@@ -187,10 +187,10 @@ abbrev former_by : Option ℕ → ℕ → Option ℕ
 former_by period index = (channel_heard subject (record waiting { entries = record waiting.entries { period = period } }) 1000000 Client (request index)).heartbeats.former
 
 requests : map (former_by (Some 1000)) (0x17 ∷ 0x18 ∷ []) ≡ Some 1000 ∷ None ∷ []
-unfolding channel_heard exchange_at dialogue_heard exchange_in is_certain newest_with newest_after breach_at shown_period shown_inhibit asked_to_write request_row_in
+unfolding channel_heard exchange_at dialogue_heard dialogue_with exchange_in exchange_of is_certain newest_with newest_after breach_at shown_period shown_inhibit asked_to_write request_row_in
 requests = refl
 
 -- what 1017:00 has isn't known
 requests_unknown : map (former_by None) (0x17 ∷ 0x18 ∷ []) ≡ Some 65535 ∷ None ∷ []
-unfolding channel_heard exchange_at dialogue_heard exchange_in is_certain newest_with newest_after breach_at shown_period shown_inhibit asked_to_write request_row_in
+unfolding channel_heard exchange_at dialogue_heard dialogue_with exchange_in exchange_of is_certain newest_with newest_after breach_at shown_period shown_inhibit asked_to_write request_row_in
 requests_unknown = refl

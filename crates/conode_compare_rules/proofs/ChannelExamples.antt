@@ -13,7 +13,7 @@ use Rattle.conode_compare_pdos.specs.declared.pdos.Pdos.{Pdos}
 use Rattle.conode_explain_transfers.specs.declared.kinds.Side.{Side}
 use Rattle.conode_explain_transfers.specs.declared.kinds.Side.TheVariants.{Client, Server}
 use Rattle.conode_compare_transfers.specs.declared.dialogue.Asked.{Asked}
-use Rattle.conode_compare_transfers.specs.Dialogues.{dialogue_heard, exchange_in, nothing_asked}
+use Rattle.conode_compare_transfers.specs.Dialogues.{dialogue_heard, exchange_in, nothing_asked, exchange_of, dialogue_with}
 use Rattle.conode_compare_rules.specs.declared.entries.Entries.{Entries}
 use Rattle.conode_compare_rules.specs.declared.limits.Subject.{Subject}
 use Rattle.conode_compare_rules.specs.declared.progress.Progress.{Progress}
@@ -136,11 +136,11 @@ shown_after id =
     (channel_heard device asked 11 Server (record { id = 0x585; bytes = 0x4B ∷ 0x17 ∷ 0x10 ∷ 0 ∷ 0xE8 ∷ 3 ∷ 0 ∷ 0 ∷ [] })).entries.period
 
 shown_alone : shown_after 0x646 ≡ Some 1000
-unfolding request_row_in response_row_in exchange_in after_process channel_heard exchange_at dialogue_heard shown_period shown_inhibit asked_to_write
+unfolding request_row_in response_row_in exchange_in exchange_of after_process channel_heard exchange_at dialogue_heard dialogue_with shown_period shown_inhibit asked_to_write
 shown_alone = refl
 
 shown_nothing : shown_after 0x645 ≡ None
-unfolding request_row_in response_row_in after_process overwritten channel_heard exchange_at dialogue_heard shown_period shown_inhibit asked_to_write
+unfolding request_row_in response_row_in after_process overwritten channel_heard exchange_at dialogue_heard dialogue_with shown_period shown_inhibit asked_to_write
 shown_nothing = refl
 
 -- also where the recording begins anew, as a stamp steps back
@@ -223,7 +223,7 @@ written_after doubted micros =
 -- the answer may be that to the write before until a second has passed; right after the begin of a recording it is the
 -- write's own
 two_writes : written_after (Some 5) 1000004 ∷ written_after (Some 5) 1000005 ∷ written_after None 10 ∷ [] ≡ None ∷ Some 1000 ∷ Some 1000 ∷ []
-unfolding request_row_in response_row_in exchange_in channel_heard exchange_at dialogue_heard shown_period shown_inhibit asked_to_write
+unfolding request_row_in response_row_in exchange_in exchange_of channel_heard exchange_at dialogue_heard dialogue_with shown_period shown_inhibit asked_to_write
 two_writes = refl
 
 -- an upload shows what it has all the same
@@ -234,7 +234,7 @@ read_after doubted micros =
     (channel_heard device asked (micros + 1) Server (record { id = 0x585; bytes = 0x4B ∷ 0x17 ∷ 0x10 ∷ 0 ∷ 0xE8 ∷ 3 ∷ 0 ∷ 0 ∷ [] })).entries.period
 
 read_all_the_same : read_after (Some 5) 10 ≡ Some 1000
-unfolding request_row_in response_row_in exchange_in channel_heard exchange_at dialogue_heard shown_period shown_inhibit asked_to_write
+unfolding request_row_in response_row_in exchange_in exchange_of channel_heard exchange_at dialogue_heard dialogue_with shown_period shown_inhibit asked_to_write
 read_all_the_same = refl
 
 -- 1800h to 1803h

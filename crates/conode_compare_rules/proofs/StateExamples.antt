@@ -16,7 +16,7 @@ use Rattle.conode_compare_rules.specs.declared.leaving.Leaving.TheVariants.{Noth
 use Rattle.conode_compare_rules.specs.declared.limits.Subject.{Subject}
 use Rattle.conode_compare_rules.specs.declared.nmt.Nmt.{Nmt}
 use Rattle.conode_compare_rules.specs.declared.progress.Progress.{Progress}
-use Rattle.conode_compare_transfers.specs.Dialogues.{dialogue_heard, is_certain, nothing_asked}
+use Rattle.conode_compare_transfers.specs.Dialogues.{dialogue_heard, is_certain, nothing_asked, dialogue_with}
 use Rattle.conode_compare_transfers.specs.NewestFrames.{newest_after, newest_with}
 use Rattle.conode_compare_rules.specs.EmergencyRules.{emergency_finding, inhibit_finding}
 use Rattle.conode_compare_rules.specs.FrameKinds.{command_kind}
@@ -455,5 +455,5 @@ long_reset = refl
 
 -- a recording that begins anew awaits it all the same
 still_saving : (still_awaited (dialogue_heard 1000 0 nothing_asked 2000000 Client (record { id = 0x605; bytes = 0x23 ∷ 0x10 ∷ 0x10 ∷ 1 ∷ 0x73 ∷ 0x61 ∷ 0x76 ∷ 0x65 ∷ [] })) 9000000).slow ≡ record { count = 1; newest = 9000000 }
-unfolding dialogue_heard is_certain newest_after newest_with request_row_in
+unfolding dialogue_heard dialogue_with is_certain newest_after newest_with request_row_in
 still_saving = refl

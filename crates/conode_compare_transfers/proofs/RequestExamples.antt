@@ -22,7 +22,7 @@ use Rattle.conode_compare_transfers.specs.declared.dialogue.Exchange.{Exchange}
 use Rattle.conode_compare_transfers.specs.declared.left.Left.{Left}
 use Rattle.conode_compare_transfers.specs.declared.newest.Newest.TheVariants.{Acknowledge, AllAcknowledged, Answer, Data, LaterAcknowledge, LaterData, LastData, Request}
 use Rattle.conode_compare_transfers.specs.Breaches.{breach_at}
-use Rattle.conode_compare_transfers.specs.Dialogues.{asks_again, awaited_for, dialogue_heard, doubts_request, exchange_in, interrupted, is_certain, is_in_doubt, is_late_answer, is_timed, is_awaited, is_in_turn, leaves_block, leaves_slow, left_after, left_after_answer, may_switch, misses_request, nothing_asked, nothing_left, opens_sub_block, owes, sub_block_after, word_written}
+use Rattle.conode_compare_transfers.specs.Dialogues.{asks_again, awaited_for, dialogue_heard, doubts_request, exchange_in, interrupted, is_certain, is_in_doubt, is_late_answer, is_timed, is_awaited, is_in_turn, leaves_block, leaves_slow, left_after, left_after_answer, may_switch, misses_request, nothing_asked, nothing_left, opens_sub_block, owes, sub_block_after, word_written, dialogue_with, exchange_of}
 use Rattle.conode_compare_transfers.specs.NewestFrames.{newest_after, newest_with}
 use Rattle.conode_compare_transfers.specs.Timeouts.{early_abort, is_late, resumed_after, served_key}
 
@@ -217,15 +217,15 @@ abbrev saving : Dialogue
 saving = sent (sent nothing_asked 2000000 Client (0x23 ∷ 0x10 ∷ 0x10 ∷ 1 ∷ 0x73 ∷ 0x61 ∷ 0x76 ∷ 0x65 ∷ [])) 3000000 Client (0x40 ∷ 0 ∷ 0x10 ∷ 0 ∷ 0 ∷ 0 ∷ 0 ∷ 0 ∷ [])
 
 is_saving : saving.slow ≡ left_at 1 3000000
-unfolding dialogue_heard is_certain newest_after newest_with request_row_in
+unfolding dialogue_heard dialogue_with is_certain newest_after newest_with request_row_in
 is_saving = refl
 
 late_save : (exchange_in 1000 0 saving 9000000 Server (reply 0x60 0x10)).certain ≡ false
-unfolding exchange_in is_certain dialogue_heard newest_after newest_with request_row_in response_row_in
+unfolding exchange_in exchange_of is_certain dialogue_heard dialogue_with newest_after newest_with request_row_in response_row_in
 late_save = refl
 
 saved : (sent saving 9000000 Server (0x60 ∷ 0x10 ∷ 0x10 ∷ 1 ∷ 0 ∷ 0 ∷ 0 ∷ 0 ∷ [])).slow ≡ left_at 0 3000000
-unfolding dialogue_heard is_certain newest_after newest_with request_row_in response_row_in
+unfolding dialogue_heard dialogue_with is_certain newest_after newest_with request_row_in response_row_in
 saved = refl
 
 -- an answer of an entry that may take long, where none is awaited: its request may have come before the recording
@@ -233,11 +233,11 @@ abbrev asking : Dialogue
 asking = sent nothing_asked 2000000 Client (0x40 ∷ 0 ∷ 0x10 ∷ 0 ∷ 0 ∷ 0 ∷ 0 ∷ 0 ∷ [])
 
 none_left_before : asking.slow ≡ nothing_left
-unfolding dialogue_heard is_certain newest_after newest_with request_row_in
+unfolding dialogue_heard dialogue_with is_certain newest_after newest_with request_row_in
 none_left_before = refl
 
 never_judged : (exchange_in 1000 0 asking 2500000 Server (reply 0x60 0x10)).certain ≡ false
-unfolding exchange_in is_certain dialogue_heard newest_after newest_with request_row_in response_row_in
+unfolding exchange_in exchange_of is_certain dialogue_heard dialogue_with newest_after newest_with request_row_in response_row_in
 never_judged = refl
 
 -- An answer without a request: of a device that answers twice, and of a request that isn't in the recording. An abort may come at any
@@ -253,7 +253,7 @@ abbrev answered : Dialogue
 answered = sent asking 2001000 Server (0x43 ∷ 0 ∷ 0x10 ∷ 0 ∷ 1 ∷ 0 ∷ 0 ∷ 0 ∷ [])
 
 answered_again : map (λ micros. (exchange_in 1000 0 answered micros Server (reply 0x43 0x20)).certain) (2002000 ∷ 3000000 ∷ 3000001 ∷ []) ≡ true ∷ true ∷ false ∷ []
-unfolding exchange_in is_certain dialogue_heard newest_after newest_with request_row_in response_row_in
+unfolding exchange_in exchange_of is_certain dialogue_heard dialogue_with newest_after newest_with request_row_in response_row_in
 answered_again = refl
 
 -- 1000:00 is asked for once more, and answered in its turn: nothing is awaited any more
@@ -261,11 +261,11 @@ abbrev asked_anew : Dialogue
 asked_anew = sent (sent saving 3500000 Server (0x43 ∷ 0 ∷ 0x10 ∷ 0 ∷ 1 ∷ 0 ∷ 0 ∷ 0 ∷ [])) 5000000 Client (0x40 ∷ 0 ∷ 0x10 ∷ 0 ∷ 0 ∷ 0 ∷ 0 ∷ 0 ∷ [])
 
 still_awaited : asked_anew.slow ≡ left_at 1 3000000
-unfolding dialogue_heard is_certain newest_after newest_with request_row_in response_row_in
+unfolding dialogue_heard dialogue_with is_certain newest_after newest_with request_row_in response_row_in
 still_awaited = refl
 
 answered_anew : (sent asked_anew 5001000 Server (0x43 ∷ 0 ∷ 0x10 ∷ 0 ∷ 1 ∷ 0 ∷ 0 ∷ 0 ∷ [])).slow ≡ nothing_left
-unfolding dialogue_heard is_certain newest_after newest_with request_row_in response_row_in
+unfolding dialogue_heard dialogue_with is_certain newest_after newest_with request_row_in response_row_in
 answered_anew = refl
 
 -- ---- what a request writes
@@ -334,7 +334,7 @@ overtaken_block = sent
     (0xA4 ∷ 0 ∷ 0x20 ∷ 1 ∷ 30 ∷ 0 ∷ 0 ∷ 0 ∷ [])
 
 is_overtaken : overtaken_block.sub_block ≡ true
-unfolding dialogue_heard is_certain newest_after newest_with request_row_in response_row_in
+unfolding dialogue_heard dialogue_with is_certain newest_after newest_with request_row_in response_row_in
 is_overtaken = refl
 
 -- two seconds later it takes a request as a segment: no answer is owed to that
@@ -342,11 +342,11 @@ abbrev taken_as_segment : Dialogue
 taken_as_segment = sent overtaken_block 4002000 Client (0x40 ∷ 0 ∷ 0x10 ∷ 0 ∷ 0 ∷ 0 ∷ 0 ∷ 0 ∷ [])
 
 in_doubt : taken_as_segment.doubted ≡ Some 4002000
-unfolding dialogue_heard is_certain newest_after newest_with request_row_in response_row_in
+unfolding dialogue_heard dialogue_with is_certain newest_after newest_with request_row_in response_row_in
 in_doubt = refl
 
 not_owed_to_segment : owes 1000 0 taken_as_segment ≡ false
-unfolding dialogue_heard is_certain newest_after newest_with request_row_in response_row_in
+unfolding dialogue_heard dialogue_with is_certain newest_after newest_with request_row_in response_row_in
 not_owed_to_segment = refl
 
 -- two segments of a block download whose begin isn't in the recording, and its acknowledge: each leaves a doubt, so no answer is owed to
@@ -358,11 +358,11 @@ abbrev acknowledged_segments : Dialogue
 acknowledged_segments = sent two_segments 2000600 Server (0xA2 ∷ 0x21 ∷ 0x7F ∷ 0 ∷ 0 ∷ 0 ∷ 0 ∷ 0 ∷ [])
 
 segments_in_doubt : two_segments.doubted ∷ acknowledged_segments.doubted ∷ [] ≡ Some 2000300 ∷ Some 2000600 ∷ []
-unfolding dialogue_heard is_certain newest_after newest_with request_row_in response_row_in
+unfolding dialogue_heard dialogue_with is_certain newest_after newest_with request_row_in response_row_in
 segments_in_doubt = refl
 
 not_owed_to_segments : owes 1000 0 two_segments ∷ owes 1000 0 (sent acknowledged_segments 2900000 Client (0x40 ∷ 0 ∷ 0x10 ∷ 0 ∷ 0 ∷ 0 ∷ 0 ∷ 0 ∷ [])) ∷ [] ≡ false ∷ false ∷ []
-unfolding dialogue_heard is_certain newest_after newest_with request_row_in response_row_in
+unfolding dialogue_heard dialogue_with is_certain newest_after newest_with request_row_in response_row_in
 not_owed_to_segments = refl
 
 -- where it answers, it awaited none
@@ -370,7 +370,7 @@ abbrev answered_after_all : Dialogue
 answered_after_all = sent taken_as_segment 4003000 Server (0x43 ∷ 0 ∷ 0x10 ∷ 0 ∷ 1 ∷ 0 ∷ 0 ∷ 0 ∷ [])
 
 owed_again : owes 1000 0 (sent answered_after_all 6003000 Client (0x40 ∷ 0 ∷ 0x10 ∷ 0 ∷ 0 ∷ 0 ∷ 0 ∷ 0 ∷ [])) ≡ true
-unfolding dialogue_heard is_certain newest_after newest_with request_row_in response_row_in
+unfolding dialogue_heard dialogue_with is_certain newest_after newest_with request_row_in response_row_in
 owed_again = refl
 
 -- a pause: the open sub-block isn't followed any more
@@ -379,7 +379,7 @@ begun_block = sent nothing_asked 2000000 Client (0xC4 ∷ 0 ∷ 0x20 ∷ 1 ∷ 0
 
 open_after_pause : begun_block.sub_block ∷ (interrupted begun_block 9000000).sub_block ∷ (interrupted asking 9000000).sub_block ∷ (interrupted overtaken_block 9000000).sub_block ∷ []
     ≡ false ∷ true ∷ false ∷ true ∷ []
-unfolding dialogue_heard is_certain newest_after newest_with request_row_in response_row_in
+unfolding dialogue_heard dialogue_with is_certain newest_after newest_with request_row_in response_row_in
 open_after_pause = refl
 
 -- ---- a block transfer that is refused at once
@@ -396,22 +396,22 @@ abbrev refused_upload : Dialogue
 refused_upload = asked_in_blocks nothing_asked 0xA4 2000000 (0x80 ∷ 0 ∷ 0x20 ∷ 1 ∷ 1 ∷ 0 ∷ 1 ∷ 6 ∷ [])
 
 no_doubt : (refused_download nothing_asked 2000000).doubted ∷ refused_upload.doubted ∷ [] ≡ None ∷ None ∷ []
-unfolding dialogue_heard is_certain newest_after newest_with request_row_in response_row_in
+unfolding dialogue_heard dialogue_with is_certain newest_after newest_with request_row_in response_row_in
 no_doubt = refl
 
 -- so an answer is owed to the next request, 1 ms later
 owed_after_refusal : owes 1000 0 (sent (refused_download nothing_asked 2000000) 2002000 Client (0x40 ∷ 0 ∷ 0x10 ∷ 0 ∷ 0 ∷ 0 ∷ 0 ∷ 0 ∷ [])) ≡ true
-unfolding dialogue_heard is_certain newest_after newest_with request_row_in response_row_in
+unfolding dialogue_heard dialogue_with is_certain newest_after newest_with request_row_in response_row_in
 owed_after_refusal = refl
 
 -- the request came while an earlier one could be answered, within 1000 ms after the recording began; segments of an earlier block download
 -- may be awaited
 earlier_doubt : map (λ micros. (refused_download nothing_asked micros).doubted) (1000000 ∷ 1000001 ∷ []) ≡ Some 1001000 ∷ None ∷ []
-unfolding dialogue_heard is_certain newest_after newest_with request_row_in response_row_in
+unfolding dialogue_heard dialogue_with is_certain newest_after newest_with request_row_in response_row_in
 earlier_doubt = refl
 
 segments_awaited : (refused_download (record nothing_asked { sub_block = true }) 2000000).doubted ≡ Some 2001000
-unfolding dialogue_heard is_certain newest_after newest_with request_row_in response_row_in
+unfolding dialogue_heard dialogue_with is_certain newest_after newest_with request_row_in response_row_in
 segments_awaited = refl
 
 -- with 05040000, which may be of an earlier transfer; of another entry; not at once, and with 05040000 though the device has answered all
@@ -420,7 +420,7 @@ other_refusals : (asked_in_blocks nothing_asked 0xC6 2000000 (0x80 ∷ 0 ∷ 0x2
     ∷ (sent (asked_in_blocks nothing_asked 0xC6 2000000 (0xA4 ∷ 0 ∷ 0x20 ∷ 1 ∷ 30 ∷ 0 ∷ 0 ∷ 0 ∷ [])) 2002000 Server (0x80 ∷ 0 ∷ 0x20 ∷ 1 ∷ 2 ∷ 0 ∷ 1 ∷ 6 ∷ [])).doubted
     ∷ (sent (asked_in_blocks nothing_asked 0xC6 2000000 (0xA4 ∷ 0 ∷ 0x20 ∷ 1 ∷ 30 ∷ 0 ∷ 0 ∷ 0 ∷ [])) 2002000 Server (0x80 ∷ 0 ∷ 0x20 ∷ 1 ∷ 0 ∷ 0 ∷ 4 ∷ 5 ∷ [])).doubted ∷ []
     ≡ Some 2001000 ∷ Some 2001000 ∷ Some 2002000 ∷ Some 2002000 ∷ []
-unfolding dialogue_heard is_certain newest_after newest_with request_row_in response_row_in
+unfolding dialogue_heard dialogue_with is_certain newest_after newest_with request_row_in response_row_in
 other_refusals = refl
 
 -- ---- a transfer that is aborted as timed out
@@ -437,14 +437,14 @@ next_segment = sent (asked_for 2000000 (0x41 ∷ 0 ∷ 0x20 ∷ 1 ∷ 9 ∷ 0 �
 timed_out_in_doubt : (asked_for 2000000 (0x80 ∷ 0 ∷ 0x20 ∷ 1 ∷ 0 ∷ 0 ∷ 4 ∷ 5 ∷ [])).doubted
     ∷ (sent next_segment 2003000 Server (0x80 ∷ 0 ∷ 0x20 ∷ 1 ∷ 0 ∷ 0 ∷ 4 ∷ 5 ∷ [])).doubted ∷ []
     ≡ Some 2001000 ∷ Some 2003000 ∷ []
-unfolding dialogue_heard is_certain newest_after newest_with request_row_in response_row_in
+unfolding dialogue_heard dialogue_with is_certain newest_after newest_with request_row_in response_row_in
 timed_out_in_doubt = refl
 
 refused_without_doubt : (asked_for 2000000 (0x80 ∷ 0 ∷ 0x20 ∷ 1 ∷ 1 ∷ 0 ∷ 4 ∷ 5 ∷ [])).doubted
     ∷ (sent next_segment 2003000 Server (0x80 ∷ 0 ∷ 0x20 ∷ 1 ∷ 0x22 ∷ 0 ∷ 0 ∷ 8 ∷ [])).doubted
     ∷ (sent (asked_for 2000000 (0x41 ∷ 0 ∷ 0x20 ∷ 1 ∷ 9 ∷ 0 ∷ 0 ∷ 0 ∷ [])) 3001000 Server (0x80 ∷ 0 ∷ 0x20 ∷ 1 ∷ 0 ∷ 0 ∷ 4 ∷ 5 ∷ [])).doubted ∷ []
     ≡ None ∷ None ∷ None ∷ []
-unfolding dialogue_heard is_certain newest_after newest_with request_row_in response_row_in
+unfolding dialogue_heard dialogue_with is_certain newest_after newest_with request_row_in response_row_in
 refused_without_doubt = refl
 
 -- ---- the entry is asked for again
@@ -488,13 +488,13 @@ refused_again sub = sent
 
 -- after another entry the first one can't be answered any more
 doubted_again : map (λ sub. (refused_again sub).doubted) (1 ∷ 2 ∷ []) ≡ Some 3000000 ∷ Some 2100000 ∷ []
-unfolding dialogue_heard is_certain newest_after newest_with request_row_in response_row_in
+unfolding dialogue_heard dialogue_with is_certain newest_after newest_with request_row_in response_row_in
 doubted_again = refl
 
 -- the entry of the newest request, whatever comes after it
 entry_kept : map (λ (d : Dialogue). d.entry) (nothing_asked ∷ given_up_first ∷ refused_again 2 ∷ interrupted given_up_first 9000000 ∷ [])
     ≡ None ∷ Some (record { index = 0x2000; sub = 1 }) ∷ Some (record { index = 0x2000; sub = 2 }) ∷ Some (record { index = 0x2000; sub = 1 }) ∷ []
-unfolding dialogue_heard is_certain newest_after newest_with request_row_in response_row_in
+unfolding dialogue_heard dialogue_with is_certain newest_after newest_with request_row_in response_row_in
 entry_kept = refl
 
 -- ---- how long the client is awaited
@@ -517,13 +517,13 @@ abbrev awaited_at : Dialogue → ℕ → Side → List ℕ → Option ℕ
 awaited_at d micros side bytes = (exchange_in 1000 0 d micros side (record { id = 0x600; bytes = bytes })).awaited
 
 awaited_since_request : awaited_at uploading 2700000 Client (0x60 ∷ 0 ∷ 0 ∷ 0 ∷ 0 ∷ 0 ∷ 0 ∷ 0 ∷ []) ≡ Some 700000
-unfolding dialogue_heard exchange_in is_certain newest_after newest_with breach_at request_row_in response_row_in
+unfolding dialogue_heard dialogue_with exchange_in exchange_of is_certain newest_after newest_with breach_at request_row_in response_row_in
 awaited_since_request = refl
 
 -- the client's frame isn't answered yet
 awaited_no_more : awaited_at (sent uploading 2700000 Client (0x60 ∷ 0 ∷ 0 ∷ 0 ∷ 0 ∷ 0 ∷ 0 ∷ 0 ∷ [])) 2800000 Server (0x80 ∷ 0 ∷ 0x20 ∷ 1 ∷ 0 ∷ 0 ∷ 4 ∷ 5 ∷ [])
     ≡ None
-unfolding dialogue_heard exchange_in is_certain newest_after newest_with breach_at request_row_in response_row_in
+unfolding dialogue_heard dialogue_with exchange_in exchange_of is_certain newest_after newest_with breach_at request_row_in response_row_in
 awaited_no_more = refl
 
 -- ---- a server that times out

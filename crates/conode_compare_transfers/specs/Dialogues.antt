@@ -304,17 +304,21 @@ awaited_for newest requested micros = if owes_nothing newest then Some (micros -
 
 -- ---- a frame
 
--- what a frame is, by an end
-unfoldable pub exchange_in : ℕ → ℕ → Dialogue → ℕ → Side → FrameContent → Exchange
-exchange_in answer started dialogue micros side frame = record {
-  heard = (followed dialogue.channel micros side frame.bytes).says;
+-- what a frame by an end is, of which this is heard
+unfoldable pub exchange_of : ℕ → ℕ → Dialogue → ℕ → Side → Heard → FrameContent → Exchange
+exchange_of answer started dialogue micros side heard frame = record {
+  heard = heard;
   asked = dialogue.asked;
   owed = owes answer started dialogue;
-  certain = is_certain answer started dialogue.slow dialogue.doubted micros
-      && not (is_of_earlier answer dialogue micros side (followed dialogue.channel micros side frame.bytes).says frame);
-  breach = breach_at dialogue.newest side (followed dialogue.channel micros side frame.bytes).says frame;
+  certain = is_certain answer started dialogue.slow dialogue.doubted micros && not (is_of_earlier answer dialogue micros side heard frame);
+  breach = breach_at dialogue.newest side heard frame;
   awaited = awaited_for dialogue.newest dialogue.requested micros;
 }
+
+-- by the transfers of the channel
+unfoldable pub exchange_in : ℕ → ℕ → Dialogue → ℕ → Side → FrameContent → Exchange
+exchange_in answer started dialogue micros side frame =
+    exchange_of answer started dialogue micros side (followed dialogue.channel micros side frame.bytes).says frame
 
 -- `owed`: an answer is owed to the initiate request right before this frame; `quiet`: the device has
 -- answered all; `doubts`: a request is in doubt
@@ -326,25 +330,47 @@ doubted_after owed quiet doubts side heard frame doubted micros =
 abbrev pub newest_heard : Bool → Side → What → FrameContent → Option Newest → Option Newest
 newest_heard certain side what frame newest = if is_initiate what && not certain then None else newest_with side what frame newest
 
+-- what a frame leaves open: requests that may take long, and a sub-block
+abbrev pub with_open : Dialogue → Bool → Bool → ℕ → Side → Heard → FrameContent → Dialogue
+with_open dialogue late turns micros side heard frame =
+    let other = names_other heard.ended frame in
+    record dialogue {
+      slow = left_after (leaves_slow other dialogue.newest heard.ended) micros (left_after_answer late turns dialogue.slow);
+      sub_block = sub_block_after side (leaves_block other heard.ended) heard.what (byte_at frame 0) dialogue.sub_block;
+    }
+
+-- what a frame asks for, and whose turn it is then
+abbrev pub with_turn : Dialogue → Bool → ℕ → Side → Heard → FrameContent → Dialogue
+with_turn dialogue certain micros side heard frame = record dialogue {
+  asked = asked_after heard.what micros frame;
+  entry = entry_after heard.what frame dialogue.entry;
+  newest = newest_heard certain side heard.what frame dialogue.newest;
+  requested = requested_after side micros dialogue.requested;
+}
+
+-- what is known after it, but for the transfers
+unfoldable pub dialogue_with : ℕ → ℕ → Dialogue → ℕ → Side → Heard → FrameContent → Dialogue
+dialogue_with answer started dialogue micros side heard frame =
+    let doubts = doubts_request answer dialogue micros frame in
+    let doubted = doubted_after (owes answer started dialogue) (owes_nothing dialogue.newest) doubts side heard frame dialogue.doubted micros in
+    let other = names_other heard.ended frame in
+    let leaves = leaves_slow other dialogue.newest heard.ended in
+    let turns = is_in_turn answer started dialogue side heard.what frame in
+    let slow = left_after leaves micros (left_after_answer (is_late_answer side heard frame) turns dialogue.slow) in
+    record dialogue {
+      asked = asked_after heard.what micros frame;
+      entry = entry_after heard.what frame dialogue.entry;
+      doubted = doubted;
+      slow = slow;
+      sub_block = sub_block_after side (leaves_block other heard.ended) heard.what (byte_at frame 0) dialogue.sub_block;
+      newest = newest_heard (is_certain answer started slow doubted micros) side heard.what frame dialogue.newest;
+      requested = requested_after side micros dialogue.requested;
+    }
+
 unfoldable pub dialogue_heard : ℕ → ℕ → Dialogue → ℕ → Side → FrameContent → Dialogue
 dialogue_heard answer started dialogue micros side frame =
     let f = followed dialogue.channel micros side frame.bytes in
-    let doubts = doubts_request answer dialogue micros frame in
-    let doubted = doubted_after (owes answer started dialogue) (owes_nothing dialogue.newest) doubts side f.says frame dialogue.doubted micros in
-    let other = names_other f.says.ended frame in
-    let leaves = leaves_slow other dialogue.newest f.says.ended in
-    let turns = is_in_turn answer started dialogue side f.says.what frame in
-    let slow = left_after leaves micros (left_after_answer (is_late_answer side f.says frame) turns dialogue.slow) in
-    record {
-      channel = f.next;
-      asked = asked_after f.says.what micros frame;
-      entry = entry_after f.says.what frame dialogue.entry;
-      doubted = doubted;
-      slow = slow;
-      sub_block = sub_block_after side (leaves_block other f.says.ended) f.says.what (byte_at frame 0) dialogue.sub_block;
-      newest = newest_heard (is_certain answer started slow doubted micros) side f.says.what frame dialogue.newest;
-      requested = requested_after side micros dialogue.requested;
-    }
+    record (dialogue_with answer started dialogue micros side f.says frame) { channel = f.next }
 
 -- the request wasn't answered in time
 abbrev pub given_up : Dialogue → ℕ → Dialogue

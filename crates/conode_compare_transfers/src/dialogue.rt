@@ -10,6 +10,7 @@ ghost use Rattle.conode_compare_transfers.specs.Dialogues.{
   awaited_for,
   leaves_request_open,
   dialogue_heard,
+  dialogue_with,
   doubted_after,
   doubts_request,
   ends_in_doubt,
@@ -41,9 +42,12 @@ ghost use Rattle.conode_compare_transfers.specs.Dialogues.{
   owes_nothing,
   continues,
   exchange_in,
+  exchange_of,
   has_key,
   requested_after,
   sub_block_after,
+  with_open,
+  with_turn,
   word_written,
 };
 
@@ -572,9 +576,87 @@ impl Dialogue {
         }
     }
 
+    // What a frame leaves open: requests that may take long, and a sub-block. `late`: it answers an
+    // earlier one of them; `turns`: it answers a request that came after them.
+    fn note_open(
+        &mut self,
+        late: bool,
+        turns: bool,
+        micros: u64,
+        side: Side,
+        heard: &Heard,
+        frame: &Frame,
+    )
+        ensures { self.new ≡ with_open self.old late turns micros side heard.now frame.now }
+    {
+        let other = names_other(&heard.ended, frame);
+        let leaves = leaves_slow(other, self.newest, &heard.ended);
+        self.slow = self.slow.after_answer(late, turns).after(leaves, micros);
+        let left = leaves_block(other, &heard.ended);
+        self.sub_block = sub_block_after(side, left, heard.what, byte_at(frame, 0), self.sub_block);
+    }
+
+    // What a frame asks for, and whose turn it is then. `certain`: no earlier request can be
+    // answered any more.
+    fn note_turn(&mut self, certain: bool, micros: u64, side: Side, heard: &Heard, frame: &Frame)
+        ensures { self.new ≡ with_turn self.old certain micros side heard.now frame.now }
+    {
+        self.asked = asked_after(heard.what, micros, frame);
+        self.entry = entry_after(heard.what, frame, self.entry);
+        self.newest = newest_heard(certain, side, heard.what, frame, self.newest);
+        self.requested = requested_after(side, micros, self.requested);
+    }
+
+    // What a frame is, of which this is heard, and what is known after it, but for the transfers.
+    #[tactic(auto, unfolding(crate::specs::Dialogues::exchange_of, crate::specs::Dialogues::dialogue_with))]
+    fn settle(
+        &mut self,
+        answer: u32,
+        started: u64,
+        micros: u64,
+        side: Side,
+        heard: Heard,
+        frame: &Frame,
+    ) -> Exchange
+        ensures exchange { result ≡ exchange_of answer started self.old micros side heard frame.now }
+        ensures next { self.new ≡ dialogue_with answer started self.old micros side heard frame.now }
+    {
+        let owed = self.owes(answer, started);
+        let known = self.is_certain(answer, started, micros);
+        let asked = self.asked;
+        let awaited = awaited_for(self.newest, self.requested, micros);
+        let quiet = owes_nothing(self.newest);
+        let doubts = self.doubts_request(answer, micros, frame);
+        let breach = breach_at(self.newest, side, &heard, frame);
+        let late = is_late_answer(side, &heard, frame);
+        let missing = self.misses_request(answer, micros, side, heard.what, frame);
+        let turns = self.is_in_turn(answer, started, side, heard.what, frame);
+        self.note_open(late, turns, micros, side, &heard, frame);
+        self.doubted = doubted_after(
+            owed,
+            quiet,
+            doubts,
+            side,
+            &heard,
+            frame,
+            self.doubted,
+            micros,
+        );
+        let judged = self.is_certain(answer, started, micros);
+        self.note_turn(judged, micros, side, &heard, frame);
+        Exchange {
+            heard,
+            asked,
+            owed,
+            certain: known && !(late || missing),
+            breach,
+            awaited,
+        }
+    }
+
     /// Takes a frame of the channel by an end. `answer`: how long an answer may take, in ms;
     /// `started`: the stamp at which the recording began.
-    #[tactic(auto, unfolding(crate::specs::Dialogues::exchange_in, crate::specs::Dialogues::dialogue_heard))]
+    #[tactic(auto, unfolding(crate::specs::Dialogues::exchange_in, crate::specs::Dialogues::dialogue_heard), using(crate::proofs::ChannelAside::exchange_aside, crate::proofs::ChannelAside::dialogue_aside))]
     pub fn hear(
         &mut self,
         answer: u32,
@@ -586,45 +668,8 @@ impl Dialogue {
         ensures exchange { result ≡ exchange_in answer started self.old micros side frame.now }
         ensures next { self.new ≡ dialogue_heard answer started self.old micros side frame.now }
     {
-        let owed = self.owes(answer, started);
-        let known = self.is_certain(answer, started, micros);
-        let asked = self.asked;
-        let awaited = awaited_for(self.newest, self.requested, micros);
-        let quiet = owes_nothing(self.newest);
-        let doubts = self.doubts_request(answer, micros, frame);
         let heard = self.channel.take(micros, side, frame);
-        let breach = breach_at(self.newest, side, &heard, frame);
-        let late = is_late_answer(side, &heard, frame);
-        let missing = self.misses_request(answer, micros, side, heard.what, frame);
-        let turns = self.is_in_turn(answer, started, side, heard.what, frame);
-        let other = names_other(&heard.ended, frame);
-        let leaves = leaves_slow(other, self.newest, &heard.ended);
-        self.slow = self.slow.after_answer(late, turns).after(leaves, micros);
-        self.asked = asked_after(heard.what, micros, frame);
-        self.entry = entry_after(heard.what, frame, self.entry);
-        self.doubted = doubted_after(
-            owed,
-            quiet,
-            doubts,
-            side,
-            &heard,
-            frame,
-            self.doubted,
-            micros,
-        );
-        let left = leaves_block(other, &heard.ended);
-        self.sub_block = sub_block_after(side, left, heard.what, byte_at(frame, 0), self.sub_block);
-        let judged = self.is_certain(answer, started, micros);
-        self.newest = newest_heard(judged, side, heard.what, frame, self.newest);
-        self.requested = requested_after(side, micros, self.requested);
-        Exchange {
-            heard,
-            asked,
-            owed,
-            certain: known && !(late || missing),
-            breach,
-            awaited,
-        }
+        self.settle(answer, started, micros, side, heard, frame)
     }
 
     /// The request wasn't answered in time, and may be answered later.
