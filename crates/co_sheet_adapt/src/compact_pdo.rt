@@ -420,7 +420,7 @@ fn push_words(alloc: Global, text: &mut Vec<u8>, index: u16) -> Result<(), Alloc
             index,
             sub: before + 1,
         };
-        push_part(alloc, text, key, Part::MappingWord)?;
+        attempt!(push_part(alloc, text, key, Part::MappingWord));
     }
     Ok(())
 }

@@ -109,7 +109,7 @@ impl<'a> Texts<'a> {
             texts: IndexMap::new(alloc),
         };
         for group in groups {
-            texts.add_named(group, word)?;
+            attempt!(texts.add_named(group, word));
         }
         Ok(texts)
     }

@@ -380,9 +380,9 @@ fn push_sections<'a>(
     ensures { OnOk result (map piece_view pieces.new.items
         ≡ map piece_view pieces.old.items ++ sections_pieces (groups_of (map line_view lines.now))) }
 {
-    let groups = groups_in(alloc, lines)?;
+    let groups = attempt_in_memory!(groups_in(alloc, lines));
     let sections = groups.as_slice();
-    let tables = Tables::of(alloc, sections)?;
+    let tables = attempt_in_memory!(Tables::of(alloc, sections));
     tables.push_groups(alloc, pieces, sections)
 }
 
@@ -393,7 +393,7 @@ pub(crate) fn pieces_of<'a>(alloc: Global, lines: &[Line<'a>]) -> Result<Vec<Pie
         map piece_view pieces.items ≡ all_pieces (map line_view lines.now)) }
 {
     let mut pieces = Vec::new(alloc);
-    push_kept(&mut pieces, before_sections(lines))?;
-    push_sections(alloc, &mut pieces, lines)?;
+    attempt_in_memory!(push_kept(&mut pieces, before_sections(lines)));
+    attempt!(push_sections(alloc, &mut pieces, lines));
     Ok(pieces)
 }

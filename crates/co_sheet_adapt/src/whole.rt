@@ -2,6 +2,8 @@
 
 ghost use Rattle.std.specs.Prelude.{◌≡◌, ◌++◌, ◌≤◌, length, map, option_map, IfOk, IfSome, OnOk};
 ghost use Rattle.std.specs.List.{flat_map};
+ghost use Rattle.co_sheet_text.specs.Text.{lines_of};
+ghost use Rattle.co_sheet_changes.specs.Groups.{groups_of};
 ghost use Rattle.co_sheet_changes.specs.Views.{group_view, line_view};
 ghost use Rattle.co_sheet_adapt.specs.Expanded.{
   as_read,
@@ -152,6 +154,26 @@ fn lines_as_read<'a>(alloc: Global, lines: &[Line<'a>]) -> Result<Vec<Line<'a>>,
     Ok(made)
 }
 
+// the sections of the compact forms of lines
+fn sections_of(alloc: Global, lines: &[Line<'_>]) -> Result<Option<Vec<u8>>, AllocError>
+    ensures { IfOk result (λ made. option_map (λ v. v.items) made
+        ≡ if_fits (compact_sections (groups_of (map as_read (map line_view lines.now))))) }
+{
+    let read = attempt!(lines_as_read(alloc, lines));
+    let groups = attempt!(groups_in(alloc, read.as_slice()));
+    compact_sections(alloc, groups.as_slice())
+}
+
+// the sections of the compact forms of a text
+fn sections_in(alloc: Global, text: &[u8]) -> Result<Option<Vec<u8>>, AllocError>
+    requires { length text.now ≤ 1048576 }
+    ensures { IfOk result (λ made. option_map (λ v. v.items) made
+        ≡ if_fits (compact_sections (groups_of (map as_read (lines_of text.now))))) }
+{
+    let lines = attempt!(lines_in(alloc, text));
+    sections_of(alloc, lines.as_slice())
+}
+
 /// A text with the sections that its compact forms give at its end (CiA 306, compact storage): those
 /// of CompactSubObj and of CompactPDO, as `adapt` writes them, but each type and each value as the
 /// sheet has it. A section that is there already comes first, and what follows a section line without
@@ -163,10 +185,7 @@ pub fn expanded(alloc: Global, text: &[u8]) -> Result<Option<Vec<u8>>, AllocErro
     ensures text { IfOk result (λ made. option_map (λ v. v.items) made ≡ expanded text.now) }
     ensures small { IfOk result (λ made. IfSome made (λ whole. length whole.items ≤ 1048576)) }
 {
-    let lines = attempt!(lines_in(alloc, text));
-    let read = attempt!(lines_as_read(alloc, lines.as_slice()));
-    let groups = attempt!(groups_in(alloc, read.as_slice()));
-    match attempt!(compact_sections(alloc, groups.as_slice())) {
+    match attempt!(sections_in(alloc, text)) {
         Some(sections) => {
             let whole = attempt!(with_sections(alloc, text, sections.as_slice()));
             Ok(if_fits(whole))

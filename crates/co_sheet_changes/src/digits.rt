@@ -15,7 +15,7 @@ fn push_hexadecimal(text: &mut String, count: u8, number: u64) -> Result<(), All
     if count == 0 {
         return Ok(());
     }
-    push_hexadecimal(text, count - 1, number / 16)?;
+    attempt!(push_hexadecimal(text, count - 1, number / 16));
     push_digit(text, (number % 16) as u8)
 }
 
@@ -24,8 +24,8 @@ pub fn hexadecimal(alloc: Global, count: u8, number: u64) -> Result<Vec<u8>, All
     ensures { IfOk result (λ made. made.items ≡ codes "0x" ++ digits_text 16 count number) }
 {
     let mut text = String::new(alloc);
-    text.push_str("0x")?;
-    push_hexadecimal(&mut text, count, number)?;
+    attempt!(text.push_str("0x"));
+    attempt!(push_hexadecimal(&mut text, count, number));
     Ok(text.into_bytes())
 }
 
@@ -34,6 +34,6 @@ pub fn push_number(alloc: Global, text: &mut Vec<u8>, number: u64) -> Result<(),
     ensures { OnOk result (text.new.items ≡ text.old.items ++ decimal number) }
 {
     let mut digits = String::new(alloc);
-    push_decimal(&mut digits, number)?;
+    attempt!(push_decimal(&mut digits, number));
     text.extend_from_slice(digits.as_bytes())
 }

@@ -64,7 +64,7 @@ fn is_forced_limit(data_type: Option<DataType>, name: &[u8], value: &[u8]) -> bo
 fn as_comment(alloc: Global, name: &[u8], value: &[u8]) -> Result<Vec<u8>, AllocError>
     ensures { IfOk result (λ made. made.items ≡ as_comment name.now value.now) }
 {
-    let line = assigned(alloc, name, value)?;
+    let line = attempt!(assigned(alloc, name, value));
     joined(alloc, b";", line.as_slice(), b"")
 }
 
@@ -73,7 +73,7 @@ fn without_bit_30(alloc: Global, word: u64) -> Result<Option<Vec<u8>>, AllocErro
     ensures { IfOk result (λ made. option_map (λ v. v.items) made ≡ without_bit_30 word) }
 {
     if word < 0x1_0000_0000 && word / 0x4000_0000 % 2 == 1 {
-        Ok(Some(hexadecimal(alloc, 8, word - 0x4000_0000)?))
+        Ok(Some(attempt!(hexadecimal(alloc, 8, word - 0x4000_0000))))
     } else {
         Ok(None)
     }
@@ -86,7 +86,7 @@ fn sync_change(alloc: Global, name: &[u8], value: &[u8]) -> Result<Option<Mended
     let Ok(word) = unsigned_number(value) else {
         return Ok(None);
     };
-    let anew = without_bit_30(alloc, word)?;
+    let anew = attempt!(without_bit_30(alloc, word));
     with_value(alloc, ChangeKind::ForcedSync, name, anew)
 }
 
@@ -107,7 +107,7 @@ fn mapping_change(
         option_map mended_view made ≡ mapping_change is_at_fault name.now value.now) }
 {
     if is_at_fault && is_count(name, value) {
-        let new = assigned(alloc, name, b"0")?;
+        let new = attempt!(assigned(alloc, name, b"0"));
         let kind = ChangeKind::ForcedMapping;
         Ok(Some(Mended { kind, new }))
     } else {
@@ -155,7 +155,7 @@ pub(crate) fn forced_change(
         ≡ forced_change mappings.now kind data_type name.now value.now) }
 {
     if is_forced_limit(data_type, name, value) {
-        let new = as_comment(alloc, name, value)?;
+        let new = attempt!(as_comment(alloc, name, value));
         let kind = ChangeKind::ForcedLimit;
         return Ok(Some(Mended { kind, new }));
     }

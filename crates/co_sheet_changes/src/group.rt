@@ -34,7 +34,7 @@ pub fn without_blanks(alloc: Global, text: &[u8]) -> Result<Vec<u8>, AllocError>
 fn kind_without_blanks(alloc: Global, name: &[u8]) -> Result<SectionKind, AllocError>
     ensures { IfOk result (λ kind. kind ≡ kind_of (without_blanks name.now)) }
 {
-    let name = without_blanks(alloc, name)?;
+    let name = attempt!(without_blanks(alloc, name));
     Ok(SectionKind::of_name(name.as_slice()))
 }
 
@@ -74,13 +74,14 @@ fn push_begun<'s, 'a>(
     let Some(name) = head.section() else {
         return Ok(());
     };
-    let kind = kind_without_blanks(alloc, name)?;
-    groups.push(Group {
+    let kind = attempt!(kind_without_blanks(alloc, name));
+    let group = Group {
         kind,
         name,
         head: *head,
         body: before_sections(lines),
-    })?;
+    };
+    attempt_in_memory!(groups.push(group));
     Ok(())
 }
 
@@ -95,7 +96,7 @@ pub fn groups_in<'s, 'a>(
     let mut groups = Vec::new(alloc);
     for (place, head) in lines.iter().enumerate() {
         let (_, others) = lines.split_at(place + 1);
-        push_begun(alloc, &mut groups, head, others)?;
+        attempt!(push_begun(alloc, &mut groups, head, others));
     }
     Ok(groups)
 }
@@ -119,6 +120,9 @@ impl<'a> Group<'_, 'a> {
     pub fn number(&self, name: &[u8]) -> Option<u64>
         ensures { result ≡ number_in_group name.now (group_view self.now) }
     {
-        unsigned_number(self.value(name)?).ok()
+        match self.value(name) {
+            Some(value) => unsigned_number(value).ok(),
+            None => None,
+        }
     }
 }

@@ -3,6 +3,26 @@
 //! forced), and the original types of a text that was adapted.
 #![tactic(auto)]
 
+// As `?`, without a conversion of the error: a `match` is one step of a proof where `?` is three.
+macro_rules! attempt {
+    ($result:expr) => {
+        match $result {
+            Ok(value) => value,
+            Err(fault) => return Err(fault),
+        }
+    };
+}
+
+// The same of what couldn't be put into a list: memory ran out.
+macro_rules! attempt_in_memory {
+    ($result:expr) => {
+        match $result {
+            Ok(value) => value,
+            Err(_) => return Err(AllocError),
+        }
+    };
+}
+
 mod change;
 mod digits;
 mod fault;

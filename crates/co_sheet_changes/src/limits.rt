@@ -35,7 +35,10 @@ pub fn is_preset(name: &[u8]) -> bool
 pub fn data_type_of(group: &Group) -> Option<DataType>
     ensures { result ≡ data_type_of (group_view group.now) }
 {
-    data_type_with(group.number(b"DataType")?)
+    match group.number(b"DataType") {
+        Some(code) => data_type_with(code),
+        None => None,
+    }
 }
 
 /// 2 to the power of `bits`.

@@ -28,7 +28,7 @@ pub fn lines_in(alloc: Global, text: &[u8]) -> Result<Vec<Line<'_>>, AllocError>
     let mut rest = without_mark(text);
     let mut number = 1;
     while let Some((bytes, others)) = split_line(rest) {
-        lines.push(Line { number, bytes })?;
+        attempt_in_memory!(lines.push(Line { number, bytes }));
         rest = others;
         number += 1;
     }
@@ -40,7 +40,9 @@ fn property_of(text: &[u8]) -> Option<(&[u8], &[u8])>
     ensures { option_map pair_view result
         ≡ property_of text.now (trim (before_first is_equals text.now)) }
 {
-    let (name, value) = split_at_first(text, b'=')?;
+    let Some((name, value)) = split_at_first(text, b'=') else {
+        return None;
+    };
     let name = trim(name);
     let value = trim(value);
     if name.is_empty() || value.is_empty() {
@@ -66,10 +68,10 @@ impl<'a> Line<'a> {
         ensures { option_copied result ≡ section_in (line_view self.now) }
     {
         match trim(self.bytes) {
-            [b'[', rest @ ..] => {
-                let (name, _) = split_at_first(rest, b']')?;
-                Some(trim(name))
-            }
+            [b'[', rest @ ..] => match split_at_first(rest, b']') {
+                Some((name, _)) => Some(trim(name)),
+                None => None,
+            },
             _ => None,
         }
     }

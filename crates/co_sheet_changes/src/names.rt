@@ -46,7 +46,10 @@ fn if_utf8(text: &[u8]) -> Option<&str>
 pub fn shown_name<'a>(row: &EntryRow<'a>) -> Option<&'a str>
     ensures { option_copied result ≡ shown_name (row_view row.now) }
 {
-    if_utf8(row.name?)
+    match row.name {
+        Some(name) => if_utf8(name),
+        None => None,
+    }
 }
 
 // the name of the entry of a key, if it has one in UTF-8
@@ -54,7 +57,10 @@ fn name_at<'a>(rows: &[EntryRow<'a>], key: Key) -> Option<&'a str>
     requires { AllPairs (λ e f. is_key_before e.key f.key ≡ true) rows.now }
     ensures { option_copied result ≡ name_at (map row_view rows.now) key }
 {
-    if_utf8(row_at(rows, key)?.name?)
+    match row_at(rows, key) {
+        Some(row) => shown_name(row),
+        None => None,
+    }
 }
 
 impl<'s, 'a> Names<'s, 'a> {
@@ -67,7 +73,10 @@ impl<'s, 'a> Names<'s, 'a> {
         if self.only.is_some_and(|one| one != node) {
             return None;
         }
-        row_at(self.sheet?.entries(), key)
+        match self.sheet {
+            Some(sheet) => row_at(sheet.entries(), key),
+            None => None,
+        }
     }
 
     /// The code of an entry's original data type, as `0x0008`, if the data sheet was adapted
@@ -75,7 +84,10 @@ impl<'s, 'a> Names<'s, 'a> {
     pub fn original(self, row: &EntryRow<'_>) -> Option<&'static [u8]>
         ensures { option_copied result ≡ original_of (names_view self.entry) (row_view row.now) }
     {
-        self.originals?.at(row.line)
+        match self.originals {
+            Some(originals) => originals.at(row.line),
+            None => None,
+        }
     }
 
     /// The name of a node's entry, if it has one in UTF-8.
@@ -86,6 +98,9 @@ impl<'s, 'a> Names<'s, 'a> {
         if self.only.is_some_and(|one| one != node) {
             return None;
         }
-        name_at(self.sheet?.entries(), key)
+        match self.sheet {
+            Some(sheet) => name_at(sheet.entries(), key),
+            None => None,
+        }
     }
 }

@@ -27,8 +27,10 @@ fn original_text(original: u64, given: u64) -> Option<&'static [u8]>
 fn original_of(group: &Group) -> Option<&'static [u8]>
     ensures { option_copied result ≡ original_of (group_view group.now) }
 {
-    let original = group.number(b"OriginalDataType")?;
-    original_text(original, group.number(b"DataType")?)
+    match (group.number(b"OriginalDataType"), group.number(b"DataType")) {
+        (Some(original), Some(given)) => original_text(original, given),
+        _ => None,
+    }
 }
 
 /// The original data types of an adapted sheet. A section's `OriginalDataType` names the type that
@@ -50,7 +52,7 @@ impl Originals {
         };
         let line = group.head.number;
         if self.texts.get(&line).is_none() {
-            self.texts.insert(line, text)?;
+            attempt_in_memory!(self.texts.insert(line, text));
         }
         Ok(())
     }
@@ -65,7 +67,7 @@ impl Originals {
             texts: IndexMap::new(alloc),
         };
         for group in groups {
-            made.add(group)?;
+            attempt!(made.add(group));
         }
         Ok(made)
     }
@@ -76,8 +78,8 @@ impl Originals {
         requires { length text.now ≤ 1048576 }
         ensures { IfOk result (λ made. (line : _) → text_at made line ≡ original_at text.now line) }
     {
-        let lines = lines_in(alloc, text)?;
-        let groups = groups_in(alloc, lines.as_slice())?;
+        let lines = attempt!(lines_in(alloc, text));
+        let groups = attempt!(groups_in(alloc, lines.as_slice()));
         Originals::of(alloc, groups.as_slice())
     }
 
@@ -85,6 +87,6 @@ impl Originals {
     pub fn at(&self, line: usize) -> Option<&'static [u8]>
         ensures { option_copied result ≡ text_at self.now line }
     {
-        Some(*self.texts.get(&line)?)
+        self.texts.get(&line).copied()
     }
 }

@@ -9,6 +9,20 @@ use crate::change::{Change, ChangeKind, Mended, Piece};
 use crate::line::Line;
 use std::alloc::{AllocError, Global};
 
+fn push_three(
+    text: &mut Vec<u8>,
+    first: &[u8],
+    second: &[u8],
+    third: &[u8],
+) -> Result<(), AllocError>
+    ensures { OnOk result
+        (text.new.items ≡ text.old.items ++ first.now ++ second.now ++ third.now) }
+{
+    attempt!(text.extend_from_slice(first));
+    attempt!(text.extend_from_slice(second));
+    text.extend_from_slice(third)
+}
+
 /// Three texts, one after another. `Err`: out of memory.
 pub fn joined(
     alloc: Global,
@@ -19,9 +33,7 @@ pub fn joined(
     ensures { IfOk result (λ made. made.items ≡ first.now ++ second.now ++ third.now) }
 {
     let mut made = Vec::new(alloc);
-    made.extend_from_slice(first)?;
-    made.extend_from_slice(second)?;
-    made.extend_from_slice(third)?;
+    attempt!(push_three(&mut made, first, second, third));
     Ok(made)
 }
 
@@ -30,8 +42,8 @@ pub fn joined(
 pub fn assigned(alloc: Global, name: &[u8], value: &[u8]) -> Result<Vec<u8>, AllocError>
     ensures { IfOk result (λ made. made.items ≡ assigned name.now value.now) }
 {
-    let mut made = joined(alloc, name, b"=", value)?;
-    made.push(b'\n')?;
+    let mut made = attempt!(joined(alloc, name, b"=", value));
+    attempt_in_memory!(made.push(b'\n'));
     Ok(made)
 }
 
@@ -48,7 +60,7 @@ pub fn with_value(
     let Some(value) = value else {
         return Ok(None);
     };
-    let new = assigned(alloc, name, value.as_slice())?;
+    let new = attempt!(assigned(alloc, name, value.as_slice()));
     Ok(Some(Mended { kind, new }))
 }
 
@@ -73,7 +85,7 @@ pub fn push_kept<'a>(pieces: &mut Vec<Piece<'a>>, lines: &[Line<'a>]) -> Result<
         ≡ map piece_view pieces.old.items ++ map kept_piece (map line_view lines.now)) }
 {
     for line in lines {
-        pieces.push(Piece::Kept(line.bytes))?;
+        attempt_in_memory!(pieces.push(Piece::Kept(line.bytes)));
     }
     Ok(())
 }
@@ -83,9 +95,8 @@ fn push_piece(text: &mut Vec<u8>, piece: &Piece) -> Result<(), AllocError>
 {
     match piece {
         Piece::Kept(line) => {
-            text.extend_from_slice(line)?;
-            text.push(b'\n')?;
-            Ok(())
+            attempt!(text.extend_from_slice(line));
+            text.extend_from_slice(b"\n")
         }
         Piece::Changed(change) => text.extend_from_slice(change.new.as_slice()),
         Piece::Added { text: added, .. } => text.extend_from_slice(added.as_slice()),
@@ -98,7 +109,7 @@ pub fn push_pieces(text: &mut Vec<u8>, pieces: &[Piece]) -> Result<(), AllocErro
         (text.new.items ≡ text.old.items ++ flat_map written (map piece_view pieces.now)) }
 {
     for piece in pieces {
-        push_piece(text, piece)?;
+        attempt!(push_piece(text, piece));
     }
     Ok(())
 }

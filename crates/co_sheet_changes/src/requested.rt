@@ -66,9 +66,10 @@ fn numbers_of(alloc: Global, request: Request<'_>, group: &Group) -> Result<bool
 fn facts_of(alloc: Global, request: Request<'_>, group: &Group) -> Result<Facts, AllocError>
     ensures { IfOk result (λ facts. facts ≡ facts_of (request_view request.entry) (group_view group.now)) }
 {
+    let numbers = attempt!(numbers_of(alloc, request, group));
     Ok(Facts {
         kind: group.kind,
-        numbers: numbers_of(alloc, request, group)?,
+        numbers,
         data_type: limited_type(group),
     })
 }
@@ -105,10 +106,10 @@ fn push_line<'a>(
         ++ line_piece (request_view request.entry) facts.now (line_view line.now) ∷ []) }
 {
     let mended = match line.property() {
-        Some((name, value)) => change_in(alloc, request, facts, name, value)?,
+        Some((name, value)) => attempt!(change_in(alloc, request, facts, name, value)),
         None => None,
     };
-    pieces.push(piece_of(line, mended))?;
+    attempt_in_memory!(pieces.push(piece_of(line, mended)));
     Ok(())
 }
 
@@ -124,7 +125,7 @@ fn push_lines<'a>(
         ++ map (line_piece (request_view request.entry) facts.now) (map line_view lines.now)) }
 {
     for line in lines {
-        push_line(alloc, pieces, request, facts, line)?;
+        attempt!(push_line(alloc, pieces, request, facts, line));
     }
     Ok(())
 }
@@ -138,8 +139,8 @@ fn push_group<'a>(
     ensures { OnOk result (map piece_view pieces.new.items ≡ map piece_view pieces.old.items
         ++ group_pieces (request_view request.entry) (group_view group.now)) }
 {
-    let facts = facts_of(alloc, request, group)?;
-    pieces.push(Piece::Kept(group.head.bytes))?;
+    let facts = attempt!(facts_of(alloc, request, group));
+    attempt_in_memory!(pieces.push(Piece::Kept(group.head.bytes)));
     push_lines(alloc, pieces, request, &facts, group.body)
 }
 
@@ -153,7 +154,7 @@ fn push_groups<'a>(
         ++ flat_map (group_pieces (request_view request.entry)) (map group_view groups.now)) }
 {
     for group in groups {
-        push_group(alloc, pieces, request, group)?;
+        attempt!(push_group(alloc, pieces, request, group));
     }
     Ok(())
 }
@@ -168,8 +169,8 @@ fn push_all<'a>(
     ensures { OnOk result (map piece_view pieces.new.items ≡ map piece_view pieces.old.items
         ++ pieces_on (request_view request.entry) (map line_view lines.now)) }
 {
-    push_kept(pieces, before_sections(lines))?;
-    let groups = groups_in(alloc, lines)?;
+    attempt!(push_kept(pieces, before_sections(lines)));
+    let groups = attempt!(groups_in(alloc, lines));
     push_groups(alloc, pieces, request, groups.as_slice())
 }
 
@@ -186,9 +187,9 @@ fn requested_pieces<'a>(
     let Some(request) = request else {
         return Ok(Vec::new(alloc));
     };
-    let lines = lines_in(alloc, text)?;
+    let lines = attempt!(lines_in(alloc, text));
     let mut pieces = Vec::new(alloc);
-    push_all(alloc, &mut pieces, request, lines.as_slice())?;
+    attempt!(push_all(alloc, &mut pieces, request, lines.as_slice()));
     Ok(pieces)
 }
 
@@ -209,17 +210,24 @@ fn has_changes(pieces: &[Piece<'_>]) -> bool
     false
 }
 
-// a text by its lines
+// appends a text by its lines
+fn push_with(made: &mut Vec<u8>, pieces: &[Piece<'_>], text: &[u8]) -> Result<(), AllocError>
+    ensures { OnOk result (made.new.items
+        ≡ made.old.items ++ text_with (map piece_view pieces.now) text.now) }
+{
+    if has_changes(pieces) {
+        push_pieces(made, pieces)
+    } else {
+        made.extend_from_slice(text)
+    }
+}
+
 fn text_with(alloc: Global, pieces: &[Piece<'_>], text: &[u8]) -> Result<Vec<u8>, AllocError>
     ensures { IfOk result (λ made.
         made.items ≡ text_with (map piece_view pieces.now) text.now) }
 {
     let mut made = Vec::new(alloc);
-    if has_changes(pieces) {
-        push_pieces(&mut made, pieces)?;
-    } else {
-        made.extend_from_slice(text)?;
-    }
+    attempt!(push_with(&mut made, pieces, text));
     Ok(made)
 }
 
@@ -241,8 +249,12 @@ pub fn on_request<'a>(
     if text.len() > GREATEST_SIZE {
         return Err(AdaptFault::TooLarge);
     }
-    let pieces = requested_pieces(alloc, text, request)?;
-    let made = text_with(alloc, pieces.as_slice(), text)?;
+    let Ok(pieces) = requested_pieces(alloc, text, request) else {
+        return Err(AdaptFault::Memory);
+    };
+    let Ok(made) = text_with(alloc, pieces.as_slice(), text) else {
+        return Err(AdaptFault::Memory);
+    };
     let has_changes = has_changes(pieces.as_slice());
     Ok(Requested {
         text: made,

@@ -71,8 +71,10 @@ fn number_anew(zeros: LeadingZeros, value: &[u8]) -> Option<Anew<'_>>
         [b'-', digits @ ..] => (digits, Beside::Minus),
         _ => (value, Beside::Nothing),
     };
-    let number = digits_anew(zeros, digits)?;
-    Some(Anew { number, beside })
+    match digits_anew(zeros, digits) {
+        Some(number) => Some(Anew { number, beside }),
+        None => None,
+    }
 }
 
 fn is_node_id(part: &[u8]) -> bool
@@ -91,8 +93,10 @@ fn sum_anew<'v>(zeros: LeadingZeros, left: &'v [u8], right: &'v [u8]) -> Option<
     } else {
         return None;
     };
-    let number = digits_anew(zeros, digits)?;
-    Some(Anew { number, beside })
+    match digits_anew(zeros, digits) {
+        Some(number) => Some(Anew { number, beside }),
+        None => None,
+    }
 }
 
 // a value without its leading zero; `None` where it has none, or a digit that isn't one of the base
@@ -110,7 +114,7 @@ fn anew_text(alloc: Global, anew: Anew<'_>) -> Result<Vec<u8>, AllocError>
     ensures { IfOk result (λ made. made.items ≡ anew_text anew.entry) }
 {
     let mut digits = String::new(alloc);
-    push_decimal(&mut digits, anew.number)?;
+    attempt!(push_decimal(&mut digits, anew.number));
     let digits = digits.as_bytes();
     match anew.beside {
         Beside::Nothing => joined(alloc, b"", b"", digits),
@@ -151,7 +155,10 @@ fn is_number_type(alloc: Global, zeros: LeadingZeros, value: &[u8]) -> Result<bo
     ensures { IfOk result (λ is. is ≡ is_number_type zeros value.now) }
 {
     match value_anew(zeros, value) {
-        Some(anew) => Ok(is_number_text(anew_text(alloc, anew)?.as_slice())),
+        Some(anew) => {
+            let text = attempt!(anew_text(alloc, anew));
+            Ok(is_number_text(text.as_slice()))
+        }
         None => Ok(is_number_text(value)),
     }
 }
@@ -200,8 +207,8 @@ pub(crate) fn zero_change(
     let Some(anew) = value_anew(zeros, value) else {
         return Ok(None);
     };
-    let value = anew_text(alloc, anew)?;
-    let new = assigned(alloc, name, value.as_slice())?;
+    let value = attempt!(anew_text(alloc, anew));
+    let new = attempt!(assigned(alloc, name, value.as_slice()));
     let kind = ChangeKind::LeadingZero;
     Ok(Some(Mended { kind, new }))
 }

@@ -21,10 +21,10 @@ fn set_refused_line(text: &mut String, number: usize, code: AbortCode) -> Result
     ensures { OnOk result (string_bytes text.new ≡ refused_line number code.0) }
 {
     text.clear();
-    text.push_str("; line ")?;
-    push_decimal(text, number as u64)?;
-    text.push_str(" refused ")?;
-    push_u32(text, code.0)?;
+    attempt!(text.push_str("; line "));
+    attempt!(push_decimal(text, number as u64));
+    attempt!(text.push_str(" refused "));
+    attempt!(push_u32(text, code.0));
     text.push('\n')
 }
 

@@ -53,7 +53,7 @@ fn bytes_in(alloc: Global, word: &str) -> Result<Option<Vec<u8>>, AllocError>
     if pairs.len() > MOST_BYTES {
         return Ok(None);
     }
-    Ok(Some(collected(alloc, pairs)?))
+    Ok(Some(attempt!(collected(alloc, pairs))))
 }
 
 /// A download that a client loops against a node.

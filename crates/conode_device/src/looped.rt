@@ -25,7 +25,7 @@ use std::io::Write;
 fn push_requests(text: &mut String, sent: u64) -> Result<(), AllocError>
     ensures { OnOk result (string_bytes text.new ≡ string_bytes text.old ++ requests_text sent) }
 {
-    push_decimal(text, sent)?;
+    attempt!(push_decimal(text, sent));
     text.push_str(" requests\n")
 }
 
@@ -39,13 +39,13 @@ fn set_last_line(text: &mut String, state: ClientState, sent: u64) -> Result<(),
     match state {
         ClientState::Waiting => text.push_str("; gave up\n"),
         ClientState::Done => {
-            text.push_str("; done, ")?;
+            attempt!(text.push_str("; done, "));
             push_requests(text, sent)
         }
         ClientState::Failed(code) => {
-            text.push_str("; failed ")?;
-            push_u32(text, code.0)?;
-            text.push_str(", ")?;
+            attempt!(text.push_str("; failed "));
+            attempt!(push_u32(text, code.0));
+            attempt!(text.push_str(", "));
             push_requests(text, sent)
         }
     }

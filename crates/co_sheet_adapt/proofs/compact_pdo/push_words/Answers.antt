@@ -8,5 +8,5 @@ use Rattle.co_sheet_adapt.proofs.compact_pdo.push_words.Goals as goal
 pub loop-before-preserved : goal.loop-before-preserved
 loop-before-preserved c =
     let before = c.loop-before.text.items in
-    c.in_ok-push_part.ensures ∙ append_assoc before (sub_head (record { index = c.args.index; sub = c.loop-before.before + 1 })) (keys_of MappingWord)
+    c.in-Ok.ensures ∙ append_assoc before (sub_head (record { index = c.args.index; sub = c.loop-before.before + 1 })) (keys_of MappingWord)
     ∙ section_added word_section c.args.index c.loop-before.before c.args.text.now.items before c.loop-before.invariant
