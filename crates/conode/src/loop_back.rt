@@ -26,5 +26,15 @@ pub(crate) fn loop_back<O: Write, E: Write>(
     let node = words.device.dictionary.node;
     let config = config_of(&words.device);
     let mode = transfer_mode(words.mode);
-    loop_files(rt, words.sheet, words.key, words.bytes, node, mode, &config, out, err)
+    loop_files(
+        rt,
+        words.sheet,
+        words.key,
+        words.bytes,
+        node,
+        mode,
+        &config,
+        out,
+        err,
+    )
 }

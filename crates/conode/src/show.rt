@@ -21,5 +21,12 @@ pub(crate) fn show<O: Write, E: Write>(
     out: &mut O,
     err: &mut E,
 ) -> ExitCode {
-    show_file(rt, words.sheet, shown_form(words.shown_as), words.node, out, err)
+    show_file(
+        rt,
+        words.sheet,
+        shown_form(words.shown_as),
+        words.node,
+        out,
+        err,
+    )
 }

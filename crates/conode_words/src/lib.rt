@@ -24,7 +24,7 @@ pub use command_line::task;
 pub use help::VERSION;
 pub use tasks::{
     AdaptWords, CheckWords, Colours, CompareWords, ConvertWords, DecodeWords, DeviceWords,
-    DictionaryWords, ExplainWords, Format, LeadingZeros, LinesAs, LintWords, LogForm, LoopWords, Mode,
-    OnlyWords, ReplayWords, ReportAs, RoomWords, ShowWords, ShownAs, Stamps, StatsWords, Task,
-    TimingWords,
+    DictionaryWords, ExplainWords, Format, LeadingZeros, LinesAs, LintWords, LogForm, LoopWords,
+    Mode, OnlyWords, ReplayWords, ReportAs, RoomWords, ShowWords, ShownAs, Stamps, StatsWords,
+    Task, TimingWords,
 };
