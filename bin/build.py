@@ -3,6 +3,9 @@
 every x86-64 processor.
 
     build.py conode [-- WORD..]          the program, crates/conode/out/release/conode, which then runs on the words
+    build.py conode --only COMMAND,.. [-- WORD..]
+                                         the program with these commands alone, crates/conode/out/part/COMMAND-../conode, of the crates
+                                         that they stand on: any other command ends with status 2 and says how to build it
     build.py bafokun                     the static library for C, crates/bafokun/out/release/libbafokun.a
     build.py bafokun --target TRIPLE     the same for another processor, crates/bafokun/out/TRIPLE/libbafokun.a
 
@@ -26,6 +29,8 @@ MEASURED = f"{ROOT}/release/proving.txt"
 MEASURED_HERE = f"{ROOT}/crates/conode/out/proving.txt"
 # The oldest x86-64 processor: rt builds for a later one.
 CPU = ["--cpu=x86-64"]
+# The module of the program that a command is in, where it hasn't the command's name.
+MODULES = {"loop": "loop_back"}
 # The other processors that the library is built for, by the kit's name of the target.
 TARGETS = ["aarch64-unknown-linux-gnu"]
 # The speed of a machine on which the measured seconds hold.
@@ -47,7 +52,7 @@ class Crate:
         self.is_program = os.path.isfile(f"{self.folder}/src/main.rt")
         self.is_archive = "staticlib" in words
         self.deps, self.below = [], []
-        self.seconds, self.megabytes = 0.0, MEGABYTES
+        self.seconds, self.megabytes, self.share = 0.0, MEGABYTES, 1.0
 
     def made(self):
         """The path of what is built of the crate."""
@@ -71,6 +76,11 @@ class Crate:
     def kit(self):
         """The path of a note of the kit's version that it was built with."""
         return f"{self.folder}/out/kit"
+
+    def note(self, kit):
+        """Notes which version of the kit built it."""
+        with open(self.kit(), "w", encoding="utf-8") as it:
+            it.write(kit)
 
     def is_current(self, kit):
         """Whether it is built, neither a file of the crate nor a library below it is newer, and this version of the kit built it."""
@@ -120,8 +130,89 @@ class Crate:
         return status
 
 
-def read_crates(wanted, target):
-    """The crates of the repository that one stands on and then itself, lowest first; that one for a target."""
+class Part(Crate):
+    """The program with some of its commands: its code without the modules of the others, and the crates that this code names."""
+
+    def __init__(self, whole, commands):
+        super().__init__(whole.name, [], whole.uses)
+        known = self.known(f"{whole.folder}/src")
+        for it in commands:
+            if it not in known:
+                raise ValueError(f"there is no command {it}: they are {', '.join(known)}")
+        self.src = f"{whole.folder}/src"
+        self.folder = f"{whole.folder}/out/part/{'-'.join(sorted(commands))}"
+        self.files = self.texts([MODULES.get(it, it) for it in commands], [MODULES.get(it, it) for it in known])
+        code = "".join(self.files.values())
+        self.uses = [it for it in whole.uses if re.search(rf"\b{it}::", code)]
+        self.share = len(self.uses) / len(whole.uses)
+        self.is_program = True
+
+    @staticmethod
+    def known(src):
+        """The commands, in the order of `main`: those of the variants of `Task`."""
+        with open(f"{src}/main.rt", encoding="utf-8") as it:
+            arms = re.findall(r"^        Task::\w+\(words\) => (\w+)\(rt, words, out, err\),$", it.read(), re.M)
+        names = {module: command for command, module in MODULES.items()}
+        return [names.get(it, it) for it in arms]
+
+    def texts(self, wanted, commands):
+        """By name the files of its code."""
+        texts = {}
+        for name in os.listdir(self.src):
+            with open(f"{self.src}/{name}", encoding="utf-8") as it:
+                texts[name] = it.read()
+        for it in commands:
+            if it not in wanted:
+                texts[f"{it}.rt"] = self.left_out(it, texts[f"{it}.rt"])
+        # a module that no other one uses any more goes, and perhaps one that it uses
+        while unused := [it for it in texts if it != "main.rt" and not any(f"crate::{it[:-3]}::" in text for text in texts.values())]:
+            for it in unused:
+                del texts[it]
+                texts["main.rt"] = texts["main.rt"].replace(f"mod {it[:-3]};\n", "")
+        return texts
+
+    @staticmethod
+    def left_out(module, text):
+        """The module of a command that is left out: its calls say so."""
+        command = {of: it for it, of in MODULES.items()}.get(module, module)
+        said = f"conode: this program was built without `{command}`: bin/conode --build {command} builds it\\n"
+        calls = re.findall(r"^(pub\(crate\) fn .*?) \{$.*?^\}$", text, re.M | re.S)
+        named = [it for it in re.findall(r"conode_words::\{?([^;}]*)", text)[:1] for it in re.split(r",\s*", it)]
+        uses = [f"use conode_words::{it};" for it in named if re.search(rf"\b{it}\b", "".join(calls))]
+        uses += ["use std::io::Write;", "use std::process::ExitCode;"]
+        body = f'    let _ = err.write_all(b"{said}");\n    ExitCode::from(2)\n'
+        bodies = [f"/// A command that is left out.\n{it} {{\n{body}}}\n" for it in calls]
+        return "\n".join([f"//! `{command}`, left out.\n", "\n".join(uses) + "\n", *bodies])
+
+    def write(self):
+        """Writes its code; a file that is as it was stays."""
+        os.makedirs(f"{self.folder}/src", exist_ok=True)
+        for name in os.listdir(f"{self.folder}/src"):
+            if name not in self.files:
+                os.remove(f"{self.folder}/src/{name}")
+        for name, text in self.files.items():
+            path = f"{self.folder}/src/{name}"
+            if not os.path.exists(path) or open(path, encoding="utf-8").read() != text:
+                with open(path, "w", encoding="utf-8") as it:
+                    it.write(text)
+
+    def made(self):
+        return f"{self.folder}/{self.name}"
+
+    def kit(self):
+        return f"{self.folder}/kit"
+
+    def note(self, kit):
+        """Notes the kit's version, and for `bin/conode` the files and folders that it is made of, from the root of the repository."""
+        super().note(kit)
+        own = [f"crates/{self.name}/src/{it}" for it in sorted(self.files) if "left out.\n" not in self.files[it]]
+        below = [f"crates/{it.name}/{part}" for it in self.below for part in ("src", "specs", "proofs")]
+        with open(f"{self.folder}/made-of", "w", encoding="utf-8") as it:
+            it.writelines(f"{path}\n" for path in ["crates.txt", *own, *(path for path in below if os.path.isdir(f"{ROOT}/{path}"))])
+
+
+def read_crates(wanted, target, commands=()):
+    """The crates of the repository that one stands on and then itself, lowest first; that one for a target, or with some commands."""
     crates, found = {}, []
     with open(f"{ROOT}/crates.txt", encoding="utf-8") as lines:
         for line in lines:
@@ -142,6 +233,10 @@ def read_crates(wanted, target):
 
     if wanted not in crates:
         raise ValueError(f"there is no crate {wanted}")
+    if commands:
+        if not crates[wanted].is_program:
+            raise ValueError(f"{wanted} is no program, and has no commands")
+        crates[wanted] = Part(crates[wanted], commands)
     crates[wanted].target = target
     if target and not crates[wanted].is_archive:
         raise ValueError(f"{wanted} is no static library, and is built for x86-64 alone")
@@ -190,7 +285,7 @@ def foresee(crates, rate):
     for it in crates:
         lines = sum(open(path, "rb").read().count(b"\n") for path in it.sources() if path.endswith(".rt"))
         seconds, it.megabytes = said.get(it.name, (SECONDS + SECONDS_A_LINE * lines, MEGABYTES))
-        it.seconds = seconds * rate
+        it.seconds = seconds * rate * it.share
 
 
 def write_measured(took, rate):
@@ -352,12 +447,11 @@ def build(crates, kit, version, held):
                         sys.stderr.write(it.log.read())
                         say(f"{it.crate.name} is not proved and built")
                         return False
-                    with open(it.crate.kit(), "w", encoding="utf-8") as note:
-                        note.write(version)
+                    it.crate.note(version)
                     ended += 1
                     used, foreseen = used + it.used, foreseen + it.crate.seconds
                     speed.look(1)
-                    if not it.crate.target:
+                    if not it.crate.target and it.crate.share == 1.0:
                         # (another processor's archive takes what was proved for x86-64)
                         took[it.crate.name] = it.used, it.megabytes
                         write_measured(took, speed.rate())
@@ -391,13 +485,15 @@ def lock(crates):
     return held
 
 
-def run(wanted, target, rest):
+def run(wanted, target, commands, rest):
     rt = shutil.which("rt")
     if not rt:
         say("the Rattle kit's command rt is not on the PATH")
         return 1
     page, version = (subprocess.run([rt, it], stdout=subprocess.PIPE, check=True, text=True).stdout.strip() for it in ("doc", "version"))
-    crates = read_crates(wanted, target)
+    crates = read_crates(wanted, target, commands)
+    if commands:
+        crates[-1].write()
     for number in (signal.SIGTERM, signal.SIGHUP):
         signal.signal(number, lambda number, _: sys.exit(128 + number))
     held = lock(crates)
@@ -416,11 +512,15 @@ def main(words):
     if words[1:2] == ["--target"] and words[2:3] and words[2] in TARGETS:
         target = words[2]
         del words[1:3]
+    commands = []
+    if words[1:2] == ["--only"] and words[2:3]:
+        commands = sorted({*words[2].split(",")})
+        del words[1:3]
     if not words or words[0].startswith("-") or words[1:2] not in ([], ["--"]):
-        print(f"usage: build.py CRATE [--target {'|'.join(TARGETS)}] [-- WORD..]", file=sys.stderr)
+        print(f"usage: build.py CRATE [--target {'|'.join(TARGETS)}] [--only COMMAND,..] [-- WORD..]", file=sys.stderr)
         return 2
     try:
-        return run(words[0], target, words[1:])
+        return run(words[0], target, commands, words[1:])
     except KeyboardInterrupt:
         return 130
     except OSError as error:
@@ -428,7 +528,7 @@ def main(words):
     except subprocess.CalledProcessError as error:
         say(error)
     except (KeyError, ValueError) as error:
-        say(f"crates.txt: {error}")
+        say(error if commands else f"crates.txt: {error}")
     return 1
 
 

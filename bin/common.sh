@@ -40,6 +40,16 @@ is_current() {
     [ -z "$(find "$@" -newer "$made" -print 2> /dev/null | head -n 1)" ]
 }
 
+# Whether a program with some commands is there, and nothing that it is made of, by the note beside it, is newer: is_current_part FILE
+is_current_part() {
+    made=$1
+    note=$(dirname -- "$made")/made-of
+    [ -e "$made" ] && [ -s "$note" ] || return 1
+    set --
+    while read -r path; do set -- "$@" "$root/$path"; done < "$note"
+    [ -z "$({ find "$@" -newer "$made" -print || echo gone; } 2> /dev/null | head -n 1)" ]
+}
+
 # Prints the checksum of what goes into the program and the library: the code of their crates, their lines of crates.txt, the
 # header, the heap of the library on ARM, and how its functions are aligned.
 sources_sum() (

@@ -2,5 +2,3 @@ pub mod Converting
 mod CutExamples
 mod Examples
 pub mod Seconds
-pub mod SheetWordLemmas
-mod WordExamples

@@ -1,6 +1,5 @@
 //! What the commands over recordings share: a log of another recorder converted to lines as
-//! `candump -L` writes them, where a bad line is named, and the next line is read; and the words of
-//! a command line that name data sheets, `[INTERFACE:][NODE=]FILE`, with the texts of these.
+//! `candump -L` writes them, where a bad line is named, and the next line is read.
 #![tactic(auto)]
 
 // As `?`, without a conversion of the error: a `match` is one step of a proof where `?` is three.
@@ -17,8 +16,6 @@ mod bad_lines;
 mod converted;
 mod cut_off;
 mod log_file;
-mod sheet_text;
-mod sheet_word;
 mod step;
 mod text;
 
@@ -27,6 +24,4 @@ pub use conode_logs::Form;
 pub use converted::convert;
 pub use cut_off::name_cut;
 pub use log_file::convert_file;
-pub use sheet_text::{SheetText, bad_sheet, bad_sheet_word, texts_of};
-pub use sheet_word::{SheetPart, SheetWord, SheetWordFault, sheet_words};
 pub use text::add_frame;

@@ -9,16 +9,15 @@ use crate::settings::Settings;
 use crate::sheets::{ReadSheet, add_in_order};
 use crate::writes::write_header;
 use co_sheet::{FaultKind, SheetFault, read};
-use co_sheet_changes::{AdaptFault, Originals};
-use co_sheet_mend::readable;
-use conode_convert::{SheetText, bad_sheet, bad_sheet_word, sheet_words, texts_of};
+use co_sheet_changes::Originals;
 use conode_explain_filter::{Filter, FilterFault, FilterWords};
 use conode_explain_forms::{Signal, SignalFault, channels_of, first_missing};
 use conode_explain_pdo::KnownSheet;
 use conode_explain_text::StampForm;
 use conode_io::{CmdFault, bad_word, cannot_read, flushed, stopped};
 use conode_logs::Form;
-use std::alloc::{AllocError, Global};
+use conode_sheets::{SheetText, bad_sheet, readable_texts};
+use std::alloc::Global;
 use std::fs;
 use std::io::{Input, Read, Write};
 use std::process::ExitCode;
@@ -136,28 +135,6 @@ fn explain_by<'s, 't, R: Files + AllocGlobal + Input, O: Write, E: Write>(
     explain_with(rt, path, added, known.as_slice(), form, out, err)
 }
 
-// Replaces the texts of data sheets that aren't accepted by those by which they are read all the
-// same, and says of which something is left out. On an `Err` memory ran out.
-fn make_readable<E: Write>(
-    alloc: Global,
-    texts: &mut [SheetText<'_>],
-    err: &mut E,
-) -> Result<(), AllocError> {
-    for text in texts.iter_mut() {
-        let made = match readable(alloc, text.text.as_slice()) {
-            Ok(Some(made)) => made,
-            Ok(None) | Err(AdaptFault::TooLarge) => continue,
-            Err(AdaptFault::Memory) => return Err(AllocError),
-        };
-        if made.is_mended {
-            let path = text.word.path;
-            let _ = writeln!(err, "{path}: what is at fault is left out; see conode lint");
-        }
-        text.text = made.text;
-    }
-    Ok(())
-}
-
 // Adds the data sheet of a text, with its original data types, where there is memory for one more.
 // On an `Err` it is at fault, or memory ran out.
 fn add_sheet<'t>(
@@ -243,15 +220,8 @@ fn explain_named<R: Files + AllocGlobal + Input, O: Write, E: Write>(
 ) -> ExitCode
     ensures { (exit_status result ≡ 0) ⊎ ((exit_status result ≡ 1) ⊎ (exit_status result ≡ 2)) }
 {
-    let named = match sheet_words(rt.alloc(), words) {
-        Ok(named) => named,
-        Err(fault) => return bad_sheet_word(fault, out, err),
-    };
-    match texts_of(rt, named.as_slice(), out, err) {
-        Ok(mut texts) => match make_readable(rt.alloc(), texts.as_mut_slice(), err) {
-            Ok(()) => explain_texts(rt, path, texts.as_slice(), form, out, err),
-            Err(_) => no_memory(out, err),
-        },
+    match readable_texts(rt, words, out, err) {
+        Ok(texts) => explain_texts(rt, path, texts.as_slice(), form, out, err),
         Err(status) => status,
     }
 }

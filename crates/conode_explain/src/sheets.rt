@@ -7,8 +7,8 @@ ghost use Rattle.conode_explain.specs.Sheets.{in_order, is_kind, of_kind, read_v
 
 use co_sheet::Sheet;
 use co_sheet_changes::{Names, Originals};
-use conode_convert::SheetWord;
 use conode_explain_pdo::KnownSheet;
+use conode_sheets::SheetWord;
 use std::alloc::{AllocError, Global};
 
 /// A data sheet that was read.

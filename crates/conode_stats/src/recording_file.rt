@@ -8,9 +8,9 @@ use crate::recording::{Recording, count};
 use crate::sheet_facts::facts_of;
 use crate::tokens::page_json;
 use co_sheet::{FaultKind, SheetFault, read};
-use conode_convert::{SheetText, SheetWord, bad_sheet, bad_sheet_word, sheet_words, texts_of};
 use conode_io::{CmdFault, cannot_read, flushed, hand_over, stopped};
 use conode_logs::Form;
+use conode_sheets::{SheetText, bad_sheet, readable_texts};
 use conode_stats_text::{Page, SheetFacts, page_text};
 use std::alloc::{AllocError, Global};
 use std::fs;
@@ -167,19 +167,19 @@ fn take_all<'a, O: Write, E: Write>(
     Ok(())
 }
 
-// the page with the sheets that words name
-fn stats_named<R: Files + AllocGlobal + Input, O: Write, E: Write>(
+// the page with the sheets that the words of the command line name
+fn stats_in<R: Files + AllocGlobal + Input, O: Write, E: Write>(
     rt: &R,
     path: &str,
-    words: &[SheetWord<'_>],
+    words: &[&str],
     settings: Settings<'_>,
     out: &mut O,
     err: &mut E,
 ) -> ExitCode
     requires { IfSome settings.bit_rate (λ rate. rate ≤ 1000000) }
-    ensures { (exit_status result ≡ 0) ⊎ (exit_status result ≡ 1) }
+    ensures { (exit_status result ≡ 0) ⊎ ((exit_status result ≡ 1) ⊎ (exit_status result ≡ 2)) }
 {
-    let texts = match texts_of(rt, words, out, err) {
+    let texts = match readable_texts(rt, words, out, err) {
         Ok(texts) => texts,
         Err(status) => return status,
     };
@@ -196,24 +196,6 @@ fn stats_named<R: Files + AllocGlobal + Input, O: Write, E: Write>(
     stats_path(rt, path, &settings, out, err)
 }
 
-// the page with the sheets that the words of the command line name
-fn stats_in<R: Files + AllocGlobal + Input, O: Write, E: Write>(
-    rt: &R,
-    path: &str,
-    words: &[&str],
-    settings: Settings<'_>,
-    out: &mut O,
-    err: &mut E,
-) -> ExitCode
-    requires { IfSome settings.bit_rate (λ rate. rate ≤ 1000000) }
-    ensures { (exit_status result ≡ 0) ⊎ ((exit_status result ≡ 1) ⊎ (exit_status result ≡ 2)) }
-{
-    match sheet_words(rt.alloc(), words) {
-        Ok(words) => stats_named(rt, path, words.as_slice(), settings, out, err),
-        Err(fault) => bad_sheet_word(fault, out, err),
-    }
-}
-
 // says that a word is no bit rate
 fn bad_rate<E: Write>(word: &str, err: &mut E) -> ExitCode
     ensures { exit_status result ≡ 2 }
@@ -227,8 +209,9 @@ fn bad_rate<E: Write>(word: &str, err: &mut E) -> ExitCode
 
 /// Writes the statistics of a recording on one page: of the file at the path, or of standard input
 /// for `-`. A word that is no bit rate, or names no sheet, is named on `err`, and the status is 2.
-/// Then the sheets are read: a fault of one goes to `out`, and where there are several, its path to
-/// `err`. Bad lines, and a file that can't be read, are named on `err`. The status is 0 if all
+/// Then the sheets are read, one with faults without what is at fault, of which `err` names the file;
+/// one that can't be read so has its fault on `out`, and where there are several, its path on `err`.
+/// Bad lines, and a file that can't be read, are named on `err`. The status is 0 if all
 /// lines are good, else 1.
 pub fn stats_file<R: Files + AllocGlobal + Input, O: Write, E: Write>(
     rt: &R,

@@ -3,7 +3,7 @@
 use crate::bit_rate::bit_rate_in;
 use co_profile::PRODUCER_HEARTBEAT;
 use co_sheet::{EntryRow, Preset, Sheet};
-use conode_convert::SheetWord;
+use conode_sheets::SheetWord;
 use conode_stats_text::SheetFacts;
 
 // the number that a sheet has for an entry, if it has 16 bits

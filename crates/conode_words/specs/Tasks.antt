@@ -14,6 +14,17 @@ use Rattle.conode_words.specs.declared.tasks.DeviceWords.{DeviceWords}
 use Rattle.conode_words.specs.declared.tasks.DictionaryWords.{DictionaryWords}
 use Rattle.conode_words.specs.declared.tasks.Colours.{Colours}
 use Rattle.conode_words.specs.declared.tasks.Format.{Format}
+use Rattle.conode_words.specs.declared.tasks.CheckWords.{CheckWords}
+use Rattle.conode_words.specs.declared.tasks.LintWords.{LintWords}
+use Rattle.conode_words.specs.declared.tasks.DecodeWords.{DecodeWords}
+use Rattle.conode_words.specs.declared.tasks.ReplayWords.{ReplayWords}
+use Rattle.conode_words.specs.declared.tasks.LoopWords.{LoopWords}
+use Rattle.conode_words.specs.declared.tasks.ShowWords.{ShowWords}
+use Rattle.conode_words.specs.declared.tasks.AdaptWords.{AdaptWords}
+use Rattle.conode_words.specs.declared.tasks.ExplainWords.{ExplainWords}
+use Rattle.conode_words.specs.declared.tasks.ConvertWords.{ConvertWords}
+use Rattle.conode_words.specs.declared.tasks.StatsWords.{StatsWords}
+use Rattle.conode_words.specs.declared.tasks.CompareWords.{CompareWords}
 use Rattle.conode_words.specs.declared.tasks.Task.{Task}
 use Rattle.conode_words.specs.declared.tasks.Task.TheVariants.{Check, Lint, Decode, Replay, LoopBack, Show, Adapt, Explain, Convert, Stats, Compare}
 use Rattle.conode_words.specs.declared.tasks.LeadingZeros.{LeadingZeros}
@@ -147,10 +158,12 @@ lines_by words = record {
   to = option_copied words.to;
 }
 
--- what a task asks for
-abbrev pub asked_by : Task → Asked
-asked_by (Check sheet dictionary) = check (record { sheet = sheet.now; dictionary = dictionary })
-asked_by (Lint words) =
+-- what the words of a subcommand ask for
+abbrev pub check_by : CheckWords → Asked
+check_by words = check (record { sheet = words.sheet.now; dictionary = words.dictionary })
+
+abbrev pub lint_by : LintWords → Asked
+lint_by words =
     lint (record {
       sheets = map (λ word. word.now) words.sheets.items;
       allowed = map (λ word. word.now) words.allowed.items;
@@ -160,52 +173,95 @@ asked_by (Lint words) =
       strict = words.strict;
       all = words.all;
     })
-asked_by (Decode trace sheet node) =
-    decode (record { trace = trace.now; sheet = option_copied sheet; node = node })
-asked_by (Replay sheet trace device) =
-    replay (record { sheet = sheet.now; trace = trace.now; device = device })
-asked_by (LoopBack sheet key bytes mode device) =
-    loop_back (record { sheet = sheet.now; key = key.now; bytes = bytes.now; mode = mode; device = device })
-asked_by (Show sheet node form) = show (record { sheet = sheet.now; node = node; shown_as = form })
-asked_by (Adapt sheet zeros force) =
-    adapt (record { sheet = sheet.now; leading_zeros = zeros; force = force })
-asked_by (Explain trace sheets stamps transfers changes stop colours lines_as form only signals) =
+
+abbrev pub decode_by : DecodeWords → Asked
+decode_by words =
+    decode (record { trace = words.trace.now; sheet = option_copied words.sheet; node = words.node })
+
+abbrev pub replay_by : ReplayWords → Asked
+replay_by words =
+    replay (record { sheet = words.sheet.now; trace = words.trace.now; device = words.device })
+
+abbrev pub loop_by : LoopWords → Asked
+loop_by words =
+    loop_back (record {
+      sheet = words.sheet.now;
+      key = words.key.now;
+      bytes = words.bytes.now;
+      mode = words.mode;
+      device = words.device;
+    })
+
+abbrev pub show_by : ShowWords → Asked
+show_by words =
+    show (record { sheet = words.sheet.now; node = words.node; shown_as = words.shown_as })
+
+abbrev pub adapt_by : AdaptWords → Asked
+adapt_by words =
+    adapt (record {
+      sheet = words.sheet.now;
+      leading_zeros = words.leading_zeros;
+      force = words.force;
+    })
+
+abbrev pub explain_by : ExplainWords → Asked
+explain_by words =
     explain (record {
-      trace = trace.now;
-      sheets = map (λ word. word.now) sheets.items;
-      stamps = stamps;
-      transfers = transfers;
-      changes = changes;
-      stop = stop;
-      colours = colours;
-      lines_as = lines_as;
-      form = form;
-      only = lines_by only;
-      signals = option_copied signals;
+      trace = words.trace.now;
+      sheets = map (λ word. word.now) words.sheets.items;
+      stamps = words.stamps;
+      transfers = words.transfers;
+      changes = words.changes;
+      stop = words.stop;
+      colours = words.colours;
+      lines_as = words.lines_as;
+      form = words.form;
+      only = lines_by words.only;
+      signals = option_copied words.signals;
     })
-asked_by (Convert log form) = convert (record { log = log.now; form = form })
-asked_by (Stats trace sheets bit_rate lines_as form) =
+
+abbrev pub convert_by : ConvertWords → Asked
+convert_by words = convert (record { log = words.log.now; form = words.form })
+
+abbrev pub stats_by : StatsWords → Asked
+stats_by words =
     stats (record {
-      trace = trace.now;
-      sheets = map (λ word. word.now) sheets.items;
-      bit_rate = option_copied bit_rate;
-      lines_as = lines_as;
-      form = form;
+      trace = words.trace.now;
+      sheets = map (λ word. word.now) words.sheets.items;
+      bit_rate = option_copied words.bit_rate;
+      lines_as = words.lines_as;
+      form = words.form;
     })
-asked_by (Compare sheet trace node interface held rooms choices learned form report_as timing) =
+
+abbrev pub compare_by : CompareWords → Asked
+compare_by words =
     compare (record {
-      sheet = sheet.now;
-      trace = trace.now;
-      node = node;
-      interface = option_copied interface;
-      held = option_copied held;
-      rooms = rooms;
-      choices = choices;
-      learned = learned;
-      form = form;
-      report_as = report_as;
-      timing = timing;
+      sheet = words.sheet.now;
+      trace = words.trace.now;
+      node = words.node;
+      interface = option_copied words.interface;
+      held = option_copied words.held;
+      rooms = words.rooms;
+      choices = words.choices;
+      learned = words.learned;
+      form = words.form;
+      report_as = words.report_as;
+      timing = words.timing;
     })
+
+-- what a task asks for
+abbrev pub asked_by : Task → Asked
+asked_by (Check words) = check_by words
+asked_by (Lint words) = lint_by words
+asked_by (Decode words) = decode_by words
+asked_by (Replay words) = replay_by words
+asked_by (LoopBack words) = loop_by words
+asked_by (Show words) = show_by words
+asked_by (Adapt words) = adapt_by words
+asked_by (Explain words) = explain_by words
+asked_by (Convert words) = convert_by words
+asked_by (Stats words) = stats_by words
+asked_by (Compare words) = compare_by words
 
 -- the number that a word is, of so many bits: decimal digits, perhaps after a plus
 unfoldable pub number_of_bits : ℕ → Text → Option ℕ

@@ -22,7 +22,15 @@ ghost use Rattle.conode_words.specs.Tasks.{
   asked_show,
   asked_stats,
   asked_timing,
+  adapt_by,
+  check_by,
+  compare_by,
+  convert_by,
+  decode_by,
   lines_by,
+  loop_by,
+  replay_by,
+  show_by,
 };
 
 use crate::choices::{
@@ -31,7 +39,9 @@ use crate::choices::{
 };
 use crate::found::{is, is_used, number_u8, number_u16, number_u32, word_for, words_for};
 use crate::tasks::{
-    DeviceWords, DictionaryWords, LintWords, OnlyWords, RoomWords, Task, TimingWords,
+    AdaptWords, CheckWords, CompareWords, ConvertWords, DecodeWords, DeviceWords, DictionaryWords,
+    ExplainWords, LintWords, LoopWords, OnlyWords, ReplayWords, RoomWords, ShowWords, StatsWords,
+    Task, TimingWords,
 };
 use clap::ArgMatches;
 use std::alloc::{AllocError, Global};
@@ -62,12 +72,12 @@ fn device_words(found: &ArgMatches<'_>) -> Option<DeviceWords>
 
 // what the words after `check` ask for
 #[tactic(auto, unfolding(crate::specs::Tasks::asked_check))]
-fn asked_check<'a>(found: &ArgMatches<'a>) -> Option<Task<'a>>
-    ensures { option_map asked_by result ≡ asked_check (rows_of (found_of found.now)) }
+fn asked_check<'a>(found: &ArgMatches<'a>) -> Option<CheckWords<'a>>
+    ensures { option_map check_by result ≡ asked_check (rows_of (found_of found.now)) }
 {
     let sheet = given!(word_for(found, "SHEET"));
     let dictionary = given!(dictionary_words(found));
-    Some(Task::Check { sheet, dictionary })
+    Some(CheckWords { sheet, dictionary })
 }
 
 // what the words after `lint` ask for; lists are made last, so that no way out before drops them
@@ -102,11 +112,11 @@ fn asked_lint<'a>(alloc: Global, found: &ArgMatches<'a>) -> Result<Option<Task<'
 
 // what the words after `decode` ask for
 #[tactic(auto, unfolding(crate::specs::Tasks::asked_decode))]
-fn asked_decode<'a>(found: &ArgMatches<'a>) -> Option<Task<'a>>
-    ensures { option_map asked_by result ≡ asked_decode (rows_of (found_of found.now)) }
+fn asked_decode<'a>(found: &ArgMatches<'a>) -> Option<DecodeWords<'a>>
+    ensures { option_map decode_by result ≡ asked_decode (rows_of (found_of found.now)) }
 {
     let trace = given!(word_for(found, "TRACE"));
-    Some(Task::Decode {
+    Some(DecodeWords {
         trace,
         sheet: word_for(found, "sheet"),
         node: number_u8(found, "node"),
@@ -115,13 +125,13 @@ fn asked_decode<'a>(found: &ArgMatches<'a>) -> Option<Task<'a>>
 
 // what the words after `replay` ask for
 #[tactic(auto, unfolding(crate::specs::Tasks::asked_replay))]
-fn asked_replay<'a>(found: &ArgMatches<'a>) -> Option<Task<'a>>
-    ensures { option_map asked_by result ≡ asked_replay (rows_of (found_of found.now)) }
+fn asked_replay<'a>(found: &ArgMatches<'a>) -> Option<ReplayWords<'a>>
+    ensures { option_map replay_by result ≡ asked_replay (rows_of (found_of found.now)) }
 {
     let sheet = given!(word_for(found, "SHEET"));
     let trace = given!(word_for(found, "TRACE"));
     let device = given!(device_words(found));
-    Some(Task::Replay {
+    Some(ReplayWords {
         sheet,
         trace,
         device,
@@ -130,15 +140,15 @@ fn asked_replay<'a>(found: &ArgMatches<'a>) -> Option<Task<'a>>
 
 // what the words after `loop` ask for
 #[tactic(auto, unfolding(crate::specs::Tasks::asked_loop))]
-fn asked_loop<'a>(found: &ArgMatches<'a>) -> Option<Task<'a>>
-    ensures { option_map asked_by result ≡ asked_loop (rows_of (found_of found.now)) }
+fn asked_loop<'a>(found: &ArgMatches<'a>) -> Option<LoopWords<'a>>
+    ensures { option_map loop_by result ≡ asked_loop (rows_of (found_of found.now)) }
 {
     let sheet = given!(word_for(found, "SHEET"));
     let key = given!(word_for(found, "KEY"));
     let bytes = given!(word_for(found, "HEX"));
     let mode = given!(mode_for(found));
     let device = given!(device_words(found));
-    Some(Task::LoopBack {
+    Some(LoopWords {
         sheet,
         key,
         bytes,
@@ -149,12 +159,12 @@ fn asked_loop<'a>(found: &ArgMatches<'a>) -> Option<Task<'a>>
 
 // what the words after `show` ask for
 #[tactic(auto, unfolding(crate::specs::Tasks::asked_show))]
-fn asked_show<'a>(found: &ArgMatches<'a>) -> Option<Task<'a>>
-    ensures { option_map asked_by result ≡ asked_show (rows_of (found_of found.now)) }
+fn asked_show<'a>(found: &ArgMatches<'a>) -> Option<ShowWords<'a>>
+    ensures { option_map show_by result ≡ asked_show (rows_of (found_of found.now)) }
 {
     let sheet = given!(word_for(found, "SHEET"));
     let shown_as = given!(shown_for(found));
-    Some(Task::Show {
+    Some(ShowWords {
         sheet,
         node: number_u8(found, "node"),
         shown_as,
@@ -163,12 +173,12 @@ fn asked_show<'a>(found: &ArgMatches<'a>) -> Option<Task<'a>>
 
 // what the words after `adapt` ask for
 #[tactic(auto, unfolding(crate::specs::Tasks::asked_adapt))]
-fn asked_adapt<'a>(found: &ArgMatches<'a>) -> Option<Task<'a>>
-    ensures { option_map asked_by result ≡ asked_adapt (rows_of (found_of found.now)) }
+fn asked_adapt<'a>(found: &ArgMatches<'a>) -> Option<AdaptWords<'a>>
+    ensures { option_map adapt_by result ≡ asked_adapt (rows_of (found_of found.now)) }
 {
     let sheet = given!(word_for(found, "SHEET"));
     let leading_zeros = given!(zeros_for(found));
-    Some(Task::Adapt {
+    Some(AdaptWords {
         sheet,
         leading_zeros,
         force: is_used(found, "force"),
@@ -211,7 +221,7 @@ fn asked_explain<'a>(alloc: Global, found: &ArgMatches<'a>) -> Result<Option<Tas
         return Ok(None);
     };
     let sheets = words_for(alloc, found, "sheet")?;
-    Ok(Some(Task::Explain {
+    Ok(Some(Task::Explain(ExplainWords {
         trace,
         sheets,
         stamps,
@@ -223,17 +233,17 @@ fn asked_explain<'a>(alloc: Global, found: &ArgMatches<'a>) -> Result<Option<Tas
         form,
         only: only_words(found),
         signals: word_for(found, "signal"),
-    }))
+    })))
 }
 
 // what the words after `convert` ask for
 #[tactic(auto, unfolding(crate::specs::Tasks::asked_convert))]
-fn asked_convert<'a>(found: &ArgMatches<'a>) -> Option<Task<'a>>
-    ensures { option_map asked_by result ≡ asked_convert (rows_of (found_of found.now)) }
+fn asked_convert<'a>(found: &ArgMatches<'a>) -> Option<ConvertWords<'a>>
+    ensures { option_map convert_by result ≡ asked_convert (rows_of (found_of found.now)) }
 {
     let log = given!(word_for(found, "LOG"));
     let form = given!(log_form_for(found));
-    Some(Task::Convert { log, form })
+    Some(ConvertWords { log, form })
 }
 
 // what the words after `stats` ask for; the list is made last, as in `lint`
@@ -253,13 +263,13 @@ fn asked_stats<'a>(alloc: Global, found: &ArgMatches<'a>) -> Result<Option<Task<
     };
     let bit_rate = word_for(found, "bitrate");
     let sheets = words_for(alloc, found, "sheet")?;
-    Ok(Some(Task::Stats {
+    Ok(Some(Task::Stats(StatsWords {
         trace,
         sheets,
         bit_rate,
         lines_as,
         form,
-    }))
+    })))
 }
 
 // how far times may be off, by the words
@@ -293,15 +303,15 @@ fn room_words(found: &ArgMatches<'_>) -> RoomWords
 
 // what the words after `compare` ask for
 #[tactic(auto, unfolding(crate::specs::Tasks::asked_compare))]
-fn asked_compare<'a>(found: &ArgMatches<'a>) -> Option<Task<'a>>
-    ensures { option_map asked_by result ≡ asked_compare (rows_of (found_of found.now)) }
+fn asked_compare<'a>(found: &ArgMatches<'a>) -> Option<CompareWords<'a>>
+    ensures { option_map compare_by result ≡ asked_compare (rows_of (found_of found.now)) }
 {
     let sheet = given!(word_for(found, "SHEET"));
     let trace = given!(word_for(found, "TRACE"));
     let form = given!(log_form_for(found));
     let report_as = given!(report_as_for(found));
     let timing = given!(timing_words(found));
-    Some(Task::Compare {
+    Some(CompareWords {
         sheet,
         trace,
         node: number_u8(found, "node"),
@@ -322,24 +332,30 @@ fn asked_other<'a>(name: &str, found: &ArgMatches<'a>) -> Option<Task<'a>>
     ensures { option_map asked_by result ≡ asked_other name.now (rows_of (found_of found.now)) }
 {
     if is(name, "check") {
-        asked_check(found)
-    } else if is(name, "decode") {
-        asked_decode(found)
-    } else if is(name, "replay") {
-        asked_replay(found)
-    } else if is(name, "loop") {
-        asked_loop(found)
-    } else if is(name, "show") {
-        asked_show(found)
-    } else if is(name, "adapt") {
-        asked_adapt(found)
-    } else if is(name, "convert") {
-        asked_convert(found)
-    } else if is(name, "compare") {
-        asked_compare(found)
-    } else {
-        None
+        return Some(Task::Check(given!(asked_check(found))));
     }
+    if is(name, "decode") {
+        return Some(Task::Decode(given!(asked_decode(found))));
+    }
+    if is(name, "replay") {
+        return Some(Task::Replay(given!(asked_replay(found))));
+    }
+    if is(name, "loop") {
+        return Some(Task::LoopBack(given!(asked_loop(found))));
+    }
+    if is(name, "show") {
+        return Some(Task::Show(given!(asked_show(found))));
+    }
+    if is(name, "adapt") {
+        return Some(Task::Adapt(given!(asked_adapt(found))));
+    }
+    if is(name, "convert") {
+        return Some(Task::Convert(given!(asked_convert(found))));
+    }
+    if is(name, "compare") {
+        return Some(Task::Compare(given!(asked_compare(found))));
+    }
+    None
 }
 
 // what the words after the name of a subcommand ask for
@@ -353,12 +369,13 @@ pub(crate) fn asked_in<'a>(
         option_map asked_by task ≡ asked_in name.now (rows_of (found_of found.now))) }
 {
     if is(name, "lint") {
-        asked_lint(alloc, found)
-    } else if is(name, "explain") {
-        asked_explain(alloc, found)
-    } else if is(name, "stats") {
-        asked_stats(alloc, found)
-    } else {
-        Ok(asked_other(name, found))
+        return asked_lint(alloc, found);
     }
+    if is(name, "explain") {
+        return asked_explain(alloc, found);
+    }
+    if is(name, "stats") {
+        return asked_stats(alloc, found);
+    }
+    Ok(asked_other(name, found))
 }

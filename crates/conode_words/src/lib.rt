@@ -23,6 +23,8 @@ mod tasks;
 pub use command_line::task;
 pub use help::VERSION;
 pub use tasks::{
-    Colours, DeviceWords, DictionaryWords, Format, LeadingZeros, LinesAs, LintWords, LogForm, Mode,
-    OnlyWords, ReportAs, RoomWords, ShownAs, Stamps, Task, TimingWords,
+    AdaptWords, CheckWords, Colours, CompareWords, ConvertWords, DecodeWords, DeviceWords,
+    DictionaryWords, ExplainWords, Format, LeadingZeros, LinesAs, LintWords, LogForm, LoopWords,
+    Mode, OnlyWords, ReplayWords, ReportAs, RoomWords, ShowWords, ShownAs, Stamps, StatsWords,
+    Task, TimingWords,
 };

@@ -179,137 +179,177 @@ pub struct OnlyWords<'a> {
     pub to: Option<&'a str>,
 }
 
+/// What `check` is asked to do.
+#[derive(Clone, Copy)]
+pub struct CheckWords<'a> {
+    /// The sheet's path.
+    pub sheet: &'a str,
+    /// The dictionary that is to be built from it.
+    pub dictionary: DictionaryWords,
+}
+
+/// What `decode` is asked to do.
+#[derive(Clone, Copy)]
+pub struct DecodeWords<'a> {
+    /// The trace's path, `-` for standard input.
+    pub trace: &'a str,
+    /// The path of a data sheet with the names of entries; `None`: they aren't named.
+    pub sheet: Option<&'a str>,
+    /// The node-ID whose entries are named, 1 to 127; `None`: those of all nodes are.
+    pub node: Option<u8>,
+}
+
+/// What `replay` is asked to do.
+#[derive(Clone, Copy)]
+pub struct ReplayWords<'a> {
+    /// The sheet's path.
+    pub sheet: &'a str,
+    /// The trace's path, `-` for standard input.
+    pub trace: &'a str,
+    /// The device.
+    pub device: DeviceWords,
+}
+
+/// What `loop` is asked to do.
+#[derive(Clone, Copy)]
+pub struct LoopWords<'a> {
+    /// The sheet's path.
+    pub sheet: &'a str,
+    /// The word of the entry's key.
+    pub key: &'a str,
+    /// The word of the bytes.
+    pub bytes: &'a str,
+    /// The SDO protocol of the transfer.
+    pub mode: Mode,
+    /// The device.
+    pub device: DeviceWords,
+}
+
+/// What `show` is asked to do.
+#[derive(Clone, Copy)]
+pub struct ShowWords<'a> {
+    /// The sheet's path.
+    pub sheet: &'a str,
+    /// The node-ID that `$NODEID` stands for, 1 to 127; `None`: the sheet's own, if it has one.
+    pub node: Option<u8>,
+    /// The form in which it is shown.
+    pub shown_as: ShownAs,
+}
+
+/// What `adapt` is asked to do.
+#[derive(Clone, Copy)]
+pub struct AdaptWords<'a> {
+    /// The sheet's path.
+    pub sheet: &'a str,
+    /// How a number with a leading zero is read; `None`: it stays as it is.
+    pub leading_zeros: Option<LeadingZeros>,
+    /// Whether to force what the rules leave at fault.
+    pub force: bool,
+}
+
+/// What `explain` is asked to do.
+#[derive(Drop)]
+pub struct ExplainWords<'a> {
+    /// The recording's path, `-` for standard input.
+    pub trace: &'a str,
+    /// The words that name data sheets: each a path, perhaps after an interface and a node-ID,
+    /// as `can1:5=sensor.eds`.
+    pub sheets: Vec<&'a str>,
+    /// In which form stamps are written.
+    pub stamps: Stamps,
+    /// Whether only the SDO transfers that ended have lines.
+    pub transfers: bool,
+    /// Whether PDOs, heartbeats and SYNCs have lines only where they change.
+    pub changes: bool,
+    /// Whether the first bad line ends it.
+    pub stop: bool,
+    /// When it writes in colours.
+    pub colours: Colours,
+    /// How lines are written.
+    pub lines_as: LinesAs,
+    /// In which form the recording is.
+    pub form: LogForm,
+    /// Which lines are printed.
+    pub only: OnlyWords<'a>,
+    /// The word that names the signals whose values are printed as a table; `None`: it isn't
+    /// given.
+    pub signals: Option<&'a str>,
+}
+
+/// What `stats` is asked to do.
+#[derive(Drop)]
+pub struct StatsWords<'a> {
+    /// The recording's path, `-` for standard input.
+    pub trace: &'a str,
+    /// The words that name data sheets, as those of `explain`.
+    pub sheets: Vec<&'a str>,
+    /// The word for the bit rate of the bus; `None`: it isn't given.
+    pub bit_rate: Option<&'a str>,
+    /// How the page is written.
+    pub lines_as: LinesAs,
+    /// In which form the recording is.
+    pub form: LogForm,
+}
+
+/// What `compare` is asked to do.
+#[derive(Clone, Copy)]
+pub struct CompareWords<'a> {
+    /// The sheet's path.
+    pub sheet: &'a str,
+    /// The recording's path, `-` for standard input.
+    pub trace: &'a str,
+    /// The device's node-ID, 1 to 127; `None`: the sheet's.
+    pub node: Option<u8>,
+    /// The interface that it is on; `None`: each.
+    pub interface: Option<&'a str>,
+    /// The keys of the entries that are held to what was written; `None`: none.
+    pub held: Option<&'a str>,
+    /// The room of its strings and domains.
+    pub rooms: RoomWords,
+    /// Whether choices have lines.
+    pub choices: bool,
+    /// Whether the values of entries have lines.
+    pub learned: bool,
+    /// In which form the recording is.
+    pub form: LogForm,
+    /// How it writes what it finds.
+    pub report_as: ReportAs,
+    /// How far times may be off.
+    pub timing: TimingWords,
+}
+
+/// What `convert` is asked to do.
+#[derive(Clone, Copy)]
+pub struct ConvertWords<'a> {
+    /// The log's path, `-` for standard input.
+    pub log: &'a str,
+    /// In which form it is.
+    pub form: LogForm,
+}
+
 /// What the program is asked to do.
 #[derive(Drop)]
 pub enum Task<'a> {
     /// To check a data sheet.
-    Check {
-        /// The sheet's path.
-        sheet: &'a str,
-        /// The dictionary that is to be built from it.
-        dictionary: DictionaryWords,
-    },
+    Check(CheckWords<'a>),
     /// To find all faults of data sheets, and what is suspicious in them.
     Lint(LintWords<'a>),
     /// To decode a trace.
-    Decode {
-        /// The trace's path, `-` for standard input.
-        trace: &'a str,
-        /// The path of a data sheet with the names of entries; `None`: they aren't named.
-        sheet: Option<&'a str>,
-        /// The node-ID whose entries are named, 1 to 127; `None`: those of all nodes are.
-        node: Option<u8>,
-    },
+    Decode(DecodeWords<'a>),
     /// To play a trace to the device of a data sheet.
-    Replay {
-        /// The sheet's path.
-        sheet: &'a str,
-        /// The trace's path, `-` for standard input.
-        trace: &'a str,
-        /// The device.
-        device: DeviceWords,
-    },
+    Replay(ReplayWords<'a>),
     /// To download bytes by an SDO client to the device of a data sheet.
-    LoopBack {
-        /// The sheet's path.
-        sheet: &'a str,
-        /// The word of the entry's key.
-        key: &'a str,
-        /// The word of the bytes.
-        bytes: &'a str,
-        /// The SDO protocol of the transfer.
-        mode: Mode,
-        /// The device.
-        device: DeviceWords,
-    },
+    LoopBack(LoopWords<'a>),
     /// To show the object dictionary of a data sheet.
-    Show {
-        /// The sheet's path.
-        sheet: &'a str,
-        /// The node-ID that `$NODEID` stands for, 1 to 127; `None`: the sheet's own, if it has one.
-        node: Option<u8>,
-        /// The form in which it is shown.
-        shown_as: ShownAs,
-    },
+    Show(ShowWords<'a>),
     /// To rewrite a vendor's data sheet to one that is accepted.
-    Adapt {
-        /// The sheet's path.
-        sheet: &'a str,
-        /// How a number with a leading zero is read; `None`: it stays as it is.
-        leading_zeros: Option<LeadingZeros>,
-        /// Whether to force what the rules leave at fault.
-        force: bool,
-    },
+    Adapt(AdaptWords<'a>),
     /// To explain a recording.
-    Explain {
-        /// The recording's path, `-` for standard input.
-        trace: &'a str,
-        /// The words that name data sheets: each a path, perhaps after an interface and a node-ID,
-        /// as `can1:5=sensor.eds`.
-        sheets: Vec<&'a str>,
-        /// In which form stamps are written.
-        stamps: Stamps,
-        /// Whether only the SDO transfers that ended have lines.
-        transfers: bool,
-        /// Whether PDOs, heartbeats and SYNCs have lines only where they change.
-        changes: bool,
-        /// Whether the first bad line ends it.
-        stop: bool,
-        /// When it writes in colours.
-        colours: Colours,
-        /// How lines are written.
-        lines_as: LinesAs,
-        /// In which form the recording is.
-        form: LogForm,
-        /// Which lines are printed.
-        only: OnlyWords<'a>,
-        /// The word that names the signals whose values are printed as a table; `None`: it isn't
-        /// given.
-        signals: Option<&'a str>,
-    },
+    Explain(ExplainWords<'a>),
     /// To print the statistics of a bus on one page.
-    Stats {
-        /// The recording's path, `-` for standard input.
-        trace: &'a str,
-        /// The words that name data sheets, as those of `explain`.
-        sheets: Vec<&'a str>,
-        /// The word for the bit rate of the bus; `None`: it isn't given.
-        bit_rate: Option<&'a str>,
-        /// How the page is written.
-        lines_as: LinesAs,
-        /// In which form the recording is.
-        form: LogForm,
-    },
+    Stats(StatsWords<'a>),
     /// To compare a recorded device with what its data sheet prescribes.
-    Compare {
-        /// The sheet's path.
-        sheet: &'a str,
-        /// The recording's path, `-` for standard input.
-        trace: &'a str,
-        /// The device's node-ID, 1 to 127; `None`: the sheet's.
-        node: Option<u8>,
-        /// The interface that it is on; `None`: each.
-        interface: Option<&'a str>,
-        /// The keys of the entries that are held to what was written; `None`: none.
-        held: Option<&'a str>,
-        /// The room of its strings and domains.
-        rooms: RoomWords,
-        /// Whether choices have lines.
-        choices: bool,
-        /// Whether the values of entries have lines.
-        learned: bool,
-        /// In which form the recording is.
-        form: LogForm,
-        /// How it writes what it finds.
-        report_as: ReportAs,
-        /// How far times may be off.
-        timing: TimingWords,
-    },
+    Compare(CompareWords<'a>),
     /// To convert a log of another recorder.
-    Convert {
-        /// The log's path, `-` for standard input.
-        log: &'a str,
-        /// In which form it is.
-        form: LogForm,
-    },
+    Convert(ConvertWords<'a>),
 }

@@ -1,7 +1,7 @@
 use Rattle.std.proofs.Common.{◌≡◌, ℕ, Bool, true, false, List, refl, sym}
 use Rattle.std.specs.Str.{IsUtf8, is_utf8}
 use Rattle.std.proofs.lemmas.Str.{IsUtf8-from_is_utf8, is_utf8-from_IsUtf8}
-use Rattle.conode_convert.proofs.sheet_text.is_utf8.Goals as goal
+use Rattle.conode_sheets.proofs.sheet_text.is_utf8.Goals as goal
 
 other : (line : List ℕ) → ¬ (IsUtf8 line) → (b : Bool) → is_utf8 line ≡ b → false ≡ b
 other line h true e = absurd (h (IsUtf8-from_is_utf8 line e))

@@ -2,7 +2,7 @@
 
 ghost use Rattle.std.specs.Prelude.{◌≡◌, ◌++◌, ◌∷◌, [], IfOk, IfErr, OnOk, Ok, Err, map};
 ghost use Rattle.std.specs.Option.{option_copied, option_map};
-ghost use Rattle.conode_convert.specs.SheetWords.{
+ghost use Rattle.conode_sheets.specs.SheetWords.{
   IsWrong,
   cut_at,
   first_cut,
@@ -54,7 +54,7 @@ pub enum SheetWordFault<'a> {
 
 impl<'a> From<AllocError> for SheetWordFault<'a> {
     ghost use Rattle.std.specs.Prelude.{◌≡◌};
-    ghost use Rattle.conode_convert.specs.declared.sheet_word.SheetWordFault.TheVariants.{Memory};
+    ghost use Rattle.conode_sheets.specs.declared.sheet_word.SheetWordFault.TheVariants.{Memory};
 
     ghost from_gives = { λ _ fault. fault ≡ Memory };
 

@@ -1,9 +1,9 @@
 -- Which data sheets words name, evaluated on both sides of each edge.
 use Rattle.std.proofs.Common.{◌≡◌, ℕ, [], ◌∷◌, List, Some, None, Option, Ok, Err, map, refl}
 use Rattle.std.specs.Prelude.{codes, Result}
-use Rattle.conode_convert.specs.declared.sheet_word.SheetPart.{SheetPart}
-use Rattle.conode_convert.specs.declared.sheet_word.SheetPart.TheVariants.{Interface, Node, Path}
-use Rattle.conode_convert.specs.SheetWords.{Named, node_and_path, sheet_word}
+use Rattle.conode_sheets.specs.declared.sheet_word.SheetPart.{SheetPart}
+use Rattle.conode_sheets.specs.declared.sheet_word.SheetPart.TheVariants.{Interface, Node, Path}
+use Rattle.conode_sheets.specs.SheetWords.{Named, node_and_path, sheet_word}
 
 abbrev is : Option (List ℕ) → Option ℕ → List ℕ → Result Named SheetPart
 is interface node path = Ok (record { interface = interface; node = node; path = path })

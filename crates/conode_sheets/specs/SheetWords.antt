@@ -3,11 +3,11 @@ use Rattle.std.specs.Prelude.{ℕ, ◌==◌, nat_le, Bool, not, ◌&&◌, ◌||�
 use Rattle.std.specs.List.{after_first, before_first, list_all, list_any}
 use Rattle.std.specs.Option.{option_copied, option_map_or}
 use Rattle.co_text.specs.Texts.{decimal_in, is_blank}
-use Rattle.conode_convert.specs.declared.sheet_word.SheetPart.{SheetPart}
-use Rattle.conode_convert.specs.declared.sheet_word.SheetPart.TheVariants.{Interface, Node, Path}
-use Rattle.conode_convert.specs.declared.sheet_word.SheetWord.{SheetWord}
-use Rattle.conode_convert.specs.declared.sheet_word.SheetWordFault.{SheetWordFault}
-use Rattle.conode_convert.specs.declared.sheet_word.SheetWordFault.TheVariants.{Word, Memory}
+use Rattle.conode_sheets.specs.declared.sheet_word.SheetPart.{SheetPart}
+use Rattle.conode_sheets.specs.declared.sheet_word.SheetPart.TheVariants.{Interface, Node, Path}
+use Rattle.conode_sheets.specs.declared.sheet_word.SheetWord.{SheetWord}
+use Rattle.conode_sheets.specs.declared.sheet_word.SheetWordFault.{SheetWordFault}
+use Rattle.conode_sheets.specs.declared.sheet_word.SheetWordFault.TheVariants.{Word, Memory}
 
 -- the interface and the node that a sheet is for, each if the word has one, and the sheet's path
 pub record Named : Type 0 where

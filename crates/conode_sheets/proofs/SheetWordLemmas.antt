@@ -5,7 +5,7 @@ use Rattle.std.specs.List.{list_any}
 use Rattle.std.proofs.lemmas.Bool.Decides.{nat_tests}
 use Rattle.std.proofs.lemmas.Str.Pattern.{IsSplitOnceResult, split_once_first}
 use Rattle.co_text.proofs.CutLemmas.{list_any-position}
-use Rattle.conode_convert.specs.SheetWords.{first_cut}
+use Rattle.conode_sheets.specs.SheetWords.{first_cut}
 
 pub cut_is : (mark : ℕ) (text : List ℕ) (r : Option (Bor (List ℕ) × Bor (List ℕ))) → IsSplitOnceResult mark text r → mark < 128
     → option_map (λ cut. (cut.0.now, cut.1.now)) r ≡ first_cut mark text

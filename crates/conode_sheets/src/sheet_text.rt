@@ -3,7 +3,7 @@
 ghost use Rattle.std.specs.Prelude.{◌≡◌, ◌++◌, ◌⊎◌, IfErr, OnOk};
 ghost use Rattle.std.specs.Process.{exit_status};
 ghost use Rattle.std.specs.Str.{is_utf8};
-ghost use Rattle.conode_convert.specs.SheetTexts.{line_in_utf8};
+ghost use Rattle.conode_sheets.specs.SheetTexts.{line_in_utf8};
 ghost use Rattle.conode_json.specs.Characters.{utf8_of};
 
 use crate::sheet_word::{SheetWord, SheetWordFault};
@@ -86,7 +86,7 @@ fn in_utf8(alloc: Global, text: Vec<u8>) -> Result<Vec<u8>, AllocError> {
 
 /// The texts of the data sheets that words name, in UTF-8: a line that isn't is read as
 /// Windows-1252. On an `Err` a file can't be read, or memory ran out, and it is said.
-pub fn texts_of<'a, R: Files + AllocGlobal, O: Write, E: Write>(
+pub(crate) fn texts_of<'a, R: Files + AllocGlobal, O: Write, E: Write>(
     rt: &R,
     words: &[SheetWord<'a>],
     out: &mut O,
@@ -112,7 +112,7 @@ pub fn texts_of<'a, R: Files + AllocGlobal, O: Write, E: Write>(
 }
 
 /// Says which word names no data sheet, and what it lacks. The status is 2, or 1 if memory ran out.
-pub fn bad_sheet_word<O: Write, E: Write>(
+pub(crate) fn bad_sheet_word<O: Write, E: Write>(
     fault: SheetWordFault<'_>,
     out: &mut O,
     err: &mut E,

@@ -1,0 +1,2 @@
+pub mod SheetWordLemmas
+mod WordExamples

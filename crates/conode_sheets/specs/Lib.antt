@@ -1,0 +1,2 @@
+pub mod SheetTexts
+pub mod SheetWords

@@ -1,0 +1,12 @@
+//! The data sheets that the words of a command line name, `[INTERFACE:][NODE=]FILE`, for the commands
+//! over recordings: which interface and node each is for, and its text, of a sheet with faults
+//! without what is at fault.
+#![tactic(auto)]
+
+mod readable;
+mod sheet_text;
+mod sheet_word;
+
+pub use readable::readable_texts;
+pub use sheet_text::{SheetText, bad_sheet};
+pub use sheet_word::{SheetPart, SheetWord, SheetWordFault, sheet_words};
