@@ -1,7 +1,7 @@
 //! The longer texts of help, in lines of at most 80 columns.
 
 /// What `--version` prints after the program's name: its version, and the kit that proves it.
-pub const VERSION: &str = "0.32.0, proved with rattle-kit-13f logic dac8208d650f15bf";
+pub const VERSION: &str = "0.33.0, proved with rattle-kit-13b logic dac8208d650f15bf";
 
 /// What the program does without a command.
 pub const TRACES: &str = "\
@@ -185,7 +185,8 @@ its own, REAL32 and REAL64 by their bits, times and texts in UTF-16 by their
 bytes (the original type stays in OriginalDataType), keys of lists with leading
 zeros, blanks in names of sections, a sub-index 0 without type or access, values
 with an extended sign, unsigned limits of signed numbers. Each change goes to
-standard error, as `NAME:LINE: what changed: old -> new`; all other lines stay.
+standard error, as `NAME:LINE: what changed: old -> new`; all other lines stay,
+but end with a line feed alone.
 
   conode adapt vendor.eds > adapted.eds
 
@@ -295,7 +296,7 @@ Counts the frames of a recording and prints one page: what looks wrong, as
 restarts, silent nodes, failed SDO transfers and EMCY messages; the load; the
 states of each node; and the frames by interface and identifier, with their
 gaps. Of a sheet its Baudrate and its producer heartbeat time are taken; it is
-named as for explain. `-` as TRACE is standard input.
+named, and read with faults, as for explain. `-` as TRACE is standard input.
 
   conode stats drive.log --bitrate 500k
 
@@ -324,6 +325,11 @@ string or domain from 2000h on may take more bytes. With --time no transfer may
 be aborted as timed out before. --choices lists what the device chose where CiA
 301 leaves a choice, --learned at the end the numbers that SDO transfers showed;
 both need --format text.
+
+A frame is unjudged where the recording doesn't show enough, as before the first
+boot-up. A line with `warning:` is about the recording, the sheet or a value
+that changed by itself, and leaves the status as it is. A sheet with faults
+isn't compared: `conode lint` lists them, `conode adapt` rewrites a vendor's.
 
   conode compare sensor.eds drive.log --node 5
   conode compare sensor.eds drive.log --node 5 --held 2001:00,2010:00
