@@ -188,6 +188,10 @@ fn fault_fix(kind: FaultKind) -> &'static str
     ensures { result.now ≡ fault_fix kind }
 {
     match kind {
+        FaultKind::AmbiguousNumber => {
+            "CiA 306 reads a leading 0 as octal: write the number in decimal without it or in \
+            hexadecimal, or try conode adapt --leading-zeros"
+        }
         FaultKind::LeftOutType => {
             "try conode adapt, which may give it a supported type; or take the object out of its list"
         }
