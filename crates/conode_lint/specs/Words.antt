@@ -99,7 +99,7 @@ warning_about sections line text other = about.Line
 
 abbrev pub about_of : List TextSection → ℕ → List ℕ → Subject → About
 about_of sections line text (Fault kind) = fault_about sections line text kind
-about_of sections line text (Build fault) = build_about fault
+about_of sections line text (Build fault) = build_about sections line text fault
 about_of sections line text (Mapping fault) = mapping_about fault
 about_of sections line text (Warning kind) = warning_about sections line text kind
 about_of sections line text (Format format) = about.Line

@@ -140,7 +140,7 @@ pub(crate) fn about_of(sections: &[TextSection<'_, '_>], mark: Mark, text: &[u8]
 {
     match mark.subject {
         Subject::Fault(kind) => fault_about(sections, mark.line, text, kind),
-        Subject::Build(fault) => build_about(fault),
+        Subject::Build(fault) => build_about(sections, mark.line, text, fault),
         Subject::Mapping(fault) => mapping_about(fault),
         Subject::Warning(kind) => warning_about(sections, mark.line, text, kind),
         Subject::Format(_) => About::Line,
