@@ -9,6 +9,7 @@ mod InfoExamples
 mod RepeatExamples
 mod LineExamples
 mod LimitExamples
+mod NodeIdSumExamples
 mod SectionNameExamples
 mod PieceLemmas
 mod ByLineLemmas

@@ -1,7 +1,7 @@
 -- The tables of words have each kind's words in its row.
 use Rattle.std.proofs.Common.{◌≡◌, ◌<◌, ℕ, List, [], get_or, map, refl, arith}
 use Rattle.co_sheet_warnings.specs.declared.warning.WarningKind.{WarningKind}
-use Rattle.co_sheet_warnings.specs.declared.warning.WarningKind.TheVariants.{SubNumber, SubIndex0, VarSubIndices, FileInfoKeys, DeviceInfoKeys, PdoCount, WrongList, UncountedKey, Unlisted, IdentityNumber, FixedCobId, NodeIdPlace, NegativeLimit, MisspeltSection, MisspeltKey, SharedCobId, InhibitTime, OwnHeartbeat, HeartbeatTwice, NoErrorControl, LongLine, Utf8, NotAscii, NodeId, ListOrder, EqualNames, MissingName, UnknownKey, DateFormat, LineEnds}
+use Rattle.co_sheet_warnings.specs.declared.warning.WarningKind.TheVariants.{SubNumber, SubIndex0, VarSubIndices, FileInfoKeys, DeviceInfoKeys, PdoCount, WrongList, UncountedKey, Unlisted, IdentityNumber, FixedCobId, NodeIdPlace, NodeIdSum, NegativeLimit, MisspeltSection, MisspeltKey, SharedCobId, InhibitTime, OwnHeartbeat, HeartbeatTwice, NoErrorControl, LongLine, Utf8, NotAscii, NodeId, ListOrder, EqualNames, MissingName, UnknownKey, DateFormat, LineEnds}
 use Rattle.co_sheet_warnings.specs.declared.words.TheConstants.{NAMES, MEANINGS, FIXES, SUBJECTS}
 use Rattle.co_sheet_warnings.specs.WarningWords.{name_of, meaning_of, fix_of, subject_of}
 use Rattle.co_sheet_warnings.specs.private.Views.{kind_row}
@@ -31,6 +31,7 @@ named Unlisted = refl
 named (IdentityNumber sub) = refl
 named FixedCobId = refl
 named NodeIdPlace = refl
+named NodeIdSum = refl
 named NegativeLimit = refl
 named MisspeltSection = refl
 named (MisspeltKey key) = refl
@@ -63,6 +64,7 @@ meant Unlisted = refl
 meant (IdentityNumber sub) = refl
 meant FixedCobId = refl
 meant NodeIdPlace = refl
+meant NodeIdSum = refl
 meant NegativeLimit = refl
 meant MisspeltSection = refl
 meant (MisspeltKey key) = refl
@@ -95,6 +97,7 @@ ruled Unlisted = refl
 ruled (IdentityNumber sub) = refl
 ruled FixedCobId = refl
 ruled NodeIdPlace = refl
+ruled NodeIdSum = refl
 ruled NegativeLimit = refl
 ruled MisspeltSection = refl
 ruled (MisspeltKey key) = refl
@@ -127,6 +130,7 @@ fixed Unlisted = refl
 fixed (IdentityNumber sub) = refl
 fixed FixedCobId = refl
 fixed NodeIdPlace = refl
+fixed NodeIdSum = refl
 fixed NegativeLimit = refl
 fixed MisspeltSection = refl
 fixed (MisspeltKey key) = refl
@@ -147,7 +151,7 @@ fixed DateFormat = refl
 fixed LineEnds = refl
 
 -- no row past the last
-pub few_rows : (kind : WarningKind) → kind_row kind < 30
+pub few_rows : (kind : WarningKind) → kind_row kind < 31
 few_rows SubNumber = omega arith
 few_rows SubIndex0 = omega arith
 few_rows VarSubIndices = omega arith
@@ -160,6 +164,7 @@ few_rows Unlisted = omega arith
 few_rows (IdentityNumber sub) = omega arith
 few_rows FixedCobId = omega arith
 few_rows NodeIdPlace = omega arith
+few_rows NodeIdSum = omega arith
 few_rows NegativeLimit = omega arith
 few_rows MisspeltSection = omega arith
 few_rows (MisspeltKey key) = omega arith

@@ -11,6 +11,7 @@ pub mod Lines
 pub mod Communication
 pub mod Infos
 pub mod Repeats
+pub mod NodeIdSums
 pub mod Warnings
 pub mod WarningWords
 pub mod private

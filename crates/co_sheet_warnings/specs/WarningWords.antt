@@ -15,6 +15,7 @@ use Rattle.co_sheet_warnings.specs.declared.warning.WarningKind.TheVariants.{
   IdentityNumber,
   FixedCobId,
   NodeIdPlace,
+  NodeIdSum,
   NegativeLimit,
   MisspeltSection,
   MisspeltKey,
@@ -49,6 +50,7 @@ name_of Unlisted = codes "Unlisted"
 name_of (IdentityNumber sub) = codes "IdentityNumber"
 name_of FixedCobId = codes "FixedCobId"
 name_of NodeIdPlace = codes "NodeIdPlace"
+name_of NodeIdSum = codes "NodeIdSum"
 name_of NegativeLimit = codes "NegativeLimit"
 name_of MisspeltSection = codes "MisspeltSection"
 name_of (MisspeltKey meant) = codes "MisspeltKey"
@@ -84,6 +86,8 @@ meaning_of (IdentityNumber sub) = codes "the identity object has another number"
 meaning_of FixedCobId =
     codes "the COB-ID doesn't depend on the node-ID, so two such devices disturb each other"
 meaning_of NodeIdPlace = codes "$NODEID comes after the number, which other tools don't read"
+meaning_of NodeIdSum =
+    codes "the default with $NODEID is outside the type or the limits for every node-ID"
 meaning_of NegativeLimit =
     codes "this HighLimit is -1 at its type, so no number from 0 on is permitted"
 meaning_of MisspeltSection =
@@ -125,6 +129,7 @@ fix_of (IdentityNumber sub) =
     codes "give VendorNumber as in 1018:01, ProductNumber as in 1018:02, RevisionNumber as in 1018:03"
 fix_of FixedCobId = codes "write $NODEID+ and the number of the predefined connection set"
 fix_of NodeIdPlace = codes "write $NODEID first, as $NODEID+0x180"
+fix_of NodeIdSum = codes "correct the default or the limits"
 fix_of NegativeLimit =
     codes "give the greatest number of the type, as 0x7F or 0x7FFF, or take the limit out"
 fix_of MisspeltSection = codes "write the name as the standard has it, as [DeviceInfo], [1018sub1]"
@@ -160,6 +165,7 @@ subject_of Unlisted = codes "CiA 306-1, object lists"
 subject_of (IdentityNumber sub) = codes "CiA 306-1, device information"
 subject_of FixedCobId = codes "CiA 301, predefined connection set"
 subject_of NodeIdPlace = codes "CiA 306-1, object description"
+subject_of NodeIdSum = codes "CiA 306-1, object description"
 subject_of NegativeLimit = codes "CiA 306-1, object description"
 subject_of MisspeltSection = codes "CiA 306-1, structure of an EDS"
 subject_of (MisspeltKey meant) = codes "CiA 306-1, structure of an EDS"

@@ -38,6 +38,7 @@ use Rattle.co_sheet_warnings.specs.declared.warning.WarningKind.TheVariants.{
   IdentityNumber,
   FixedCobId,
   NodeIdPlace,
+  NodeIdSum,
   NegativeLimit,
   MisspeltSection,
   MisspeltKey,
@@ -68,6 +69,7 @@ use Rattle.co_sheet_warnings.specs.Limits.{negative_limit}
 use Rattle.co_sheet_warnings.specs.SectionNames.{misspelt_section}
 use Rattle.co_sheet_warnings.specs.Communication.{inhibit_time, own_heartbeat, heartbeat_twice}
 use Rattle.co_sheet_warnings.specs.NodeIds.{no_node_id}
+use Rattle.co_sheet_warnings.specs.NodeIdSums.{node_id_sum}
 use Rattle.co_sheet_warnings.specs.Lines.{long_lines, utf8, not_ascii, mixed_line_ends}
 use Rattle.co_sheet_warnings.specs.declared.keys.Topic.TheVariants.{FileInfo, DeviceInfo}
 use Rattle.co_sheet_warnings.specs.Keys.{WrittenKey}
@@ -98,6 +100,7 @@ places_in t VarSubIndices s = var_sub_indices t.sections s s.kind
 places_in t Unlisted s = unlisted t.sections s s.kind
 places_in t FixedCobId s = fixed_cob_id t.sections s
 places_in t NodeIdPlace s = node_id_place s
+places_in t NodeIdSum s = node_id_sum t.node s
 places_in t NegativeLimit s = negative_limit s
 places_in t MisspeltSection s = misspelt_section t.sections s
 places_in t InhibitTime s = inhibit_time t.sections s s.kind
@@ -146,7 +149,7 @@ first_kinds =
     SubNumber ∷ SubIndex0 ∷ VarSubIndices ∷ FileInfoKeys (replicate 10 false)
     ∷ DeviceInfoKeys (replicate 22 false) ∷ PdoCount ∷ WrongList ∷ UncountedKey ∷ Unlisted
     ∷ IdentityNumber 1 ∷ IdentityNumber 2 ∷ IdentityNumber 3 ∷ FixedCobId ∷ NodeIdPlace
-    ∷ NegativeLimit ∷ MisspeltSection ∷ []
+    ∷ NodeIdSum ∷ NegativeLimit ∷ MisspeltSection ∷ []
 
 abbrev pub last_kinds : List WarningKind
 last_kinds =

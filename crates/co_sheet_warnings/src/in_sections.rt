@@ -8,6 +8,7 @@ use crate::cob_ids::{fixed_cob_id, node_id_place};
 use crate::communication::{heartbeat_twice, inhibit_time, own_heartbeat};
 use crate::limits::negative_limit;
 use crate::node_id::no_node_id;
+use crate::node_id_sums::node_id_sum;
 use crate::read_text::ReadText;
 use crate::section_names::misspelt_section;
 use crate::sub_indices::{missing_name, sub_index_0, sub_number, unlisted, var_sub_indices};
@@ -26,6 +27,7 @@ pub(crate) fn place_in(text: &ReadText, kind: WarningKind, section: &TextSection
         WarningKind::Unlisted => unlisted(text, section),
         WarningKind::FixedCobId => fixed_cob_id(text, section),
         WarningKind::NodeIdPlace => node_id_place(section),
+        WarningKind::NodeIdSum => node_id_sum(text.node, section),
         WarningKind::NegativeLimit => negative_limit(section),
         WarningKind::MisspeltSection => misspelt_section(text, section),
         WarningKind::InhibitTime => inhibit_time(text, section),

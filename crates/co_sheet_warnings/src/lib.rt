@@ -33,6 +33,7 @@ mod limits;
 mod lines;
 mod lists;
 mod node_id;
+mod node_id_sums;
 mod places;
 mod read_text;
 mod repeats;

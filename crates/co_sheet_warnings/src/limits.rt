@@ -21,7 +21,8 @@ fn is_all_ones(data_type: DataType, text: &[u8]) -> bool
     }
 }
 
-fn type_at(section: &TextSection) -> Option<DataType>
+/// The type of an entry, by the code of its DataType.
+pub(crate) fn type_at(section: &TextSection) -> Option<DataType>
     ensures { result ≡ type_at (section_view section.now) }
 {
     match section.number_at(b"DataType") {

@@ -31,6 +31,8 @@ pub enum WarningKind {
     FixedCobId,
     /// `$NODEID` comes after the number of a formula.
     NodeIdPlace,
+    /// A sum with `$NODEID` is outside its type or its limits for every node-ID.
+    NodeIdSum,
     /// A HighLimit without a LowLimit that is -1 by the sign of its type.
     NegativeLimit,
     /// A section that nothing reads, with a name that is like one of the standard.

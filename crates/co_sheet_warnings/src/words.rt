@@ -28,24 +28,25 @@ fn row(kind: WarningKind) -> usize
         WarningKind::IdentityNumber(_) => 9,
         WarningKind::FixedCobId => 10,
         WarningKind::NodeIdPlace => 11,
-        WarningKind::NegativeLimit => 12,
-        WarningKind::MisspeltSection => 13,
-        WarningKind::MisspeltKey(_) => 14,
-        WarningKind::SharedCobId(_) => 15,
-        WarningKind::InhibitTime => 16,
-        WarningKind::OwnHeartbeat => 17,
-        WarningKind::HeartbeatTwice(_) => 18,
-        WarningKind::NoErrorControl => 19,
-        WarningKind::LongLine => 20,
-        WarningKind::Utf8 => 21,
-        WarningKind::NotAscii => 22,
-        WarningKind::NodeId => 23,
-        WarningKind::ListOrder => 24,
-        WarningKind::EqualNames => 25,
-        WarningKind::MissingName => 26,
-        WarningKind::UnknownKey => 27,
-        WarningKind::DateFormat => 28,
-        WarningKind::LineEnds => 29,
+        WarningKind::NodeIdSum => 12,
+        WarningKind::NegativeLimit => 13,
+        WarningKind::MisspeltSection => 14,
+        WarningKind::MisspeltKey(_) => 15,
+        WarningKind::SharedCobId(_) => 16,
+        WarningKind::InhibitTime => 17,
+        WarningKind::OwnHeartbeat => 18,
+        WarningKind::HeartbeatTwice(_) => 19,
+        WarningKind::NoErrorControl => 20,
+        WarningKind::LongLine => 21,
+        WarningKind::Utf8 => 22,
+        WarningKind::NotAscii => 23,
+        WarningKind::NodeId => 24,
+        WarningKind::ListOrder => 25,
+        WarningKind::EqualNames => 26,
+        WarningKind::MissingName => 27,
+        WarningKind::UnknownKey => 28,
+        WarningKind::DateFormat => 29,
+        WarningKind::LineEnds => 30,
     }
 }
 
@@ -58,7 +59,7 @@ fn text_at(texts: &[&'static str], row: usize) -> &'static str
 }
 
 /// The names of all kinds, by row.
-const NAMES: [&str; 30] = [
+const NAMES: [&str; 31] = [
     "SubNumber",
     "SubIndex0",
     "VarSubIndices",
@@ -71,6 +72,7 @@ const NAMES: [&str; 30] = [
     "IdentityNumber",
     "FixedCobId",
     "NodeIdPlace",
+    "NodeIdSum",
     "NegativeLimit",
     "MisspeltSection",
     "MisspeltKey",
@@ -99,7 +101,7 @@ pub fn name_of(kind: WarningKind) -> &'static str
 }
 
 /// What a warning of each kind means, by row.
-const MEANINGS: [&str; 30] = [
+const MEANINGS: [&str; 31] = [
     "SubNumber isn't the number of the object's sub-index sections",
     "sub-index 0 isn't the highest sub-index of the object",
     "the object is a VAR or a DOMAIN, so its sub-index sections aren't read",
@@ -112,6 +114,7 @@ const MEANINGS: [&str; 30] = [
     "the identity object has another number",
     "the COB-ID doesn't depend on the node-ID, so two such devices disturb each other",
     "$NODEID comes after the number, which other tools don't read",
+    "the default with $NODEID is outside the type or the limits for every node-ID",
     "this HighLimit is -1 at its type, so no number from 0 on is permitted",
     "nothing reads a section of this name, and the standard has one like it",
     "the standard has no such key, but one like it",
@@ -140,7 +143,7 @@ pub fn meaning_of(kind: WarningKind) -> &'static str
 }
 
 /// How a warning of each kind is fixed, by row.
-const FIXES: [&str; 30] = [
+const FIXES: [&str; 31] = [
     "count the sections; one may be missing, or its name misspelt",
     "give it the highest sub-index, or describe the one that is missing",
     "give it ObjectType=0x8 or 0x9, or take these sections out",
@@ -154,6 +157,7 @@ const FIXES: [&str; 30] = [
     "give VendorNumber as in 1018:01, ProductNumber as in 1018:02, RevisionNumber as in 1018:03",
     "write $NODEID+ and the number of the predefined connection set",
     "write $NODEID first, as $NODEID+0x180",
+    "correct the default or the limits",
     "give the greatest number of the type, as 0x7F or 0x7FFF, or take the limit out",
     "write the name as the standard has it, as [DeviceInfo], [1018sub1]",
     "write the key as the standard has it",
@@ -182,7 +186,7 @@ pub fn fix_of(kind: WarningKind) -> &'static str
 }
 
 /// The subject that has the rule of each kind, by row.
-const SUBJECTS: [&str; 30] = [
+const SUBJECTS: [&str; 31] = [
     "CiA 306-1, object description",
     "CiA 301, sub-index 0 of arrays and records",
     "CiA 306-1, object description",
@@ -194,6 +198,7 @@ const SUBJECTS: [&str; 30] = [
     "CiA 306-1, object lists",
     "CiA 306-1, device information",
     "CiA 301, predefined connection set",
+    "CiA 306-1, object description",
     "CiA 306-1, object description",
     "CiA 306-1, object description",
     "CiA 306-1, structure of an EDS",

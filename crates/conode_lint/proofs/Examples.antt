@@ -3,7 +3,7 @@ use Rattle.std.proofs.Common.{◌≡◌, true, false, [], ◌∷◌, ◌++◌, c
 use Rattle.co_sheet.specs.Content.{SheetContent}
 use Rattle.conode_lint_marks.specs.declared.mark.OtherFormat.TheVariants.{Xml, EtherNetIp, Utf16}
 use Rattle.conode_lint.specs.Allowed.{names_after, names_allowed, names_in, names_on, passes_by}
-use Rattle.conode_lint.specs.Formats.{begins_with, has_line, other_format}
+use Rattle.conode_lint.specs.Formats.{begins_with, format_line, has_line, other_format}
 use Rattle.conode_lint.specs.Marks.{format_of, node_for}
 
 -- ---- formats
@@ -43,6 +43,12 @@ device_alone = refl
 code_alone : other_format (codes "[DeviceInfo]" ∷ codes "VendCode=1" ∷ []) ≡ None
 unfolding other_format has_line
 code_alone = refl
+
+-- the line that shows it: after others, in another case, after blanks; the first of two; of UTF-16 the first
+shown : format_line Xml (codes "; a" ∷ codes "" ∷ codes " <?XML v" ∷ codes "<ISO15745" ∷ []) ∷ format_line Xml (codes "a <?xml" ∷ codes "<iso15745" ∷ []) ∷ format_line EtherNetIp (codes "[File]" ∷ codes "VendCode = 1;" ∷ codes "[DEVICE]" ∷ codes "[Device]" ∷ [])
+    ∷ format_line Utf16 ((0xFF ∷ 0xFE ∷ []) ∷ codes "<?xml" ∷ []) ∷ [] ≡ 3 ∷ 2 ∷ 3 ∷ 1 ∷ []
+unfolding format_line
+shown = refl
 
 -- without a fault it is a sheet, whatever its comments
 sheet_format : format_of (codes "<?xml" ∷ []) [] ≡ None

@@ -1,6 +1,7 @@
 mod FaultLemmas
 mod WordLemmas
 mod ReasonWordLemmas
+mod FormatLemmas
 mod MarkLemmas
 mod BuildLaws
 mod FoundLaws

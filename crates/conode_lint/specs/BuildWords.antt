@@ -4,6 +4,8 @@ use Rattle.co_value.specs.declared.key.Key.{Key}
 use Rattle.co_dict_build.specs.BuildFaultTexts.{fault_number}
 use Rattle.co_dict_build.specs.declared.build_fault.BuildFault.{BuildFault}
 use Rattle.co_dict_build.specs.declared.build_fault.BuildFault.TheVariants.{NodeId, ValueRange, BadCobId, PdoPair, BadMapping, TooMany, Memory}
+use Rattle.co_sheet_text.specs.Sections.{TextSection}
+use Rattle.conode_lint_text.specs.Sums.{value_range}
 use Rattle.conode_lint_text.specs.declared.finding.About.{About}
 use Rattle.conode_lint_text.specs.declared.finding.About.TheVariants.{Line, Object, Entry}
 use Rattle.conode_lint_text.specs.declared.finding.Place.{Place}
@@ -13,15 +15,16 @@ use Rattle.conode_lint_text.specs.declared.finding.Place.TheVariants.{Beginning,
 abbrev pub is_sync : Key → Bool
 is_sync key = key.index == 0x1005
 
--- the object or the entry that it is about
-abbrev pub build_about : BuildFault → About
-build_about NodeId = Line
-build_about (ValueRange key) = Entry key.index key.sub
-build_about (BadCobId key) = Entry key.index key.sub
-build_about (PdoPair index) = Object index
-build_about (BadMapping key) = Entry key.index key.sub
-build_about TooMany = Line
-build_about Memory = Line
+-- the object or the entry that it is about, at a line with this text among these sections; of a sum the
+-- node-IDs for which it is right
+abbrev pub build_about : List TextSection → ℕ → List ℕ → BuildFault → About
+build_about sections line text NodeId = Line
+build_about sections line text (ValueRange key) = value_range key line sections text
+build_about sections line text (BadCobId key) = Entry key.index key.sub
+build_about sections line text (PdoPair index) = Object index
+build_about sections line text (BadMapping key) = Entry key.index key.sub
+build_about sections line text TooMany = Line
+build_about sections line text Memory = Line
 
 -- which part of its line: the value of an entry
 abbrev pub build_place : BuildFault → Place

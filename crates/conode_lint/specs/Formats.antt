@@ -1,6 +1,6 @@
 -- Which texts with faults are of another format, and no data sheet of CANopen.
-use Rattle.std.specs.Prelude.{ℕ, nat_eq, nat_le, Bool, false, not, ◌&&◌, ◌||◌, if◌then◌else◌, List, [], ◌∷◌, length, take, codes, Option, Some, None}
-use Rattle.std.specs.List.{list_any, starts_with}
+use Rattle.std.specs.Prelude.{ℕ, ◌+◌, nat_eq, nat_le, Bool, true, false, not, ◌&&◌, ◌||◌, if◌then◌else◌, List, [], ◌∷◌, length, take, codes, Option, Some, None}
+use Rattle.std.specs.List.{list_any, position_or_len, starts_with}
 use Rattle.co_sheet_text.specs.Text.{same_name, trim}
 use Rattle.co_sheet_warnings.specs.Lines.{text_lines}
 use Rattle.conode_lint_marks.specs.declared.mark.OtherFormat.{OtherFormat}
@@ -42,3 +42,14 @@ other_format lines =
 -- the format of a text, if it is another one
 abbrev pub text_format : List ℕ → Option OtherFormat
 text_format text = other_format (text_lines text)
+
+-- a line shows the format of its text: one that begins with the word of XML or with [Device]; in UTF-16
+-- the first one does
+abbrev pub shows : OtherFormat → List ℕ → Bool
+shows Xml line = begins_with (codes "<?xml") (trim line) || begins_with (codes "<ISO15745") (trim line)
+shows EtherNetIp line = begins_with (codes "[Device]") (trim line)
+shows Utf16 line = true
+
+-- the first line that shows the format, from 1
+unfoldable pub format_line : OtherFormat → List (List ℕ) → ℕ
+format_line format lines = 1 + position_or_len (shows format) lines

@@ -23,16 +23,16 @@ use Rattle.conode_lint.specs.declared.marks.Checks.{Checks}
 use Rattle.conode_lint_marks.specs.BuildLines.{built_marks}
 use Rattle.conode_lint_marks.specs.Beside.{beside_marks, sheet_of}
 use Rattle.conode_lint_marks.specs.KnownWarnings.{bad_lines, known_warnings, warning_mark}
-use Rattle.conode_lint.specs.Formats.{other_format}
+use Rattle.conode_lint.specs.Formats.{format_line, other_format}
 use Rattle.co_sheet_warnings.specs.Lines.{text_lines}
 
 -- the mark of a fault
 abbrev pub fault_mark : SheetFault → Mark
 fault_mark fault = record { line = fault.line; subject = Fault fault.kind }
 
--- the mark of a text of another format
-abbrev pub format_mark : OtherFormat → Mark
-format_mark format = record { line = 1; subject = Format format }
+-- the mark of a text of another format, at the first line that shows it
+abbrev pub format_mark : List (List ℕ) → OtherFormat → Mark
+format_mark lines format = record { line = format_line format lines; subject = Format format }
 
 -- the sections of a text in spite of its lines at fault; one that is too large isn't read
 abbrev pub text_sections : List ℕ → List TextSection
@@ -119,7 +119,7 @@ format_of lines faults = other_format lines
 
 -- what is found: only the format, if it is another one, else all
 abbrev pub IsFoundIn : List ℕ → Checks → List SheetFault → List Mark → Option OtherFormat → Type 0
-IsFoundIn text checks faults found (Some format) = found ≡ format_mark format ∷ []
+IsFoundIn text checks faults found (Some format) = found ≡ format_mark (text_lines text) format ∷ []
 IsFoundIn text checks faults found None = IsAllFound text checks faults found
 
 -- what is found in a text

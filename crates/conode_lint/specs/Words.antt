@@ -99,13 +99,15 @@ warning_about sections line text other = about.Line
 
 abbrev pub about_of : List TextSection → ℕ → List ℕ → Subject → About
 about_of sections line text (Fault kind) = fault_about sections line text kind
-about_of sections line text (Build fault) = build_about fault
+about_of sections line text (Build fault) = build_about sections line text fault
 about_of sections line text (Mapping fault) = mapping_about fault
 about_of sections line text (Warning kind) = warning_about sections line text kind
 about_of sections line text (Format format) = about.Line
 
 -- how to fix it: what `conode adapt` mends, by that
 abbrev pub fault_fix : FaultKind → List ℕ
+fault_fix fault.AmbiguousNumber =
+    codes "CiA 306 reads a leading 0 as octal: write the number in decimal without it or in hexadecimal, or try conode adapt --leading-zeros"
 fault_fix fault.LeftOutType =
     codes "try conode adapt, which may give it a supported type; or take the object out of its list"
 fault_fix fault.CompactForm =

@@ -1,7 +1,6 @@
 //! Which of several a build fault is, by what the sheet has there.
 
 ghost use Rattle.std.specs.Prelude.{◌≡◌, map};
-ghost use Rattle.std.specs.Result.{result_ok};
 ghost use Rattle.co_sheet_text.specs.Views.{section_view};
 ghost use Rattle.co_sheet.specs.Limits.{numeric_default};
 ghost use Rattle.conode_lint.specs.BuildReasons.{

@@ -1,6 +1,7 @@
 //! The words of a build fault.
 
 ghost use Rattle.std.specs.Prelude.{◌≡◌, ◌<◌, [], get_or, length, map};
+ghost use Rattle.co_sheet_text.specs.Views.{section_view};
 ghost use Rattle.conode_lint.specs.BuildWords.{
   build_about,
   build_place,
@@ -11,14 +12,22 @@ ghost use Rattle.conode_lint.specs.BuildWords.{
 };
 
 use co_dict_build::BuildFault;
-use conode_lint_text::{About, Place};
+use co_sheet_text::TextSection;
+use conode_lint_text::{About, Place, value_range};
 
-/// The object or the entry that it is about.
-pub(crate) fn build_about(fault: BuildFault) -> About
-    ensures { result ≡ build_about fault }
+/// The object or the entry that it is about, at a line with this text; of a sum the node-IDs for
+/// which it is right.
+pub(crate) fn build_about(
+    sections: &[TextSection<'_, '_>],
+    line: usize,
+    text: &[u8],
+    fault: BuildFault,
+) -> About
+    ensures { result ≡ build_about (map section_view sections.now) line text.now fault }
 {
     match fault {
-        BuildFault::ValueRange(key) | BuildFault::BadCobId(key) | BuildFault::BadMapping(key) => {
+        BuildFault::ValueRange(key) => value_range(key, sections, line, text),
+        BuildFault::BadCobId(key) | BuildFault::BadMapping(key) => {
             About::Entry(key.index, key.sub)
         }
         BuildFault::PdoPair(index) => About::Object(index),

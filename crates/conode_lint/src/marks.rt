@@ -24,7 +24,7 @@ ghost use Rattle.conode_lint.specs.Marks.{
   text_sections,
 };
 
-use crate::other_format::other_format;
+use crate::other_format::{format_line, other_format};
 use co_dict_build::Limits;
 use co_sheet::{GREATEST_SIZE, Sheet, SheetFault};
 use co_sheet_faults::{all_faults, find_faults};
@@ -219,11 +219,12 @@ fn format_of(lines: &[&[u8]], faults: &[SheetFault]) -> Option<OtherFormat>
     }
 }
 
-fn add_format(marks: &mut Vec<Mark>, format: OtherFormat) -> Result<(), AllocError>
-    ensures { OnOk result (marks.new.items ≡ marks.old.items ++ format_mark format ∷ []) }
+fn add_format(marks: &mut Vec<Mark>, lines: &[&[u8]], format: OtherFormat) -> Result<(), AllocError>
+    ensures { OnOk result (marks.new.items
+        ≡ marks.old.items ++ format_mark (map (λ line. line.now) lines.now) format ∷ []) }
 {
     attempt_in_memory!(marks.push(Mark {
-        line: 1,
+        line: format_line(format, lines),
         subject: Subject::Format(format),
     }));
     Ok(())
@@ -250,7 +251,7 @@ fn add_found<'s, 'a>(
         (format_of (text_lines text.now) faults.now)) }
 {
     if let Some(format) = format_of(lines, faults) {
-        return add_format(marks, format);
+        return add_format(marks, lines, format);
     }
     if text.len() > GREATEST_SIZE {
         attempt!(add_large(marks, text, sheet, faults, checks));

@@ -4,10 +4,12 @@ ghost use Rattle.std.specs.Prelude.{◌≡◌, map, IfOk};
 ghost use Rattle.conode_lint.specs.Formats.{
   begins_in_utf16,
   begins_with,
+  format_line,
   has_line,
   is_ethernet_ip,
   is_utf16,
   other_format,
+  shows,
   text_format,
 };
 
@@ -74,6 +76,32 @@ pub(crate) fn other_format(lines: &[&[u8]]) -> Option<OtherFormat>
     } else {
         None
     }
+}
+
+// whether a line shows the format of its text; in UTF-16 the first one does
+fn shows(format: OtherFormat, line: &[u8]) -> bool
+    ensures { result ≡ shows format line.now }
+{
+    let text = trim(line);
+    match format {
+        OtherFormat::Xml => begins_with(b"<?xml", text) || begins_with(b"<ISO15745", text),
+        OtherFormat::EtherNetIp => begins_with(b"[Device]", text),
+        OtherFormat::Utf16 => true,
+    }
+}
+
+/// The first line that shows the format of its text, from 1.
+pub(crate) fn format_line(format: OtherFormat, lines: &[&[u8]]) -> usize
+    ensures { result ≡ format_line format (map (λ line. line.now) lines.now) }
+{
+    let mut number = 1;
+    for line in lines {
+        if shows(format, line) {
+            return number;
+        }
+        number += 1;
+    }
+    number
 }
 
 /// The format of a text, if it is another than that of data sheets (CiA 306). `Err`: out of memory.

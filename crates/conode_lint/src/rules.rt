@@ -12,7 +12,7 @@ use std::alloc::AllocError;
 const KEY: Key = Key { index: 0, sub: 0 };
 
 /// All kinds: another format, the faults of a text, those of a build, and the warnings.
-static SUBJECTS: [Subject; 55] = [
+static SUBJECTS: [Subject; 56] = [
     Subject::Format(OtherFormat::Xml),
     Subject::Fault(FaultKind::TooLarge),
     Subject::Fault(FaultKind::BadLine),
@@ -50,6 +50,7 @@ static SUBJECTS: [Subject; 55] = [
     Subject::Warning(WarningKind::IdentityNumber(1)),
     Subject::Warning(WarningKind::FixedCobId),
     Subject::Warning(WarningKind::NodeIdPlace),
+    Subject::Warning(WarningKind::NodeIdSum),
     Subject::Warning(WarningKind::NegativeLimit),
     Subject::Warning(WarningKind::MisspeltSection),
     Subject::Warning(WarningKind::MisspeltKey(KnownKey::AccessType)),

@@ -140,7 +140,7 @@ pub(crate) fn about_of(sections: &[TextSection<'_, '_>], mark: Mark, text: &[u8]
 {
     match mark.subject {
         Subject::Fault(kind) => fault_about(sections, mark.line, text, kind),
-        Subject::Build(fault) => build_about(fault),
+        Subject::Build(fault) => build_about(sections, mark.line, text, fault),
         Subject::Mapping(fault) => mapping_about(fault),
         Subject::Warning(kind) => warning_about(sections, mark.line, text, kind),
         Subject::Format(_) => About::Line,
@@ -188,6 +188,10 @@ fn fault_fix(kind: FaultKind) -> &'static str
     ensures { result.now ≡ fault_fix kind }
 {
     match kind {
+        FaultKind::AmbiguousNumber => {
+            "CiA 306 reads a leading 0 as octal: write the number in decimal without it or in \
+            hexadecimal, or try conode adapt --leading-zeros"
+        }
         FaultKind::LeftOutType => {
             "try conode adapt, which may give it a supported type; or take the object out of its list"
         }

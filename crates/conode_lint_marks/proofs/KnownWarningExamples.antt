@@ -2,14 +2,14 @@
 use Rattle.std.proofs.Common.{◌≡◌, ℕ, ◌+◌, true, false, List, None, [], ◌∷◌, codes, drop, map, refl}
 use Rattle.co_dict_build.specs.declared.build_fault.BuildFault.TheVariants.{BadCobId, PdoPair}
 use Rattle.co_sheet_rows.specs.declared.fault.FaultKind.{FaultKind}
-use Rattle.co_sheet_rows.specs.declared.fault.FaultKind.TheVariants.{BadAccess, BadDefault, BadLine, BadNumber, DuplicateKey, DuplicateSection, MissingSection, TooLarge}
+use Rattle.co_sheet_rows.specs.declared.fault.FaultKind.TheVariants.{BadAccess, BadDefault, BadLimits, BadLine, BadNumber, BadType, DuplicateKey, DuplicateSection, MissingSection, TooLarge}
 use Rattle.co_sheet_rows.specs.declared.fault.SheetFault.{SheetFault}
 use Rattle.co_sheet_text.specs.declared.section_kind.SectionKind.{SectionKind}
 use Rattle.co_sheet_text.specs.declared.section_kind.SectionKind.TheVariants.{DeviceInfo, MandatoryObjects, Object, PassedOver, SubIndex}
 use Rattle.co_sheet_text.specs.Sections.{TextSection, form_of}
 use Rattle.co_sheet_warnings.specs.declared.warning.Warning.{Warning}
 use Rattle.co_sheet_warnings.specs.declared.warning.WarningKind.{WarningKind}
-use Rattle.co_sheet_warnings.specs.declared.warning.WarningKind.TheVariants.{SubNumber, SubIndex0, VarSubIndices, FileInfoKeys, DeviceInfoKeys, PdoCount, Unlisted, IdentityNumber, FixedCobId, NodeIdPlace, NegativeLimit, SharedCobId, InhibitTime, OwnHeartbeat, HeartbeatTwice, NoErrorControl, LongLine}
+use Rattle.co_sheet_warnings.specs.declared.warning.WarningKind.TheVariants.{SubNumber, SubIndex0, VarSubIndices, FileInfoKeys, DeviceInfoKeys, PdoCount, Unlisted, IdentityNumber, FixedCobId, NodeIdPlace, NodeIdSum, NegativeLimit, SharedCobId, InhibitTime, OwnHeartbeat, HeartbeatTwice, NoErrorControl, LongLine}
 use Rattle.conode_lint_marks.specs.declared.mark.Subject.TheVariants as mark
 use Rattle.conode_lint_marks.specs.AtFault.{is_complete, kinds_at_fault}
 use Rattle.conode_lint_marks.specs.BuildLines.{value_line}
@@ -110,6 +110,18 @@ cob_id = refl
 limit : left_by (fault BadDefault 11 ∷ fault BadNumber 12 ∷ []) (warning NegativeLimit 11 ∷ warning NegativeLimit 12 ∷ warning NegativeLimit 13 ∷ []) ≡ warning NegativeLimit 13 ∷ []
 unfolding known_warnings unknown_of is_complete kinds_at_fault doubts_of whole_line value_line
 limit = refl
+
+-- a sum: nothing is said in a section at fault, at another line too; before the first section
+sum : map (λ f. left_by (f ∷ []) (warning NodeIdSum 12 ∷ warning NodeIdSum 22 ∷ [])) (fault BadNumber 9 ∷ fault BadType 11 ∷ fault BadDefault 12 ∷ fault BadLimits 19 ∷ fault DuplicateSection 20 ∷ fault BadLine 30 ∷ [])
+    ≡ (warning NodeIdSum 12 ∷ warning NodeIdSum 22 ∷ []) ∷ (warning NodeIdSum 22 ∷ []) ∷ (warning NodeIdSum 22 ∷ []) ∷ (warning NodeIdSum 22 ∷ []) ∷ (warning NodeIdSum 12 ∷ []) ∷ (warning NodeIdSum 12 ∷ warning NodeIdSum 22 ∷ []) ∷ []
+unfolding known_warnings unknown_of is_complete kinds_at_fault doubts_of whole_line value_line
+sum = refl
+
+-- nor in a section that comes twice
+sum_twice : map (λ again. known_warnings (codes "[2000]" ∷ [] ∷ codes "[3000]" ∷ [] ∷ again ∷ []) (section (Object 0x2000) 1 ∷ section (Object 0x3000) 3 ∷ section PassedOver 5 ∷ []) [] (fault DuplicateSection 5 ∷ []) (warning NodeIdSum 2 ∷ warning NodeIdSum 4 ∷ [])) (codes "[2000]" ∷ codes "[3000]" ∷ codes "[4000]" ∷ [])
+    ≡ (warning NodeIdSum 4 ∷ []) ∷ (warning NodeIdSum 2 ∷ []) ∷ (warning NodeIdSum 2 ∷ warning NodeIdSum 4 ∷ []) ∷ []
+unfolding known_warnings unknown_of is_complete kinds_at_fault doubts_of whole_line value_line
+sum_twice = refl
 
 -- an object's section: a fault before it, at its line, at its last line, at the next section's line, past that; of the first section
 -- and of the last; and a section line at fault

@@ -12,7 +12,7 @@ use Rattle.co_sheet_warnings.specs.Repeats.{compared}
 use Rattle.co_sheet_warnings.specs.declared.repeats.ComparedNumber.{ComparedNumber}
 use Rattle.co_sheet_warnings.specs.declared.warning.Warning.{Warning}
 use Rattle.co_sheet_warnings.specs.declared.warning.WarningKind.{WarningKind}
-use Rattle.co_sheet_warnings.specs.declared.warning.WarningKind.TheVariants.{SubNumber, SubIndex0, VarSubIndices, FileInfoKeys, DeviceInfoKeys, PdoCount, Unlisted, IdentityNumber, FixedCobId, NodeIdPlace, NegativeLimit, SharedCobId, InhibitTime, OwnHeartbeat, HeartbeatTwice, NoErrorControl}
+use Rattle.co_sheet_warnings.specs.declared.warning.WarningKind.TheVariants.{SubNumber, SubIndex0, VarSubIndices, FileInfoKeys, DeviceInfoKeys, PdoCount, Unlisted, IdentityNumber, FixedCobId, NodeIdPlace, NodeIdSum, NegativeLimit, SharedCobId, InhibitTime, OwnHeartbeat, HeartbeatTwice, NoErrorControl}
 use Rattle.conode_lint_marks.specs.declared.concerns.Concern.TheVariants.{CompactPdo, Same, SectionLine, SubsOf}
 use Rattle.conode_lint_marks.specs.declared.known_warnings.Unknown.{Unknown}
 use Rattle.conode_lint_marks.specs.declared.mark.Mark.{Mark}
@@ -143,59 +143,70 @@ abbrev pub has_fault : ℕ → List TextSection → List SheetFault → Bool
 has_fault line here [] = false
 has_fault line here (f ∷ faults) = is_before_next line here f.line
 
+-- the section that a line is in is at fault, or its value may be wrong, where these are the sections
+-- from it on
+abbrev pub is_at_fault_here : List SectionKind → List SectionKind → List TextSection → Bool
+is_at_fault_here kinds doubts [] = false
+is_at_fault_here kinds doubts (s ∷ more) =
+    is_any (Same s.kind) kinds || is_any (Same s.kind) doubts
+
 -- a line is one of these: those of COB-IDs with a build fault
 abbrev pub is_one_of : List ℕ → ℕ → Bool
 is_one_of lines line = list_any (λ own. own == line) lines
 
 -- a warning of a kind at a line rests on what isn't known, or on the value at its line, which has
 -- one of these faults, or is one of these bad COB-IDs; `here` are the sections from that of the line on
-abbrev pub rests_on_fault : Unknown → List TextSection → List SectionKind → List ℕ
-    → List TextSection → List SheetFault → ℕ → WarningKind → Bool
-rests_on_fault u sections doubts bad here faults line SubNumber =
+abbrev pub rests_on_fault : Unknown → List TextSection → List SectionKind → List SectionKind
+    → List ℕ → List TextSection → List SheetFault → ℕ → WarningKind → Bool
+rests_on_fault u sections kinds doubts bad here faults line SubNumber =
     u.sections || is_in_compact sections line here
-rests_on_fault u sections doubts bad here faults line SubIndex0 =
+rests_on_fault u sections kinds doubts bad here faults line SubIndex0 =
     u.sections || begins_at line faults || is_in_compact sections line here
-rests_on_fault u sections doubts bad here faults line VarSubIndices =
+rests_on_fault u sections kinds doubts bad here faults line VarSubIndices =
     u.sections || has_fault line here faults
-rests_on_fault u sections doubts bad here faults line (FileInfoKeys missing) =
+rests_on_fault u sections kinds doubts bad here faults line (FileInfoKeys missing) =
     (line == 0) && u.sections
-rests_on_fault u sections doubts bad here faults line (DeviceInfoKeys missing) =
+rests_on_fault u sections kinds doubts bad here faults line (DeviceInfoKeys missing) =
     ((line == 0) && u.sections) || is_any CompactPdo doubts
-rests_on_fault u sections doubts bad here faults line PdoCount = u.sections || u.info
-rests_on_fault u sections doubts bad here faults line Unlisted = u.lists
-rests_on_fault u sections doubts bad here faults line NoErrorControl = u.lists
-rests_on_fault u sections doubts bad here faults line (SharedCobId node) =
+rests_on_fault u sections kinds doubts bad here faults line PdoCount = u.sections || u.info
+rests_on_fault u sections kinds doubts bad here faults line Unlisted = u.lists
+rests_on_fault u sections kinds doubts bad here faults line NoErrorControl = u.lists
+rests_on_fault u sections kinds doubts bad here faults line (SharedCobId node) =
     is_one_of bad line || is_either_in_doubt (SharedCobId node) sections doubts line
-rests_on_fault u sections doubts bad here faults line (HeartbeatTwice given) =
+rests_on_fault u sections kinds doubts bad here faults line (HeartbeatTwice given) =
     is_either_in_doubt (HeartbeatTwice given) sections doubts line
-rests_on_fault u sections doubts bad here faults line (IdentityNumber sub) =
+rests_on_fault u sections kinds doubts bad here faults line (IdentityNumber sub) =
     is_any (SubsOf 0x1018 sub sub) doubts
-rests_on_fault u sections doubts bad here faults line InhibitTime =
+rests_on_fault u sections kinds doubts bad here faults line InhibitTime =
     is_time_in_doubt sections doubts line
-rests_on_fault u sections doubts bad here faults line FixedCobId =
+rests_on_fault u sections kinds doubts bad here faults line FixedCobId =
     is_one_of bad line || begins_at line faults
-rests_on_fault u sections doubts bad here faults line NodeIdPlace = begins_at line faults
-rests_on_fault u sections doubts bad here faults line NegativeLimit = begins_at line faults
-rests_on_fault u sections doubts bad here faults line OwnHeartbeat = begins_at line faults
-rests_on_fault u sections doubts bad here faults line kind = false
+rests_on_fault u sections kinds doubts bad here faults line NodeIdPlace = begins_at line faults
+rests_on_fault u sections kinds doubts bad here faults line NegativeLimit = begins_at line faults
+rests_on_fault u sections kinds doubts bad here faults line OwnHeartbeat = begins_at line faults
+rests_on_fault u sections kinds doubts bad here faults line NodeIdSum =
+    is_at_fault_here kinds doubts here
+rests_on_fault u sections kinds doubts bad here faults line kind = false
 
-abbrev pub unless_at_fault : Unknown → List TextSection → List SectionKind → List ℕ
-    → List TextSection → List SheetFault → Warning → List Warning
-unless_at_fault u sections doubts bad here faults w =
-    if rests_on_fault u sections doubts bad here faults w.line w.kind then [] else w ∷ []
+abbrev pub unless_at_fault : Unknown → List TextSection → List SectionKind → List SectionKind
+    → List ℕ → List TextSection → List SheetFault → Warning → List Warning
+unless_at_fault u sections kinds doubts bad here faults w =
+    if rests_on_fault u sections kinds doubts bad here faults w.line w.kind then [] else w ∷ []
 
-abbrev pub known_in : Unknown → List TextSection → List SectionKind → List ℕ → List TextSection
-    → List SheetFault → List Warning → List Warning
-known_in u sections doubts bad here faults [] = []
-known_in u sections doubts bad here faults (w ∷ ws) =
-    unless_at_fault u sections doubts bad (sections_from w.line here) (faults_from w.line faults) w
-    ++ known_in u sections doubts bad (sections_from w.line here) (faults_from w.line faults) ws
+abbrev pub known_in : Unknown → List TextSection → List SectionKind → List SectionKind → List ℕ
+    → List TextSection → List SheetFault → List Warning → List Warning
+known_in u sections kinds doubts bad here faults [] = []
+known_in u sections kinds doubts bad here faults (w ∷ ws) =
+    unless_at_fault u sections kinds doubts bad (sections_from w.line here)
+    (faults_from w.line faults) w
+    ++ known_in u sections kinds doubts bad (sections_from w.line here)
+    (faults_from w.line faults) ws
 
 -- with what the sections at fault are about, and those whose value may be wrong
 abbrev pub known_by : List TextSection → List SectionKind → List SectionKind → List ℕ
     → List SheetFault → List Warning → List Warning
 known_by sections kinds doubts bad faults ws =
-    known_in (unknown_of sections kinds) sections doubts bad sections faults ws
+    known_in (unknown_of sections kinds) sections kinds doubts bad sections faults ws
 
 -- those of a text with these lines, sections and faults, whose bad COB-IDs are at these lines
 unfoldable pub known_warnings : List (List ℕ) → List TextSection → List ℕ → List SheetFault

@@ -12,6 +12,7 @@ ghost use Rattle.conode_lint_marks.specs.KnownWarnings.{
   faults_from,
   has_fault,
   has_number,
+  is_at_fault_here,
   is_before_next,
   is_either_in_doubt,
   is_first,
@@ -281,6 +282,23 @@ fn has_fault(line: usize, here: &[TextSection<'_, '_>], faults: &[SheetFault]) -
     }
 }
 
+// whether the section that a line is in is at fault, or its value may be wrong, where these are the
+// sections from it on
+fn is_at_fault_here(
+    kinds: &[SectionKind],
+    doubts: &[SectionKind],
+    here: &[TextSection<'_, '_>],
+) -> bool
+    ensures { result ≡ is_at_fault_here kinds.now doubts.now (map section_view here.now) }
+{
+    match here {
+        [first, ..] => {
+            is_any(Concern::Same(first.kind), kinds) || is_any(Concern::Same(first.kind), doubts)
+        }
+        [] => false,
+    }
+}
+
 fn is_one_of(lines: &[usize], line: usize) -> bool
     ensures { result ≡ is_one_of lines.now line }
 {
@@ -297,6 +315,7 @@ fn is_one_of(lines: &[usize], line: usize) -> bool
 fn rests_on_fault(
     unknown: Unknown,
     forms: &CompactForms<'_, '_>,
+    kinds: &[SectionKind],
     doubts: &[SectionKind],
     bad: &[usize],
     here: &[TextSection<'_, '_>],
@@ -304,7 +323,7 @@ fn rests_on_fault(
     line: usize,
     kind: WarningKind,
 ) -> bool
-    ensures { result ≡ rests_on_fault unknown forms.now doubts.now bad.now
+    ensures { result ≡ rests_on_fault unknown forms.now kinds.now doubts.now bad.now
         (map section_view here.now) faults.now line kind }
 {
     match kind {
@@ -333,6 +352,7 @@ fn rests_on_fault(
         WarningKind::NodeIdPlace | WarningKind::NegativeLimit | WarningKind::OwnHeartbeat => {
             begins_at(line, faults)
         }
+        WarningKind::NodeIdSum => is_at_fault_here(kinds, doubts, here),
         _ => false,
     }
 }
@@ -350,6 +370,7 @@ fn add_unless_at_fault(
     marks: &mut Vec<Mark>,
     unknown: Unknown,
     forms: &CompactForms<'_, '_>,
+    kinds: &[SectionKind],
     doubts: &[SectionKind],
     bad: &[usize],
     here: &[TextSection<'_, '_>],
@@ -357,11 +378,13 @@ fn add_unless_at_fault(
     warning: &Warning,
 ) -> Result<(), AllocError>
     ensures { OnOk result (marks.new.items ≡ marks.old.items ++ map warning_mark (unless_at_fault
-        unknown forms.now doubts.now bad.now (map section_view here.now) faults.now warning.now)) }
+        unknown forms.now kinds.now doubts.now bad.now (map section_view here.now) faults.now
+        warning.now)) }
 {
     if !rests_on_fault(
         unknown,
         forms,
+        kinds,
         doubts,
         bad,
         here,
@@ -381,6 +404,7 @@ fn add_known_in(
     marks: &mut Vec<Mark>,
     unknown: Unknown,
     forms: &CompactForms<'_, '_>,
+    kinds: &[SectionKind],
     doubts: &[SectionKind],
     bad: &[usize],
     sections: &[TextSection<'_, '_>],
@@ -388,8 +412,8 @@ fn add_known_in(
     warnings: &[Warning],
 ) -> Result<(), AllocError>
     ensures { OnOk result (marks.new.items ≡ marks.old.items ++ map warning_mark
-        (known_in unknown forms.now doubts.now bad.now (map section_view sections.now) faults.now
-        warnings.now)) }
+        (known_in unknown forms.now kinds.now doubts.now bad.now (map section_view sections.now)
+        faults.now warnings.now)) }
 {
     let mut rest = warnings;
     let mut here = sections;
@@ -397,7 +421,9 @@ fn add_known_in(
     while let [warning, more @ ..] = rest {
         let own = sections_from(warning.line, here);
         let from = faults_from(warning.line, left);
-        attempt!(add_unless_at_fault(marks, unknown, forms, doubts, bad, own, from, warning));
+        attempt!(add_unless_at_fault(
+            marks, unknown, forms, kinds, doubts, bad, own, from, warning
+        ));
         rest = more;
         here = own;
         left = from;
@@ -449,6 +475,7 @@ pub fn add_known_warnings(
         marks,
         unknown,
         &forms,
+        at_fault.kinds.as_slice(),
         at_fault.doubts.as_slice(),
         bad.as_slice(),
         sections,

@@ -9,7 +9,7 @@ use Rattle.conode_lint_text.specs.Characters.{blanks}
 use Rattle.conode_lint_text.specs.FactTexts.{fact_text}
 use Rattle.conode_lint_text.specs.declared.fact.Fact.TheVariants.{HighIndex, NoMandatoryList, NotListed, LargeText, NoValue, NoObjectType, ByteOrderMark, CommentInValue, QuotedValue, NoPairs, DecimalIndex, LowDecimal, LowIndex, FixedType, NoType, NoAccess, NoTypeOrAccess}
 use Rattle.conode_lint_text.specs.declared.finding.About.{About}
-use Rattle.conode_lint_text.specs.declared.finding.About.TheVariants.{Line, Object, Entry, Bits, FirstAt, Misspelt, MisspeltBeside, Fact}
+use Rattle.conode_lint_text.specs.declared.finding.About.TheVariants.{Line, Object, Entry, Sum, NoSum, Bits, FirstAt, Misspelt, MisspeltBeside, Fact}
 use Rattle.conode_lint_text.specs.declared.finding.Finding.{Finding}
 use Rattle.conode_lint_text.specs.declared.finding.Place.{Place}
 use Rattle.conode_lint_text.specs.declared.finding.Place.TheVariants.{Beginning, Value}
@@ -38,14 +38,20 @@ unfoldable pub column_of : Finding → ℕ
 column_of finding =
     if finding.line == 0 then 0 else place_in finding.place (characters_of finding.text.now) + 1
 
--- what is wrong, after what it is about if the line doesn't show that: an object, an entry, or an entry
--- with how many bits a mapping maps; of what comes twice with the first one's line; of a misspelt key,
+-- what is wrong, after what it is about if the line doesn't show that: an object, an entry, with the
+-- node-IDs for which a sum is right, or with how many bits a mapping maps; of what comes twice with the first one's line; of a misspelt key,
 -- what is meant; or else what the sheet has there
 unfoldable pub about_message : About → List ℕ → List ℕ
 about_message Line meaning = meaning
 about_message (Object index) meaning = filled (codes "%: %") (digits_text 16 4 index ∷ meaning ∷ [])
 about_message (Entry index sub_index) meaning =
     filled (codes "%:%: %") (digits_text 16 4 index ∷ digits_text 16 2 sub_index ∷ meaning ∷ [])
+about_message (Sum index sub_index first last) meaning =
+    filled (codes "%:%: %; it is right for % to %")
+    (digits_text 16 4 index ∷ digits_text 16 2 sub_index ∷ meaning ∷ decimal first ∷ decimal last ∷ [])
+about_message (NoSum index sub_index) meaning =
+    filled (codes "%:%: %; it is right for none")
+    (digits_text 16 4 index ∷ digits_text 16 2 sub_index ∷ meaning ∷ [])
 about_message (Bits index bits) meaning =
     filled (codes "%:00: % bits in all: %") (digits_text 16 4 index ∷ decimal bits ∷ meaning ∷ [])
 about_message (FirstAt line) meaning =

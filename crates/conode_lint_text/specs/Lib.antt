@@ -3,6 +3,7 @@ pub mod MeantSections
 pub mod FactTexts
 pub mod Facts
 pub mod Bounds
+pub mod Sums
 pub mod Findings
 pub mod TextForm
 pub mod Members

@@ -29,8 +29,8 @@ use co_sheet::{Preset, at_most, data_type_with, is_in_type, numeric_default};
 use co_sheet_text::TextSection;
 use co_value::DataType;
 
-// the type of a section whose values are numbers
-fn numeric_type(section: &TextSection<'_, '_>) -> Option<DataType>
+/// The type of a section whose values are numbers.
+pub(crate) fn numeric_type(section: &TextSection<'_, '_>) -> Option<DataType>
     ensures { result ≡ numeric_type (section_view section.now) }
 {
     let Some(code) = section.number_at(b"DataType") else {
@@ -56,11 +56,15 @@ fn number_of(data_type: DataType, value: &[u8]) -> Option<i128>
 #[derive(Clone, Copy)]
 pub(crate) struct Bound {
     line: usize,
-    number: i128,
+    pub(crate) number: i128,
 }
 
-// a limit that is a number at its type
-fn bound_at(data_type: DataType, name: &[u8], section: &TextSection<'_, '_>) -> Option<Bound>
+/// A limit that is a number at its type.
+pub(crate) fn bound_at(
+    data_type: DataType,
+    name: &[u8],
+    section: &TextSection<'_, '_>,
+) -> Option<Bound>
     ensures { result ≡ bound_at data_type name.now (section_view section.now) }
 {
     let Some(limit) = section.property(name) else {
@@ -100,10 +104,9 @@ fn high_fact(high: Bound) -> Fact
     ensures { result ≡ high_fact high }
 {
     if at_most(Some(0), Some(high.number)) {
-        Fact::AboveHigh(high.line, high.number)
-    } else {
-        Fact::AboveNegative(high.line, high.number)
+        return Fact::AboveHigh(high.line, high.number);
     }
+    Fact::AboveNegative(high.line, high.number)
 }
 
 fn above_fact(number: i128, high: Option<Bound>) -> Option<Fact>
@@ -133,10 +136,9 @@ fn limit_passed(data_type: DataType, number: i128, section: &TextSection<'_, '_>
     let below = below_fact(number, low);
     let above = above_fact(number, bound_at(data_type, b"HighLimit", section));
     if is_outside(data_type, low) {
-        about_fact(above.or(below))
-    } else {
-        about_fact(below.or(above))
+        return about_fact(above.or(below));
     }
+    about_fact(below.or(above))
 }
 
 // what is said of a value of another type: an OCTET_STRING has a form of its own
@@ -176,10 +178,9 @@ fn crossed_fact(number: i128, line: usize) -> Fact
     ensures { result ≡ crossed_fact number line }
 {
     if at_most(Some(0), Some(number)) {
-        Fact::LimitsCrossed(line)
-    } else {
-        Fact::NegativeHigh(line)
+        return Fact::LimitsCrossed(line);
     }
+    Fact::NegativeHigh(line)
 }
 
 // which of both a limit that is a number is: outside the type, or below LowLimit

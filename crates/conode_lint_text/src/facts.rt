@@ -137,10 +137,9 @@ pub fn too_large(line: usize) -> About
     ensures { result ≡ too_large line }
 {
     if line == 0 {
-        About::Fact(Fact::LargeText)
-    } else {
-        About::Line
+        return About::Fact(Fact::LargeText);
     }
+    About::Line
 }
 
 // at most four decimal digits, which were meant in hexadecimal
@@ -154,10 +153,9 @@ fn listed_fact(value: &[u8], index: u64) -> About
     ensures { result ≡ listed_fact value.now index }
 {
     if is_decimal_index(value, index) {
-        About::Fact(Fact::DecimalIndex(index))
-    } else {
-        About::Line
+        return About::Fact(Fact::DecimalIndex(index));
     }
+    About::Line
 }
 
 /// Of the MissingSection of a line, 0 where there is no list of the mandatory objects: an index in
@@ -178,12 +176,12 @@ fn low_fact(value: &[u8], index: u64) -> About
     ensures { result ≡ low_fact value.now index }
 {
     if 0x1000 <= index {
-        About::Line
-    } else if is_decimal_index(value, index) && 1000 <= index {
-        About::Fact(Fact::LowDecimal(index))
-    } else {
-        About::Fact(Fact::LowIndex(index))
+        return About::Line;
     }
+    if is_decimal_index(value, index) && 1000 <= index {
+        return About::Fact(Fact::LowDecimal(index));
+    }
+    About::Fact(Fact::LowIndex(index))
 }
 
 /// Of the WrongList of a line: an index below 1000h.
@@ -207,12 +205,12 @@ fn odd_value(value: &[u8], other: About) -> About
     ensures { result ≡ odd_value value.now other }
 {
     if is_quoted(value) {
-        About::Fact(Fact::QuotedValue)
-    } else if split_at_first(value, b';').is_some() {
-        About::Fact(Fact::CommentInValue)
-    } else {
-        other
+        return About::Fact(Fact::QuotedValue);
     }
+    if split_at_first(value, b';').is_some() {
+        return About::Fact(Fact::CommentInValue);
+    }
+    other
 }
 
 fn is_value_key(name: &[u8]) -> bool
@@ -226,12 +224,12 @@ fn number_fact(name: &[u8]) -> About
     ensures { result ≡ number_fact name.now }
 {
     if is_value_key(name) {
-        About::Fact(Fact::NoValue)
-    } else if same_name(name, b"ObjectType") {
-        About::Fact(Fact::NoObjectType)
-    } else {
-        About::Line
+        return About::Fact(Fact::NoValue);
     }
+    if same_name(name, b"ObjectType") {
+        return About::Fact(Fact::NoObjectType);
+    }
+    About::Line
 }
 
 /// Of the BadNumber of a line: quotes or a comment in its value, which may be a sum with `$NODEID`;
@@ -308,20 +306,18 @@ pub fn utf8(text: &[u8]) -> About
     ensures { result ≡ utf8 text.now }
 {
     if has_other_byte(text) {
-        About::Line
-    } else {
-        About::Fact(Fact::ByteOrderMark)
+        return About::Line;
     }
+    About::Fact(Fact::ByteOrderMark)
 }
 
 fn beside(section: &TextSection<'_, '_>, known: KnownKey) -> About
     ensures { result ≡ beside known (section_view section.now) }
 {
     if section.property(known.name().as_bytes()).is_some() {
-        About::MisspeltBeside(known)
-    } else {
-        About::Misspelt(known)
+        return About::MisspeltBeside(known);
     }
+    About::Misspelt(known)
 }
 
 /// Of the MisspeltKey of a line, by the key that is meant: whether it is there too.
@@ -539,10 +535,9 @@ pub fn file_info(line: usize, missing: [bool; 10]) -> About
     ensures { result ≡ file_info line missing }
 {
     if line == 0 {
-        About::Fact(Fact::NoFileInfo(missing))
-    } else {
-        About::Fact(Fact::FileInfoLacks(missing))
+        return About::Fact(Fact::NoFileInfo(missing));
     }
+    About::Fact(Fact::FileInfoLacks(missing))
 }
 
 /// Of the DeviceInfoKeys of a line: whether there is the section, and which keys are missing.
@@ -550,30 +545,27 @@ pub fn device_info(line: usize, missing: [bool; 22]) -> About
     ensures { result ≡ device_info line missing }
 {
     if line == 0 {
-        About::Fact(Fact::NoDeviceInfo(missing))
-    } else {
-        About::Fact(Fact::DeviceInfoLacks(missing))
+        return About::Fact(Fact::NoDeviceInfo(missing));
     }
+    About::Fact(Fact::DeviceInfoLacks(missing))
 }
 
 fn pdo_fact(sections: &[TextSection<'_, '_>], name: &[u8], number: u64) -> About
     ensures { result ≡ pdo_fact (map section_view sections.now) name.now number }
 {
     if same_name(name, b"NrOfRXPDO") {
-        About::Fact(Fact::RpdoCount(number, object_count(0x1400, 0x15FF, sections)))
-    } else {
-        About::Fact(Fact::TpdoCount(number, object_count(0x1800, 0x19FF, sections)))
+        return About::Fact(Fact::RpdoCount(number, object_count(0x1400, 0x15FF, sections)));
     }
+    About::Fact(Fact::TpdoCount(number, object_count(0x1800, 0x19FF, sections)))
 }
 
 fn no_pdo_fact(sections: &[TextSection<'_, '_>], name: &[u8]) -> About
     ensures { result ≡ no_pdo_fact (map section_view sections.now) name.now }
 {
     if same_name(name, b"NrOfRXPDO") {
-        About::Fact(Fact::NoRpdoCount(object_count(0x1400, 0x15FF, sections)))
-    } else {
-        About::Fact(Fact::NoTpdoCount(object_count(0x1800, 0x19FF, sections)))
+        return About::Fact(Fact::NoRpdoCount(object_count(0x1400, 0x15FF, sections)));
     }
+    About::Fact(Fact::NoTpdoCount(object_count(0x1800, 0x19FF, sections)))
 }
 
 /// Of the PdoCount of a line: its number, if it is one, and the number of PDOs.

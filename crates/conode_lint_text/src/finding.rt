@@ -30,6 +30,10 @@ pub enum About {
     Object(u16),
     /// An entry, by its index and its sub-index.
     Entry(u16, u8),
+    /// An entry with a sum with `$NODEID`, and the first and the last node-ID for which it is right.
+    Sum(u16, u8, u8, u8),
+    /// The same of a sum that is right for none.
+    NoSum(u16, u8),
     /// The count of a PDO's mapping, by the index of the mapping, and how many bits it maps in all.
     Bits(u16, u16),
     /// What comes a second time, by the line of the first.

@@ -24,6 +24,7 @@ mod member;
 mod parts;
 mod pieces;
 mod sarif_form;
+mod sums;
 mod text_form;
 mod words;
 
@@ -40,4 +41,5 @@ pub use json_form::{put_document_end, put_document_head, put_file};
 pub use lists::{bad_list, is_listed_nowhere, listed_twice, missing_mandatory};
 pub use meant_section::MeantSection;
 pub use sarif_form::{put_log_end, put_log_head, put_results};
+pub use sums::value_range;
 pub use text_form::{push_finding, push_more, push_summary};

@@ -89,10 +89,9 @@ fn gap_fact(counted: u64, has: usize, properties: &[Property<'_>], next: usize) 
     ensures { result ≡ gap_fact counted has (map property_view properties.now) next }
 {
     if has_key(next, properties) {
-        About::Fact(Fact::ListCount(counted, has))
-    } else {
-        About::Fact(Fact::ListGap(counted, has, next))
+        return About::Fact(Fact::ListCount(counted, has));
     }
+    About::Fact(Fact::ListGap(counted, has, next))
 }
 
 fn is_high(counted: u64, property: &Property<'_>) -> bool
@@ -132,12 +131,12 @@ fn count_fact(counted: u64, properties: &[Property<'_>], has: usize) -> About
     ensures { result ≡ count_fact counted (map property_view properties.now) has }
 {
     if (has as u64) < counted {
-        gap_fact(counted, has, properties, next_key(properties))
-    } else if counted > 65535 {
-        About::Line
-    } else {
-        high_fact(counted, properties)
+        return gap_fact(counted, has, properties, next_key(properties));
     }
+    if counted > 65535 {
+        return About::Line;
+    }
+    high_fact(counted, properties)
 }
 
 fn list_fact(list: &TextSection<'_, '_>) -> About

@@ -39,6 +39,26 @@ fn push_about(text: &mut String, about: About, meaning: &str) -> Result<(), Allo
                 Value::Words(meaning),
             ],
         ),
+        About::Sum(index, sub_index, first, last) => push_filled(
+            text,
+            "%:%: %; it is right for % to %",
+            &[
+                Value::Short(index),
+                Value::Byte(sub_index),
+                Value::Words(meaning),
+                Value::Number(first as u64),
+                Value::Number(last as u64),
+            ],
+        ),
+        About::NoSum(index, sub_index) => push_filled(
+            text,
+            "%:%: %; it is right for none",
+            &[
+                Value::Short(index),
+                Value::Byte(sub_index),
+                Value::Words(meaning),
+            ],
+        ),
         About::Bits(index, bits) => push_filled(
             text,
             "%:00: % bits in all: %",

@@ -28,6 +28,7 @@ use Rattle.co_sheet_warnings.specs.declared.warning.WarningKind.TheVariants.{
   IdentityNumber,
   FixedCobId,
   NodeIdPlace,
+  NodeIdSum,
   NegativeLimit,
   MisspeltSection,
   MisspeltKey,
@@ -72,24 +73,25 @@ kind_row Unlisted = 8
 kind_row (IdentityNumber sub) = 9
 kind_row FixedCobId = 10
 kind_row NodeIdPlace = 11
-kind_row NegativeLimit = 12
-kind_row MisspeltSection = 13
-kind_row (MisspeltKey meant) = 14
-kind_row (SharedCobId node) = 15
-kind_row InhibitTime = 16
-kind_row OwnHeartbeat = 17
-kind_row (HeartbeatTwice given) = 18
-kind_row NoErrorControl = 19
-kind_row LongLine = 20
-kind_row Utf8 = 21
-kind_row NotAscii = 22
-kind_row NodeId = 23
-kind_row ListOrder = 24
-kind_row EqualNames = 25
-kind_row MissingName = 26
-kind_row UnknownKey = 27
-kind_row DateFormat = 28
-kind_row LineEnds = 29
+kind_row NodeIdSum = 12
+kind_row NegativeLimit = 13
+kind_row MisspeltSection = 14
+kind_row (MisspeltKey meant) = 15
+kind_row (SharedCobId node) = 16
+kind_row InhibitTime = 17
+kind_row OwnHeartbeat = 18
+kind_row (HeartbeatTwice given) = 19
+kind_row NoErrorControl = 20
+kind_row LongLine = 21
+kind_row Utf8 = 22
+kind_row NotAscii = 23
+kind_row NodeId = 24
+kind_row ListOrder = 25
+kind_row EqualNames = 26
+kind_row MissingName = 27
+kind_row UnknownKey = 28
+kind_row DateFormat = 29
+kind_row LineEnds = 30
 
 -- the lines of a list that fail a check
 abbrev pub list_places : ListCheck → TextSection → List ℕ
