@@ -92,13 +92,29 @@ fn verdict_status(tally: Tally, several: bool) -> u8
     }
 }
 
+// what is said of a recording at its end, beside its lines
+#[derive(Drop)]
+struct Ends {
+    tally: Tally,
+    several: bool,
+    nodes: NodesSeen,
+    anew: u64,
+}
+
+// says on `err` how often the recording began anew after bad lines
+fn say_anew<E: Write>(anew: u64, err: &mut E) {
+    if anew > 0 {
+        let _ = writeln!(err, "begun anew after bad lines: {anew}");
+    }
+}
+
 // says on `err` why the status is 2, if it is
-fn say_why<E: Write>(node: u8, tally: Tally, several: bool, nodes: &NodesSeen, err: &mut E) {
-    if several {
+fn say_why<E: Write>(node: u8, ends: &Ends, err: &mut E) {
+    if ends.several {
         let _ = bad_word("several interfaces: name one with --interface", err);
-    } else if no_frame(tally) {
+    } else if no_frame(ends.tally) {
         let _ = writeln!(err, "no frame of node {node}");
-        nodes.name(err);
+        ends.nodes.name(err);
     }
 }
 
@@ -134,7 +150,7 @@ fn compare_and_write<R: Read, O: Write, E: Write>(
     form: Form,
     out: &mut O,
     err: &mut E,
-) -> Result<(Tally, bool, NodesSeen), CmdFault>
+) -> Result<Ends, CmdFault>
     requires { AllPairs (λ e f. is_key_before e.key f.key ≡ true) settings.now.rows.now }
     ensures written { OnOk result (IfSome (R.remaining input.old) (λ text.
         WritesLines (O.contents out.old) (O.contents out.new)
@@ -145,7 +161,12 @@ fn compare_and_write<R: Read, O: Write, E: Write>(
     let comparing = attempt!(compare(alloc, input, settings, form, report, out, err));
     attempt!(write_end(alloc, settings, wanted, &comparing, out));
     let (tally, several) = comparing.ends();
-    Ok((tally, several, comparing.nodes()))
+    Ok(Ends {
+        tally,
+        several,
+        nodes: comparing.nodes(),
+        anew: comparing.begun_anew(),
+    })
 }
 
 // compares an input
@@ -163,9 +184,10 @@ fn compare_input<R: Read, O: Write, E: Write>(
 {
     let outcome = compare_and_write(alloc, input, settings, wanted, form, out, err);
     match flushed(out, outcome) {
-        Ok((tally, several, nodes)) => {
-            say_why(settings.subject.node, tally, several, &nodes, err);
-            ExitCode::from(verdict_status(tally, several))
+        Ok(ends) => {
+            say_anew(ends.anew, err);
+            say_why(settings.subject.node, &ends, err);
+            ExitCode::from(verdict_status(ends.tally, ends.several))
         }
         Err(fault) => {
             let _ = stopped(fault, out, err);

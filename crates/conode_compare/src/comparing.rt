@@ -8,7 +8,10 @@ ghost use Rattle.conode_io.specs.Written.{WritesLines};
 ghost use Rattle.conode_record.specs.Grammar.{IsIdentifier};
 ghost use Rattle.conode_compare_rules.specs.Progresses.{findings_at, progress_with};
 ghost use Rattle.conode_compare.specs.Compared.{
+  bad_counted,
   bad_noted,
+  bad_with,
+  begun_anew,
   first_with,
   frame_lines,
   frame_noted_by,
@@ -16,11 +19,13 @@ ghost use Rattle.conode_compare.specs.Compared.{
   is_compared,
   kind_noted,
   line_noted,
+  may_be_compared,
   nothing_compared,
 };
 ghost use Rattle.conode_compare.specs.Noted.{noted_at};
 ghost use Rattle.conode_compare.specs.Views.{comparison_view};
 
+use crate::bad_lines::{has_no_frame, interface_in};
 use crate::details::details_of;
 use crate::kept::note_findings;
 use crate::nodes_seen::NodesSeen;
@@ -46,6 +51,8 @@ pub struct Comparing {
     pub(crate) first: ArrayVec<u8, 15>,
     /// Whether frames came on another one, where none is named.
     pub(crate) several: bool,
+    /// After how many of the frames bad lines may have had one, up to 2^64 - 1.
+    pub(crate) breaks: u64,
     /// The nodes that were seen.
     pub(crate) nodes: NodesSeen,
     /// What is noted beside differences.
@@ -63,6 +70,7 @@ impl Drop for Comparing {
             tally: _,
             first: _,
             several: _,
+            breaks: _,
             nodes: _,
             notes,
             report,
@@ -80,6 +88,17 @@ fn is_compared(interface: Option<&[u8]>, first: &[u8], name: &[u8]) -> bool
     match interface {
         Some(wanted) => wanted == name,
         None => first.is_empty() || first == name,
+    }
+}
+
+// whether a bad line may be of the interface that is compared, by its name, if that can be read
+fn may_be_compared(interface: Option<&[u8]>, first: &[u8], name: Option<&[u8]>) -> bool
+    ensures { result ≡ may_be_compared (option_copied interface.entry) first.now
+        (option_copied name.entry) }
+{
+    match name {
+        Some(name) => is_compared(interface, first, name),
+        None => true,
     }
 }
 
@@ -144,6 +163,7 @@ impl Comparing {
             tally: Tally::new(),
             first: ArrayVec::new(),
             several: false,
+            breaks: 0,
             nodes: NodesSeen::new(),
             notes: Notes::new(alloc),
             report,
@@ -167,14 +187,53 @@ impl Comparing {
         }
     }
 
+    // counts a bad line
+    fn count_bad_line(&mut self)
+        ensures { self.new ≡ bad_counted self.old }
+    {
+        if let Some(report) = &mut self.report {
+            report.note_bad_line();
+        }
+    }
+
     /// The newest line is bad: what it had is unknown, so with the next frame the recording begins
     /// anew.
     pub(crate) fn note_bad_line(&mut self)
         ensures { self.new ≡ bad_noted self.old }
     {
+        if self.progress.newest.is_some() {
+            self.breaks = self.breaks.saturating_add(1);
+        }
         self.progress.note_bad_line();
-        if let Some(report) = &mut self.report {
-            report.note_bad_line();
+        self.count_bad_line();
+    }
+
+    /// The newest line, of at most 512 bytes, is bad: it may have had a frame that is compared, unless
+    /// it is a comment or of blanks, or names another interface.
+    pub(crate) fn take_bad_line(&mut self, settings: &Settings<'_, '_>, line: &[u8])
+        ensures { self.new ≡ bad_with (comparison_view settings.now) self.old line.now }
+    {
+        if has_no_frame(line)
+            || !may_be_compared(
+                settings.interface,
+                self.first.as_slice(),
+                interface_in(line),
+            )
+        {
+            self.count_bad_line();
+        } else {
+            self.note_bad_line();
+        }
+    }
+
+    /// How often the recording began anew after bad lines.
+    pub fn begun_anew(&self) -> u64
+        ensures { result ≡ begun_anew self.now }
+    {
+        if self.progress.newest.is_none() {
+            self.breaks.saturating_sub(1)
+        } else {
+            self.breaks
         }
     }
 
