@@ -38,7 +38,6 @@ use Rattle.conode_compare.specs.Compared.{
   SoFar,
   at_first,
   bad_counted,
-  bad_named,
   bad_noted,
   bad_with,
   compared,
@@ -92,7 +91,7 @@ module _ (c : Comparison) where
 
   named_written : (so_far : Comparing) (name : Option (List ℕ)) (rest : List LineRead) (more : Comparing → List (List ℕ)) → so_far.report ≡ None
       → ((after : Comparing) → after.report ≡ None → more after ≡ lines_after after rest)
-      → more (bad_named c so_far name) ≡ lines_after so_far (BadLine name ∷ rest)
+      → more (if may_be_compared c.interface so_far.first.items name then bad_noted so_far else bad_counted so_far) ≡ lines_after so_far (BadLine name ∷ rest)
   named_written so_far name rest more silent h = by (may_be_compared c.interface so_far.first.items name)
     where
       by : (b : Bool) → more (if b then bad_noted so_far else bad_counted so_far)
@@ -106,7 +105,7 @@ module _ (c : Comparison) where
       → more (bad_with c so_far line) ≡ lines_after so_far (read_of_bad line ++ rest)
   bad_written so_far line rest more silent h = by (has_no_frame line)
     where
-      by : (b : Bool) → more (if b then bad_counted so_far else bad_named c so_far (interface_in line)) ≡ lines_after so_far ((if b then [] else BadLine (interface_in line) ∷ []) ++ rest)
+      by : (b : Bool) → more (if (if b then false else may_be_compared c.interface so_far.first.items (interface_in line)) then bad_noted so_far else bad_counted so_far) ≡ lines_after so_far ((if b then [] else BadLine (interface_in line) ∷ []) ++ rest)
       by true = h (bad_counted so_far) (ap (option_map bad_line_kept) silent)
       by false = named_written so_far (interface_in line) rest more silent h
 
@@ -163,7 +162,7 @@ module _ (c : Comparison) where
       by false = h (other_seen c.interface so_far)
 
   named_counted : (so_far : Comparing) (name : Option (List ℕ)) (rest : List LineRead) (more : Comparing → Tally) → ((after : Comparing) → more after ≡ tally_after after rest)
-      → more (bad_named c so_far name) ≡ tally_after so_far (BadLine name ∷ rest)
+      → more (if may_be_compared c.interface so_far.first.items name then bad_noted so_far else bad_counted so_far) ≡ tally_after so_far (BadLine name ∷ rest)
   named_counted so_far name rest more h = by (may_be_compared c.interface so_far.first.items name)
     where
       by : (b : Bool) → more (if b then bad_noted so_far else bad_counted so_far)
@@ -176,7 +175,7 @@ module _ (c : Comparison) where
       → more (bad_with c so_far line) ≡ tally_after so_far (read_of_bad line ++ rest)
   bad_line_counted so_far line rest more h = by (has_no_frame line)
     where
-      by : (b : Bool) → more (if b then bad_counted so_far else bad_named c so_far (interface_in line)) ≡ tally_after so_far ((if b then [] else BadLine (interface_in line) ∷ []) ++ rest)
+      by : (b : Bool) → more (if (if b then false else may_be_compared c.interface so_far.first.items (interface_in line)) then bad_noted so_far else bad_counted so_far) ≡ tally_after so_far ((if b then [] else BadLine (interface_in line) ∷ []) ++ rest)
       by true = h (bad_counted so_far)
       by false = named_counted so_far (interface_in line) rest more h
 

@@ -8,7 +8,7 @@ use Rattle.conode_logs.specs.Logs.{asc_of_old}
 use Rattle.conode_compare_rules.specs.declared.limits.Subject.{Subject}
 use Rattle.conode_compare.specs.declared.comparing.Comparing.{Comparing}
 use Rattle.conode_compare.specs.BadLines.{has_no_frame, interface_in, is_alone}
-use Rattle.conode_compare.specs.Compared.{bad_counted, bad_noted, begun_anew, may_be_compared, nothing_compared}
+use Rattle.conode_compare.specs.Compared.{bad_counted, bad_noted, begun_anew, may_be_compared, may_have_frame, nothing_compared}
 use Rattle.conode_compare.specs.ComparedFrames.{BadLine, FrameIn, IsOn, LineRead, compared_frames, read_of_lines, read_of_text}
 
 -- ---- comments and lines of blanks
@@ -59,6 +59,10 @@ compared_first = refl
 compared_any : may_be_compared None [] (Some (codes "can0")) ≡ true
 compared_any = refl
 
+may_have : map (may_have_frame None (codes "can0")) (codes " " ∷ codes "; 5" ∷ codes "(1.500000) can1 705#7" ∷ codes "(1.500000) can0 705#7" ∷ codes "000#0105" ∷ []) ≡ false ∷ false ∷ false ∷ true ∷ true ∷ []
+unfolding logs_on_lines has_no_frame interface_in is_alone
+may_have = refl
+
 -- ---- in a text
 
 -- 0 for a bad line
@@ -108,14 +112,17 @@ module _ (subject : Subject) where
   abbrev after : Comparing → ℕ → Comparing
   after comparing micros = record comparing { progress = record comparing.progress { newest = Some micros } }
 
+  abbrev how_often : Comparing → ℕ
+  how_often comparing = begun_anew comparing.progress.newest comparing.breaks
+
   -- before the first frame, and after the last one
-  not_anew : map begun_anew (before ∷ bad_noted before ∷ after (bad_noted before) 5 ∷ bad_noted (after before 5) ∷ []) ≡ 0 ∷ 0 ∷ 0 ∷ 0 ∷ []
+  not_anew : map how_often (before ∷ bad_noted before ∷ after (bad_noted before) 5 ∷ bad_noted (after before 5) ∷ []) ≡ 0 ∷ 0 ∷ 0 ∷ 0 ∷ []
   not_anew = refl
 
   -- two bad lines after one another count once
-  anew : map begun_anew (after (bad_noted (after before 5)) 6 ∷ after (bad_noted (bad_noted (after before 5))) 6 ∷ after (bad_noted (after (bad_noted (after before 5)) 6)) 7 ∷ []) ≡ 1 ∷ 1 ∷ 2 ∷ []
+  anew : map how_often (after (bad_noted (after before 5)) 6 ∷ after (bad_noted (bad_noted (after before 5))) 6 ∷ after (bad_noted (after (bad_noted (after before 5)) 6)) 7 ∷ []) ≡ 1 ∷ 1 ∷ 2 ∷ []
   anew = refl
 
   -- not one that can't have had a frame
-  counted_alone : begun_anew (after (bad_counted (after before 5)) 6) ≡ 0
+  counted_alone : how_often (after (bad_counted (after before 5)) 6) ≡ 0
   counted_alone = refl

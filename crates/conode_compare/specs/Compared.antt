@@ -269,17 +269,17 @@ bad_noted so_far = bad_counted (record so_far { progress = with_bad_line so_far.
 abbrev pub may_be_compared : Option (List ℕ) → List ℕ → Option (List ℕ) → Bool
 may_be_compared interface first name = option_map_or (is_compared interface first) name true
 
-abbrev pub bad_named : Comparison → Comparing → Option (List ℕ) → Comparing
-bad_named c so_far name = if may_be_compared c.interface so_far.first.items name then bad_noted so_far else bad_counted so_far
-
--- a bad line of at most 512 bytes: it may have had a frame that is compared, unless it is a comment or of blanks, or names
+-- a bad line of at most 512 bytes may have had a frame that is compared, unless it is a comment or of blanks, or names
 -- another interface
-abbrev pub bad_with : Comparison → Comparing → List ℕ → Comparing
-bad_with c so_far line = if has_no_frame line then bad_counted so_far else bad_named c so_far (interface_in line)
+abbrev pub may_have_frame : Option (List ℕ) → List ℕ → List ℕ → Bool
+may_have_frame interface first line = if has_no_frame line then false else may_be_compared interface first (interface_in line)
 
--- how often the recording began anew after bad lines: not after the last ones, where no frame followed
-abbrev pub begun_anew : Comparing → ℕ
-begun_anew comparing = if is_none comparing.progress.newest then comparing.breaks - 1 else comparing.breaks
+abbrev pub bad_with : Comparison → Comparing → List ℕ → Comparing
+bad_with c so_far line = if may_have_frame c.interface so_far.first.items line then bad_noted so_far else bad_counted so_far
+
+-- how often the recording began anew after bad lines, by the newest frame: not after the last ones, where none came since
+abbrev pub begun_anew : Option ℕ → ℕ → ℕ
+begun_anew newest breaks = if is_none newest then breaks - 1 else breaks
 
 -- nothing but its number is kept of a line of more than 512 bytes
 abbrev pub long_noted : Comparing → Comparing

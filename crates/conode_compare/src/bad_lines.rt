@@ -1,6 +1,6 @@
 //! Which bad lines can't have had a frame of the bus that is compared.
 
-ghost use Rattle.std.specs.Prelude.{◌≡◌, ◌≤◌, length};
+ghost use Rattle.std.specs.Prelude.{◌≡◌, ◌≤◌, ◌∷◌, [], length, IfSome, IfNone};
 ghost use Rattle.std.specs.List.{prefix_len};
 ghost use Rattle.std.specs.Option.{option_copied};
 ghost use Rattle.conode_compare.specs.BadLines.{
@@ -14,6 +14,17 @@ ghost use Rattle.conode_compare.specs.BadLines.{
 
 use co_text::is_blank;
 use conode_record::RecordLine;
+
+// the first byte, and what follows
+fn first_at(text: &[u8]) -> Option<(u8, &[u8])>
+    ensures some { IfSome result (λ found. text.now ≡ found.0 ∷ found.1.now) }
+    ensures none { IfNone result (text.now ≡ []) }
+{
+    match text {
+        [byte, rest @ ..] => Some((*byte, rest)),
+        [] => None,
+    }
+}
 
 // whether a text of this byte and these begins a comment
 fn begins_comment(first: u8, rest: &[u8]) -> bool
@@ -34,9 +45,9 @@ pub(crate) fn has_no_frame(line: &[u8]) -> bool
     ensures { result ≡ has_no_frame line.now }
 {
     let mut rest = line;
-    while let [byte, after @ ..] = rest {
-        if !is_blank(*byte) {
-            return begins_comment(*byte, after);
+    while let Some((byte, after)) = first_at(rest) {
+        if !is_blank(byte) {
+            return begins_comment(byte, after);
         }
         rest = after;
     }
@@ -77,8 +88,8 @@ fn is_alone(text: &[u8]) -> bool
     ensures { result ≡ is_alone text.now }
 {
     let mut rest = text;
-    while let [byte, after @ ..] = rest {
-        if is_blank(*byte) {
+    while let Some((byte, after)) = first_at(rest) {
+        if is_blank(byte) {
             return is_direction(after);
         }
         rest = after;

@@ -5,6 +5,7 @@ ghost use Rattle.std.specs.List.{AllPairs};
 ghost use Rattle.std.specs.Process.{exit_status};
 ghost use Rattle.co_value.specs.Keys.{is_key_before};
 ghost use Rattle.conode_io.specs.Written.{WritesLines};
+ghost use Rattle.conode_compare.specs.Compared.{begun_anew};
 ghost use Rattle.conode_compare.specs.Documents.{end_lines, output};
 ghost use Rattle.conode_compare.specs.Views.{comparison_view};
 ghost use Rattle.conode_compare.specs.Verdicts.{no_frame, verdict_status};
@@ -101,6 +102,17 @@ struct Ends {
     anew: u64,
 }
 
+// how often the recording began anew after bad lines: not after the last ones, where no frame came
+// since
+fn begun_anew(newest: Option<u64>, breaks: u64) -> u64
+    ensures { result ≡ begun_anew newest breaks }
+{
+    match newest {
+        Some(_) => breaks,
+        None => breaks.saturating_sub(1),
+    }
+}
+
 // says on `err` how often the recording began anew after bad lines
 fn say_anew<E: Write>(anew: u64, err: &mut E) {
     if anew > 0 {
@@ -132,7 +144,7 @@ fn write_end<O: Write>(
         (end_lines wanted.now.format (comparison_view settings.now) wanted.now.version.now
         wanted.now.sheet.now comparing.now comparing.now.report)) }
 {
-    match comparing.report() {
+    match &comparing.report {
         Some(report) => {
             let about = about_of(settings, wanted, comparing);
             write_document(alloc, wanted.format, &about, report, out)
@@ -160,12 +172,11 @@ fn compare_and_write<R: Read, O: Write, E: Write>(
     let report = attempt_in_memory!(new_report(alloc, settings, wanted.format));
     let comparing = attempt!(compare(alloc, input, settings, form, report, out, err));
     attempt!(write_end(alloc, settings, wanted, &comparing, out));
-    let (tally, several) = comparing.ends();
     Ok(Ends {
-        tally,
-        several,
-        nodes: comparing.nodes(),
-        anew: comparing.begun_anew(),
+        tally: comparing.tally,
+        several: comparing.several,
+        nodes: comparing.nodes,
+        anew: begun_anew(comparing.progress.newest, comparing.breaks),
     })
 }
 

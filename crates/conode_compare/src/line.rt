@@ -15,7 +15,7 @@ ghost use Rattle.conode_compare.specs.Compared.{nothing_compared, said_lines, sa
 ghost use Rattle.conode_compare.specs.Taking.{Takes, record_set};
 ghost use Rattle.conode_compare.specs.Views.{comparison_view};
 
-use crate::comparing::Comparing;
+use crate::comparing::{Comparing, may_have_frame};
 use crate::writes::Settings;
 use co_stream::{BoundedLines, Found};
 use conode_compare_report::Report;
@@ -73,7 +73,8 @@ fn take_record<W: Write>(
             Ok(None)
         }
         Err(bad) => {
-            comparing.take_bad_line(settings, line);
+            let has_frame = may_have_frame(settings.interface, comparing.first.as_slice(), line);
+            comparing.note_bad_line(has_frame);
             Ok(Some(BadLogLine::of_record(bad)))
         }
     }
@@ -171,7 +172,12 @@ impl Lines {
                 take_record(comparing, text, settings, number, record, line, out)
             }
             Ok(Some(bad)) => {
-                comparing.take_bad_line(settings, line);
+                let has_frame = may_have_frame(
+                    settings.interface,
+                    comparing.first.as_slice(),
+                    line,
+                );
+                comparing.note_bad_line(has_frame);
                 Ok(Some(bad))
             }
             Err(_) => Err(CmdFault::Memory),
@@ -207,7 +213,7 @@ impl Lines {
             Ok(Found::TooLong) => {
                 name_bad_line(number, TOO_LONG, err);
                 attempt_in_memory!(self.comparing.note_line(&[]));
-                self.comparing.note_bad_line();
+                self.comparing.note_bad_line(true);
                 Ok(Some(()))
             }
             Ok(Found::Line) => {
