@@ -10,6 +10,7 @@ use Rattle.conode_compare_rules.specs.declared.limits.Limits.{Limits}
 use Rattle.conode_compare_rules.specs.declared.limits.Subject.{Subject}
 use Rattle.conode_compare_rules.specs.declared.progress.Progress.{Progress}
 use Rattle.conode_compare_rules.specs.Progresses.{before_recording, begins_anew, with_bad_line}
+use Rattle.conode_compare.specs.BadLines.{has_no_frame, interface_in}
 use Rattle.conode_compare.specs.ComparedFrames.{AreAllOn, BadLine, FrameIn, IsWhole, LineRead, compared_frames, read_of_line, read_of_lines, read_of_text, records_of}
 
 -- a comment, a bad line, frames of two interfaces, and a last line without its line feed
@@ -19,32 +20,32 @@ text = codes "; node 5\n(1.000000) can0 705#00\nnothing\n(2.000000) can1 705#7F\
 -- 0 for a bad line
 abbrev number : LineRead → ℕ
 number (FrameIn n frame) = n
-number BadLine = 0
+number (BadLine name) = 0
 
 abbrev numbers : List LineRead → List ℕ
 numbers lines = map number lines
 
 all_frames : numbers (read_of_text Unknown text) ≡ 2 ∷ 0 ∷ 4 ∷ 5 ∷ []
-unfolding logs_on_lines line_at read_of_lines
+unfolding logs_on_lines line_at read_of_lines has_no_frame interface_in
 all_frames = refl
 
 first_interface : numbers (compared_frames None Unknown text) ≡ 2 ∷ 0 ∷ 5 ∷ []
-unfolding logs_on_lines line_at read_of_lines
+unfolding logs_on_lines line_at read_of_lines has_no_frame interface_in
 first_interface = refl
 
 named_interface : numbers (compared_frames (Some (codes "can1")) Unknown text) ≡ 0 ∷ 4 ∷ []
-unfolding logs_on_lines line_at read_of_lines
+unfolding logs_on_lines line_at read_of_lines has_no_frame interface_in
 named_interface = refl
 
 with_last_line : map (λ frame. frame.micros) (records_of (compared_frames None Unknown (text ++ codes "\n"))) ≡ 1000000 ∷ 3000000 ∷ 4000000 ∷ []
-unfolding logs_on_lines line_at read_of_lines
+unfolding logs_on_lines line_at read_of_lines has_no_frame interface_in
 with_last_line = refl
 
-too_long : read_of_line 1 (at_start Unknown) (codes "(1.000000) can0 705#00" ++ replicate 491 32) ≡ BadLine ∷ []
+too_long : read_of_line 1 (at_start Unknown) (codes "(1.000000) can0 705#00" ++ replicate 491 32) ≡ BadLine None ∷ []
 too_long = refl
 
 one_interface : AreAllOn (codes "can0") (compared_frames None Unknown text)
-unfolding logs_on_lines line_at read_of_lines
+unfolding logs_on_lines line_at read_of_lines has_no_frame interface_in
 one_interface = (refl, (tt, (refl, tt)))
 
 -- ---- after a bad line the recording begins anew, whatever is known, and however soon a frame comes
@@ -57,8 +58,8 @@ bad_first : (subject : Subject) → with_bad_line (before_recording subject) ≡
 bad_first subject = refl
 
 -- bad lines before the first frame and after the last one; and between two
-whole : (frame : Record) → IsWhole (BadLine ∷ FrameIn 2 frame ∷ FrameIn 3 frame ∷ BadLine ∷ BadLine ∷ [])
+whole : (frame : Record) → IsWhole (BadLine None ∷ FrameIn 2 frame ∷ FrameIn 3 frame ∷ BadLine None ∷ BadLine None ∷ [])
 whole frame = (tt, tt)
 
-broken : (frame : Record) → IsWhole (FrameIn 1 frame ∷ BadLine ∷ FrameIn 3 frame ∷ []) → ⊥
+broken : (frame : Record) → IsWhole (FrameIn 1 frame ∷ BadLine None ∷ FrameIn 3 frame ∷ []) → ⊥
 broken frame h = h.0

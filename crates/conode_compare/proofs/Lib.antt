@@ -1,4 +1,5 @@
 pub mod AllFrames
+mod BadLineExamples
 pub mod Ends
 mod FrameExamples
 pub mod FrameLemmas

@@ -88,7 +88,7 @@ module _ (c : Comparison) where
   short_lines number so_far line few = rw (few_bytes (length line) few) refl
 
   short_with : (so_far : SoFar) (line : List ℕ) → length line ≤ 512
-      → line_with c so_far line ≡ record { log = (says so_far.log line).0; comparing = said_with c (line_noted so_far.comparing line) (line_at so_far.log line) }
+      → line_with c so_far line ≡ record { log = (says so_far.log line).0; comparing = said_with c (line_noted so_far.comparing line) line (line_at so_far.log line) }
   short_with so_far line few = rw (few_bytes (length line) few) refl
 
   long_lines : (number : ℕ) (so_far : SoFar) (line : List ℕ) → 512 < length line → line_lines c number so_far line ≡ []
@@ -139,9 +139,9 @@ module _ (c : Comparison) where
 
     -- one of at most 512 bytes
     gives_short : (old new : Option (List ℕ)) → GivesLine old new line → length line ≤ 512 → ClosesAlike old new
-        → Gives c old new number (number + 1) so_far (record { log = (says so_far.log line).0; comparing = said_with c (line_noted so_far.comparing line) (line_at so_far.log line) }) (said_lines c number (line_noted so_far.comparing line) (line_at so_far.log line))
+        → Gives c old new number (number + 1) so_far (record { log = (says so_far.log line).0; comparing = said_with c (line_noted so_far.comparing line) line (line_at so_far.log line) }) (said_lines c number (line_noted so_far.comparing line) (line_at so_far.log line))
     gives_short old new gives few alike =
-        subst (λ (ls : List (List ℕ)). Gives c old new number (number + 1) so_far (record { log = (says so_far.log line).0; comparing = said_with c (line_noted so_far.comparing line) (line_at so_far.log line) }) ls) (short_lines number so_far line few)
+        subst (λ (ls : List (List ℕ)). Gives c old new number (number + 1) so_far (record { log = (says so_far.log line).0; comparing = said_with c (line_noted so_far.comparing line) line (line_at so_far.log line) }) ls) (short_lines number so_far line few)
         (subst (λ (s : SoFar). Gives c old new number (number + 1) so_far s (line_lines c number so_far line)) (short_with so_far line few) (gives_one old new gives alike))
 
     -- the last one, without it
@@ -198,13 +198,13 @@ module _ (c : Comparison) where
 
   -- what is found next
   module _ (held holds : Held) (before after : Option (List ℕ)) (number : ℕ) (log : Log) (first : Comparing) (old new : Option (List ℕ)) where
-    module _ (line : List ℕ) (then : Log) (next : Comparing) (left : then ≡ (says log line).0) (is : next ≡ said_with c (line_noted first line) (line_at log line))
+    module _ (line : List ℕ) (then : Log) (next : Comparing) (left : then ≡ (says log line).0) (is : next ≡ said_with c (line_noted first line) line (line_at log line))
         (written : WritesLines old new (said_lines c number (line_noted first line) (line_at log line))) where
-      so : Takes c held holds before after number (number + 1) (record { log = log; comparing = first }) (record { log = (says log line).0; comparing = said_with c (line_noted first line) (line_at log line) }) old new
+      so : Takes c held holds before after number (number + 1) (record { log = log; comparing = first }) (record { log = (says log line).0; comparing = said_with c (line_noted first line) line (line_at log line) }) old new
           → Takes c held holds before after number (number + 1) (record { log = log; comparing = first }) (record { log = then; comparing = next }) old new
       so h =
           subst (λ (n : Comparing). Takes c held holds before after number (number + 1) (record { log = log; comparing = first }) (record { log = then; comparing = n }) old new) (sym is)
-          (subst (λ (l : Log). Takes c held holds before after number (number + 1) (record { log = log; comparing = first }) (record { log = l; comparing = said_with c (line_noted first line) (line_at log line) }) old new) (sym left) h)
+          (subst (λ (l : Log). Takes c held holds before after number (number + 1) (record { log = log; comparing = first }) (record { log = l; comparing = said_with c (line_noted first line) line (line_at log line) }) old new) (sym left) h)
 
       pub takes_line : Gave held.ended holds.ended before after (λ had has. Finds (to_come held had) (to_come holds has) line Line)
           → Takes c held holds before after number (number + 1) (record { log = log; comparing = first }) (record { log = then; comparing = next }) old new

@@ -1,6 +1,6 @@
 -- What is written of a recording that is compared: a line for each difference, in order; and what
 -- is known of it at its end.
-use Rattle.std.specs.Prelude.{ℕ, ◌+◌, ◌==◌, Bool, false, nat_lt, ◌&&◌, ◌||◌, if◌then◌else◌, List, [], ◌∷◌, ◌++◌, length, Option, Some, None, is_none, option_map}
+use Rattle.std.specs.Prelude.{ℕ, ◌+◌, ◌-◌, ◌^◌, ◌==◌, min, Bool, true, false, nat_lt, ◌&&◌, ◌||◌, if◌then◌else◌, List, [], ◌∷◌, ◌++◌, length, Option, Some, None, is_none, is_some, option_map}
 use Rattle.std.specs.Option.{option_map_or}
 use Rattle.std.specs.Str.{bytes_eq}
 use Rattle.std.specs.Str.Lines.{lines}
@@ -47,6 +47,7 @@ use Rattle.conode_compare_report.specs.Reports.{with_bad_line as bad_line_kept, 
 use Rattle.conode_compare_report.specs.Views.{Kept}
 use Rattle.conode_compare.specs.declared.comparing.Comparing.{Comparing}
 use Rattle.conode_compare.specs.declared.notes.Noted.{Noted}
+use Rattle.conode_compare.specs.BadLines.{has_no_frame, interface_in}
 use Rattle.conode_compare.specs.Detailed.{asks_to_write, first_bytes, passed_at}
 use Rattle.conode_compare.specs.NodesSeen.{no_nodes, nodes_with}
 use Rattle.conode_compare.specs.Noted.{choice_lines, noted_at, nothing_noted, notes_with}
@@ -164,6 +165,7 @@ nothing_compared subject report = record {
   tally = no_frames;
   first = record { items = [] };
   several = false;
+  breaks = 0;
   nodes = no_nodes;
   notes = nothing_noted;
   report = report;
@@ -218,6 +220,7 @@ frame_taken c so_far frame kind = record {
   tally = tally_with so_far.tally (found_at c so_far frame kind).verdict;
   first = first_with so_far.first frame.interface;
   several = so_far.several;
+  breaks = so_far.breaks;
   nodes = nodes_with so_far.nodes frame;
   notes = notes_with c.choices c.learned c.subject c.rows so_far.notes kind (progress_at c so_far frame kind);
   report = option_map (kind_noted c so_far.progress frame.micros kind) so_far.report;
@@ -246,12 +249,37 @@ frame_with c so_far frame =
 
 -- ---- lines of the recording
 
--- what is kept of a line, and of a bad one: what that had is unknown
+-- what is kept of a line
 abbrev pub line_noted : Comparing → List ℕ → Comparing
 line_noted so_far line = record so_far { report = option_map (λ kept. with_line kept line) so_far.report }
 
+-- a bad one is counted
+abbrev pub bad_counted : Comparing → Comparing
+bad_counted so_far = record so_far { report = option_map bad_line_kept so_far.report }
+
+-- one more break, up to 2^64 - 1, where a frame came since the last one
+abbrev pub breaks_with : Progress → ℕ → ℕ
+breaks_with progress breaks = if is_some progress.newest then min (breaks + 1) (2 ^ 64 - 1) else breaks
+
+-- which frame it had is unknown
 abbrev pub bad_noted : Comparing → Comparing
-bad_noted so_far = record so_far { progress = with_bad_line so_far.progress; report = option_map bad_line_kept so_far.report }
+bad_noted so_far = bad_counted (record so_far { progress = with_bad_line so_far.progress; breaks = breaks_with so_far.progress so_far.breaks })
+
+-- of the interface that is compared, or of any where that can't be read
+abbrev pub may_be_compared : Option (List ℕ) → List ℕ → Option (List ℕ) → Bool
+may_be_compared interface first name = option_map_or (is_compared interface first) name true
+
+-- a bad line of at most 512 bytes may have had a frame that is compared, unless it is a comment or of blanks, or names
+-- another interface
+abbrev pub may_have_frame : Option (List ℕ) → List ℕ → List ℕ → Bool
+may_have_frame interface first line = if has_no_frame line then false else may_be_compared interface first (interface_in line)
+
+abbrev pub bad_with : Comparison → Comparing → List ℕ → Comparing
+bad_with c so_far line = if may_have_frame c.interface so_far.first.items line then bad_noted so_far else bad_counted so_far
+
+-- how often the recording began anew after bad lines, by the newest frame: not after the last ones, where none came since
+abbrev pub begun_anew : Option ℕ → ℕ → ℕ
+begun_anew newest breaks = if is_none newest then breaks - 1 else breaks
 
 -- nothing but its number is kept of a line of more than 512 bytes
 abbrev pub long_noted : Comparing → Comparing
@@ -267,10 +295,11 @@ said_lines c number so_far (Some (Frame frame)) = frame_lines c number so_far fr
 said_lines c number so_far (Some Skipped) = []
 said_lines c number so_far None = []
 
-abbrev pub said_with : Comparison → Comparing → Option RecordLine → Comparing
-said_with c so_far (Some (Frame frame)) = frame_with c so_far frame
-said_with c so_far (Some Skipped) = so_far
-said_with c so_far None = bad_noted so_far
+-- of a line that says this
+abbrev pub said_with : Comparison → Comparing → List ℕ → Option RecordLine → Comparing
+said_with c so_far line (Some (Frame frame)) = frame_with c so_far frame
+said_with c so_far line (Some Skipped) = so_far
+said_with c so_far line None = bad_with c so_far line
 
 -- one of more than 512 bytes says nothing
 abbrev pub line_lines : Comparison → ℕ → SoFar → List ℕ → List (List ℕ)
@@ -280,7 +309,7 @@ line_lines c number so_far line =
 abbrev pub line_with : Comparison → SoFar → List ℕ → SoFar
 line_with c so_far line =
     if nat_lt 512 (length line) then record so_far { comparing = long_noted so_far.comparing }
-    else record { log = (says so_far.log line).0; comparing = said_with c (line_noted so_far.comparing line) (line_at so_far.log line) }
+    else record { log = (says so_far.log line).0; comparing = said_with c (line_noted so_far.comparing line) line (line_at so_far.log line) }
 
 -- The last line counts only where it has its line feed, since whoever stops a recording cuts it off
 -- there; one that is too long is bad either way.

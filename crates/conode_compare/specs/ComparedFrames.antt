@@ -1,5 +1,5 @@
 -- A recording as its frames: which of its lines are frames that are compared, and what is found and noted at each, one after another.
-use Rattle.std.specs.Prelude.{◌≡◌, ⊤, ℕ, ◌+◌, nat_lt, Bool, if◌then◌else◌, List, [], ◌∷◌, ◌++◌, length, Option, Some, None}
+use Rattle.std.specs.Prelude.{◌≡◌, ⊤, ℕ, ◌+◌, nat_lt, Bool, if◌then◌else◌, List, [], ◌∷◌, ◌++◌, length, Option, Some, None, IfSome}
 use Rattle.std.specs.List.{AllByRecursion, flat_map}
 use Rattle.std.specs.Str.Lines.{lines}
 use Rattle.arrayvec.specs.ArrayVec.{ArrayVec}
@@ -26,7 +26,8 @@ use Rattle.conode_compare_text.specs.declared.tally.Tally.{Tally}
 use Rattle.conode_compare_text.specs.Tallies.{tally_with}
 use Rattle.conode_compare.specs.declared.notes.Noted.{Noted}
 use Rattle.conode_compare.specs.declared.notes.Notes.{Notes}
-use Rattle.conode_compare.specs.Compared.{Comparison, counts, details_for, first_with, is_compared, kind_at, shown_lines}
+use Rattle.conode_compare.specs.BadLines.{has_no_frame, interface_in}
+use Rattle.conode_compare.specs.Compared.{Comparison, counts, details_for, first_with, is_compared, kind_at, may_be_compared, shown_lines}
 use Rattle.conode_compare.specs.Noted.{noted_at, nothing_noted, notes_with}
 
 -- ---- which frames
@@ -35,18 +36,22 @@ use Rattle.conode_compare.specs.Noted.{noted_at, nothing_noted, notes_with}
 pub data LineRead : Type 0 where
   -- a frame, in the line with this number
   FrameIn : ℕ → Record → LineRead
-  -- it is bad: which frame it had is unknown
-  BadLine : LineRead
+  -- it is bad: which frame it had is unknown, but its interface, where that can be read
+  BadLine : Option (List ℕ) → LineRead
+
+-- of a bad line
+abbrev pub read_of_bad : List ℕ → List LineRead
+read_of_bad line = if has_no_frame line then [] else BadLine (interface_in line) ∷ []
 
 -- of a line that says this
-abbrev pub read_of_said : ℕ → Option RecordLine → List LineRead
-read_of_said number (Some (Frame frame)) = FrameIn number frame ∷ []
-read_of_said number (Some Skipped) = []
-read_of_said number None = BadLine ∷ []
+abbrev pub read_of_said : ℕ → List ℕ → Option RecordLine → List LineRead
+read_of_said number line (Some (Frame frame)) = FrameIn number frame ∷ []
+read_of_said number line (Some Skipped) = []
+read_of_said number line None = read_of_bad line
 
 -- of a line; one of more than 512 bytes is bad
 abbrev pub read_of_line : ℕ → Log → List ℕ → List LineRead
-read_of_line number log line = if nat_lt 512 (length line) then BadLine ∷ [] else read_of_said number (line_at log line)
+read_of_line number log line = if nat_lt 512 (length line) then BadLine None ∷ [] else read_of_said number line (line_at log line)
 
 -- of lines from this number on; the last one counts only where it has its line feed
 unfoldable pub read_of_lines : Bool → ℕ → Log → List (List ℕ) → List LineRead
@@ -58,14 +63,16 @@ read_of_lines closed number log (line ∷ next ∷ more) = read_of_line number l
 abbrev pub read_of_text : Form → List ℕ → List LineRead
 read_of_text form text = read_of_lines (is_closed text) 1 (at_start form) (lines text)
 
--- of these the frames that are compared: of the interface that is named, else of that of the first
--- frame; bad lines may be of any
+-- of these the frames that are compared, of the interface that is named, else of that of the first
+-- frame; and the bad lines that may have had one of them
 abbrev pub chosen_frames : Option (List ℕ) → ArrayVec ℕ → List LineRead → List LineRead
 chosen_frames interface first [] = []
 chosen_frames interface first (FrameIn number frame ∷ later) =
     if is_compared interface first.items frame.interface then FrameIn number frame ∷ chosen_frames interface (first_with first frame.interface) later
     else chosen_frames interface first later
-chosen_frames interface first (BadLine ∷ later) = BadLine ∷ chosen_frames interface first later
+chosen_frames interface first (BadLine name ∷ later) =
+    if may_be_compared interface first.items name then BadLine name ∷ chosen_frames interface first later
+    else chosen_frames interface first later
 
 abbrev pub compared_frames : Option (List ℕ) → Form → List ℕ → List LineRead
 compared_frames interface form text = chosen_frames interface (record { items = [] }) (read_of_text form text)
@@ -74,28 +81,28 @@ compared_frames interface form text = chosen_frames interface (record { items = 
 abbrev pub records_of : List LineRead → List Record
 records_of [] = []
 records_of (FrameIn number frame ∷ later) = frame ∷ records_of later
-records_of (BadLine ∷ later) = records_of later
+records_of (BadLine name ∷ later) = records_of later
 
 abbrev pub IsBad : LineRead → Type 0
 IsBad (FrameIn number frame) = ⊥
-IsBad BadLine = ⊤
+IsBad (BadLine name) = ⊤
 
 -- after the first frame: no frame follows a bad line
 abbrev pub EndsWhole : List LineRead → Type 0
 EndsWhole [] = ⊤
 EndsWhole (FrameIn number frame ∷ later) = EndsWhole later
-EndsWhole (BadLine ∷ later) = AllByRecursion IsBad later
+EndsWhole (BadLine name ∷ later) = AllByRecursion IsBad later
 
 -- no bad line has a frame before it and one after it
 abbrev pub IsWhole : List LineRead → Type 0
 IsWhole [] = ⊤
 IsWhole (FrameIn number frame ∷ later) = EndsWhole later
-IsWhole (BadLine ∷ later) = IsWhole later
+IsWhole (BadLine name ∷ later) = IsWhole later
 
--- all frames are of this interface
+-- all frames are of this interface, and no bad line names another one
 abbrev pub IsOn : List ℕ → LineRead → Type 0
 IsOn name (FrameIn number frame) = frame.interface ≡ name
-IsOn name BadLine = ⊤
+IsOn name (BadLine named) = IfSome named (λ other. other ≡ name)
 
 abbrev pub AreAllOn : List ℕ → List LineRead → Type 0
 AreAllOn name lines = AllByRecursion (IsOn name) lines
@@ -124,7 +131,7 @@ shown_from c progress receptions notes (FrameIn number frame ∷ later) =
     }
     ∷ shown_from c (progress_after c.subject c.rows progress receptions frame) (receptions_after c.subject c.rows progress receptions frame)
     (notes_with c.choices c.learned c.subject c.rows notes (kind_at c frame) (progress_with c.subject progress frame.micros (kind_at c frame))) later
-shown_from c progress receptions notes (BadLine ∷ later) = shown_from c (with_bad_line progress) receptions notes later
+shown_from c progress receptions notes (BadLine name ∷ later) = shown_from c (with_bad_line progress) receptions notes later
 
 -- of a text
 abbrev pub shown_in : Comparison → Form → List ℕ → List FrameShown
@@ -152,7 +159,7 @@ program_from_lines these subject rows progress receptions [] = []
 program_from_lines these subject rows progress receptions (FrameIn number frame ∷ later) =
     these (what_is subject frame) (findings_at subject rows progress frame.micros (what_is subject frame))
     ++ program_from_lines these subject rows (progress_after subject rows progress receptions frame) (receptions_after subject rows progress receptions frame) later
-program_from_lines these subject rows progress receptions (BadLine ∷ later) = program_from_lines these subject rows (with_bad_line progress) receptions later
+program_from_lines these subject rows progress receptions (BadLine name ∷ later) = program_from_lines these subject rows (with_bad_line progress) receptions later
 
 -- over all lines of a recording
 abbrev pub program_over_lines : (FrameKind → Findings → List Finding) → Subject → List Row → List LineRead → List Finding

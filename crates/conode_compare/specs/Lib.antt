@@ -1,3 +1,4 @@
+pub mod BadLines
 pub mod Compared
 pub mod ComparedFrames
 pub mod Detailed

@@ -5,6 +5,7 @@ ghost use Rattle.std.specs.List.{AllPairs};
 ghost use Rattle.std.specs.Process.{exit_status};
 ghost use Rattle.co_value.specs.Keys.{is_key_before};
 ghost use Rattle.conode_io.specs.Written.{WritesLines};
+ghost use Rattle.conode_compare.specs.Compared.{begun_anew};
 ghost use Rattle.conode_compare.specs.Documents.{end_lines, output};
 ghost use Rattle.conode_compare.specs.Views.{comparison_view};
 ghost use Rattle.conode_compare.specs.Verdicts.{no_frame, verdict_status};
@@ -92,13 +93,40 @@ fn verdict_status(tally: Tally, several: bool) -> u8
     }
 }
 
+// what is said of a recording at its end, beside its lines
+#[derive(Drop)]
+struct Ends {
+    tally: Tally,
+    several: bool,
+    nodes: NodesSeen,
+    anew: u64,
+}
+
+// how often the recording began anew after bad lines: not after the last ones, where no frame came
+// since
+fn begun_anew(newest: Option<u64>, breaks: u64) -> u64
+    ensures { result ≡ begun_anew newest breaks }
+{
+    match newest {
+        Some(_) => breaks,
+        None => breaks.saturating_sub(1),
+    }
+}
+
+// says on `err` how often the recording began anew after bad lines
+fn say_anew<E: Write>(anew: u64, err: &mut E) {
+    if anew > 0 {
+        let _ = writeln!(err, "begun anew after bad lines: {anew}");
+    }
+}
+
 // says on `err` why the status is 2, if it is
-fn say_why<E: Write>(node: u8, tally: Tally, several: bool, nodes: &NodesSeen, err: &mut E) {
-    if several {
+fn say_why<E: Write>(node: u8, ends: &Ends, err: &mut E) {
+    if ends.several {
         let _ = bad_word("several interfaces: name one with --interface", err);
-    } else if no_frame(tally) {
+    } else if no_frame(ends.tally) {
         let _ = writeln!(err, "no frame of node {node}");
-        nodes.name(err);
+        ends.nodes.name(err);
     }
 }
 
@@ -116,7 +144,7 @@ fn write_end<O: Write>(
         (end_lines wanted.now.format (comparison_view settings.now) wanted.now.version.now
         wanted.now.sheet.now comparing.now comparing.now.report)) }
 {
-    match comparing.report() {
+    match &comparing.report {
         Some(report) => {
             let about = about_of(settings, wanted, comparing);
             write_document(alloc, wanted.format, &about, report, out)
@@ -134,7 +162,7 @@ fn compare_and_write<R: Read, O: Write, E: Write>(
     form: Form,
     out: &mut O,
     err: &mut E,
-) -> Result<(Tally, bool, NodesSeen), CmdFault>
+) -> Result<Ends, CmdFault>
     requires { AllPairs (λ e f. is_key_before e.key f.key ≡ true) settings.now.rows.now }
     ensures written { OnOk result (IfSome (R.remaining input.old) (λ text.
         WritesLines (O.contents out.old) (O.contents out.new)
@@ -144,8 +172,12 @@ fn compare_and_write<R: Read, O: Write, E: Write>(
     let report = attempt_in_memory!(new_report(alloc, settings, wanted.format));
     let comparing = attempt!(compare(alloc, input, settings, form, report, out, err));
     attempt!(write_end(alloc, settings, wanted, &comparing, out));
-    let (tally, several) = comparing.ends();
-    Ok((tally, several, comparing.nodes()))
+    Ok(Ends {
+        tally: comparing.tally,
+        several: comparing.several,
+        nodes: comparing.nodes,
+        anew: begun_anew(comparing.progress.newest, comparing.breaks),
+    })
 }
 
 // compares an input
@@ -163,9 +195,10 @@ fn compare_input<R: Read, O: Write, E: Write>(
 {
     let outcome = compare_and_write(alloc, input, settings, wanted, form, out, err);
     match flushed(out, outcome) {
-        Ok((tally, several, nodes)) => {
-            say_why(settings.subject.node, tally, several, &nodes, err);
-            ExitCode::from(verdict_status(tally, several))
+        Ok(ends) => {
+            say_anew(ends.anew, err);
+            say_why(settings.subject.node, &ends, err);
+            ExitCode::from(verdict_status(ends.tally, ends.several))
         }
         Err(fault) => {
             let _ = stopped(fault, out, err);

@@ -1,6 +1,6 @@
 //! Frames of a recording, compared one after another.
 
-ghost use Rattle.std.specs.Prelude.{◌≡◌, ◌≤◌, ◌||◌, length, is_none, IfOk, OnOk, true};
+ghost use Rattle.std.specs.Prelude.{◌≡◌, ◌≤◌, ◌||◌, if◌then◌else◌, length, is_none, IfOk, OnOk, true};
 ghost use Rattle.std.specs.List.{AllPairs};
 ghost use Rattle.std.specs.Option.{option_copied};
 ghost use Rattle.co_value.specs.Keys.{is_key_before};
@@ -8,6 +8,7 @@ ghost use Rattle.conode_io.specs.Written.{WritesLines};
 ghost use Rattle.conode_record.specs.Grammar.{IsIdentifier};
 ghost use Rattle.conode_compare_rules.specs.Progresses.{findings_at, progress_with};
 ghost use Rattle.conode_compare.specs.Compared.{
+  bad_counted,
   bad_noted,
   first_with,
   frame_lines,
@@ -16,11 +17,13 @@ ghost use Rattle.conode_compare.specs.Compared.{
   is_compared,
   kind_noted,
   line_noted,
+  may_have_frame,
   nothing_compared,
 };
 ghost use Rattle.conode_compare.specs.Noted.{noted_at};
 ghost use Rattle.conode_compare.specs.Views.{comparison_view};
 
+use crate::bad_lines::{has_no_frame, interface_in};
 use crate::details::details_of;
 use crate::kept::note_findings;
 use crate::nodes_seen::NodesSeen;
@@ -38,20 +41,24 @@ use std::io::Write;
 
 /// How far a recording is compared.
 pub struct Comparing {
-    pub(crate) progress: Progress,
+    /// What is known of the device.
+    pub progress: Progress,
     /// What RPDOs write to the entries that are held.
-    pub(crate) receptions: Receptions,
-    pub(crate) tally: Tally,
+    pub receptions: Receptions,
+    /// How many of its frames have which verdict.
+    pub tally: Tally,
     /// The name of the first interface; empty before the first frame.
-    pub(crate) first: ArrayVec<u8, 15>,
+    pub first: ArrayVec<u8, 15>,
     /// Whether frames came on another one, where none is named.
-    pub(crate) several: bool,
+    pub several: bool,
+    /// After how many of the frames bad lines may have had one, up to 2^64 - 1.
+    pub breaks: u64,
     /// The nodes that were seen.
-    pub(crate) nodes: NodesSeen,
+    pub nodes: NodesSeen,
     /// What is noted beside differences.
-    pub(crate) notes: Notes,
+    pub notes: Notes,
     /// What is kept for a document, if one is wanted.
-    pub(crate) report: Option<Report>,
+    pub report: Option<Report>,
 }
 
 // One call wherever it is dropped, in place of a drop of each of its parts.
@@ -63,6 +70,7 @@ impl Drop for Comparing {
             tally: _,
             first: _,
             several: _,
+            breaks: _,
             nodes: _,
             notes,
             report,
@@ -80,6 +88,20 @@ fn is_compared(interface: Option<&[u8]>, first: &[u8], name: &[u8]) -> bool
     match interface {
         Some(wanted) => wanted == name,
         None => first.is_empty() || first == name,
+    }
+}
+
+/// Whether a bad line of at most 512 bytes may have had a frame that is compared: unless it is a
+/// comment or of blanks, or names another interface.
+pub(crate) fn may_have_frame(interface: Option<&[u8]>, first: &[u8], line: &[u8]) -> bool
+    ensures { result ≡ may_have_frame (option_copied interface.entry) first.now line.now }
+{
+    if has_no_frame(line) {
+        return false;
+    }
+    match interface_in(line) {
+        Some(name) => is_compared(interface, first, name),
+        None => true,
     }
 }
 
@@ -144,17 +166,11 @@ impl Comparing {
             tally: Tally::new(),
             first: ArrayVec::new(),
             several: false,
+            breaks: 0,
             nodes: NodesSeen::new(),
             notes: Notes::new(alloc),
             report,
         }
-    }
-
-    /// What is kept for a document, if one is wanted.
-    pub fn report(&self) -> &Option<Report>
-        ensures { result.now ≡ self.now.report }
-    {
-        &self.report
     }
 
     /// A line comes, without its line feed.
@@ -167,37 +183,20 @@ impl Comparing {
         }
     }
 
-    /// The newest line is bad: what it had is unknown, so with the next frame the recording begins
-    /// anew.
-    pub(crate) fn note_bad_line(&mut self)
-        ensures { self.new ≡ bad_noted self.old }
+    /// The newest line is bad. Where it may have had a frame that is compared, what it had is unknown,
+    /// so with the next frame the recording begins anew.
+    pub(crate) fn note_bad_line(&mut self, has_frame: bool)
+        ensures { self.new ≡ if has_frame then bad_noted self.old else bad_counted self.old }
     {
-        self.progress.note_bad_line();
+        if has_frame {
+            if self.progress.newest.is_some() {
+                self.breaks = self.breaks.saturating_add(1);
+            }
+            self.progress.note_bad_line();
+        }
         if let Some(report) = &mut self.report {
             report.note_bad_line();
         }
-    }
-
-    /// How many frames of the device have which verdict; and whether no interface was named, and
-    /// there were frames of several.
-    pub fn ends(&self) -> (Tally, bool)
-        ensures { result ≡ (self.now.tally, self.now.several) }
-    {
-        (self.tally, self.several)
-    }
-
-    /// The nodes that were seen.
-    pub fn nodes(&self) -> NodesSeen
-        ensures { result ≡ self.now.nodes }
-    {
-        self.nodes
-    }
-
-    /// What is noted of the device beside differences.
-    pub fn notes(&self) -> &Notes
-        ensures { result.now ≡ self.now.notes }
-    {
-        &self.notes
     }
 
     // Counts a frame of the interface with its verdict, and takes what else it shows than the

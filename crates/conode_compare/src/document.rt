@@ -84,7 +84,6 @@ pub(crate) fn about_of<'s, 'a>(
     ensures { about_view result ≡ described (comparison_view settings.now)
         wanted.now.version.now wanted.now.sheet.now comparing.now }
 {
-    let (tally, several) = comparing.ends();
     About {
         version: wanted.version,
         sheet: wanted.sheet,
@@ -97,8 +96,8 @@ pub(crate) fn about_of<'s, 'a>(
         vendor: identity_at(settings, 1),
         product: identity_at(settings, 2),
         revision: identity_at(settings, 3),
-        tally,
-        several,
+        tally: comparing.tally,
+        several: comparing.several,
     }
 }
 

@@ -28,13 +28,14 @@ ghost use Rattle.conode_compare.specs.ComparedFrames.{
 /// A recording is compared frame by frame, whatever its text, its form and its interfaces. `lines`:
 /// where no document is wanted, the lines that are written are those of what is found and noted at
 /// its frames (`shown_in`), in order: of each frame that is read of a line and compared
-/// (`compared_frames`), and of no other; after a bad line the recording begins anew. `tally`: by the
-/// same findings the frames are counted, for a document too. `found`: of these findings, whichever
-/// are picked, they are those that the program finds in these lines (`program_over_lines`). `whole`:
-/// where no line between two frames is bad, these are those that it finds in the frames alone
-/// (`program_over` of `conode_compare_receptions`), of which the laws of `conode_compare_laws` speak.
-/// `named`, `first`: where all frames are of one interface, which is named or not, they are all
-/// frames of the text. This is a law: a call of it changes nothing.
+/// (`compared_frames`), and of no other; after a bad line that may have had one the recording begins
+/// anew. `tally`: by the same findings the frames are counted, for a document too. `found`: of these
+/// findings, whichever are picked, they are those that the program finds in these lines
+/// (`program_over_lines`). `whole`: where no line between two frames is bad, these are those that it
+/// finds in the frames alone (`program_over` of `conode_compare_receptions`), of which the laws of
+/// `conode_compare_laws` speak. `named`, `first`: where all frames are of one interface, which is
+/// named or not, and no bad line names another one, they are all frames of the text. This is a law:
+/// a call of it changes nothing.
 pub fn compares_frames()
     ensures lines { (c : Comparison) (form : Form) (text : List ℕ) →
         compared c form None text ≡ lines_shown c (shown_in c form text) }

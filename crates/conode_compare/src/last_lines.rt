@@ -30,9 +30,9 @@ fn write_summary<O: Write>(
         (last_line (comparison_view settings.now) comparing.now ∷ [])) }
 {
     let node = settings.subject.node;
-    let (tally, _) = comparing.ends();
+    let tally = comparing.tally;
     if settings.choices {
-        attempt_in_memory!(set_choices_summary(text, node, tally, comparing.notes().choices));
+        attempt_in_memory!(set_choices_summary(text, node, tally, comparing.notes.choices));
     } else {
         attempt_in_memory!(set_summary(text, node, tally));
     }
@@ -100,7 +100,7 @@ pub(crate) fn write_last_lines<O: Write>(
     let mut text = String::new(alloc);
     attempt!(write_summary(&mut text, settings, comparing, out));
     if settings.learned {
-        attempt!(write_values(&mut text, settings, &comparing.notes().learned, out));
+        attempt!(write_values(&mut text, settings, &comparing.notes.learned, out));
     }
     Ok(())
 }

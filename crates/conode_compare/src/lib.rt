@@ -21,6 +21,7 @@ macro_rules! attempt_in_memory {
     };
 }
 
+mod bad_lines;
 mod compare_file;
 mod compared;
 mod comparing;

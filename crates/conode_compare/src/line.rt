@@ -15,7 +15,7 @@ ghost use Rattle.conode_compare.specs.Compared.{nothing_compared, said_lines, sa
 ghost use Rattle.conode_compare.specs.Taking.{Takes, record_set};
 ghost use Rattle.conode_compare.specs.Views.{comparison_view};
 
-use crate::comparing::Comparing;
+use crate::comparing::{Comparing, may_have_frame};
 use crate::writes::Settings;
 use co_stream::{BoundedLines, Found};
 use conode_compare_report::Report;
@@ -46,31 +46,35 @@ fn name_wrong<E: Write>(number: u64, wrong: Option<BadLogLine>, err: &mut E) {
     }
 }
 
-// Takes a line as `candump -L` writes it. Returns what is wrong with it, if it is bad.
+// Takes a line as `candump -L` writes it, of this line of a log. Returns what is wrong with it, if it
+// is bad.
 #[inline(always)]
 fn take_record<W: Write>(
     comparing: &mut Comparing,
     text: &mut String,
     settings: &Settings<'_, '_>,
     number: u64,
+    record: &[u8],
     line: &[u8],
     out: &mut W,
 ) -> Result<Option<BadLogLine>, CmdFault>
     requires { AllPairs (λ e f. is_key_before e.key f.key ≡ true) settings.now.rows.now }
     ensures lines { OnOk result (WritesLines (W.contents out.old) (W.contents out.new)
         (said_lines (comparison_view settings.now) number comparing.old
-        (good (line_in line.now)))) }
+        (good (line_in record.now)))) }
     ensures next { OnOk result (comparing.new
-        ≡ said_with (comparison_view settings.now) comparing.old (good (line_in line.now))) }
+        ≡ said_with (comparison_view settings.now) comparing.old line.now
+        (good (line_in record.now))) }
 {
-    match RecordLine::read(line) {
+    match RecordLine::read(record) {
         Ok(RecordLine::Skipped) => Ok(None),
         Ok(RecordLine::Frame(frame)) => {
             attempt!(comparing.take_frame(text, settings, number, &frame, out));
             Ok(None)
         }
         Err(bad) => {
-            comparing.note_bad_line();
+            let has_frame = may_have_frame(settings.interface, comparing.first.as_slice(), line);
+            comparing.note_bad_line(has_frame);
             Ok(Some(BadLogLine::of_record(bad)))
         }
     }
@@ -151,7 +155,7 @@ impl Lines {
             (said_lines (comparison_view settings.now) number self.old.comparing
             (line_at self.old.log self.old.lines.line))) }
         ensures next { OnOk result (self.new.comparing
-            ≡ said_with (comparison_view settings.now) self.old.comparing
+            ≡ said_with (comparison_view settings.now) self.old.comparing self.old.lines.line
             (line_at self.old.log self.old.lines.line)) }
         ensures log { OnOk result (self.new.log ≡ (says self.old.log self.old.lines.line).0) }
         ensures held { self.new.lines ≡ self.old.lines }
@@ -160,15 +164,20 @@ impl Lines {
         let text = &mut self.text;
         let line = self.lines.line();
         if let Form::Candump = self.log.form {
-            return take_record(comparing, text, settings, number, line, out);
+            return take_record(comparing, text, settings, number, line, line, out);
         }
         match set_record_line(&mut self.frame, &mut self.log, line) {
             Ok(None) => {
-                let line = self.frame.as_slice();
-                take_record(comparing, text, settings, number, line, out)
+                let record = self.frame.as_slice();
+                take_record(comparing, text, settings, number, record, line, out)
             }
             Ok(Some(bad)) => {
-                comparing.note_bad_line();
+                let has_frame = may_have_frame(
+                    settings.interface,
+                    comparing.first.as_slice(),
+                    line,
+                );
+                comparing.note_bad_line(has_frame);
                 Ok(Some(bad))
             }
             Err(_) => Err(CmdFault::Memory),
@@ -204,7 +213,7 @@ impl Lines {
             Ok(Found::TooLong) => {
                 name_bad_line(number, TOO_LONG, err);
                 attempt_in_memory!(self.comparing.note_line(&[]));
-                self.comparing.note_bad_line();
+                self.comparing.note_bad_line(true);
                 Ok(Some(()))
             }
             Ok(Found::Line) => {

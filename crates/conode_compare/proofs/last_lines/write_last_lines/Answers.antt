@@ -1,6 +1,3 @@
-use Rattle.std.proofs.Common.{subst}
-use Rattle.conode_io.specs.Written.{WritesLines}
-use Rattle.conode_compare.specs.declared.notes.Notes.{Notes}
 use Rattle.conode_compare.specs.LastLines.{last_line, values_lines}
 use Rattle.conode_compare.specs.Views.{comparison_view}
 use Rattle.conode_compare.proofs.WriteLemmas.{with_more, without_more}
@@ -18,7 +15,6 @@ returns g c =
     elim c.if-settings.branch [
       | then-settings+in-Ok-write_values w ↦
           let new = g.O.Write.contents w.write_values.new.out in
-          let later = subst (λ (n : Notes). WritesLines mid new (values_lines what n.learned what.rows)) w.notes.ensures w.in-Ok-write_values.ensures in
-          rw w.out-is (with_more old mid new line more c.in-Ok.ensures what.learned w.if-settings.true later)
+          rw w.out-is (with_more old mid new line more c.in-Ok.ensures what.learned w.if-settings.true w.in-Ok-write_values.ensures)
       | else-settings w ↦ rw w.out-is (without_more old mid mid line more c.in-Ok.ensures what.learned w.if-settings.false)
     ]

@@ -51,7 +51,7 @@ returns-in-Ok-take_log_line-clause-line g c =
     let found = subst (λ (f : Found). Gave held.ended holds.ended before after (λ had has. Finds (to_come held had) (to_come holds has) holds.line f)) c.in-Ok-Line.field-0-is c.in-Ok-Line.ensures.found in
     let said = c.in-Ok-take_log_line.ensures in
     let noted : c.note_line-in-Ok-Line.new.self ≡ line_noted first holds.line = c.in-Ok-note_line.ensures ∙ ap (line_noted first) c.line.ensures in
-    let next = subst (λ (n : Comparing). c.take_log_line.new.self.comparing ≡ said_with what n (line_at log holds.line)) noted said.next in
+    let next = subst (λ (n : Comparing). c.take_log_line.new.self.comparing ≡ said_with what n holds.line (line_at log holds.line)) noted said.next in
     let lines = subst (λ (n : Comparing). WritesLines old new (said_lines what c.args.number n (line_at log holds.line))) noted said.lines in
     rw said.held (takes_line what held holds before after c.args.number log first old new holds.line c.take_log_line.new.self.log c.take_log_line.new.self.comparing said.log next lines found)
 
