@@ -41,8 +41,12 @@ use std::alloc::{AllocError, Global};
 fn dictionary_words(found: &ArgMatches<'_>) -> Option<DictionaryWords>
     ensures { result ≡ asked_dictionary (rows_of (found_of found.now)) }
 {
-    let strings = given!(number_u16(found, "strings"));
-    let domains = given!(number_u16(found, "domains"));
+    let Some(strings) = number_u16(found, "strings") else {
+        return None;
+    };
+    let Some(domains) = number_u16(found, "domains") else {
+        return None;
+    };
     Some(DictionaryWords {
         node: number_u8(found, "node"),
         strings,
@@ -55,8 +59,12 @@ fn dictionary_words(found: &ArgMatches<'_>) -> Option<DictionaryWords>
 fn device_words(found: &ArgMatches<'_>) -> Option<DeviceWords>
     ensures { result ≡ asked_device (rows_of (found_of found.now)) }
 {
-    let dictionary = given!(dictionary_words(found));
-    let time = given!(number_u16(found, "time"));
+    let Some(dictionary) = dictionary_words(found) else {
+        return None;
+    };
+    let Some(time) = number_u16(found, "time") else {
+        return None;
+    };
     Some(DeviceWords { dictionary, time })
 }
 
@@ -65,8 +73,12 @@ fn device_words(found: &ArgMatches<'_>) -> Option<DeviceWords>
 fn asked_check<'a>(found: &ArgMatches<'a>) -> Option<Task<'a>>
     ensures { option_map asked_by result ≡ asked_check (rows_of (found_of found.now)) }
 {
-    let sheet = given!(word_for(found, "SHEET"));
-    let dictionary = given!(dictionary_words(found));
+    let Some(sheet) = word_for(found, "SHEET") else {
+        return None;
+    };
+    let Some(dictionary) = dictionary_words(found) else {
+        return None;
+    };
     Some(Task::Check { sheet, dictionary })
 }
 
@@ -87,8 +99,12 @@ fn asked_lint<'a>(alloc: Global, found: &ArgMatches<'a>) -> Result<Option<Task<'
     };
     let strict = is_used(found, "strict");
     let all = is_used(found, "all");
-    let sheets = words_for(alloc, found, "SHEET")?;
-    let allowed = words_for(alloc, found, "allow")?;
+    let Ok(sheets) = words_for(alloc, found, "SHEET") else {
+        return Err(AllocError);
+    };
+    let Ok(allowed) = words_for(alloc, found, "allow") else {
+        return Err(AllocError);
+    };
     Ok(Some(Task::Lint(LintWords {
         sheets,
         allowed,
@@ -105,7 +121,9 @@ fn asked_lint<'a>(alloc: Global, found: &ArgMatches<'a>) -> Result<Option<Task<'
 fn asked_decode<'a>(found: &ArgMatches<'a>) -> Option<Task<'a>>
     ensures { option_map asked_by result ≡ asked_decode (rows_of (found_of found.now)) }
 {
-    let trace = given!(word_for(found, "TRACE"));
+    let Some(trace) = word_for(found, "TRACE") else {
+        return None;
+    };
     Some(Task::Decode {
         trace,
         sheet: word_for(found, "sheet"),
@@ -118,9 +136,15 @@ fn asked_decode<'a>(found: &ArgMatches<'a>) -> Option<Task<'a>>
 fn asked_replay<'a>(found: &ArgMatches<'a>) -> Option<Task<'a>>
     ensures { option_map asked_by result ≡ asked_replay (rows_of (found_of found.now)) }
 {
-    let sheet = given!(word_for(found, "SHEET"));
-    let trace = given!(word_for(found, "TRACE"));
-    let device = given!(device_words(found));
+    let Some(sheet) = word_for(found, "SHEET") else {
+        return None;
+    };
+    let Some(trace) = word_for(found, "TRACE") else {
+        return None;
+    };
+    let Some(device) = device_words(found) else {
+        return None;
+    };
     Some(Task::Replay {
         sheet,
         trace,
@@ -133,11 +157,21 @@ fn asked_replay<'a>(found: &ArgMatches<'a>) -> Option<Task<'a>>
 fn asked_loop<'a>(found: &ArgMatches<'a>) -> Option<Task<'a>>
     ensures { option_map asked_by result ≡ asked_loop (rows_of (found_of found.now)) }
 {
-    let sheet = given!(word_for(found, "SHEET"));
-    let key = given!(word_for(found, "KEY"));
-    let bytes = given!(word_for(found, "HEX"));
-    let mode = given!(mode_for(found));
-    let device = given!(device_words(found));
+    let Some(sheet) = word_for(found, "SHEET") else {
+        return None;
+    };
+    let Some(key) = word_for(found, "KEY") else {
+        return None;
+    };
+    let Some(bytes) = word_for(found, "HEX") else {
+        return None;
+    };
+    let Some(mode) = mode_for(found) else {
+        return None;
+    };
+    let Some(device) = device_words(found) else {
+        return None;
+    };
     Some(Task::LoopBack {
         sheet,
         key,
@@ -152,8 +186,12 @@ fn asked_loop<'a>(found: &ArgMatches<'a>) -> Option<Task<'a>>
 fn asked_show<'a>(found: &ArgMatches<'a>) -> Option<Task<'a>>
     ensures { option_map asked_by result ≡ asked_show (rows_of (found_of found.now)) }
 {
-    let sheet = given!(word_for(found, "SHEET"));
-    let shown_as = given!(shown_for(found));
+    let Some(sheet) = word_for(found, "SHEET") else {
+        return None;
+    };
+    let Some(shown_as) = shown_for(found) else {
+        return None;
+    };
     Some(Task::Show {
         sheet,
         node: number_u8(found, "node"),
@@ -166,8 +204,12 @@ fn asked_show<'a>(found: &ArgMatches<'a>) -> Option<Task<'a>>
 fn asked_adapt<'a>(found: &ArgMatches<'a>) -> Option<Task<'a>>
     ensures { option_map asked_by result ≡ asked_adapt (rows_of (found_of found.now)) }
 {
-    let sheet = given!(word_for(found, "SHEET"));
-    let leading_zeros = given!(zeros_for(found));
+    let Some(sheet) = word_for(found, "SHEET") else {
+        return None;
+    };
+    let Some(leading_zeros) = zeros_for(found) else {
+        return None;
+    };
     Some(Task::Adapt {
         sheet,
         leading_zeros,
@@ -210,7 +252,9 @@ fn asked_explain<'a>(alloc: Global, found: &ArgMatches<'a>) -> Result<Option<Tas
     let Some(form) = log_form_for(found) else {
         return Ok(None);
     };
-    let sheets = words_for(alloc, found, "sheet")?;
+    let Ok(sheets) = words_for(alloc, found, "sheet") else {
+        return Err(AllocError);
+    };
     Ok(Some(Task::Explain {
         trace,
         sheets,
@@ -231,8 +275,12 @@ fn asked_explain<'a>(alloc: Global, found: &ArgMatches<'a>) -> Result<Option<Tas
 fn asked_convert<'a>(found: &ArgMatches<'a>) -> Option<Task<'a>>
     ensures { option_map asked_by result ≡ asked_convert (rows_of (found_of found.now)) }
 {
-    let log = given!(word_for(found, "LOG"));
-    let form = given!(log_form_for(found));
+    let Some(log) = word_for(found, "LOG") else {
+        return None;
+    };
+    let Some(form) = log_form_for(found) else {
+        return None;
+    };
     Some(Task::Convert { log, form })
 }
 
@@ -252,7 +300,9 @@ fn asked_stats<'a>(alloc: Global, found: &ArgMatches<'a>) -> Result<Option<Task<
         return Ok(None);
     };
     let bit_rate = word_for(found, "bitrate");
-    let sheets = words_for(alloc, found, "sheet")?;
+    let Ok(sheets) = words_for(alloc, found, "sheet") else {
+        return Err(AllocError);
+    };
     Ok(Some(Task::Stats {
         trace,
         sheets,
@@ -267,10 +317,18 @@ fn asked_stats<'a>(alloc: Global, found: &ArgMatches<'a>) -> Result<Option<Task<
 fn timing_words(found: &ArgMatches<'_>) -> Option<TimingWords>
     ensures { result ≡ asked_timing (rows_of (found_of found.now)) }
 {
-    let tolerance = given!(number_u32(found, "tolerance"));
-    let drift = given!(number_u8(found, "drift"));
-    let answer = given!(number_u32(found, "answer"));
-    let boot = given!(number_u32(found, "boot"));
+    let Some(tolerance) = number_u32(found, "tolerance") else {
+        return None;
+    };
+    let Some(drift) = number_u8(found, "drift") else {
+        return None;
+    };
+    let Some(answer) = number_u32(found, "answer") else {
+        return None;
+    };
+    let Some(boot) = number_u32(found, "boot") else {
+        return None;
+    };
     Some(TimingWords {
         tolerance,
         drift,
@@ -296,11 +354,21 @@ fn room_words(found: &ArgMatches<'_>) -> RoomWords
 fn asked_compare<'a>(found: &ArgMatches<'a>) -> Option<Task<'a>>
     ensures { option_map asked_by result ≡ asked_compare (rows_of (found_of found.now)) }
 {
-    let sheet = given!(word_for(found, "SHEET"));
-    let trace = given!(word_for(found, "TRACE"));
-    let form = given!(log_form_for(found));
-    let report_as = given!(report_as_for(found));
-    let timing = given!(timing_words(found));
+    let Some(sheet) = word_for(found, "SHEET") else {
+        return None;
+    };
+    let Some(trace) = word_for(found, "TRACE") else {
+        return None;
+    };
+    let Some(form) = log_form_for(found) else {
+        return None;
+    };
+    let Some(report_as) = report_as_for(found) else {
+        return None;
+    };
+    let Some(timing) = timing_words(found) else {
+        return None;
+    };
     Some(Task::Compare {
         sheet,
         trace,
@@ -322,24 +390,30 @@ fn asked_other<'a>(name: &str, found: &ArgMatches<'a>) -> Option<Task<'a>>
     ensures { option_map asked_by result ≡ asked_other name.now (rows_of (found_of found.now)) }
 {
     if is(name, "check") {
-        asked_check(found)
-    } else if is(name, "decode") {
-        asked_decode(found)
-    } else if is(name, "replay") {
-        asked_replay(found)
-    } else if is(name, "loop") {
-        asked_loop(found)
-    } else if is(name, "show") {
-        asked_show(found)
-    } else if is(name, "adapt") {
-        asked_adapt(found)
-    } else if is(name, "convert") {
-        asked_convert(found)
-    } else if is(name, "compare") {
-        asked_compare(found)
-    } else {
-        None
+        return asked_check(found);
     }
+    if is(name, "decode") {
+        return asked_decode(found);
+    }
+    if is(name, "replay") {
+        return asked_replay(found);
+    }
+    if is(name, "loop") {
+        return asked_loop(found);
+    }
+    if is(name, "show") {
+        return asked_show(found);
+    }
+    if is(name, "adapt") {
+        return asked_adapt(found);
+    }
+    if is(name, "convert") {
+        return asked_convert(found);
+    }
+    if is(name, "compare") {
+        return asked_compare(found);
+    }
+    None
 }
 
 // what the words after the name of a subcommand ask for
@@ -353,12 +427,13 @@ pub(crate) fn asked_in<'a>(
         option_map asked_by task ≡ asked_in name.now (rows_of (found_of found.now))) }
 {
     if is(name, "lint") {
-        asked_lint(alloc, found)
-    } else if is(name, "explain") {
-        asked_explain(alloc, found)
-    } else if is(name, "stats") {
-        asked_stats(alloc, found)
-    } else {
-        Ok(asked_other(name, found))
+        return asked_lint(alloc, found);
     }
+    if is(name, "explain") {
+        return asked_explain(alloc, found);
+    }
+    if is(name, "stats") {
+        return asked_stats(alloc, found);
+    }
+    Ok(asked_other(name, found))
 }
