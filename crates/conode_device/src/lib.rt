@@ -3,16 +3,6 @@
 //! default SDO channel (CiA 301, 7.2.4.3), and each frame is printed as the line of a trace.
 #![tactic(auto)]
 
-// As `?`, without a conversion of the error: a `match` is one step of a proof where `?` is three.
-macro_rules! attempt {
-    ($result:expr) => {
-        match $result {
-            Ok(value) => value,
-            Err(fault) => return Err(fault),
-        }
-    };
-}
-
 mod frames;
 mod input;
 mod lines;

@@ -8,24 +8,24 @@ ghost use Rattle.conode_device.specs.Runs.{WrittenBy};
 use crate::totals::Totals;
 use co_frame::{AbortCode, Frame};
 use co_node::AppAnswer;
-use co_text::{push_decimal, push_u32};
 use conode_io::{CmdFault, hand_over};
+use conode_text::{Value, push_filled};
 use conode_trace::frame_line;
 use std::alloc::AllocError;
 use std::io::Write;
 
 /// Sets the text to the line of a refused event, as `; line 7 refused 06090030`. `Err`: out of
 /// memory; the text then has a part of the line.
-#[tactic(auto, unfolding(crate::specs::Lines::refused_line))]
+#[tactic(auto, unfolding(crate::specs::Lines::refused_line, conode_text::specs::Filled::filled))]
 fn set_refused_line(text: &mut String, number: usize, code: AbortCode) -> Result<(), AllocError>
     ensures { OnOk result (string_bytes text.new ≡ refused_line number code.0) }
 {
     text.clear();
-    attempt!(text.push_str("; line "));
-    attempt!(push_decimal(text, number as u64));
-    attempt!(text.push_str(" refused "));
-    attempt!(push_u32(text, code.0));
-    text.push('\n')
+    push_filled(
+        text,
+        "; line % refused %\n",
+        &[Value::Number(number as u64), Value::Long(code.0)],
+    )
 }
 
 /// Sets the text to the line of the totals, as `; in 1, out 3, ticks 1000`. `Err`: out of memory;

@@ -35,7 +35,9 @@ fn collected(alloc: Global, pairs: HexPairs<'_>) -> Result<Vec<u8>, AllocError>
     let mut left = pairs;
     let mut bytes = Vec::new(alloc);
     while let Some(byte) = left.next() {
-        bytes.push(byte)?;
+        let Ok(()) = bytes.push(byte) else {
+            return Err(AllocError);
+        };
     }
     Ok(bytes)
 }
@@ -53,7 +55,10 @@ fn bytes_in(alloc: Global, word: &str) -> Result<Option<Vec<u8>>, AllocError>
     if pairs.len() > MOST_BYTES {
         return Ok(None);
     }
-    Ok(Some(attempt!(collected(alloc, pairs))))
+    let Ok(bytes) = collected(alloc, pairs) else {
+        return Err(AllocError);
+    };
+    Ok(Some(bytes))
 }
 
 /// A download that a client loops against a node.

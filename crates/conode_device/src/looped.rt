@@ -7,47 +7,34 @@ ghost use Rattle.co_node.specs.Nodes.{Stands};
 ghost use Rattle.co_node.specs.Served.{IsComplete, IsPermitted};
 ghost use Rattle.co_node_model.specs.Loop.{Loop, BothEnds, download_of, first_ends, last_ends, state_at};
 ghost use Rattle.conode_io.specs.Written.{WritesFront, WritesLines, WritesSome};
-ghost use Rattle.conode_device.specs.Printed.{last_line, loop_lines, requests_text};
+ghost use Rattle.conode_device.specs.Printed.{last_line, loop_lines};
 ghost use Rattle.conode_device.specs.Standing.{EndsStand, Looped, StandsAfterSome};
 
 use crate::rounds::all_rounds;
 use co_frame::{Frame, Ids, Outbox};
 use co_node::{Node, permitted_download_completes};
 use co_sdo_client::{Client, ClientState, Mode};
-use co_text::{push_decimal, push_u32};
 use co_value::Key;
 use conode_io::{CmdFault, hand_over};
+use conode_text::{Value, push_filled};
 use std::alloc::{AllocError, Global};
 use std::io::Write;
 
-// Appends how many frames the client sent. `Err`: out of memory; a part of it may be there.
-#[tactic(auto, unfolding(crate::specs::Printed::requests_text))]
-fn push_requests(text: &mut String, sent: u64) -> Result<(), AllocError>
-    ensures { OnOk result (string_bytes text.new ≡ string_bytes text.old ++ requests_text sent) }
-{
-    attempt!(push_decimal(text, sent));
-    text.push_str(" requests\n")
-}
-
 // Sets the text to the last line: the state of the client, and how many frames it sent. `Err`: out
 // of memory; the text then has a part of the line.
-#[tactic(auto, unfolding(crate::specs::Printed::last_line))]
+#[tactic(auto, unfolding(crate::specs::Printed::last_line, crate::specs::Printed::requests_text, conode_text::specs::Filled::filled))]
 fn set_last_line(text: &mut String, state: ClientState, sent: u64) -> Result<(), AllocError>
     ensures { OnOk result (string_bytes text.new ≡ last_line state sent) }
 {
     text.clear();
     match state {
         ClientState::Waiting => text.push_str("; gave up\n"),
-        ClientState::Done => {
-            attempt!(text.push_str("; done, "));
-            push_requests(text, sent)
-        }
-        ClientState::Failed(code) => {
-            attempt!(text.push_str("; failed "));
-            attempt!(push_u32(text, code.0));
-            attempt!(text.push_str(", "));
-            push_requests(text, sent)
-        }
+        ClientState::Done => push_filled(text, "; done, % requests\n", &[Value::Number(sent)]),
+        ClientState::Failed(code) => push_filled(
+            text,
+            "; failed %, % requests\n",
+            &[Value::Long(code.0), Value::Number(sent)],
+        ),
     }
 }
 

@@ -46,13 +46,27 @@ use crate::tasks::{
 use clap::ArgMatches;
 use std::alloc::{AllocError, Global};
 
+// the task with the words of a command, if they are whole
+macro_rules! in_task {
+    ($words:expr, $command:ident) => {
+        match $words {
+            Some(words) => Some(Task::$command(words)),
+            None => None,
+        }
+    };
+}
+
 // the dictionary that the words ask for
 #[tactic(auto, unfolding(crate::specs::Tasks::asked_dictionary))]
 fn dictionary_words(found: &ArgMatches<'_>) -> Option<DictionaryWords>
     ensures { result ≡ asked_dictionary (rows_of (found_of found.now)) }
 {
-    let strings = given!(number_u16(found, "strings"));
-    let domains = given!(number_u16(found, "domains"));
+    let Some(strings) = number_u16(found, "strings") else {
+        return None;
+    };
+    let Some(domains) = number_u16(found, "domains") else {
+        return None;
+    };
     Some(DictionaryWords {
         node: number_u8(found, "node"),
         strings,
@@ -65,8 +79,12 @@ fn dictionary_words(found: &ArgMatches<'_>) -> Option<DictionaryWords>
 fn device_words(found: &ArgMatches<'_>) -> Option<DeviceWords>
     ensures { result ≡ asked_device (rows_of (found_of found.now)) }
 {
-    let dictionary = given!(dictionary_words(found));
-    let time = given!(number_u16(found, "time"));
+    let Some(dictionary) = dictionary_words(found) else {
+        return None;
+    };
+    let Some(time) = number_u16(found, "time") else {
+        return None;
+    };
     Some(DeviceWords { dictionary, time })
 }
 
@@ -75,8 +93,12 @@ fn device_words(found: &ArgMatches<'_>) -> Option<DeviceWords>
 fn asked_check<'a>(found: &ArgMatches<'a>) -> Option<CheckWords<'a>>
     ensures { option_map check_by result ≡ asked_check (rows_of (found_of found.now)) }
 {
-    let sheet = given!(word_for(found, "SHEET"));
-    let dictionary = given!(dictionary_words(found));
+    let Some(sheet) = word_for(found, "SHEET") else {
+        return None;
+    };
+    let Some(dictionary) = dictionary_words(found) else {
+        return None;
+    };
     Some(CheckWords { sheet, dictionary })
 }
 
@@ -97,8 +119,12 @@ fn asked_lint<'a>(alloc: Global, found: &ArgMatches<'a>) -> Result<Option<Task<'
     };
     let strict = is_used(found, "strict");
     let all = is_used(found, "all");
-    let sheets = words_for(alloc, found, "SHEET")?;
-    let allowed = words_for(alloc, found, "allow")?;
+    let Ok(sheets) = words_for(alloc, found, "SHEET") else {
+        return Err(AllocError);
+    };
+    let Ok(allowed) = words_for(alloc, found, "allow") else {
+        return Err(AllocError);
+    };
     Ok(Some(Task::Lint(LintWords {
         sheets,
         allowed,
@@ -115,7 +141,9 @@ fn asked_lint<'a>(alloc: Global, found: &ArgMatches<'a>) -> Result<Option<Task<'
 fn asked_decode<'a>(found: &ArgMatches<'a>) -> Option<DecodeWords<'a>>
     ensures { option_map decode_by result ≡ asked_decode (rows_of (found_of found.now)) }
 {
-    let trace = given!(word_for(found, "TRACE"));
+    let Some(trace) = word_for(found, "TRACE") else {
+        return None;
+    };
     Some(DecodeWords {
         trace,
         sheet: word_for(found, "sheet"),
@@ -128,9 +156,15 @@ fn asked_decode<'a>(found: &ArgMatches<'a>) -> Option<DecodeWords<'a>>
 fn asked_replay<'a>(found: &ArgMatches<'a>) -> Option<ReplayWords<'a>>
     ensures { option_map replay_by result ≡ asked_replay (rows_of (found_of found.now)) }
 {
-    let sheet = given!(word_for(found, "SHEET"));
-    let trace = given!(word_for(found, "TRACE"));
-    let device = given!(device_words(found));
+    let Some(sheet) = word_for(found, "SHEET") else {
+        return None;
+    };
+    let Some(trace) = word_for(found, "TRACE") else {
+        return None;
+    };
+    let Some(device) = device_words(found) else {
+        return None;
+    };
     Some(ReplayWords {
         sheet,
         trace,
@@ -143,11 +177,21 @@ fn asked_replay<'a>(found: &ArgMatches<'a>) -> Option<ReplayWords<'a>>
 fn asked_loop<'a>(found: &ArgMatches<'a>) -> Option<LoopWords<'a>>
     ensures { option_map loop_by result ≡ asked_loop (rows_of (found_of found.now)) }
 {
-    let sheet = given!(word_for(found, "SHEET"));
-    let key = given!(word_for(found, "KEY"));
-    let bytes = given!(word_for(found, "HEX"));
-    let mode = given!(mode_for(found));
-    let device = given!(device_words(found));
+    let Some(sheet) = word_for(found, "SHEET") else {
+        return None;
+    };
+    let Some(key) = word_for(found, "KEY") else {
+        return None;
+    };
+    let Some(bytes) = word_for(found, "HEX") else {
+        return None;
+    };
+    let Some(mode) = mode_for(found) else {
+        return None;
+    };
+    let Some(device) = device_words(found) else {
+        return None;
+    };
     Some(LoopWords {
         sheet,
         key,
@@ -162,8 +206,12 @@ fn asked_loop<'a>(found: &ArgMatches<'a>) -> Option<LoopWords<'a>>
 fn asked_show<'a>(found: &ArgMatches<'a>) -> Option<ShowWords<'a>>
     ensures { option_map show_by result ≡ asked_show (rows_of (found_of found.now)) }
 {
-    let sheet = given!(word_for(found, "SHEET"));
-    let shown_as = given!(shown_for(found));
+    let Some(sheet) = word_for(found, "SHEET") else {
+        return None;
+    };
+    let Some(shown_as) = shown_for(found) else {
+        return None;
+    };
     Some(ShowWords {
         sheet,
         node: number_u8(found, "node"),
@@ -176,8 +224,12 @@ fn asked_show<'a>(found: &ArgMatches<'a>) -> Option<ShowWords<'a>>
 fn asked_adapt<'a>(found: &ArgMatches<'a>) -> Option<AdaptWords<'a>>
     ensures { option_map adapt_by result ≡ asked_adapt (rows_of (found_of found.now)) }
 {
-    let sheet = given!(word_for(found, "SHEET"));
-    let leading_zeros = given!(zeros_for(found));
+    let Some(sheet) = word_for(found, "SHEET") else {
+        return None;
+    };
+    let Some(leading_zeros) = zeros_for(found) else {
+        return None;
+    };
     Some(AdaptWords {
         sheet,
         leading_zeros,
@@ -220,7 +272,9 @@ fn asked_explain<'a>(alloc: Global, found: &ArgMatches<'a>) -> Result<Option<Tas
     let Some(form) = log_form_for(found) else {
         return Ok(None);
     };
-    let sheets = words_for(alloc, found, "sheet")?;
+    let Ok(sheets) = words_for(alloc, found, "sheet") else {
+        return Err(AllocError);
+    };
     Ok(Some(Task::Explain(ExplainWords {
         trace,
         sheets,
@@ -241,8 +295,12 @@ fn asked_explain<'a>(alloc: Global, found: &ArgMatches<'a>) -> Result<Option<Tas
 fn asked_convert<'a>(found: &ArgMatches<'a>) -> Option<ConvertWords<'a>>
     ensures { option_map convert_by result ≡ asked_convert (rows_of (found_of found.now)) }
 {
-    let log = given!(word_for(found, "LOG"));
-    let form = given!(log_form_for(found));
+    let Some(log) = word_for(found, "LOG") else {
+        return None;
+    };
+    let Some(form) = log_form_for(found) else {
+        return None;
+    };
     Some(ConvertWords { log, form })
 }
 
@@ -262,7 +320,9 @@ fn asked_stats<'a>(alloc: Global, found: &ArgMatches<'a>) -> Result<Option<Task<
         return Ok(None);
     };
     let bit_rate = word_for(found, "bitrate");
-    let sheets = words_for(alloc, found, "sheet")?;
+    let Ok(sheets) = words_for(alloc, found, "sheet") else {
+        return Err(AllocError);
+    };
     Ok(Some(Task::Stats(StatsWords {
         trace,
         sheets,
@@ -277,10 +337,18 @@ fn asked_stats<'a>(alloc: Global, found: &ArgMatches<'a>) -> Result<Option<Task<
 fn timing_words(found: &ArgMatches<'_>) -> Option<TimingWords>
     ensures { result ≡ asked_timing (rows_of (found_of found.now)) }
 {
-    let tolerance = given!(number_u32(found, "tolerance"));
-    let drift = given!(number_u8(found, "drift"));
-    let answer = given!(number_u32(found, "answer"));
-    let boot = given!(number_u32(found, "boot"));
+    let Some(tolerance) = number_u32(found, "tolerance") else {
+        return None;
+    };
+    let Some(drift) = number_u8(found, "drift") else {
+        return None;
+    };
+    let Some(answer) = number_u32(found, "answer") else {
+        return None;
+    };
+    let Some(boot) = number_u32(found, "boot") else {
+        return None;
+    };
     Some(TimingWords {
         tolerance,
         drift,
@@ -306,11 +374,21 @@ fn room_words(found: &ArgMatches<'_>) -> RoomWords
 fn asked_compare<'a>(found: &ArgMatches<'a>) -> Option<CompareWords<'a>>
     ensures { option_map compare_by result ≡ asked_compare (rows_of (found_of found.now)) }
 {
-    let sheet = given!(word_for(found, "SHEET"));
-    let trace = given!(word_for(found, "TRACE"));
-    let form = given!(log_form_for(found));
-    let report_as = given!(report_as_for(found));
-    let timing = given!(timing_words(found));
+    let Some(sheet) = word_for(found, "SHEET") else {
+        return None;
+    };
+    let Some(trace) = word_for(found, "TRACE") else {
+        return None;
+    };
+    let Some(form) = log_form_for(found) else {
+        return None;
+    };
+    let Some(report_as) = report_as_for(found) else {
+        return None;
+    };
+    let Some(timing) = timing_words(found) else {
+        return None;
+    };
     Some(CompareWords {
         sheet,
         trace,
@@ -332,28 +410,28 @@ fn asked_other<'a>(name: &str, found: &ArgMatches<'a>) -> Option<Task<'a>>
     ensures { option_map asked_by result ≡ asked_other name.now (rows_of (found_of found.now)) }
 {
     if is(name, "check") {
-        return Some(Task::Check(given!(asked_check(found))));
+        return in_task!(asked_check(found), Check);
     }
     if is(name, "decode") {
-        return Some(Task::Decode(given!(asked_decode(found))));
+        return in_task!(asked_decode(found), Decode);
     }
     if is(name, "replay") {
-        return Some(Task::Replay(given!(asked_replay(found))));
+        return in_task!(asked_replay(found), Replay);
     }
     if is(name, "loop") {
-        return Some(Task::LoopBack(given!(asked_loop(found))));
+        return in_task!(asked_loop(found), LoopBack);
     }
     if is(name, "show") {
-        return Some(Task::Show(given!(asked_show(found))));
+        return in_task!(asked_show(found), Show);
     }
     if is(name, "adapt") {
-        return Some(Task::Adapt(given!(asked_adapt(found))));
+        return in_task!(asked_adapt(found), Adapt);
     }
     if is(name, "convert") {
-        return Some(Task::Convert(given!(asked_convert(found))));
+        return in_task!(asked_convert(found), Convert);
     }
     if is(name, "compare") {
-        return Some(Task::Compare(given!(asked_compare(found))));
+        return in_task!(asked_compare(found), Compare);
     }
     None
 }

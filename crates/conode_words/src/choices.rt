@@ -40,7 +40,10 @@ fn choice_for<T: Copy>(found: &ArgMatches<'_>, name: &str, choices: &[(&str, T)]
     ensures { result ≡ option_and_then (choice_named (map (λ c. (c.0.now, c.1)) choices.now))
         (first_of name.now (rows_of (found_of found.now))) }
 {
-    choice_named(given!(word_for(found, name)), choices)
+    let Some(word) = word_for(found, name) else {
+        return None;
+    };
+    choice_named(word, choices)
 }
 
 /// The format of `lint`.
@@ -124,10 +127,13 @@ fn zeros_of(word: &str) -> Option<LeadingZeros>
 pub(crate) fn zeros_for(found: &ArgMatches<'_>) -> Option<Option<LeadingZeros>>
     ensures { result ≡ zeros_for (rows_of (found_of found.now)) }
 {
-    match word_for(found, "leading-zeros") {
-        Some(word) => Some(Some(given!(zeros_of(word)))),
-        None => Some(None),
-    }
+    let Some(word) = word_for(found, "leading-zeros") else {
+        return Some(None);
+    };
+    let Some(zeros) = zeros_of(word) else {
+        return None;
+    };
+    Some(Some(zeros))
 }
 
 /// The form of stamps.

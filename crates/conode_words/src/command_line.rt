@@ -101,24 +101,30 @@ fn other_of(name: &str, found: &ArgMatches<'_>) -> Option<&'static str>
     ensures { is_some result ≡ is_other name.now (rows_of (found_of found.now)) }
 {
     if is(name, "loop") {
-        said_if(mode_for(found).is_none(), help::MODES)
-    } else if is(name, "lint") {
-        other_lint(found)
-    } else if is(name, "show") {
-        said_if(shown_for(found).is_none(), help::SHOWN_FORMS)
-    } else if is(name, "adapt") {
-        said_if(zeros_for(found).is_none(), help::LEADING_ZEROS)
-    } else if is(name, "explain") {
-        other_explain(found)
-    } else if is(name, "stats") {
-        other_stats(found)
-    } else if is(name, "convert") {
-        said_if(log_form_for(found).is_none(), help::LOG_FORMS)
-    } else if is(name, "compare") {
-        other_compare(found)
-    } else {
-        None
+        return said_if(mode_for(found).is_none(), help::MODES);
     }
+    if is(name, "lint") {
+        return other_lint(found);
+    }
+    if is(name, "show") {
+        return said_if(shown_for(found).is_none(), help::SHOWN_FORMS);
+    }
+    if is(name, "adapt") {
+        return said_if(zeros_for(found).is_none(), help::LEADING_ZEROS);
+    }
+    if is(name, "explain") {
+        return other_explain(found);
+    }
+    if is(name, "stats") {
+        return other_stats(found);
+    }
+    if is(name, "convert") {
+        return said_if(log_form_for(found).is_none(), help::LOG_FORMS);
+    }
+    if is(name, "compare") {
+        return other_compare(found);
+    }
+    None
 }
 
 // the same for the words of the subcommand that is used
@@ -126,10 +132,10 @@ fn other_of(name: &str, found: &ArgMatches<'_>) -> Option<&'static str>
 fn other_word(matches: &ArgMatches<'_>) -> Option<&'static str>
     ensures { is_some result ≡ has_other_word (subcommand_rows_of matches.now) }
 {
-    match matches.subcommand() {
-        Some((name, found)) => other_of(name, found),
-        None => None,
-    }
+    let Some((name, found)) = matches.subcommand() else {
+        return None;
+    };
+    other_of(name, found)
 }
 
 #[tactic(auto, unfolding(crate::specs::Tasks::asked_of))]
@@ -137,10 +143,10 @@ fn asked_of<'a>(alloc: Global, matches: &ArgMatches<'a>) -> Result<Option<Task<'
     ensures { IfOk result (λ task.
         option_map asked_by task ≡ asked_of (subcommand_rows_of matches.now)) }
 {
-    match matches.subcommand() {
-        Some((name, found)) => asked_in(alloc, name, found),
-        None => Ok(None),
-    }
+    let Some((name, found)) = matches.subcommand() else {
+        return Ok(None);
+    };
+    asked_in(alloc, name, found)
 }
 
 // the error about a word of the subcommand that is used, with its usage
@@ -174,15 +180,15 @@ fn task_of<'a>(
     ensures fault { FailsBy (word_fault (subcommand_rows_of matches.now)) result }
 {
     if let Some(text) = other_word(matches) {
-        return match word_error(alloc, rows, matches, text) {
-            Ok(error) => Err(error),
-            Err(memory) => Err(Error::from(memory)),
+        let Ok(error) = word_error(alloc, rows, matches, text) else {
+            return Err(Error::from(AllocError));
         };
+        return Err(error);
     }
-    match asked_of(alloc, matches) {
-        Ok(task) => Ok(task),
-        Err(memory) => Err(Error::from(memory)),
-    }
+    let Ok(task) = asked_of(alloc, matches) else {
+        return Err(Error::from(AllocError));
+    };
+    Ok(task)
 }
 
 // what the words ask for, by the program's command
@@ -216,12 +222,10 @@ pub fn task<'a>(alloc: Global, words: &'a [&'a str]) -> Result<Option<Task<'a>>,
     ensures fault { FailsBy (task_fault (map (λ word. word.now) words.entry.now)) result }
 {
     let rows = &COMMANDS;
-    match conode_command(alloc, rows) {
-        Ok(mut command) => {
-            let task = task_by(alloc, rows, &mut command, words);
-            drop(command);
-            task
-        }
-        Err(memory) => Err(Error::from(memory)),
-    }
+    let Ok(mut command) = conode_command(alloc, rows) else {
+        return Err(Error::from(AllocError));
+    };
+    let task = task_by(alloc, rows, &mut command, words);
+    drop(command);
+    task
 }

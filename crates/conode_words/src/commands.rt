@@ -462,10 +462,10 @@ pub(crate) fn subcommand_alone<'a>(
 ) -> Result<Command<'a>, AllocError> {
     for row in rows {
         if is(row.texts.name, name) {
-            return match command_of(alloc, row) {
-                Ok(command) => command.bin_name(row.texts.usage),
-                Err(error) => Err(error),
+            let Ok(command) = command_of(alloc, row) else {
+                return Err(AllocError);
             };
+            return command.bin_name(row.texts.usage);
         }
     }
     Ok(only_conode(alloc))

@@ -35,9 +35,12 @@ pub(crate) fn words_for<'a>(
         ≡ words_for name.now (rows_of (found_of found.now))) }
 {
     let mut words = Vec::new(alloc);
-    if let Some(given) = found.get_strs(name) {
-        words.extend_from_slice(given)?;
-    }
+    let Some(given) = found.get_strs(name) else {
+        return Ok(words);
+    };
+    let Ok(()) = words.extend_from_slice(given) else {
+        return Err(AllocError);
+    };
     Ok(words)
 }
 
@@ -57,7 +60,10 @@ pub(crate) fn is_used(found: &ArgMatches<'_>, name: &str) -> bool
 pub(crate) fn number_u8(found: &ArgMatches<'_>, name: &str) -> Option<u8>
     ensures { result ≡ number_for 8 name.now (rows_of (found_of found.now)) }
 {
-    given!(word_for(found, name)).parse().ok()
+    let Some(word) = word_for(found, name) else {
+        return None;
+    };
+    word.parse().ok()
 }
 
 /// The number of an option, if it is there and fits 16 bits.
@@ -65,7 +71,10 @@ pub(crate) fn number_u8(found: &ArgMatches<'_>, name: &str) -> Option<u8>
 pub(crate) fn number_u16(found: &ArgMatches<'_>, name: &str) -> Option<u16>
     ensures { result ≡ number_for 16 name.now (rows_of (found_of found.now)) }
 {
-    given!(word_for(found, name)).parse().ok()
+    let Some(word) = word_for(found, name) else {
+        return None;
+    };
+    word.parse().ok()
 }
 
 /// The number of an option, if it is there and fits 32 bits.
@@ -73,5 +82,8 @@ pub(crate) fn number_u16(found: &ArgMatches<'_>, name: &str) -> Option<u16>
 pub(crate) fn number_u32(found: &ArgMatches<'_>, name: &str) -> Option<u32>
     ensures { result ≡ number_for 32 name.now (rows_of (found_of found.now)) }
 {
-    given!(word_for(found, name)).parse().ok()
+    let Some(word) = word_for(found, name) else {
+        return None;
+    };
+    word.parse().ok()
 }

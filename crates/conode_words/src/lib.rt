@@ -1,16 +1,6 @@
 //! What the words of the command line ask for, and the text of help.
 #![tactic(auto)]
 
-// As `?` of an `Option`: a `match` is one step of a proof where `?` is three.
-macro_rules! given {
-    ($option:expr) => {
-        match $option {
-            Some(value) => value,
-            None => return None,
-        }
-    };
-}
-
 mod asked;
 mod choices;
 mod command_line;

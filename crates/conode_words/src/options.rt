@@ -133,18 +133,17 @@ fn arg_of<'a>(alloc: Global, word: &Word) -> Arg<'a>
 // the command with the words and options of a table
 fn with_words<'a>(
     alloc: Global,
-    command: Command<'a>,
+    mut command: Command<'a>,
     words: &[Word],
 ) -> Result<Command<'a>, AllocError>
     ensures { IfOk result (λ r. (app : App) → IsCommand command.entry app
         → IsCommand r (with_words app words.now)) }
 {
-    let mut command = command;
     for word in words {
-        command = match command.arg(arg_of(alloc, word)) {
-            Ok(command) => command,
-            Err(error) => return Err(error),
+        let Ok(next) = command.arg(arg_of(alloc, word)) else {
+            return Err(AllocError);
         };
+        command = next;
     }
     Ok(command)
 }
@@ -161,25 +160,21 @@ pub(crate) fn command_of<'a>(alloc: Global, row: &Subcommand) -> Result<Command<
 /// The command with the subcommands of a table. `Err`: out of memory.
 pub(crate) fn with_commands<'a>(
     alloc: Global,
-    command: Command<'a>,
+    mut command: Command<'a>,
     rows: &[Subcommand],
 ) -> Result<Command<'a>, AllocError>
     ensures { IfOk result (λ r. (app : App) → IsCommand command.entry app
         → IsCommand r (with_commands app rows.now)) }
 {
-    let mut command = command;
     for row in rows {
-        let below = match command_of(alloc, row) {
-            Ok(below) => below,
-            Err(error) => {
-                drop(command);
-                return Err(error);
-            }
+        let Ok(below) = command_of(alloc, row) else {
+            drop(command);
+            return Err(AllocError);
         };
-        command = match command.subcommand(below) {
-            Ok(command) => command,
-            Err(error) => return Err(error),
+        let Ok(next) = command.subcommand(below) else {
+            return Err(AllocError);
         };
+        command = next;
     }
     Ok(command)
 }

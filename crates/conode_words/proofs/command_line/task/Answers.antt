@@ -6,8 +6,8 @@ use Rattle.conode_words.specs.Tables.{rule_of_kind}
 use Rattle.conode_words.proofs.FieldLemmas.{task_fields}
 use Rattle.conode_words.proofs.command_line.task.Goals as goal
 
-pub returns-in-Ok-clause-fields : goal.returns-in-Ok-clause-fields
-returns-in-Ok-clause-fields c =
+pub returns-clause-fields : goal.returns-clause-fields
+returns-clause-fields c =
     IfOk-weaker c.task_by-task.result _ _ (λ task h. task_fields (subcommand_of conode_command (map (λ word. word.now) c.args.words.now)) task h) c.task_by-task.ensures.ok
 
 pub task_by-task-requires : goal.task_by-task-requires

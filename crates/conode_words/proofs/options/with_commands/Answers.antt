@@ -10,7 +10,7 @@ use Rattle.conode_words.proofs.options.with_commands.Goals as goal
 pub loop-row-preserved : goal.loop-row-preserved
 loop-row-preserved c = λ app is.
     let step = with_command _ _ _ _ _ c.in-Ok-subcommand.ensures (c.loop-row.invariant app is) c.in-Ok.ensures in
-    subst (IsCommand c.in-Ok-subcommand.command) (sym (fold_more (λ a row. with_subcommand a (app_by row).top) app c.args.rows.now c.loop-row.row-index _ c.loop-row-test.true)) step
+    subst (IsCommand c.in-Ok-subcommand.next) (sym (fold_more (λ a row. with_subcommand a (app_by row).top) app c.args.rows.now c.loop-row.row-index _ c.loop-row-test.true)) step
 
 pub returns : goal.returns
 returns c = λ app is.

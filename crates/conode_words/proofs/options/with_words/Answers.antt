@@ -10,7 +10,7 @@ use Rattle.conode_words.proofs.options.with_words.Goals as goal
 pub loop-word-preserved : goal.loop-word-preserved
 loop-word-preserved c = λ app is.
     let step = with_arg _ _ _ _ _ c.in-Ok.ensures (c.loop-word.invariant app is) c.arg_of.ensures.rule c.arg_of.ensures.local in
-    subst (IsCommand c.in-Ok.command) (sym (fold_more (λ a word. with_rule a (rule_by word)) app c.args.words.now c.loop-word.word-index _ c.loop-word-test.true)) step
+    subst (IsCommand c.in-Ok.next) (sym (fold_more (λ a word. with_rule a (rule_by word)) app c.args.words.now c.loop-word.word-index _ c.loop-word-test.true)) step
 
 pub returns : goal.returns
 returns c = λ app is.
