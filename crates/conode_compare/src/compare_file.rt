@@ -118,7 +118,8 @@ fn say_number<E: Write>(words: &str, number: u64, err: &mut E) {
     let _ = writeln!(err, "{words} {number}");
 }
 
-// says on `err` how often the recording began anew after bad lines; and why the status is 2, if it is
+// says on `err` how often the recording began anew after bad lines; and why the status is 2, if it
+// is
 fn say_ends<E: Write>(node: u8, ends: &Ends, err: &mut E) {
     if ends.anew > 0 {
         say_number("begun anew after bad lines:", ends.anew, err);
