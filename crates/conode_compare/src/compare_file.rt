@@ -113,19 +113,21 @@ fn begun_anew(newest: Option<u64>, breaks: u64) -> u64
     }
 }
 
-// says on `err` how often the recording began anew after bad lines
-fn say_anew<E: Write>(anew: u64, err: &mut E) {
-    if anew > 0 {
-        let _ = writeln!(err, "begun anew after bad lines: {anew}");
-    }
+// says on `err` words and a number
+fn say_number<E: Write>(words: &str, number: u64, err: &mut E) {
+    let _ = writeln!(err, "{words} {number}");
 }
 
-// says on `err` why the status is 2, if it is
-fn say_why<E: Write>(node: u8, ends: &Ends, err: &mut E) {
+// says on `err` how often the recording began anew after bad lines; and why the status is 2, if it
+// is
+fn say_ends<E: Write>(node: u8, ends: &Ends, err: &mut E) {
+    if ends.anew > 0 {
+        say_number("begun anew after bad lines:", ends.anew, err);
+    }
     if ends.several {
         let _ = bad_word("several interfaces: name one with --interface", err);
     } else if no_frame(ends.tally) {
-        let _ = writeln!(err, "no frame of node {node}");
+        say_number("no frame of node", node as u64, err);
         ends.nodes.name(err);
     }
 }
@@ -196,8 +198,7 @@ fn compare_input<R: Read, O: Write, E: Write>(
     let outcome = compare_and_write(alloc, input, settings, wanted, form, out, err);
     match flushed(out, outcome) {
         Ok(ends) => {
-            say_anew(ends.anew, err);
-            say_why(settings.subject.node, &ends, err);
+            say_ends(settings.subject.node, &ends, err);
             ExitCode::from(verdict_status(ends.tally, ends.several))
         }
         Err(fault) => {
