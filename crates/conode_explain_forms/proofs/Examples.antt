@@ -5,6 +5,7 @@ use Rattle.std.specs.Fmt.{digits}
 use Rattle.std.specs.Str.{is_utf8, chars}
 use lib.Utf8.{encode}
 use Rattle.co_text.specs.Printed.{digits_text}
+use Rattle.conode_text.specs.Unseen.{code_text}
 use Rattle.co_value.specs.declared.data_type.DataType.{DataType}
 use Rattle.co_value.specs.declared.data_type.DataType.TheVariants.{Boolean, Integer8, Integer16, Unsigned8, Unsigned32, VisibleString}
 use Rattle.co_value.specs.declared.key.Key.{Key}
@@ -284,7 +285,7 @@ quoted_fields = refl
 
 -- a control character of two bytes, alone and beside a quote
 shown_fields : map csv_field ((0x61 ∷ 0xC2 ∷ 0x9B ∷ 0x62 ∷ []) ∷ (0x22 ∷ 0xC2 ∷ 0x9B ∷ []) ∷ []) ≡ codes "a\\x9Bb" ∷ codes "\"\"\"\\x9B\"" ∷ []
-unfolding quoted_byte digits_text
+unfolding quoted_byte code_text digits_text
 shown_fields = refl
 
 names_of_columns : header (sheet (Some 5) (codes "T, inside") ∷ sheet None (codes "T") ∷ []) (signal ∷ of_node 6 0x2001 1 ∷ [])

@@ -5,6 +5,7 @@ use Rattle.std.specs.Fmt.{digits}
 use lib.Utf8.{encode}
 use Rattle.co_text.specs.Printed.{digits_text}
 use Rattle.co_value.specs.declared.data_type.DataType.TheVariants.{Boolean, Integer8, Integer16, Integer24, Integer64, Unsigned8, Unsigned16, Unsigned24, Unsigned64, VisibleString, OctetString, Domain}
+use Rattle.conode_text.specs.Unseen.{code_text}
 use Rattle.conode_explain_text.specs.Dates.{date_in_year, date_of, day_of_year, year_of_cycle}
 use Rattle.conode_explain_text.specs.Stamps.{date_text, time_of_day_text}
 use Rattle.conode_explain_values.specs.declared.value_type.ValueType.TheVariants.{Plain, Real32, Real64, UnicodeString, TimeOfDay, TimeDifference}
@@ -126,18 +127,23 @@ unfolding value_text characters_text pair_text unit_text digits_text encode
 odd_bytes = refl
 
 -- both sides of each range that is escaped
-escaped : map is_escaped (0x1F ∷ 0x7F ∷ 0xA0 ∷ 0x2000 ∷ 0x200F ∷ 0x2028 ∷ 0x202F ∷ 0x2060 ∷ 0x206F ∷ 0xD800 ∷ 0xDFFF ∷ 0xFEFF ∷ [])
-    ≡ true ∷ true ∷ true ∷ true ∷ true ∷ true ∷ true ∷ true ∷ true ∷ true ∷ true ∷ true ∷ []
+escaped : map is_escaped (0x1F ∷ 0x7F ∷ 0xA0 ∷ 0xAD ∷ 0x61C ∷ 0x2000 ∷ 0xD800 ∷ 0xDFFF ∷ 0xFEFF ∷ [])
+    ≡ true ∷ true ∷ true ∷ true ∷ true ∷ true ∷ true ∷ true ∷ true ∷ []
 escaped = refl
 
-not_escaped : map is_escaped (0x20 ∷ 0x7E ∷ 0xA1 ∷ 0x1FFF ∷ 0x2010 ∷ 0x2027 ∷ 0x2030 ∷ 0x205F ∷ 0x2070 ∷ 0xD7FF ∷ 0xE000 ∷ 0xFEFE ∷ 0xFF00 ∷ [])
-    ≡ false ∷ false ∷ false ∷ false ∷ false ∷ false ∷ false ∷ false ∷ false ∷ false ∷ false ∷ false ∷ false ∷ []
+not_escaped : map is_escaped (0x20 ∷ 0x7E ∷ 0xA1 ∷ 0xAE ∷ 0x61B ∷ 0x1FFF ∷ 0xD7FF ∷ 0xE000 ∷ 0xFEFE ∷ [])
+    ≡ false ∷ false ∷ false ∷ false ∷ false ∷ false ∷ false ∷ false ∷ false ∷ []
 not_escaped = refl
 
 -- from right to left (U+202E)
 turned_around : value_text UnicodeString 32 (0x2E ∷ 0x20 ∷ 0x41 ∷ 0x00 ∷ []) ≡ codes "\"\\u202EA\""
 unfolding value_text characters_text pair_text unit_text digits_text encode
 turned_around = refl
+
+-- a tag (U+E0041) in two units
+tag : value_text UnicodeString 48 (0x40 ∷ 0xDB ∷ 0x41 ∷ 0xDC ∷ 0x41 ∷ 0x00 ∷ []) ≡ codes "\"\\U000E0041A\""
+unfolding value_text characters_text pair_text unit_text code_text digits_text encode
+tag = refl
 
 -- ---- times
 

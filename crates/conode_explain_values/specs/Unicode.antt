@@ -1,6 +1,7 @@
 -- The text of a UNICODE_STRING: UTF-16, the low byte of each unit first (CiA 301, 7.1.6).
 use Rattle.std.specs.Prelude.{ℕ, ◌+◌, ◌-◌, ◌*◌, ◌%◌, ◌==◌, nat_le, nat_lt, Bool, ◌&&◌, ◌||◌, if◌then◌else◌, List, [], ◌∷◌, ◌++◌, codes, encode_utf8, length, slice_index}
 use Rattle.co_text.specs.Printed.{byte_text, digits_text}
+use Rattle.conode_text.specs.Unseen.{code_text, is_unseen}
 
 -- a unit, of its two bytes
 abbrev pub unit_of : ℕ → ℕ → ℕ
@@ -16,26 +17,26 @@ is_second unit = nat_le 0xDC00 unit && nat_lt unit 0xE000
 abbrev pub is_within : ℕ → ℕ → ℕ → Bool
 is_within low high unit = nat_le low unit && nat_le unit high
 
--- blanks and marks that can't be seen, or that turn the text around: U+2000 to U+200F, U+2028 to U+202F,
--- U+2060 to U+206F, and U+FEFF
-abbrev pub is_invisible : ℕ → Bool
-is_invisible unit =
-    (is_within 0x2000 0x200F unit || is_within 0x2028 0x202F unit) || (is_within 0x2060 0x206F unit || (unit == 0xFEFF))
-
--- these, a control character, a no-break space (U+00A0), the quote and the backslash; a unit of a pair alone
--- is no character
+-- a control character, a no-break space (U+00A0), the quote and the backslash, and what can't be seen or turns
+-- the text around; a unit of a pair alone is no character
 abbrev pub is_escaped : ℕ → Bool
 is_escaped unit =
     (nat_lt unit 0x20 || is_within 0x7F 0xA0 unit)
-    || ((unit == 0x22 || unit == 0x5C) || (is_invisible unit || is_within 0xD800 0xDFFF unit))
+    || ((unit == 0x22 || unit == 0x5C) || (is_unseen unit || is_within 0xD800 0xDFFF unit))
 
 -- a unit alone
 unfoldable pub unit_text : ℕ → List ℕ
 unit_text unit = if is_escaped unit then codes "\\u" ++ digits_text 16 4 unit else encode_utf8 unit
 
+-- the number of the character that two units are
+abbrev pub code_of_pair : ℕ → ℕ → ℕ
+code_of_pair first second = 0x10000 + 0x400 * (first - 0xD800) + (second - 0xDC00)
+
 -- two units that are one character
 unfoldable pub pair_text : ℕ → ℕ → List ℕ
-pair_text first second = encode_utf8 (0x10000 + 0x400 * (first - 0xD800) + (second - 0xDC00))
+pair_text first second =
+    if is_unseen (code_of_pair first second) then code_text (code_of_pair first second)
+    else encode_utf8 (code_of_pair first second)
 
 -- the characters; a byte that is left over is none of them
 unfoldable pub characters_text : List ℕ → List ℕ

@@ -5,9 +5,9 @@ ghost use Rattle.std.specs.Prelude.{◌≡◌, ◌++◌, ◌<◌, ◌≤◌, ◌
 ghost use Rattle.std.specs.Char.{InScalarRange};
 ghost use Rattle.conode_explain_values.specs.Unicode.{
   characters_text,
+  code_of_pair,
   is_escaped,
   is_first,
-  is_invisible,
   is_second,
   is_within,
   left_over,
@@ -17,7 +17,7 @@ ghost use Rattle.conode_explain_values.specs.Unicode.{
   unit_text,
 };
 
-use conode_text::{Value, push_filled};
+use conode_text::{Value, is_unseen, push_code, push_filled};
 use std::alloc::AllocError;
 
 fn unit_of(low: u8, high: u8) -> u16
@@ -38,20 +38,12 @@ fn is_within(low: u16, high: u16, unit: u16) -> bool
     low <= unit && unit <= high
 }
 
-// blanks and marks that can't be seen, or that turn the text around
-fn is_invisible(unit: u16) -> bool
-    ensures { result ≡ is_invisible unit }
-{
-    (is_within(0x2000, 0x200F, unit) || is_within(0x2028, 0x202F, unit))
-        || (is_within(0x2060, 0x206F, unit) || unit == 0xFEFF)
-}
-
 fn is_escaped(unit: u16) -> bool
     ensures { result ≡ is_escaped unit }
 {
     (unit < 0x20 || is_within(0x7F, 0xA0, unit))
         || ((unit == 0x22 || unit == 0x5C)
-            || (is_invisible(unit) || is_within(0xD800, 0xDFFF, unit)))
+            || (is_unseen(unit as u32) || is_within(0xD800, 0xDFFF, unit)))
 }
 
 fn scalar(code: u32) -> char
@@ -71,14 +63,24 @@ fn push_unit(text: &mut String, unit: u16) -> Result<(), AllocError>
     text.push(scalar(unit as u32))
 }
 
+fn code_of_pair(first: u16, second: u16) -> u32
+    requires { (is_first first && is_second second) ≡ true }
+    ensures { result ≡ code_of_pair first second }
+{
+    0x1_0000 + 0x400 * (first - 0xD800) as u32 + (second - 0xDC00) as u32
+}
+
 #[tactic(auto, unfolding(crate::specs::Unicode::pair_text))]
 fn push_pair(text: &mut String, first: u16, second: u16) -> Result<(), AllocError>
     requires { (is_first first && is_second second) ≡ true }
     ensures { OnOk result
         (string_bytes text.new ≡ string_bytes text.old ++ pair_text first second) }
 {
-    let high = 0x400 * (first - 0xD800) as u32;
-    text.push(scalar(0x1_0000 + high + (second - 0xDC00) as u32))
+    let code = code_of_pair(first, second);
+    if is_unseen(code) {
+        return push_code(text, code);
+    }
+    text.push(scalar(code))
 }
 
 // appends the first character, and gives the bytes after it
@@ -125,7 +127,7 @@ fn push_left_over(text: &mut String, bytes: &[u8]) -> Result<(), AllocError>
 }
 
 /// Appends a UNICODE_STRING in double quotes, its control characters as `\u0007`, blanks and marks
-/// that can't be seen, or that turn the text around, as `\u202E`, and the last byte
+/// that can't be seen, or that turn the text around, as `\u202E` and `\U000E0001`, and the last byte
 /// of an odd number of them as `\x41`.
 pub(crate) fn push_unicode(text: &mut String, bytes: &[u8]) -> Result<(), AllocError>
     ensures { OnOk result
