@@ -64,7 +64,7 @@ fn set_end_line(
             put_tone(room.alloc, &mut room.line, form.colours, tone)
         }
         LineFormat::Json => {
-            room.line = attempt_value!(end_json_line(
+            let Ok(line) = end_json_line(
                 room.alloc,
                 form.stamps,
                 times,
@@ -72,7 +72,10 @@ fn set_end_line(
                 room.said.as_bytes(),
                 node,
                 ended,
-            ));
+            ) else {
+                return Err(AllocError);
+            };
+            room.line = line;
             Ok(())
         }
     }

@@ -87,10 +87,11 @@ fn push_served_words(
     ensures { OnOk result (string_bytes said.new
         ≡ string_bytes said.old ++ served_words (names_view names.entry) drive last.now frame.now) }
 {
-    if attempt_value!(push_service(said, drive, *last, frame)) {
-        return Ok(());
+    match push_service(said, drive, *last, frame) {
+        Ok(true) => Ok(()),
+        Ok(false) => push_plain_words(said, names, last, frame),
+        Err(fault) => Err(fault),
     }
-    push_plain_words(said, names, last, frame)
 }
 
 // The sheet is asked last, since few frames are emergencies.

@@ -33,15 +33,6 @@ macro_rules! attempt_in_memory {
     };
 }
 
-macro_rules! attempt_value_in_memory {
-    ($result:expr) => {
-        match $result {
-            Ok(value) => value,
-            Err(_) => return Err(CmdFault::Memory),
-        }
-    };
-}
-
 mod abort_words;
 mod bad_words;
 mod ends;

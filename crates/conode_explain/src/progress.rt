@@ -195,7 +195,9 @@ fn tell(channels: &mut Channels, frame: &Record<'_>) -> Result<Option<Told>, All
         return Ok(None);
     };
     let name = frame.interface.bytes();
-    let told = attempt_value!(channels.take(name, frame.micros, &packed));
+    let Ok(told) = channels.take(name, frame.micros, &packed) else {
+        return Err(AllocError);
+    };
     Ok(or_boot_up(&packed, told))
 }
 

@@ -60,7 +60,9 @@ fn add_kind<'s, 't>(
 {
     for sheet in sheets {
         if sheet.is_kind(node, interface) {
-            let made = attempt_value!(sheet.known(alloc));
+            let Ok(made) = sheet.known(alloc) else {
+                return Err(AllocError);
+            };
             known.push(made)?;
         }
     }

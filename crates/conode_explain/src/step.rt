@@ -156,8 +156,10 @@ impl Explaining {
         if self.lines.has_line() {
             return Ok(());
         }
-        attempt_value!(flush(out));
-        Ok(())
+        match flush(out) {
+            Ok(_) => Ok(()),
+            Err(fault) => Err(fault),
+        }
     }
 
     // Takes the line that was found, and writes the line of its frame, if it has one. Returns what
@@ -179,20 +181,28 @@ impl Explaining {
             ≡ faults_in (line_at self.old.log self.old.lines.line)) }
         ensures held { self.new.lines ≡ self.old.lines }
     {
-        let room = &mut self.room;
-        let claims = &mut self.claims;
-        let progress = &mut self.progress;
-        let no_channel = &self.no_channel;
-        let line = self.lines.line();
         if let Form::Candump = self.log.form {
-            return explain_record(room, claims, progress, settings, no_channel, line, out);
+            return explain_record(
+                &mut self.room,
+                &mut self.claims,
+                &mut self.progress,
+                settings,
+                &self.no_channel,
+                self.lines.line(),
+                out,
+            );
         }
-        match take_any(&mut self.frame, &mut self.log, line) {
+        match take_any(&mut self.frame, &mut self.log, self.lines.line()) {
             Ok(Said::Nothing) => Ok(None),
-            Ok(Said::Line) => {
-                let line = self.frame.as_slice();
-                explain_record(room, claims, progress, settings, no_channel, line, out)
-            }
+            Ok(Said::Line) => explain_record(
+                &mut self.room,
+                &mut self.claims,
+                &mut self.progress,
+                settings,
+                &self.no_channel,
+                self.frame.as_slice(),
+                out,
+            ),
             Ok(Said::Bad(words)) => Ok(Some(words)),
             Err(_) => Err(CmdFault::Memory),
         }
@@ -229,16 +239,18 @@ impl Explaining {
                 name_bad_line(number, TOO_LONG, err);
                 Ok(Some(1))
             }
-            Ok(Found::Line) => {
-                let wrong = attempt_value!(self.explain_line(settings, out));
-                Ok(Some(name_wrong(number, wrong, err)))
-            }
-            Ok(Found::Last) => {
-                let wrong = attempt_value!(self.explain_line(settings, out));
-                name_wrong(number, wrong, err);
-                name_cut(self.log.form, number, self.lines.line(), err);
-                Ok(Some(0))
-            }
+            Ok(Found::Line) => match self.explain_line(settings, out) {
+                Ok(wrong) => Ok(Some(name_wrong(number, wrong, err))),
+                Err(fault) => Err(fault),
+            },
+            Ok(Found::Last) => match self.explain_line(settings, out) {
+                Ok(wrong) => {
+                    name_wrong(number, wrong, err);
+                    name_cut(self.log.form, number, self.lines.line(), err);
+                    Ok(Some(0))
+                }
+                Err(fault) => Err(fault),
+            },
             Err(fault) => Err(read_fault(fault)),
         }
     }

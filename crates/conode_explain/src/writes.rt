@@ -161,7 +161,7 @@ fn set_other_line(
             put_tone(room.alloc, &mut room.line, form.colours, tone)
         }
         LineFormat::Json => {
-            room.line = attempt_value!(json_line(
+            let Ok(line) = json_line(
                 room.alloc,
                 form.stamps,
                 seen,
@@ -169,7 +169,10 @@ fn set_other_line(
                 room.said.as_bytes(),
                 subject.kind,
                 subject.node,
-            ));
+            ) else {
+                return Err(AllocError);
+            };
+            room.line = line;
             Ok(())
         }
     }
@@ -259,8 +262,10 @@ fn write_news<W: Write>(
     let said = &mut room.said;
     attempt_in_memory!(set_words_at(said, bus, claims, whose, nodes, frame, told));
     let words = room.said.as_bytes();
-    if !attempt_value_in_memory!(is_news(lasts, form, whose, claims, frame, words)) {
-        return Ok(());
+    match is_news(lasts, form, whose, claims, frame, words) {
+        Ok(true) => {}
+        Ok(false) => return Ok(()),
+        Err(_) => return Err(CmdFault::Memory),
     }
     attempt_in_memory!(set_frame_line(room, form, seen, whose, claims, frame));
     hand_over(room.line.as_slice(), out)
@@ -283,19 +288,21 @@ fn write_signals<W: Write>(
         (signal_lines form.now seen.now (bus_view bus.entry) claims.now frame.now told.now)) }
 {
     let data = data_of(&frame.content);
-    if !attempt_value_in_memory!(set_signal_line(
+    let times = seen.times(frame.micros);
+    match set_signal_line(
         text,
         form.stamps,
-        seen.times(frame.micros),
+        times,
         bus,
         claims,
         data.as_slice(),
         told,
         form.signals,
-    )) {
-        return Ok(());
+    ) {
+        Ok(true) => hand_over(text.as_bytes(), out),
+        Ok(false) => Ok(()),
+        Err(_) => Err(CmdFault::Memory),
     }
-    hand_over(text.as_bytes(), out)
 }
 
 // Writes the line of a frame, or where signals are asked for, that of a table, if it is asked for.
@@ -345,7 +352,9 @@ pub(crate) fn write_header<W: Write>(
     if settings.form.signals.is_empty() {
         return Ok(());
     }
-    let line = attempt_value_in_memory!(header(alloc, settings.sheets, settings.form.signals));
+    let Ok(line) = header(alloc, settings.sheets, settings.form.signals) else {
+        return Err(CmdFault::Memory);
+    };
     hand_over(line.as_slice(), out)
 }
 
@@ -371,7 +380,9 @@ fn write_by<W: Write>(
         (sheets_of settings.now) progress.old place frame.now told.now) }
 {
     let bus = bus_of(settings, &progress.entries, frame);
-    let whose = attempt_value_in_memory!(set_whose(claims, bus, place, frame));
+    let Ok(whose) = set_whose(claims, bus, place, frame) else {
+        return Err(CmdFault::Memory);
+    };
     attempt!(write_first(
         room,
         &settings.form,

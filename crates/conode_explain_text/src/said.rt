@@ -30,8 +30,9 @@ use co_text::{byte_digits, word_digits};
 use conode_text::is_unseen;
 use std::alloc::AllocError;
 
-/// Of each byte whether it stays as it is, whatever follows: all but control characters, C2h, CDh, D8h,
-/// E1h to E3h, and EFh to FFh. Words are short, and a look-up takes less of each byte than comparisons.
+/// Of each byte whether it stays as it is, whatever follows: all but control characters, C2h, CDh,
+/// D8h, E1h to E3h, and EFh to FFh. Words are short, and a look-up takes less of each byte than
+/// comparisons.
 static PLAIN: [bool; 256] = [
     false, false, false, false, false, false, false, false, false, false, false, false, false,
     false, false, false, false, false, false, false, false, false, false, false, false, false,
@@ -64,7 +65,8 @@ fn is_within(low: u8, high: u8, byte: u8) -> bool
     low <= byte && byte <= high
 }
 
-// a control character above U+007F, a no-break space, and what can't be seen or turns the text around
+// a control character above U+007F, a no-break space, and what can't be seen or turns the text
+// around
 fn is_numbered(code: u32) -> bool
     ensures { result ≡ is_numbered code }
 {
