@@ -1,14 +1,17 @@
 -- What the code of an abort means, among all reasons.
-use Rattle.std.proofs.Common.{◌≡◌, ℕ, Bool, true, false, ◌⊎◌, inl, inr, List, [], ◌∷◌, Option, Some, None, eqb, refl, sym, ap, ◌∙◌}
+use Rattle.std.proofs.Common.{◌≡◌, ℕ, Bool, true, false, ◌⊎◌, inl, inr, List, [], ◌∷◌, Option, Some, None, ◌++◌, ◌-◌, append_assoc, drop, eqb, get_or, length, length-drop, take, refl, sym, ap, ◌∙◌}
 use Rattle.std.specs.Prelude.{find}
 use Rattle.std.specs.Option.{option_map_or}
+use Rattle.std.proofs.Math.Seq.{take-length}
 use Rattle.std.proofs.lemmas.Bool.{eqb-true}
 use Rattle.std.proofs.Common.{eq-eqb}
 use Rattle.co_text.proofs.Tests.{by_test}
 use Rattle.co_words.specs.declared.abort_reason.AbortReason.{AbortReason}
 use Rattle.co_words.specs.declared.abort_reason.AbortReason.TheVariants.{ToggleNotAlternated, TimedOut, UnknownCommand, InvalidBlockSize, InvalidSequenceNumber, CrcError, OutOfMemory, UnsupportedAccess, WriteOnly, ReadOnly, ObjectMissing, NotMappable, MappingTooLong, ParameterIncompatible, DeviceIncompatible, HardwareError, LengthMismatch, TooLong, TooShort, SubIndexMissing, InvalidValue, AboveHighLimit, BelowLowLimit, LimitsCrossed, NoConnection, GeneralError, NotStorable, NotStorableByControl, NotInThisState, NoDictionary, NoValue}
 use Rattle.co_words.specs.AbortReasons.{code_of, text_of}
-use Rattle.conode_explain.specs.AbortWords.{reasons, words_of}
+use Rattle.co_frame.specs.FrameContent.{FrameContent}
+use Rattle.co_value.specs.Numbers.{unsigned_of}
+use Rattle.conode_explain.specs.AbortWords.{abort_words, first_byte_words, in_brackets, is_abort, reasons, words_of}
 
 abbrev IsIn : AbortReason → List AbortReason → Type 0
 IsIn reason [] = ⊥
@@ -71,3 +74,16 @@ pub words_found : (code : ℕ) (result : List ℕ) → ((reason : AbortReason) �
     → result ≡ words_of code
 unfolding words_of
 words_found code result known unknown = by_found code result (find (λ reason. eqb (code_of reason) code) reasons) refl known unknown
+
+-- ---- what is said of an abort
+
+from_there : (bytes : List ℕ) → take (length bytes - 4) (drop 4 bytes) ≡ drop 4 bytes
+from_there bytes = rw (← length-drop 4 bytes) (take-length (drop 4 bytes))
+
+pub abort_said : (frame : FrameContent) (old between said bytes : List ℕ) (code : ℕ) → is_abort frame ≡ true → bytes ≡ frame.bytes
+    → code ≡ unsigned_of (take (length bytes - 4) (drop 4 bytes)) → said ≡ words_of code → between ≡ old ++ in_brackets said
+    → between ++ first_byte_words (get_or bytes 0 0) ≡ old ++ abort_words frame
+unfolding abort_words
+abort_said frame old between said bytes code abort same read meaning put =
+    rw (put, meaning, read, from_there bytes, same, abort)
+    (append_assoc old (in_brackets (words_of (unsigned_of (drop 4 frame.bytes)))) (first_byte_words (get_or frame.bytes 0 0)))
