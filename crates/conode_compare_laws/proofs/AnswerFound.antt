@@ -26,7 +26,7 @@ use Rattle.conode_compare_rules.specs.declared.limits.Limits.{Limits}
 use Rattle.conode_compare_rules.specs.declared.limits.Subject.{Subject}
 use Rattle.conode_compare_rules.specs.declared.nmt.Commanded.{Commanded}
 use Rattle.conode_compare_rules.specs.declared.nmt.Nmt.{Nmt}
-use Rattle.conode_compare_rules.specs.Answers.{answer_finding, answers_in, breach_finding, ended_finding, finding_of, held_finding, is_abort, is_exact, known_answer, late_after, late_answer, overdue_answer, refuses_other, shows_stopped, silence_finding, silence_of, stopped_finding, stopped_with, transfer_breach, value_finding, what_finding}
+use Rattle.conode_compare_rules.specs.Answers.{answer_finding, answers_in, breach_finding, could_answer_since, ended_finding, finding_of, held_finding, is_abort, is_exact, known_answer, late_after, late_answer, overdue_answer, refuses_other, shows_stopped, silence_finding, silence_of, stopped_finding, stopped_with, transfer_breach, value_finding, what_finding}
 use Rattle.conode_compare_rules.specs.EmergencyRules.{is_stopped}
 use Rattle.conode_compare_rules.specs.States.{is_settled, was_running}
 use Rattle.conode_compare_laws.specs.AnswerFindings.{of_answers}
@@ -69,13 +69,13 @@ held_none subject written x = no_held (held_mismatch subject.held.entries.items 
 -- ---- while an earlier request may be answered
 
 pub uncertain : (subject : Subject) (rows : List Row) (written : Written) (started micros : ℕ) (nmt : Nmt) (x : Exchange) (frame : FrameContent) → x.certain ≡ false
-    → of_answers (option_or (stopped_finding subject.limits started nmt x) (option_or (answer_finding subject rows micros x frame) (held_finding subject written x))) ≡ []
+    → of_answers (option_or (stopped_finding subject.limits started nmt x) (option_or (answer_finding subject rows micros nmt x frame) (held_finding subject written x))) ≡ []
 unfolding stopped_finding answer_finding
 uncertain subject rows written started micros nmt x frame off =
     only_or (if x.certain then stopped_with subject.limits started nmt x.asked else None) _
     (ap (λ b. of_answers (if b then stopped_with subject.limits started nmt x.asked else None)) off)
-    (only_or (if x.certain then option_or (overdue_answer subject.limits x micros) (known_answer subject rows x frame) else None) (held_finding subject written x)
-    (ap (λ b. of_answers (if b then option_or (overdue_answer subject.limits x micros) (known_answer subject rows x frame) else None)) off) (held_none subject written x))
+    (only_or (if x.certain then option_or (overdue_answer subject.limits nmt x micros) (known_answer subject rows x frame) else None) (held_finding subject written x)
+    (ap (λ b. of_answers (if b then option_or (overdue_answer subject.limits nmt x micros) (known_answer subject rows x frame) else None)) off) (held_none subject written x))
 
 -- ---- where no initiate request is right before the answer
 
@@ -91,21 +91,21 @@ none_of_what : (subject : Subject) (rows : List Row) (x : Exchange) (frame : Fra
 unfolding what_finding
 none_of_what subject rows x frame none h = unasked_what subject rows x frame x.heard.what none h
 
-unasked_late : (limits : Limits) (x : Exchange) (micros : ℕ) → x.asked ≡ None → of_answers (overdue_answer limits x micros) ≡ []
-unasked_late limits x micros none = by x.owed
+unasked_late : (limits : Limits) (nmt : Nmt) (x : Exchange) (micros : ℕ) → x.asked ≡ None → of_answers (overdue_answer limits nmt x micros) ≡ []
+unasked_late limits nmt x micros none = by (x.owed && could_answer_since limits nmt x.asked)
   where
     by : (owed : Bool) → of_answers (if owed then late_answer limits x.asked micros else None) ≡ []
     by true = rw none refl
     by false = refl
 
-unasked_answer : (subject : Subject) (rows : List Row) (micros : ℕ) (x : Exchange) (frame : FrameContent) → x.asked ≡ None → (is_abort frame ≡ true) ⊎ (is_turned x.heard.what ≡ true)
-    → of_answers (answer_finding subject rows micros x frame) ≡ []
+unasked_answer : (subject : Subject) (rows : List Row) (micros : ℕ) (nmt : Nmt) (x : Exchange) (frame : FrameContent) → x.asked ≡ None → (is_abort frame ≡ true) ⊎ (is_turned x.heard.what ≡ true)
+    → of_answers (answer_finding subject rows micros nmt x frame) ≡ []
 unfolding answer_finding
-unasked_answer subject rows micros x frame none h = by x.certain
+unasked_answer subject rows micros nmt x frame none h = by x.certain
   where
-    by : (certain : Bool) → of_answers (if certain then option_or (overdue_answer subject.limits x micros) (known_answer subject rows x frame) else None) ≡ []
+    by : (certain : Bool) → of_answers (if certain then option_or (overdue_answer subject.limits nmt x micros) (known_answer subject rows x frame) else None) ≡ []
     by true =
-        only_or (overdue_answer subject.limits x micros) (known_answer subject rows x frame) (unasked_late subject.limits x micros none)
+        only_or (overdue_answer subject.limits nmt x micros) (known_answer subject rows x frame) (unasked_late subject.limits nmt x micros none)
         (only_or (what_finding subject rows x frame) (breach_finding (transfer_breach subject.limits x)) (none_of_what subject rows x frame none h) (no_breach (transfer_breach subject.limits x)))
     by false = refl
 
@@ -118,10 +118,10 @@ unasked_stopped limits started nmt x none = by x.certain
     by false = refl
 
 pub unasked : (subject : Subject) (rows : List Row) (written : Written) (started micros : ℕ) (nmt : Nmt) (x : Exchange) (frame : FrameContent) → x.asked ≡ None → (is_abort frame ≡ true) ⊎ (is_turned x.heard.what ≡ true)
-    → of_answers (option_or (stopped_finding subject.limits started nmt x) (option_or (answer_finding subject rows micros x frame) (held_finding subject written x))) ≡ []
+    → of_answers (option_or (stopped_finding subject.limits started nmt x) (option_or (answer_finding subject rows micros nmt x frame) (held_finding subject written x))) ≡ []
 unasked subject rows written started micros nmt x frame none h =
     only_or (stopped_finding subject.limits started nmt x) _ (unasked_stopped subject.limits started nmt x none)
-    (only_or (answer_finding subject rows micros x frame) (held_finding subject written x) (unasked_answer subject rows micros x frame none h) (held_none subject written x))
+    (only_or (answer_finding subject rows micros nmt x frame) (held_finding subject written x) (unasked_answer subject rows micros nmt x frame none h) (held_none subject written x))
 
 -- ---- the answer to an initiate request, at once
 
@@ -136,8 +136,8 @@ at_once limits a micros e = by (is_timed a.key) (is_past a.micros limits.answer 
     by true false off = refl
     by false false off = refl
 
-asked_late : (limits : Limits) (x : Exchange) (a : Asked) (micros : ℕ) → x.asked ≡ Some a → a.micros ≡ micros → of_answers (overdue_answer limits x micros) ≡ []
-asked_late limits x a micros is e = by x.owed
+asked_late : (limits : Limits) (nmt : Nmt) (x : Exchange) (a : Asked) (micros : ℕ) → x.asked ≡ Some a → a.micros ≡ micros → of_answers (overdue_answer limits nmt x micros) ≡ []
+asked_late limits nmt x a micros is e = by (x.owed && could_answer_since limits nmt x.asked)
   where
     by : (owed : Bool) → of_answers (if owed then late_answer limits x.asked micros else None) ≡ []
     by true = ap (λ o. of_answers (late_answer limits o micros)) is ∙ ap of_answers (at_once limits a micros e)
@@ -155,23 +155,23 @@ asked_what : (subject : Subject) (rows : List Row) (x : Exchange) (frame : Frame
 unfolding what_finding
 asked_what subject rows x frame part = ap (λ w. of_answers (finding_of subject rows x frame w)) part ∙ no_end subject rows frame x.heard.ended
 
-asked_answer : (subject : Subject) (rows : List Row) (micros : ℕ) (x : Exchange) (frame : FrameContent) (a : Asked) → x.asked ≡ Some a → a.micros ≡ micros → x.heard.what ≡ what.Part
-    → of_answers (answer_finding subject rows micros x frame) ≡ []
+asked_answer : (subject : Subject) (rows : List Row) (micros : ℕ) (nmt : Nmt) (x : Exchange) (frame : FrameContent) (a : Asked) → x.asked ≡ Some a → a.micros ≡ micros → x.heard.what ≡ what.Part
+    → of_answers (answer_finding subject rows micros nmt x frame) ≡ []
 unfolding answer_finding
-asked_answer subject rows micros x frame a is e part = by x.certain
+asked_answer subject rows micros nmt x frame a is e part = by x.certain
   where
-    by : (certain : Bool) → of_answers (if certain then option_or (overdue_answer subject.limits x micros) (known_answer subject rows x frame) else None) ≡ []
+    by : (certain : Bool) → of_answers (if certain then option_or (overdue_answer subject.limits nmt x micros) (known_answer subject rows x frame) else None) ≡ []
     by true =
-        only_or (overdue_answer subject.limits x micros) (known_answer subject rows x frame) (asked_late subject.limits x a micros is e)
+        only_or (overdue_answer subject.limits nmt x micros) (known_answer subject rows x frame) (asked_late subject.limits nmt x a micros is e)
         (only_or (what_finding subject rows x frame) (breach_finding (transfer_breach subject.limits x)) (asked_what subject rows x frame part) (no_breach (transfer_breach subject.limits x)))
     by false = refl
 
 pub answered : (subject : Subject) (rows : List Row) (written : Written) (started micros : ℕ) (nmt : Nmt) (x : Exchange) (frame : FrameContent) (a : Asked) → x.asked ≡ Some a → a.micros ≡ micros
     → is_stopped nmt.state ≡ false → x.heard.what ≡ what.Part
-    → of_answers (option_or (stopped_finding subject.limits started nmt x) (option_or (answer_finding subject rows micros x frame) (held_finding subject written x))) ≡ []
+    → of_answers (option_or (stopped_finding subject.limits started nmt x) (option_or (answer_finding subject rows micros nmt x frame) (held_finding subject written x))) ≡ []
 answered subject rows written started micros nmt x frame a is e off part =
     only_or (stopped_finding subject.limits started nmt x) _ (asked_stopped subject.limits started nmt x a is off)
-    (only_or (answer_finding subject rows micros x frame) (held_finding subject written x) (asked_answer subject rows micros x frame a is e part) (held_none subject written x))
+    (only_or (answer_finding subject rows micros nmt x frame) (held_finding subject written x) (asked_answer subject rows micros nmt x frame a is e part) (held_none subject written x))
 
 -- ---- a heartbeat
 
@@ -256,22 +256,22 @@ abort_found : (subject : Subject) (rows : List Row) (x : Exchange) (frame : Fram
 unfolding what_finding
 abort_found subject rows x frame abort e = abort_finds subject rows x frame x.heard.what abort e
 
-none_owed : (limits : Limits) (x : Exchange) (micros : ℕ) → x.owed ≡ false → of_answers (overdue_answer limits x micros) ≡ []
-none_owed limits x micros off = ap (λ b. of_answers (if b then late_answer limits x.asked micros else None)) off
+none_owed : (limits : Limits) (nmt : Nmt) (x : Exchange) (micros : ℕ) → x.owed ≡ false → of_answers (overdue_answer limits nmt x micros) ≡ []
+none_owed limits nmt x micros off = ap (λ b. of_answers (if b && could_answer_since limits nmt x.asked then late_answer limits x.asked micros else None)) off
 
-abort_answer : (subject : Subject) (rows : List Row) (micros : ℕ) (x : Exchange) (frame : FrameContent) → x.owed ≡ false → is_abort frame ≡ true → IsEnding x.heard.what → of_answers (answer_finding subject rows micros x frame) ≡ []
+abort_answer : (subject : Subject) (rows : List Row) (micros : ℕ) (nmt : Nmt) (x : Exchange) (frame : FrameContent) → x.owed ≡ false → is_abort frame ≡ true → IsEnding x.heard.what → of_answers (answer_finding subject rows micros nmt x frame) ≡ []
 unfolding answer_finding
-abort_answer subject rows micros x frame off abort e = by x.certain
+abort_answer subject rows micros nmt x frame off abort e = by x.certain
   where
-    by : (certain : Bool) → of_answers (if certain then option_or (overdue_answer subject.limits x micros) (known_answer subject rows x frame) else None) ≡ []
+    by : (certain : Bool) → of_answers (if certain then option_or (overdue_answer subject.limits nmt x micros) (known_answer subject rows x frame) else None) ≡ []
     by true =
-        only_or (overdue_answer subject.limits x micros) (known_answer subject rows x frame) (none_owed subject.limits x micros off)
+        only_or (overdue_answer subject.limits nmt x micros) (known_answer subject rows x frame) (none_owed subject.limits nmt x micros off)
         (only_or (what_finding subject rows x frame) (breach_finding (transfer_breach subject.limits x)) (abort_found subject rows x frame abort e) (no_breach (transfer_breach subject.limits x)))
     by false = refl
 
 pub doubted_abort : (subject : Subject) (rows : List Row) (written : Written) (started micros : ℕ) (nmt : Nmt) (x : Exchange) (frame : FrameContent) (a : Asked) → x.asked ≡ Some a → x.owed ≡ false
     → is_stopped nmt.state ≡ false → is_abort frame ≡ true → IsEnding x.heard.what
-    → of_answers (option_or (stopped_finding subject.limits started nmt x) (option_or (answer_finding subject rows micros x frame) (held_finding subject written x))) ≡ []
+    → of_answers (option_or (stopped_finding subject.limits started nmt x) (option_or (answer_finding subject rows micros nmt x frame) (held_finding subject written x))) ≡ []
 doubted_abort subject rows written started micros nmt x frame a is owed off abort e =
     only_or (stopped_finding subject.limits started nmt x) _ (asked_stopped subject.limits started nmt x a is off)
-    (only_or (answer_finding subject rows micros x frame) (held_finding subject written x) (abort_answer subject rows micros x frame owed abort e) (held_none subject written x))
+    (only_or (answer_finding subject rows micros nmt x frame) (held_finding subject written x) (abort_answer subject rows micros nmt x frame owed abort e) (held_none subject written x))

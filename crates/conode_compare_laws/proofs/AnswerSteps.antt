@@ -417,7 +417,7 @@ abbrev pub answer_found : Subject → List Row → Progress → ℕ → FrameCon
 answer_found subject rows p micros frame =
     let x = exchange_in subject.limits.answer p.started p.dialogue micros Server frame in
     of_answers (option_or (stopped_finding subject.limits p.started (answer_nmt subject p micros) x)
-    (option_or (answer_finding subject rows micros x frame) (held_finding subject p.written x)))
+    (option_or (answer_finding subject rows micros (answer_nmt subject p micros) x frame) (held_finding subject p.written x)))
 
 server_none : (subject : Subject) (rows : List Row) (p : Progress) (micros : ℕ) (frame : FrameContent) → answer_found subject rows p micros frame ≡ []
     → answer_differences (Sdo Server frame) (findings_in subject rows p micros (Sdo Server frame)) ≡ []

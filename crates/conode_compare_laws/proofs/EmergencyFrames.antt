@@ -31,6 +31,7 @@ use Rattle.co_node_model.specs.Nmt.{is_reset_by}
 use Rattle.co_node_model.specs.Tpdos.{tpdo_frame}
 use Rattle.conode_explain_transfers.specs.declared.kinds.Side.TheVariants.{Client, Server}
 use Rattle.conode_compare_rules.specs.declared.entries.Entries.{Entries}
+use Rattle.conode_compare_rules.specs.declared.finding.Finding.{Finding}
 use Rattle.conode_compare_rules.specs.declared.finding.Finding.TheVariants.{EmergencyInhibit, EmergencyRegister, EmergencyStopped}
 use Rattle.conode_compare_rules.specs.declared.finding.NmtState.{NmtState}
 use Rattle.conode_compare_rules.specs.declared.finding.NmtState.TheVariants.{Unknown, Initialising, PreOperational, Operational, Stopped}
@@ -40,9 +41,9 @@ use Rattle.conode_compare_rules.specs.declared.limits.Limits.{Limits}
 use Rattle.conode_compare_rules.specs.declared.limits.Subject.{Subject}
 use Rattle.conode_compare_rules.specs.declared.progress.Progress.{Progress}
 use Rattle.conode_compare_rules.specs.declared.verdict.Findings.{Findings}
-use Rattle.conode_compare_rules.specs.EmergencyRules.{emergency_finding, fits_register, gap_finding, has_register, inhibit_finding, inhibit_with, is_in_force, is_stopped, least_gap, may_wait}
+use Rattle.conode_compare_rules.specs.EmergencyRules.{emergency_finding, fits_register, gap_finding, has_register, inhibit_finding, inhibit_with, is_in_force, is_inhibited, is_stopped, least_gap, may_wait}
 use Rattle.conode_compare_rules.specs.FrameKinds.{command_kind, command_to, control_kind, data_kind, emergency_kind, length_of, long_command_in}
-use Rattle.conode_compare_rules.specs.Progresses.{before_recording, begun, emergency_findings, findings_at, findings_in, progress_with, steady_when_free}
+use Rattle.conode_compare_rules.specs.Progresses.{before_recording, begun, emergency_findings, findings_at, findings_in, may_be_restarted, progress_with, steady_when_free}
 use Rattle.conode_compare_rules.specs.States.{is_initialising, judged_state}
 use Rattle.conode_compare_rules.specs.Verdicts.{found}
 use Rattle.conode_compare_laws.specs.Differences.{besides_inhibit, differences_from, differences_in, emergency_differences, state_differences}
@@ -150,11 +151,17 @@ finding_none limits entries state settled last micros code register up odd = by 
     by false true false true p q = inhibit_none limits entries last micros
     by false false false true p q = inhibit_none limits entries last micros
 
+restarted_none : (b : Bool) (f : Option Finding) → besides_inhibit f ≡ [] → besides_inhibit (if b then None else f) ≡ []
+restarted_none true f h = refl
+restarted_none false f h = h
+
 judged_none : (subject : Subject) (rows : List Row) (p : Progress) (micros code register : ℕ) → is_stopped p.nmt.state ≡ false → has_register code register ≡ true
     → emergency_differences (Emcy code register) (findings_in subject rows p micros (Emcy code register)) ≡ []
 unfolding emergency_findings found
 judged_none subject rows p micros code register up odd =
-    finding_none subject.limits p.entries (judged_state p.nmt) (steady_when_free subject p) p.emergency micros code register (freer_running p.nmt.state p.nmt.due up) odd
+    let f : Option Finding = emergency_finding subject.limits p.entries (judged_state p.nmt) (steady_when_free subject p) p.emergency micros code register in
+    restarted_none (is_inhibited f && may_be_restarted subject p micros) f
+    (finding_none subject.limits p.entries (judged_state p.nmt) (steady_when_free subject p) p.emergency micros code register (freer_running p.nmt.state p.nmt.due up) odd)
 
 -- its bytes are read as it is
 whole : (e : Emergency) → e.manufacturer ≡ no_manufacturer → e ≡ record { code = e.code; register = e.register; manufacturer = no_manufacturer }

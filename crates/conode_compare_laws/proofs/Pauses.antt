@@ -29,7 +29,7 @@ use Rattle.conode_compare_rules.specs.declared.kind.FrameKind.TheVariants.{Comma
 use Rattle.conode_compare_rules.specs.declared.limits.Limits.{Limits}
 use Rattle.conode_compare_rules.specs.declared.limits.Subject.{Subject}
 use Rattle.conode_compare_rules.specs.declared.progress.Progress.{Progress}
-use Rattle.conode_compare_rules.specs.EmergencyRules.{emergency_finding, fits_register, gap_finding, inhibit_finding, inhibit_with, is_in_force, is_stopped, least_gap, may_wait}
+use Rattle.conode_compare_rules.specs.EmergencyRules.{emergency_finding, fits_register, gap_finding, inhibit_finding, inhibit_with, is_in_force, is_inhibited, is_stopped, least_gap, may_wait}
 use Rattle.conode_compare_rules.specs.EntriesInForce.{asked_by, asked_to_write, done_word, overwritten, shown_inhibit, shown_period, with_inhibit, with_period}
 use Rattle.conode_compare_rules.specs.OtherClients.{is_channel}
 use Rattle.conode_compare_rules.specs.FrameKinds.{command_kind, command_to, control_kind, data_kind, emergency_kind, emergency_with, length_of, long_command_in}
@@ -58,6 +58,7 @@ use Rattle.conode_compare_rules.specs.Progresses.{
   is_of_client,
   findings_in,
   late_noted,
+  may_be_restarted,
   progress_with,
   steady_when_free,
   with_gap,
@@ -382,6 +383,10 @@ finding_none limits entries state settled last micros code register h =
     by false false false f h = refl
     by false false true f h = ap only_inhibit h
 
+restarted_none : (b : Bool) (f : Option Finding) → only_inhibit f ≡ [] → only_inhibit (if b then None else f) ≡ []
+restarted_none true f h = refl
+restarted_none false f h = h
+
 -- what compare has then: the device sent this one just now
 abbrev pub just_now : ℕ → Sending
 just_now inhibit = record { age = 0; inhibit = inhibit }
@@ -395,10 +400,14 @@ emergency_passes : (inhibit micros code register : ℕ) (sent : List Sending) (s
     → Passes inhibit micros (just_now inhibit ∷ sent) subject rows p (Emcy code register)
 unfolding emergency_findings found after_emergency
 emergency_passes inhibit micros code register sent subject rows p over h = record {
-  none = finding_none subject.limits p.entries (judged_state p.nmt) (steady_when_free subject p) p.emergency micros code register
-      (inhibit_none subject.limits p.entries p.emergency micros inhibit sent h.known h.since over);
+  none = restarted_none (is_inhibited frame && may_be_restarted subject p micros) frame
+      (finding_none subject.limits p.entries (judged_state p.nmt) (steady_when_free subject p) p.emergency micros code register
+      (inhibit_none subject.limits p.entries p.emergency micros inhibit sent h.known h.since over));
   calm = record { known = h.known; since = (let f : p.free ≤ micros = h.fresh in omega arith, refl); fresh = h.fresh };
 }
+  where
+    frame : Option Finding
+    frame = emergency_finding subject.limits p.entries (judged_state p.nmt) (steady_when_free subject p) p.emergency micros code register
 
 odd_passes : (inhibit micros length : ℕ) (sent : List Sending) (subject : Subject) (rows : List Row) (p : Progress) → Calm inhibit micros sent p → Passes inhibit micros (just_now inhibit ∷ sent) subject rows p (OddEmergency length)
 unfolding after_emergency

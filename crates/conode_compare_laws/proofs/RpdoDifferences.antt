@@ -183,7 +183,7 @@ answer_same subject rows micros frame p =
     let noted : Progress = answer_noted subject p micros in
     let exchange : Exchange = exchange_at subject noted micros Server frame in
     ap (with_frame (findings_in subject rows p micros (Sdo Server frame)))
-    (held_last_of_three (stopped_finding subject.limits noted.started (answer_nmt subject p micros) exchange) (answer_finding subject rows micros exchange frame)
+    (held_last_of_three (stopped_finding subject.limits noted.started (answer_nmt subject p micros) exchange) (answer_finding subject rows micros (answer_nmt subject p micros) exchange frame)
     (held_mismatch subject.held.entries.items nothing_written exchange.certain exchange.heard.ended)
     (held_mismatch subject.held.entries.items p.written exchange.certain exchange.heard.ended))
 

@@ -27,7 +27,7 @@ use Rattle.conode_compare_rules.specs.declared.limits.Limits.{Limits}
 use Rattle.conode_compare_rules.specs.declared.limits.Subject.{Subject}
 use Rattle.conode_compare_rules.specs.declared.nmt.Nmt.{Nmt}
 use Rattle.conode_compare_rules.specs.declared.progress.Progress.{Progress}
-use Rattle.conode_compare_rules.specs.Answers.{answer_finding, breach_finding, confirmed_finding, ended_finding, finding_of, held_finding, is_abort, known_answer, known_finding, late_answer, overdue_answer, stopped_finding, stopped_with, transfer_breach, what_finding}
+use Rattle.conode_compare_rules.specs.Answers.{answer_finding, breach_finding, confirmed_finding, could_answer_since, ended_finding, finding_of, held_finding, is_abort, known_answer, known_finding, late_answer, overdue_answer, stopped_finding, stopped_with, transfer_breach, what_finding}
 use Rattle.conode_compare_rules.specs.EmergencyRules.{is_stopped}
 use Rattle.conode_compare_rules.specs.Progresses.{answer_findings, answer_nmt, confirmed_findings, exchange_at, findings_in, late_noted, request_findings}
 use Rattle.conode_compare_rules.specs.States.{is_settled, is_steady, judged_state}
@@ -81,8 +81,8 @@ module _ (only : Option Finding → List Finding) (nothing : only None ≡ []) (
   late_none limits None micros = nothing
   late_none limits (Some a) micros = either (is_timed a.key && is_past a.micros limits.answer micros) (Some (NoAnswer a.key (micros - a.micros))) (others _ refl)
 
-  overdue_none : (limits : Limits) (x : Exchange) (micros : ℕ) → only (overdue_answer limits x micros) ≡ []
-  overdue_none limits x micros = either x.owed (late_answer limits x.asked micros) (late_none limits x.asked micros)
+  overdue_none : (limits : Limits) (nmt : Nmt) (x : Exchange) (micros : ℕ) → only (overdue_answer limits nmt x micros) ≡ []
+  overdue_none limits nmt x micros = either (x.owed && could_answer_since limits nmt x.asked) (late_answer limits x.asked micros) (late_none limits x.asked micros)
 
   asked_none : (f : Asked → Finding) (o : Option Asked) → ((a : Asked) → is_value (f a) ≡ false) → only (option_map f o) ≡ []
   asked_none f None h = nothing
@@ -103,11 +103,11 @@ module _ (only : Option Finding → List Finding) (nothing : only None ≡ []) (
   unfolding what_finding
   what_none subject rows x frame h = what_by subject rows x frame x.heard.what h
 
-  answer_none : (subject : Subject) (rows : List Row) (micros : ℕ) (x : Exchange) (frame : FrameContent) → IsFine subject rows frame x.heard.ended → only (answer_finding subject rows micros x frame) ≡ []
+  answer_none : (subject : Subject) (rows : List Row) (micros : ℕ) (nmt : Nmt) (x : Exchange) (frame : FrameContent) → IsFine subject rows frame x.heard.ended → only (answer_finding subject rows micros nmt x frame) ≡ []
   unfolding answer_finding
-  answer_none subject rows micros x frame h =
-      either x.certain (option_or (overdue_answer subject.limits x micros) (known_answer subject rows x frame))
-      (only_or (overdue_answer subject.limits x micros) (known_answer subject rows x frame) (overdue_none subject.limits x micros)
+  answer_none subject rows micros nmt x frame h =
+      either x.certain (option_or (overdue_answer subject.limits nmt x micros) (known_answer subject rows x frame))
+      (only_or (overdue_answer subject.limits nmt x micros) (known_answer subject rows x frame) (overdue_none subject.limits nmt x micros)
       (only_or (what_finding subject rows x frame) (breach_finding (transfer_breach subject.limits x)) (what_none subject rows x frame h) (breach_none (transfer_breach subject.limits x))))
 
   -- an answer
@@ -117,7 +117,7 @@ module _ (only : Option Finding → List Finding) (nothing : only None ≡ []) (
   server_found subject rows p micros frame h =
       let x : Exchange = exchange_in subject.limits.answer p.started p.dialogue micros Server frame in
       only_or (stopped_finding subject.limits p.started (answer_nmt subject p micros) x) _ (stopped_none subject.limits p.started (answer_nmt subject p micros) x)
-      (only_or (answer_finding subject rows micros x frame) (held_finding subject p.written x) (answer_none subject rows micros x frame h) (held_none subject p.written x))
+      (only_or (answer_finding subject rows micros (answer_nmt subject p micros) x frame) (held_finding subject p.written x) (answer_none subject rows micros (answer_nmt subject p micros) x frame h) (held_none subject p.written x))
 
   confirmed_none : (o : Option Finding) → only o ≡ [] → only (confirmed_findings o).frame ≡ []
   unfolding found

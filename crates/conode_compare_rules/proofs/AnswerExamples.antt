@@ -26,7 +26,7 @@ use Rattle.conode_compare_rules.specs.declared.nmt.Nmt.{Nmt}
 use Rattle.conode_compare_rules.specs.Answers.{answer_finding, confirmed_finding, ended_finding, held_finding, is_exact, stopped_finding, what_finding}
 use Rattle.conode_compare_rules.specs.EntriesInForce.{facts_of}
 use Rattle.conode_compare_rules.specs.Progresses.{follows_by_answer}
-use Rattle.conode_compare_rules.specs.States.{is_settled}
+use Rattle.conode_compare_rules.specs.States.{is_settled, nothing_commanded}
 use Rattle.conode_compare_rules.proofs.Examples.{limits, key, row}
 
 -- ---- answers while stopped
@@ -223,7 +223,7 @@ abort_frame = record { id = 0x585; bytes = 0x80 ∷ 0 ∷ 0x20 ∷ 1 ∷ 0 ∷ 0
 
 -- after 1000 ms, or that isn't known
 abbrev given_up : Option ℕ → Bool → Option Finding
-given_up time certain = answer_finding (record device { limits = record limits { time = time } }) [] 3 (gives_up certain) abort_frame
+given_up time certain = answer_finding (record device { limits = record limits { time = time } }) [] 3 nothing_commanded (gives_up certain) abort_frame
 
 given_up_early : given_up (Some 1000) true ∷ given_up None true ∷ given_up (Some 1000) false ∷ []
     ≡ Some (Transfer (Early (key 0x2000 1) 979999 1000)) ∷ None ∷ None ∷ []

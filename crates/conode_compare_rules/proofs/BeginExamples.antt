@@ -1,5 +1,5 @@
 -- A recording that begins, also anew after a bad line: what a command before that allows, on both sides of each edge.
-use Rattle.std.proofs.Common.{◌≡◌, ℕ, true, false, List, [], ◌∷◌, ◌++◌, map, Option, Some, None, refl}
+use Rattle.std.proofs.Common.{◌≡◌, ℕ, ◌+◌, true, false, List, [], ◌∷◌, ◌++◌, map, Option, Some, None, refl}
 use Rattle.co_frame.specs.declared.nmt.NmtService.TheVariants.{Start, Stop, ResetNode}
 use Rattle.conode_compare_rules.specs.declared.finding.Finding.{Finding}
 use Rattle.conode_compare_rules.specs.declared.finding.Finding.TheVariants.{EmergencyStopped, SecondBootUp, WrongState}
@@ -8,6 +8,7 @@ use Rattle.conode_compare_rules.specs.declared.kind.FrameKind.{FrameKind}
 use Rattle.conode_compare_rules.specs.declared.kind.FrameKind.TheVariants.{Command, Control, Emergency, Other}
 use Rattle.conode_compare_rules.specs.declared.leaving.Leaving.TheVariants.{Nothing, Awaited, Shown}
 use Rattle.conode_compare_rules.specs.declared.nmt.Nmt.{Nmt}
+use Rattle.conode_compare_rules.specs.declared.progress.Progress.{Progress}
 use Rattle.conode_compare_rules.specs.EmergencyRules.{emergency_finding, inhibit_finding}
 use Rattle.conode_compare_rules.specs.Heartbeats.{late_finding, overdue_by}
 use Rattle.conode_compare_rules.specs.Progresses as progresses
@@ -37,12 +38,30 @@ found_after before later micros kind =
     (findings_at subject [] (after (with_bad_line (after (before_recording subject) before)) later) micros kind).frame
 
 -- it begins, or begins anew: a bad line before the first frame says nothing
-begins : map (λ p. anew_since p 7) (before_recording subject ∷ with_bad_line (before_recording subject) ∷ []) ≡ None ∷ None ∷ []
+begins : map (λ p. anew_since limits p 7) (before_recording subject ∷ with_bad_line (before_recording subject) ∷ []) ≡ None ∷ None ∷ []
 begins = refl
 
-begins_anew : (anew_since (record (before_recording subject) { newest = Some 5 }) 7 ≡ Some 7)
-    × (anew_since (with_bad_line (record (before_recording subject) { newest = Some 5 })) 7 ≡ Some 7)
-begins_anew = (refl, refl)
+begins_anew : anew_since limits (with_bad_line (record (before_recording subject) { newest = Some 5 })) 7 ≡ Some 7
+begins_anew = refl
+
+-- After silence, or where a stamp steps back, it begins as at first, where no command came, and it didn't begin anew, within
+-- 10 s.
+abbrev recorded_with : Nmt → Progress
+recorded_with nmt = record (before_recording subject) { newest = Some 5; nmt = nmt }
+
+after_silence : anew_since limits (recorded_with (at_begin None)) 7 ≡ None
+after_silence = refl
+
+after_command_before : map (anew_since limits (recorded_with (record (at_begin None) { commanded = Some (record { service = Stop; micros = 6 }) }))) (5 ∷ 6 ∷ 10000006 ∷ 10000007 ∷ [])
+    ≡ Some 5 ∷ Some 6 ∷ Some 6 ∷ None ∷ []
+after_command_before = refl
+
+after_begin_before : map (anew_since limits (recorded_with (at_begin (Some 6)))) (5 ∷ 6 ∷ 10000006 ∷ 10000007 ∷ []) ≡ Some 5 ∷ Some 6 ∷ Some 6 ∷ None ∷ []
+after_begin_before = refl
+
+-- the command counts, which is newer
+after_both : anew_since limits (recorded_with (record (at_begin (Some 6)) { commanded = Some (record { service = Stop; micros = 7 }) })) 9 ≡ Some 7
+after_both = refl
 
 -- an error frame
 after_error_frame : (after_fault (before_recording subject) 7).nmt ≡ at_begin (Some 7)
@@ -142,11 +161,31 @@ started : found_after ((0, Control 127) ∷ (100000, Command Start) ∷ []) ((20
 unfolding findings_at progress_with begun booted found progresses.after_control states.after_control after_boot_up after_other awaits_boot_up progresses.after_command states.after_command control_findings heartbeat_findings control_finding state_finding is_settled
 started = refl
 
+-- The bus was quiet before the boot-up, as another node is there alone: the device starts itself. A Start came in the 10 s
+-- before, which it may have taken.
+quiet_start : last_found ((0, Other) ∷ (3000001, Control 0) ∷ []) 3500001 (Control 5) ≡ Some (WrongState Operational PreOperational)
+unfolding findings_at progress_with begun booted found progresses.after_control states.after_control after_boot_up control_findings heartbeat_findings control_finding state_finding is_settled
+quiet_start = refl
+
+started_before : map (λ micros. last_found ((0, Command Start) ∷ (micros, Control 0) ∷ []) (micros + 500000) (Control 5)) (10000000 ∷ 10000001 ∷ [])
+    ≡ None ∷ Some (WrongState Operational PreOperational) ∷ []
+unfolding findings_at progress_with begun booted found progresses.after_control states.after_control after_boot_up progresses.after_command states.after_command control_findings heartbeat_findings control_finding state_finding is_settled
+started_before = refl
+
 -- ---- two boot-ups: one of the reset commands came before the bad line, or was that
 
 two_resets : found_after ((0, Control 127) ∷ (100000, Command ResetNode) ∷ []) ((200000, Control 0) ∷ []) 700000 (Control 0) ≡ None
 unfolding findings_at progress_with begun booted found progresses.after_control states.after_control after_boot_up after_other awaits_boot_up progresses.after_command states.after_command control_finding second_boot_up is_settled with_gap
 two_resets = refl
+
+-- more than 10 s after that both are one device's, or two devices'
+abbrev boots_late : ℕ → List (ℕ × FrameKind)
+boots_late micros = (100000, Other) ∷ (3000000, Other) ∷ (5900000, Other) ∷ (8800000, Other) ∷ (micros, Control 0) ∷ []
+
+two_late : map (λ micros. found_after ((0, Control 127) ∷ []) (boots_late micros) 10600000 (Control 0)) (10100000 ∷ 10100001 ∷ [])
+    ≡ None ∷ Some (SecondBootUp 499999) ∷ []
+unfolding findings_at progress_with begun booted found progresses.after_control states.after_control after_boot_up control_finding second_boot_up is_settled
+two_late = refl
 
 one_device : last_found ((0, Control 0) ∷ []) 700000 (Control 0) ≡ Some (SecondBootUp 700000)
 unfolding findings_at progress_with begun booted found states.after_control after_boot_up control_finding second_boot_up

@@ -1,5 +1,5 @@
 -- A period that may still run once 1017:00 has another, on both sides of each edge.
-use Rattle.std.proofs.Common.{◌≡◌, ℕ, Bool, true, false, [], ◌∷◌, map, Option, Some, None, refl}
+use Rattle.std.proofs.Common.{◌≡◌, ℕ, Bool, true, false, List, [], ◌∷◌, map, Option, Some, None, refl}
 use Rattle.co_frame.specs.FrameContent.{FrameContent}
 use Rattle.co_frame.specs.SdoRequests.{request_row_in}
 use Rattle.conode_explain_transfers.specs.declared.kinds.Side.TheVariants.{Client, Server}
@@ -15,9 +15,9 @@ use Rattle.conode_compare_rules.specs.declared.kind.FrameKind.TheVariants.{Contr
 use Rattle.conode_compare_rules.specs.declared.limits.Subject.{Subject}
 use Rattle.conode_compare_rules.specs.declared.progress.Progress.{Progress}
 use Rattle.conode_compare_rules.specs.EntriesInForce.{asked_to_write, shown_inhibit, shown_period}
-use Rattle.conode_compare_rules.specs.Heartbeats.{answered_at, early_remark, former_after, former_asked, late_finding, longest, may_be_of_change, overdue_by, period_asked, period_asked_by, runs_still}
+use Rattle.conode_compare_rules.specs.Heartbeats.{answered_at, early_remark, former_after, former_asked, late_finding, longest, may_be_of_change, newest_asked, overdue_by, period_asked, period_asked_by, runs_still, word_asked}
 use Rattle.conode_compare_rules.specs.Progresses as progresses
-use Rattle.conode_compare_rules.specs.Progresses.{before_recording, begun, booted, channel_heard, control_findings, exchange_at, is_overdue, progress_with}
+use Rattle.conode_compare_rules.specs.Progresses.{after_fault, before_recording, begun, booted, channel_heard, control_findings, exchange_at, is_overdue, progress_with, with_bad_line, with_gap}
 use Rattle.conode_compare_rules.specs.States as states
 use Rattle.conode_compare_rules.specs.States.{nothing_commanded}
 use Rattle.conode_compare_rules.proofs.Examples.{limits, pulse}
@@ -59,6 +59,16 @@ asked_by_frames = refl
 
 not_by_answer : period_asked_by Server (named 0x2B) None ≡ None
 not_by_answer = refl
+
+-- in one frame of two bytes; not in one of four, of another length, or with segments or blocks
+abbrev written_by : ℕ → List ℕ → Option ℕ
+written_by first last = word_asked (record { id = 0x605; bytes = first ∷ 0x17 ∷ 0x10 ∷ 0 ∷ 0x34 ∷ 0x12 ∷ 0 ∷ last })
+
+words_asked : map (λ first. written_by first (0 ∷ [])) (0x2B ∷ 0x23 ∷ 0x22 ∷ 0x21 ∷ 0xC2 ∷ []) ≡ Some 0x1234 ∷ None ∷ None ∷ None ∷ None ∷ []
+words_asked = refl
+
+of_other_lengths : map (written_by 0x2B) ([] ∷ (0 ∷ 0 ∷ []) ∷ []) ≡ None ∷ None ∷ []
+of_other_lengths = refl
 
 -- it may have been written before the recording
 begins : (before_recording subject).heartbeats.former ≡ Some 65535
@@ -194,3 +204,67 @@ requests = refl
 requests_unknown : map (former_by None) (0x17 ∷ 0x18 ∷ []) ≡ Some 65535 ∷ None ∷ []
 unfolding channel_heard exchange_at dialogue_heard exchange_in is_certain newest_with newest_after breach_at shown_period shown_inhibit asked_to_write request_row_in
 requests_unknown = refl
+
+-- ---- a request that comes again
+
+abbrev write : ℕ → FrameContent
+write low = record { id = 0x605; bytes = 0x2B ∷ 0x17 ∷ 0x10 ∷ 0 ∷ low ∷ 1 ∷ 0 ∷ 0 ∷ [] }
+
+-- 1017:00 has 1000 ms, and a client asks to write 500, or 458; then what it asked last is known
+abbrev once : ℕ → Progress
+once low = channel_heard subject waiting 1000000 Client (write low)
+
+newest : map (λ low. (once low).heartbeats.asked) (0xF4 ∷ 0xCA ∷ []) ≡ Some 500 ∷ Some 458 ∷ []
+unfolding channel_heard exchange_at dialogue_heard exchange_in is_certain newest_with newest_after breach_at shown_period shown_inhibit asked_to_write request_row_in
+newest = refl
+
+kept : newest_asked Client (request 0x18) (Some 5) ∷ newest_asked Server (write 0xF4) (Some 5) ∷ newest_asked Client (record { id = 0x605; bytes = 0x40 ∷ 0x17 ∷ 0x10 ∷ 0 ∷ 0 ∷ 0 ∷ 0 ∷ 0 ∷ [] }) (Some 5) ∷ []
+    ≡ Some 5 ∷ Some 5 ∷ Some 5 ∷ []
+kept = refl
+
+-- the same request again, and one of another number; of both 1000 ms is the longest
+again : map (λ low. (channel_heard subject (once 0xF4) 1100000 Client (write low)).heartbeats.former) (0xF4 ∷ 0xCA ∷ []) ≡ Some 1000 ∷ Some 1000 ∷ []
+unfolding channel_heard exchange_at dialogue_heard exchange_in is_certain newest_with newest_after breach_at shown_period shown_inhibit asked_to_write request_row_in
+again = refl
+
+-- 1017:00 has 400 ms: 500 ms may run once a client asks to write another number
+longer_asked : (channel_heard subject (record (once 0xF4) { heartbeats = record (once 0xF4).heartbeats { former = Some 400 } }) 1100000 Client (write 0xCA)).heartbeats.former ≡ Some 500
+unfolding channel_heard exchange_at dialogue_heard exchange_in is_certain newest_with newest_after breach_at shown_period shown_inhibit asked_to_write request_row_in
+longer_asked = refl
+
+-- between the two an error frame came, which may stand for a third; so 1017:00 may have any
+after_error_frame : (channel_heard subject (after_fault (once 0xF4) 1050000) 1100000 Client (write 0xF4)).heartbeats.former ≡ Some 65535
+unfolding channel_heard exchange_at dialogue_heard exchange_in is_certain newest_with newest_after breach_at shown_period shown_inhibit asked_to_write request_row_in after_fault with_gap
+after_error_frame = refl
+
+not_after_boot_up : (booted subject (once 0xF4) 1100000).heartbeats.asked ≡ None
+unfolding booted
+not_after_boot_up = refl
+
+-- ---- a bad line
+
+-- it had one request at most, which left what 1017:00 had, or what a client asked to write last
+abbrev lost_of : Progress → ℕ → Option ℕ
+lost_of progress micros = (begun subject (with_bad_line progress) micros).heartbeats.former
+
+one_lost : lost_of waiting 1000001 ∷ lost_of changing 1000001 ∷ lost_of (once 0xF4) 1000001 ∷ [] ≡ Some 1000 ∷ Some 10000 ∷ Some 1000 ∷ []
+unfolding begun channel_heard exchange_at dialogue_heard exchange_in is_certain newest_with newest_after breach_at shown_period shown_inhibit asked_to_write request_row_in
+one_lost = refl
+
+unknown_lost : lost_of (record waiting { entries = record waiting.entries { period = None } }) 1000001 ≡ Some 65535
+unfolding begun
+unknown_lost = refl
+
+-- two had two; and none was recorded for longer than three periods, or a stamp steps back
+two_lost : lost_of (with_bad_line waiting) 1000001 ≡ Some 65535
+unfolding begun
+two_lost = refl
+
+lost_in_a_gap : map (lost_of waiting) (999999 ∷ 1000000 ∷ 4000000 ∷ 4000001 ∷ []) ≡ Some 65535 ∷ Some 1000 ∷ Some 1000 ∷ Some 65535 ∷ []
+unfolding begun
+lost_in_a_gap = refl
+
+-- without a bad line the recorder rested
+rested : (begun subject waiting 4000001).heartbeats.former ≡ Some 65535
+unfolding begun
+rested = refl

@@ -30,7 +30,7 @@ limits = record { tolerance = 10; drift = 1; answer = 1000; boot = 10000; time =
 -- ---- heartbeats
 
 abbrev pub pulse : Heartbeats
-pulse = record { guarded = false; since = Some 5; sent = Some 4; shown = None; slow = None; former = None; answered = None }
+pulse = record { guarded = false; since = Some 5; sent = Some 4; shown = None; slow = None; former = None; answered = None; asked = None }
 
 -- late after 1000 ms, 10 ms and 1 %
 in_time : late_finding limits (Some 1000) pulse 1020005 1020005 ≡ None
@@ -111,7 +111,7 @@ unfolding early_remark
 toggled = refl
 
 -- one that waited counts from when the bus was free
-waited : after_byte pulse 1000 2000 5 ≡ record { guarded = false; since = Some 2000; sent = Some 1000; shown = None; slow = None; former = None; answered = None }
+waited : after_byte pulse 1000 2000 5 ≡ record { guarded = false; since = Some 2000; sent = Some 1000; shown = None; slow = None; former = None; answered = None; asked = None }
 waited = refl
 
 -- more than three periods without a frame are a gap
@@ -246,6 +246,12 @@ inhibit_in_segments : ended_entries entries (transferred (key 0x1015 0) Segmente
 unfolding shown_period shown_inhibit
 inhibit_in_segments = refl
 
+-- what is known already is in force since then; a download leaves it unknown until its end
+inhibit_known : map (λ inhibit. (ended_entries (record entries { inhibit = inhibit; inhibit_shown = Some 5 }) (transferred (key 0x1015 0) Expedited)).inhibit_shown) (Some 300 ∷ Some 299 ∷ None ∷ [])
+    ≡ Some 5 ∷ Some 7 ∷ Some 7 ∷ []
+unfolding shown_period shown_inhibit
+inhibit_known = refl
+
 period_written : ended_entries entries (transferred (key 0x1017 0) Expedited) ≡ record entries { period = Some 300 }
 unfolding shown_period shown_inhibit
 period_written = refl
@@ -258,11 +264,11 @@ other_written = refl
 abbrev after_period : Direction → Heartbeats
 after_period direction = after_transfer pulse (Some (record (transferred (key 0x1017 0) Expedited) { direction = direction })) 90
 
-begun_anew : after_period Download ≡ record { guarded = false; since = Some 90; sent = Some 1; shown = None; slow = None; former = None; answered = None }
+begun_anew : after_period Download ≡ record { guarded = false; since = Some 90; sent = Some 1; shown = None; slow = None; former = None; answered = None; asked = None }
 unfolding shown_period
 begun_anew = refl
 
-read_period : after_period Upload ≡ record { guarded = false; since = Some 90; sent = Some 4; shown = None; slow = None; former = None; answered = None }
+read_period : after_period Upload ≡ record { guarded = false; since = Some 90; sent = Some 4; shown = None; slow = None; former = None; answered = None; asked = None }
 unfolding shown_period
 read_period = refl
 

@@ -5,6 +5,7 @@ mod ChannelExamples
 mod Examples
 mod LeavingExamples
 mod MissingExamples
+mod RestartExamples
 mod SheetExamples
 mod SilenceExamples
 mod StateExamples

@@ -51,7 +51,7 @@ waiting = record (before_recording subject) {
   newest = Some 1000000;
   free = 1000000;
   nmt = record nothing_commanded { state = Operational };
-  heartbeats = record { guarded = false; since = Some 5; sent = Some 5; shown = None; slow = None; former = None; answered = None };
+  heartbeats = record { guarded = false; since = Some 5; sent = Some 5; shown = None; slow = None; former = None; answered = None; asked = None };
   pdos = pdos;
 }
 

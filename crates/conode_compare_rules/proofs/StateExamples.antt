@@ -127,30 +127,35 @@ unfolding second_boot_up
 again = refl
 
 -- a boot-up without a reset
-restarted : restart_remark (record { state = Stopped; commanded = None; reset = Some 5; several = false; booted = None; due = Unknown; followed = None; changed = None; strayed = Unknown; mixed = false; odd = None; leaving = Nothing }) 9000000 ≡ Some Restarted
+restarted : restart_remark limits (record { state = Stopped; commanded = None; reset = Some 5; several = false; booted = None; due = Unknown; followed = None; changed = None; strayed = Unknown; mixed = false; odd = None; leaving = Nothing }) 9000000 ≡ Some Restarted
 unfolding restart_remark second_boot_up
 restarted = refl
 
-commanded_boot_up : restart_remark (reset_at 1) 9000000 ≡ None
+commanded_boot_up : restart_remark limits (reset_at 1) 9000000 ≡ None
 unfolding restart_remark second_boot_up
 commanded_boot_up = refl
 
 -- of a device that wasn't seen before
-power_on : restart_remark nothing_commanded 9000000 ≡ None
+power_on : restart_remark limits nothing_commanded 9000000 ≡ None
 unfolding restart_remark second_boot_up
 power_on = refl
 
 -- of which more than one boot-up may come
-perhaps_commanded : restart_remark (record { state = PreOperational; commanded = None; reset = Some 5; several = true; booted = None; due = Unknown; followed = None; changed = None; strayed = Unknown; mixed = false; odd = None; leaving = Nothing }) 9000000 ≡ None
+perhaps_commanded : restart_remark limits (record { state = PreOperational; commanded = None; reset = Some 5; several = true; booted = None; due = Unknown; followed = None; changed = None; strayed = Unknown; mixed = false; odd = None; leaving = Nothing }) 9000000 ≡ None
 unfolding restart_remark second_boot_up
 perhaps_commanded = refl
 
+-- up to 10 s after the newest reset
+one_of_several : map (restart_remark limits (record nothing_commanded { state = PreOperational; reset = Some 5; several = true })) (10000005 ∷ 10000006 ∷ []) ≡ None ∷ Some Restarted ∷ []
+unfolding restart_remark second_boot_up
+one_of_several = refl
+
 -- a second one within a second is another device's
-of_another : restart_remark (record { state = PreOperational; commanded = None; reset = None; several = false; booted = Some 0; due = Unknown; followed = None; changed = None; strayed = Unknown; mixed = false; odd = None; leaving = Nothing }) 1000000 ≡ None
+of_another : restart_remark limits (record { state = PreOperational; commanded = None; reset = None; several = false; booted = Some 0; due = Unknown; followed = None; changed = None; strayed = Unknown; mixed = false; odd = None; leaving = Nothing }) 1000000 ≡ None
 unfolding restart_remark second_boot_up
 of_another = refl
 
-restarted_again : restart_remark (record { state = PreOperational; commanded = None; reset = None; several = false; booted = Some 0; due = Unknown; followed = None; changed = None; strayed = Unknown; mixed = false; odd = None; leaving = Nothing }) 1000001 ≡ Some Restarted
+restarted_again : restart_remark limits (record { state = PreOperational; commanded = None; reset = None; several = false; booted = Some 0; due = Unknown; followed = None; changed = None; strayed = Unknown; mixed = false; odd = None; leaving = Nothing }) 1000001 ≡ Some Restarted
 unfolding restart_remark second_boot_up
 restarted_again = refl
 
@@ -176,6 +181,18 @@ two_still_due = refl
 none_due : (after_other limits (after_command (reset_at 0) ResetNode false 1) 10000002).several ≡ false
 unfolding after_command after_other awaits_boot_up
 none_due = refl
+
+-- so does a boot-up that comes later: it is none of theirs
+abbrev boots_late : ℕ → Nmt
+boots_late micros = after_boot_up limits (after_command (reset_at 0) ResetNode false 1) micros
+
+late_boot_up : map (λ micros. (boots_late micros).booted) (10000001 ∷ 10000002 ∷ []) ≡ None ∷ Some 10000002 ∷ []
+unfolding after_command after_boot_up
+late_boot_up = refl
+
+none_due_then : map (λ micros. (boots_late micros).several) (10000001 ∷ 10000002 ∷ []) ≡ true ∷ false ∷ []
+unfolding after_command after_boot_up
+none_due_then = refl
 
 abbrev started_at : ℕ → Nmt
 started_at micros = record {

@@ -1,6 +1,6 @@
 -- Answers of a device on its default SDO channel (CiA 301, 7.2.4.3).
 use Rattle.std.specs.Prelude.{ℕ, ◌-◌, ◌/◌, ◌%◌, ◌==◌, Bool, true, false, not, ◌&&◌, if◌then◌else◌, List, Option, Some, None, option_map, option_and_then}
-use Rattle.std.specs.Option.{option_or}
+use Rattle.std.specs.Option.{option_map_or, option_or}
 use Rattle.co_frame.specs.FrameContent.{FrameContent}
 use Rattle.co_sheet.specs.Content.{Row}
 use Rattle.co_value.specs.Keys.{same_key}
@@ -89,9 +89,14 @@ finding_of subject rows exchange frame what = None
 unfoldable pub what_finding : Subject → List Row → Exchange → FrameContent → Option Finding
 what_finding subject rows exchange frame = finding_of subject rows exchange frame exchange.heard.what
 
+-- the device wasn't stopped as it was asked, nor since: a stopped one answers none, and perhaps once it isn't stopped any more
+abbrev pub could_answer_since : Limits → Nmt → Option Asked → Bool
+could_answer_since limits nmt asked = option_map_or (λ a. was_running limits nmt a.micros) asked false
+
 -- an answer that took too long, to a request that it is owed
-abbrev pub overdue_answer : Limits → Exchange → ℕ → Option Finding
-overdue_answer limits exchange micros = if exchange.owed then late_answer limits exchange.asked micros else None
+abbrev pub overdue_answer : Limits → Nmt → Exchange → ℕ → Option Finding
+overdue_answer limits nmt exchange micros =
+    if exchange.owed && could_answer_since limits nmt exchange.asked then late_answer limits exchange.asked micros else None
 
 -- within the open transfer
 abbrev pub breach_finding : Option Breach → Option Finding
@@ -106,9 +111,9 @@ known_answer subject rows exchange frame =
     option_or (what_finding subject rows exchange frame) (breach_finding (transfer_breach subject.limits exchange))
 
 -- the difference of an answer, where no earlier request can be answered
-unfoldable pub answer_finding : Subject → List Row → ℕ → Exchange → FrameContent → Option Finding
-answer_finding subject rows micros exchange frame =
-    if exchange.certain then option_or (overdue_answer subject.limits exchange micros) (known_answer subject rows exchange frame)
+unfoldable pub answer_finding : Subject → List Row → ℕ → Nmt → Exchange → FrameContent → Option Finding
+answer_finding subject rows micros nmt exchange frame =
+    if exchange.certain then option_or (overdue_answer subject.limits nmt exchange micros) (known_answer subject rows exchange frame)
     else None
 
 -- `answer-state`: the answer to a request that came while the device was stopped, once the

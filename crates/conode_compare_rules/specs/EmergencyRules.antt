@@ -53,6 +53,15 @@ unfoldable pub inhibit_finding : Limits → Entries → Option ℕ → ℕ → O
 inhibit_finding limits entries None micros = None
 inhibit_finding limits entries (Some last) micros = inhibit_with limits entries.inhibit entries.inhibit_shown last micros
 
+-- A device that was switched off and on knows nothing of the EMCY that it sent before, so none of its new life comes too
+-- soon.
+abbrev pub is_inhibited : Option Finding → Bool
+is_inhibited (Some (EmergencyInhibit passed inhibit)) = true
+is_inhibited finding = false
+
+abbrev pub unless_restarted : Bool → Option Finding → Option Finding
+unless_restarted restarted finding = if is_inhibited finding && restarted then None else finding
+
 abbrev pub is_stopped : NmtState → Bool
 is_stopped Stopped = true
 is_stopped other = false

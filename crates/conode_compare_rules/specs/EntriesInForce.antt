@@ -140,8 +140,12 @@ abbrev pub with_period : Entries → Option ℕ → Entries
 with_period entries (Some period) = record entries { period = Some period }
 with_period entries None = entries
 
+-- where it has what it is known to have, that is in force as before
 abbrev pub with_inhibit : Entries → Option ℕ → ℕ → Entries
-with_inhibit entries (Some inhibit) end = record entries { inhibit = Some inhibit; inhibit_shown = Some end }
+with_inhibit entries (Some inhibit) end = record entries {
+  inhibit = Some inhibit;
+  inhibit_shown = if is_number entries.inhibit inhibit then entries.inhibit_shown else Some end;
+}
 with_inhibit entries None end = entries
 
 abbrev pub ended_entries : Entries → Ended → Entries

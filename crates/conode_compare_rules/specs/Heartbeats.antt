@@ -1,5 +1,5 @@
 -- Heartbeats that are late, and those that come early (CiA 301, 7.2.8.3.2).
-use Rattle.std.specs.Prelude.{ℕ, ◌+◌, ◌-◌, ◌*◌, ◌==◌, nat_lt, nat_le, Bool, false, not, ◌&&◌, ◌||◌, if◌then◌else◌, Option, Some, None, is_some, option_map, unwrap_or}
+use Rattle.std.specs.Prelude.{ℕ, ◌+◌, ◌-◌, ◌*◌, ◌==◌, nat_lt, nat_le, Bool, false, not, ◌&&◌, ◌||◌, if◌then◌else◌, Option, Some, None, is_some, option_map, unwrap_or, length}
 use Rattle.co_frame.specs.FrameContent.{FrameContent}
 use Rattle.co_profile.specs.Keys.{producer_key}
 use Rattle.co_value.specs.declared.key.Key.{Key}
@@ -9,7 +9,7 @@ use Rattle.conode_explain_transfers.specs.declared.kinds.Direction.{Direction}
 use Rattle.conode_explain_transfers.specs.declared.kinds.Direction.TheVariants.{Download, Upload}
 use Rattle.conode_explain_transfers.specs.declared.kinds.Side.{Side}
 use Rattle.conode_explain_transfers.specs.declared.kinds.Side.TheVariants.{Client, Server}
-use Rattle.conode_compare_transfers.specs.Breaches.{key_in}
+use Rattle.conode_compare_transfers.specs.Breaches.{byte_at, key_in}
 use Rattle.conode_compare_transfers.specs.Dialogues.{asks_to_write}
 use Rattle.conode_compare_rules.specs.declared.finding.Finding.{Finding}
 use Rattle.conode_compare_rules.specs.declared.finding.Finding.TheVariants.{HeartbeatLate}
@@ -30,7 +30,7 @@ longest_period = 65535
 
 -- No heartbeat came. What was written to 1017:00 before the recording isn't known, so any period may run.
 abbrev pub no_heartbeat : Heartbeats
-no_heartbeat = record { guarded = false; since = None; sent = None; shown = None; slow = None; former = Some longest_period; answered = None }
+no_heartbeat = record { guarded = false; since = None; sent = None; shown = None; slow = None; former = Some longest_period; answered = None; asked = None }
 
 -- A heartbeat came, or an answer of node guarding. It may have waited since the bus was free last,
 -- `free`.
@@ -43,6 +43,7 @@ after_byte heartbeats free micros byte = record {
   slow = heartbeats.slow;
   former = heartbeats.former;
   answered = heartbeats.answered;
+  asked = heartbeats.asked;
 }
 
 -- With a transfer of 1017:00 the wait for the next one begins anew. By a download the device counts
@@ -71,8 +72,9 @@ allowance limits period = micros_of period + micros_of limits.tolerance + drift_
 -- ---- a period that changes
 
 -- CiA 301 doesn't say when a change of 1017:00 takes effect, so the period that ran when it was asked to be
--- written may end first. Where that isn't known, it may be any; so where a client asks to write the parameters of
--- another SDO channel, whose client may write 1017:00 then.
+-- written may end first. Where that isn't known, it is the one that a client asked to write last, or it counts already; where
+-- that isn't known either, it may be any. So it may where a client asks to write the parameters of another SDO channel, whose
+-- client may write 1017:00 then.
 abbrev pub period_asked : Key → Option ℕ → Option ℕ
 period_asked key period =
     if is_channel key then Some longest_period
@@ -103,6 +105,19 @@ with_former heartbeats asked before after micros = record heartbeats {
   former = former_asked asked heartbeats.former;
   answered = answered_at before after heartbeats.answered micros;
 }
+
+-- the number that a client's frame asks to write to 1017:00 in one frame, of two bytes: ccs = 1, n = 2, e = 1, s = 1
+abbrev pub word_asked : FrameContent → Option ℕ
+word_asked frame =
+    if (length frame.bytes == 8) && (byte_at frame 0 == 0x2B) then Some (byte_at frame 4 + byte_at frame 5 * 256) else None
+
+-- by a frame, whatever it is in the transfers of the channel
+abbrev pub newest_asked : Side → FrameContent → Option ℕ → Option ℕ
+newest_asked Client frame before = if asks_to_write frame && same_key (key_in frame) producer_key then word_asked frame else before
+newest_asked Server frame before = before
+
+abbrev pub with_asked : Option ℕ → Heartbeats → Heartbeats
+with_asked asked heartbeats = record heartbeats { asked = asked }
 
 -- it may still run: since the answer no more time has passed than until a heartbeat would be late by it
 abbrev pub runs_still : Limits → Option ℕ → Option ℕ → ℕ → Bool

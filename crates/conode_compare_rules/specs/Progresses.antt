@@ -1,5 +1,5 @@
 -- What a recording shows of a device, frame by frame, and where it differs from CiA 301.
-use Rattle.std.specs.Prelude.{ℕ, ◌==◌, nat_le, nat_lt, Bool, true, false, not, ◌&&◌, ◌||◌, if◌then◌else◌, List, length, Option, Some, None, is_some, option_map}
+use Rattle.std.specs.Prelude.{ℕ, ◌==◌, nat_le, nat_lt, Bool, true, false, not, ◌&&◌, ◌||◌, if◌then◌else◌, List, length, Option, Some, None, is_some, option_map, unwrap_or}
 use Rattle.std.specs.Option.{option_map_or, option_or}
 use Rattle.co_frame.specs.FrameContent.{FrameContent}
 use Rattle.co_frame.specs.declared.nmt.NmtService.{NmtService}
@@ -36,10 +36,10 @@ use Rattle.conode_compare_rules.specs.Answers.{answer_finding, confirmed_finding
 use Rattle.conode_compare_transfers.specs.Dialogues.{asks_to_write, dialogue_heard, given_up, interrupted, is_awaited, is_download, nothing_asked, nothing_left, exchange_in}
 use Rattle.conode_compare_transfers.specs.Breaches.{key_in}
 use Rattle.conode_compare_values.specs.HeldNumbers.{is_kept, nothing_written, unmapped, with_process, written_heard}
-use Rattle.conode_compare_rules.specs.EmergencyRules.{emergency_finding, is_stopped, length_finding}
+use Rattle.conode_compare_rules.specs.EmergencyRules.{emergency_finding, is_stopped, length_finding, unless_restarted}
 use Rattle.conode_compare_rules.specs.EntriesInForce.{asked_by, asked_to_write, ended_entries, overwritten, reset_entries, shares_id, with_sharing}
 use Rattle.conode_compare_rules.specs.OtherClients.{has_clients, is_channel, may_send}
-use Rattle.conode_compare_rules.specs.Heartbeats.{after_byte, after_transfer, early_remark, follows_closely, former_after, late_finding, longest_period, may_be_of_change, no_heartbeat, is_gap, is_late_again, is_missing, overdue_with, period_asked_by, slow_after, with_former, with_shown}
+use Rattle.conode_compare_rules.specs.Heartbeats.{after_byte, after_transfer, early_remark, follows_closely, former_after, former_asked, late_finding, longest_period, may_be_of_change, newest_asked, no_heartbeat, is_gap, is_late_again, is_missing, overdue_with, period_asked_by, slow_after, with_asked, with_former, with_shown}
 use Rattle.conode_compare_rules.specs.States as states
 use Rattle.conode_compare_rules.specs.States.{at_begin, boot_finding, control_finding, has_followed, is_operational, is_reset, is_same_byte, is_same_length, is_settled, is_steady, judged_state, nothing_commanded, after_turn, odd_after, odd_finding, restart_remark, with_followed, with_left, with_odd}
 use Rattle.conode_compare_transfers.specs.Times.{is_past}
@@ -52,7 +52,7 @@ before_recording subject = record {
   newest = None;
   started = 0;
   begins = false;
-  damaged = false;
+  damaged = None;
   free = 0;
   nmt = nothing_commanded;
   heartbeats = no_heartbeat;
@@ -97,14 +97,40 @@ still_awaited dialogue micros = record nothing_asked { slow = (interrupted dialo
 
 -- A bad line may have had a frame of any client: of another SDO channel's too, and a request to write.
 abbrev pub client_since : Subject → Progress → Bool
-client_since subject progress = progress.other_client || (progress.damaged && has_clients subject.facts.clients)
+client_since subject progress = progress.other_client || (is_some progress.damaged && has_clients subject.facts.clients)
 
 abbrev pub asked_since : Progress → ℕ → Option ℕ
-asked_since progress micros = if progress.damaged then Some micros else None
+asked_since progress micros = if is_some progress.damaged then Some micros else None
 
--- It begins anew: a frame came before, whether its line, or a later one, is bad or not.
-abbrev pub anew_since : Progress → ℕ → Option ℕ
-anew_since progress micros = if is_some progress.newest || progress.damaged then Some micros else None
+-- The newest command is forgotten, or that it began anew: no longer ago than a device takes to boot up. A stamp that
+-- steps back counts as one of now.
+abbrev pub recent : Limits → Option ℕ → ℕ → Option ℕ
+recent limits None micros = None
+recent limits (Some last) micros =
+    if is_past last limits.boot micros then None else Some (if nat_lt micros last then micros else last)
+
+abbrev pub forgotten : Limits → Nmt → ℕ → Option ℕ
+forgotten limits nmt micros = recent limits (option_or (option_map (λ c. c.micros) nmt.commanded) nmt.reset) micros
+
+-- It begins anew: a line is bad, or a command is forgotten that the device may follow still. Else it begins as at its
+-- first frame: the bus was quiet, or the recorder rested.
+abbrev pub anew_since : Limits → Progress → ℕ → Option ℕ
+anew_since limits progress micros = if is_some progress.damaged then Some micros else forgotten limits progress.nmt micros
+
+-- What 1017:00 may have, as far as one number says it: what it has, or what a client asked to write last.
+abbrev pub period_then : Progress → Option ℕ
+period_then progress = option_or progress.entries.period progress.heartbeats.asked
+
+-- One bad line had one frame at most, so one write of 1017:00. Of several, or where the recorder may have rested besides,
+-- nothing is known.
+abbrev pub former_lost : Progress → Option ℕ
+former_lost progress =
+    if is_some progress.newest then former_asked (Some (unwrap_or (period_then progress) longest_period)) progress.heartbeats.former
+    else Some longest_period
+
+abbrev pub former_begun : Limits → Progress → ℕ → Option ℕ
+former_begun limits progress micros =
+    if anew_after limits progress.entries.period progress.damaged micros then Some longest_period else progress.heartbeats.former
 
 -- then nothing is known, and a command that came before may be followed; where it was quiet, no request is
 -- known
@@ -115,7 +141,8 @@ begun subject progress micros =
       started = micros;
       begins = true;
       free = micros;
-      nmt = at_begin (anew_since progress micros);
+      nmt = at_begin (anew_since subject.limits progress micros);
+      heartbeats = record no_heartbeat { former = former_begun subject.limits progress micros };
       dialogue = still_awaited progress.dialogue micros;
       other_client = client_since subject progress;
       asked_at = asked_since progress micros;
@@ -133,12 +160,16 @@ begun subject progress micros =
 -- A line of the recording is bad: what it had is unknown, so with the next frame the recording begins anew.
 -- Before the first frame nothing is known anyway.
 abbrev pub with_bad_line : Progress → Progress
-with_bad_line progress = record progress { newest = None; damaged = progress.damaged || is_some progress.newest }
+with_bad_line progress = record progress {
+  newest = None;
+  damaged = option_or progress.damaged progress.newest;
+  heartbeats = record progress.heartbeats { former = former_lost progress };
+}
 
 -- what is open isn't known any more: after a reset, a boot-up, and an error frame
 unfoldable pub with_gap : Progress → ℕ → Progress
 with_gap progress micros = record progress {
-  heartbeats = record progress.heartbeats { since = None; sent = None; slow = None };
+  heartbeats = record progress.heartbeats { since = None; sent = None; slow = None; asked = None };
   emergency = None;
   dialogue = interrupted progress.dialogue micros;
   pdos = tpdos.interrupted progress.pdos;
@@ -203,13 +234,13 @@ booted_former subject progress = if may_be_written subject progress then Some lo
 unfoldable pub booted : Subject → Progress → ℕ → Progress
 booted subject progress micros = record progress {
   nmt = states.after_control subject.limits progress.started progress.nmt progress.free micros 0;
-  heartbeats = record progress.heartbeats { since = Some micros; sent = Some progress.free; slow = None; former = booted_former subject progress };
+  heartbeats = record progress.heartbeats { since = Some micros; sent = Some progress.free; slow = None; former = booted_former subject progress; asked = None };
   entries = booted_entries subject progress;
   emergency = None;
   dialogue = record (interrupted progress.dialogue micros) { slow = nothing_left; sub_block = false };
   pdos = booted_pdos subject progress;
   written = nothing_written;
-  remark = restart_remark progress.nmt micros;
+  remark = restart_remark subject.limits progress.nmt micros;
 }
 
 -- ---- heartbeats
@@ -340,10 +371,25 @@ after_length subject progress micros length =
 
 -- ---- EMCY
 
+-- Nobody switches a device off and on within a second (as for `second_boot_up`): it runs since a frame that came so shortly
+-- before.
+abbrev pub came_just_now : Option ℕ → ℕ → Bool
+came_just_now last micros = option_map_or (λ l. not (is_past l 1000 micros)) last false
+
+-- So it runs since its newest EMCY where that, or its newest heartbeat, came so, and the next heartbeat isn't late.
+abbrev pub may_be_restarted : Subject → Progress → ℕ → Bool
+may_be_restarted subject progress micros =
+    is_overdue subject progress || not (came_just_now progress.emergency micros || came_just_now progress.heartbeats.since micros)
+
+abbrev pub emergency_difference : Subject → Progress → ℕ → ℕ → ℕ → Option Finding
+emergency_difference subject progress micros code register =
+    unless_restarted (may_be_restarted subject progress micros)
+    (emergency_finding subject.limits progress.entries (judged_state progress.nmt) (steady_when_free subject progress) progress.emergency micros code register)
+
 unfoldable pub emergency_findings : Subject → Progress → ℕ → ℕ → ℕ → Findings
 emergency_findings subject progress micros code register =
     found None (late_by subject progress progress.entries.emergencies micros) None
-    (emergency_finding subject.limits progress.entries (judged_state progress.nmt) (steady_when_free subject progress) progress.emergency micros code register)
+    (emergency_difference subject progress micros code register)
     progress.entries.emergencies
 
 abbrev pub odd_emergency_findings : Progress → ℕ → Findings
@@ -479,7 +525,8 @@ channel_heard subject progress micros side frame =
     let entries = with_sharing (shares_id subject.node side frame) (asked_by side frame (entries_heard progress.entries shown next.asked)) in
     record progress {
       nmt = nmt_heard subject.limits progress.started progress.nmt micros side (exchange_at subject progress micros side frame);
-      heartbeats = with_former (after_transfer progress.heartbeats ended micros) (period_asked_by side frame progress.entries.period) progress.entries.period entries.period micros;
+      heartbeats = with_asked (newest_asked side frame progress.heartbeats.asked)
+          (with_former (after_transfer progress.heartbeats ended micros) (period_asked_by side frame (period_then progress)) progress.entries.period entries.period micros);
       entries = entries;
       pdos = pdos_by side frame (pdos_heard beside shown next.asked micros) micros;
       dialogue = next;
@@ -526,7 +573,7 @@ answer_findings subject rows progress micros frame =
     let exchange = exchange_at subject noted micros Server frame in
     found (boot_finding subject.limits progress.nmt micros) (late_by subject progress true micros) None
     (option_or (stopped_finding subject.limits noted.started (answer_nmt subject progress micros) exchange)
-    (option_or (answer_finding subject rows micros exchange frame) (held_finding subject noted.written exchange)))
+    (option_or (answer_finding subject rows micros (answer_nmt subject progress micros) exchange frame) (held_finding subject noted.written exchange)))
     (is_judged exchange)
 
 abbrev pub after_answer : Subject → Progress → ℕ → FrameContent → Progress

@@ -38,7 +38,7 @@ nothing_commanded = record {
 }
 
 -- A recording begins: a device may follow a command that came before, out of stopped too, at any time. Where
--- the recording begins anew with a frame at this time, that may have been a reset too, whose boot-up is still
+-- the recording begins anew since this time, that may have been a reset too, whose boot-up is still
 -- to come, also after that of another one.
 abbrev pub at_begin : Option ℕ → Nmt
 at_begin anew = record nothing_commanded {
@@ -137,11 +137,16 @@ unfoldable pub second_boot_up : Option ℕ → ℕ → Option Finding
 second_boot_up None micros = None
 second_boot_up (Some booted) micros = if is_past booted 1000 micros then None else Some (SecondBootUp (micros - booted))
 
+-- more than one boot-up may still come: the newest reset isn't so old that its boot-up would be
+-- overdue
+abbrev pub several_left : Limits → Nmt → ℕ → Bool
+several_left limits nmt micros = option_map_or (λ reset. nmt.several && not (is_past reset limits.boot micros)) nmt.reset false
+
 -- `restarted`: a boot-up of a device that was seen up, though no reset was commanded since; none of
 -- several that may be due, and not where it is taken for another device's
-unfoldable pub restart_remark : Nmt → ℕ → Option Remark
-restart_remark nmt micros =
-    if not (is_up nmt.state) || (nmt.several || is_some (second_boot_up nmt.booted micros)) then None else Some Restarted
+unfoldable pub restart_remark : Limits → Nmt → ℕ → Option Remark
+restart_remark limits nmt micros =
+    if not (is_up nmt.state) || (several_left limits nmt micros || is_some (second_boot_up nmt.booted micros)) then None else Some Restarted
 
 -- After a boot-up a device is pre-operational. Where another command than a reset came shortly
 -- before, it may have taken it, and others before that: it may be stopped still.
@@ -168,8 +173,8 @@ after_boot_up limits nmt micros = record {
   state = if boots_known limits nmt.commanded micros then PreOperational else Unknown;
   commanded = nmt.commanded;
   reset = nmt.reset;
-  several = nmt.several;
-  booted = if nmt.several then None else Some micros;
+  several = several_left limits nmt micros;
+  booted = if several_left limits nmt micros then None else Some micros;
   due = due_booted limits nmt micros;
   followed = None;
   changed = None;
@@ -178,11 +183,6 @@ after_boot_up limits nmt micros = record {
   odd = None;
   leaving = leaving_booted limits nmt micros;
 }
-
--- more than one boot-up may still come: the newest reset isn't so old that its boot-up would be
--- overdue
-abbrev pub several_left : Limits → Nmt → ℕ → Bool
-several_left limits nmt micros = option_map_or (λ reset. nmt.several && not (is_past reset limits.boot micros)) nmt.reset false
 
 -- a heartbeat, an answer or another frame of error control; after a boot-up that is missing the state
 -- is unknown

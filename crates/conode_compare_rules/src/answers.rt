@@ -7,6 +7,7 @@ ghost use Rattle.co_value.specs.Keys.{is_key_before};
 ghost use Rattle.conode_compare_rules.specs.Answers.{
   answer_finding,
   breach_finding,
+  could_answer_since,
   confirmed_finding,
   ended_finding,
   held_finding,
@@ -112,11 +113,23 @@ fn what_finding(
     }
 }
 
-// an answer that took too long, to a request that it is owed
-fn overdue_answer(limits: &Limits, exchange: &Exchange, micros: u64) -> Option<Finding>
-    ensures { result ≡ overdue_answer limits.now exchange.now micros }
+// whether the device wasn't stopped as it was asked, nor since
+fn could_answer_since(limits: &Limits, nmt: &Nmt, asked: Option<Asked>) -> bool
+    ensures { result ≡ could_answer_since limits.now nmt.now asked }
 {
-    if exchange.owed {
+    match asked {
+        Some(asked) => {
+            nmt.is_steady(limits, asked.micros) && !nmt.leaving.was_stopped(asked.micros)
+        }
+        None => false,
+    }
+}
+
+// an answer that took too long, to a request that it is owed
+fn overdue_answer(limits: &Limits, nmt: &Nmt, exchange: &Exchange, micros: u64) -> Option<Finding>
+    ensures { result ≡ overdue_answer limits.now nmt.now exchange.now micros }
+{
+    if exchange.owed && could_answer_since(limits, nmt, exchange.asked) {
         late_answer(limits, exchange.asked, micros)
     } else {
         None
@@ -215,17 +228,18 @@ pub(crate) fn answer_finding(
     subject: &Subject,
     rows: &[EntryRow<'_>],
     micros: u64,
+    nmt: &Nmt,
     exchange: &Exchange,
     frame: &Frame,
 ) -> Option<Finding>
     requires { AllPairs (λ e f. is_key_before e.key f.key ≡ true) rows.now }
     ensures { result ≡ answer_finding subject.now
-        (map row_view rows.now) micros exchange.now frame.now }
+        (map row_view rows.now) micros nmt.now exchange.now frame.now }
 {
     if !exchange.certain {
         return None;
     }
-    overdue_answer(&subject.limits, exchange, micros).or(known_answer(
+    overdue_answer(&subject.limits, nmt, exchange, micros).or(known_answer(
         subject, rows, exchange, frame,
     ))
 }

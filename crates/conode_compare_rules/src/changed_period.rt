@@ -8,10 +8,13 @@ ghost use Rattle.conode_compare_rules.specs.Heartbeats.{
   former_asked,
   longest,
   may_be_of_change,
+  newest_asked,
   period_asked,
   period_asked_by,
   runs_still,
+  with_asked,
   with_former,
+  word_asked,
 };
 
 use crate::clients::is_channel;
@@ -21,7 +24,7 @@ use crate::nmt::{Nmt, same_state, state_of};
 use co_frame::Frame;
 use co_profile::keys::PRODUCER_HEARTBEAT;
 use co_value::Key;
-use conode_compare_transfers::{asks_to_write, is_past, key_in};
+use conode_compare_transfers::{asks_to_write, byte_at, is_past, key_in};
 use conode_explain_transfers::Side;
 
 // the longest period that may run, where a client asks to write this entry: what 1017:00 has, or
@@ -49,6 +52,29 @@ pub(crate) fn period_asked_by(side: Side, frame: &Frame, period: Option<u16>) ->
     }
 }
 
+// what a client's frame asks to write to 1017:00 in one frame, of two bytes
+fn word_asked(frame: &Frame) -> Option<u16>
+    ensures { result ≡ word_asked frame.now }
+{
+    if frame.bytes().len() == 8 && byte_at(frame, 0) == 0x2B {
+        Some(byte_at(frame, 4) as u16 + byte_at(frame, 5) as u16 * 256)
+    } else {
+        None
+    }
+}
+
+/// What a client asked last to write to 1017:00, once a frame comes; `before`: before it.
+pub(crate) fn newest_asked(side: Side, frame: &Frame, before: Option<u16>) -> Option<u16>
+    ensures { result ≡ newest_asked side frame.now before }
+{
+    match side {
+        Side::Client if asks_to_write(frame) && key_in(frame) == PRODUCER_HEARTBEAT => {
+            word_asked(frame)
+        }
+        _ => before,
+    }
+}
+
 // the longest of the periods that may run
 fn longest(former: Option<u16>, period: u16) -> u16
     ensures { result ≡ longest former period }
@@ -59,8 +85,8 @@ fn longest(former: Option<u16>, period: u16) -> u16
     }
 }
 
-// the longest period that may run, where that which ran is asked to be replaced
-fn former_asked(asked: Option<u16>, former: Option<u16>) -> Option<u16>
+/// The longest period that may run, where that which ran is asked to be replaced.
+pub(crate) fn former_asked(asked: Option<u16>, former: Option<u16>) -> Option<u16>
     ensures { result ≡ former_asked asked former }
 {
     match asked {
@@ -116,7 +142,17 @@ impl Heartbeats {
             slow: self.slow,
             former: former_asked(asked, self.former),
             answered: answered_at(before, after, self.answered, micros),
+            asked: self.asked,
         }
+    }
+
+    /// A client asked last to write this to 1017:00.
+    pub(crate) fn with_asked(self, asked: Option<u16>) -> Heartbeats
+        ensures { result ≡ with_asked asked self }
+    {
+        let mut heartbeats = self;
+        heartbeats.asked = asked;
+        heartbeats
     }
 
     /// Whether a period that ran when 1017:00 was written may still run.

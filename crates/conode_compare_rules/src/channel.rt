@@ -31,7 +31,7 @@ ghost use Rattle.conode_compare_rules.specs.Progresses.{
 };
 
 use crate::answers::{answer_finding, confirmed_finding, held_finding, stopped_finding};
-use crate::changed_period::period_asked_by;
+use crate::changed_period::{newest_asked, period_asked_by};
 use crate::clients::is_channel;
 use crate::entries::{Entries, shares_id};
 use crate::finding::Finding;
@@ -188,6 +188,7 @@ impl Progress {
     {
         let doubtful = is_doubtful(subject.limits.answer, &self.dialogue, micros);
         let period = self.entries.period;
+        let period_then = self.period_then();
         let exchange = self
             .dialogue
             .hear(subject.limits.answer, self.started, micros, side, frame);
@@ -206,8 +207,10 @@ impl Progress {
         let entries = entries.with_sharing(shares);
         self.entries = entries;
         let heartbeats = self.heartbeats.heard(&exchange.heard.ended, micros);
-        let longest = period_asked_by(side, frame, period);
-        self.heartbeats = heartbeats.with_former(longest, period, entries.period, micros);
+        let longest = period_asked_by(side, frame, period_then);
+        let heartbeats = heartbeats.with_former(longest, period, entries.period, micros);
+        let newest = newest_asked(side, frame, self.heartbeats.asked);
+        self.heartbeats = heartbeats.with_asked(newest);
         leave_pdos(&mut self.pdos, unknown, &exchange.heard.ended);
         hear_pdos(
             &mut self.pdos,
@@ -274,7 +277,7 @@ impl Progress {
         let exchange = self.hear(subject, micros, Side::Server, frame);
         let held = held_finding(subject, &self.written, &exchange);
         let difference = stopped_finding(&subject.limits, started, &nmt, &exchange).or(
-            answer_finding(subject, rows, micros, &exchange, frame).or(held),
+            answer_finding(subject, rows, micros, &nmt, &exchange, frame).or(held),
         );
         let judged = is_judged(&exchange);
         self.note_exchange(subject, exchange);

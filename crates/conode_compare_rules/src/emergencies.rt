@@ -6,17 +6,21 @@ ghost use Rattle.conode_compare_rules.specs.EmergencyRules.{
   fits_register,
   gap_finding,
   has_register,
+  is_inhibited,
   inhibit_finding,
   is_in_force,
   length_finding,
   least_gap,
   may_wait,
+  unless_restarted,
   was_in_force,
 };
+ghost use Rattle.conode_compare_rules.specs.Progresses.{came_just_now, emergency_difference, may_be_restarted};
 
 use crate::entries::Entries;
 use crate::finding::{Finding, NmtState};
-use crate::limits::{Limits, drift_of};
+use crate::limits::{Limits, Subject, drift_of};
+use crate::progress::Progress;
 use conode_compare_transfers::{is_past, micros_of};
 
 // The error register has bit 0 wherever another bit is set, and while the code isn't one of "error
@@ -104,10 +108,10 @@ fn inhibit_finding(
     }
 }
 
-/// The difference of an EMCY of eight bytes: of the NMT state, once that is settled, else of the
-/// error register, else of the inhibit time.
+// The difference of an EMCY of eight bytes: of the NMT state, once that is settled, else of the
+// error register, else of the inhibit time.
 #[tactic(auto, unfolding(crate::specs::EmergencyRules::emergency_finding))]
-pub(crate) fn emergency_finding(
+fn emergency_finding(
     limits: &Limits,
     entries: &Entries,
     state: NmtState,
@@ -132,6 +136,18 @@ pub(crate) fn emergency_finding(
     inhibit_finding(limits, entries, last, micros)
 }
 
+// the difference of an EMCY of a device that may have been switched off and on since its last one, of
+// which it knows nothing then
+fn unless_restarted(restarted: bool, finding: Option<Finding>) -> Option<Finding>
+    ensures { result ≡ unless_restarted restarted finding }
+{
+    if matches!(finding, Some(Finding::EmergencyInhibit(_, _))) && restarted {
+        None
+    } else {
+        finding
+    }
+}
+
 /// The difference of an EMCY of another number of bytes.
 pub(crate) fn length_finding(entries: &Entries, length: u8) -> Option<Finding>
     ensures { result ≡ length_finding entries.now length }
@@ -140,5 +156,52 @@ pub(crate) fn length_finding(entries: &Entries, length: u8) -> Option<Finding>
         Some(Finding::EmergencyLength(length))
     } else {
         None
+    }
+}
+
+// a device isn't switched off and on within so many ms
+const RESTART: u32 = 1000;
+
+// whether a frame of the device came so shortly before that it runs since
+fn came_just_now(last: Option<u64>, micros: u64) -> bool
+    ensures { result ≡ came_just_now last micros }
+{
+    match last {
+        Some(last) => !is_past(last, RESTART, micros),
+        None => false,
+    }
+}
+
+impl Progress {
+    // whether the device may have been switched off and on since its newest EMCY
+    fn may_be_restarted(&self, subject: &Subject, micros: u64) -> bool
+        ensures { result ≡ may_be_restarted subject.now self.now micros }
+    {
+        self.is_overdue(subject)
+            || !(came_just_now(self.emergency, micros)
+                || came_just_now(self.heartbeats.since, micros))
+    }
+
+    /// The difference of an EMCY of eight bytes.
+    pub(crate) fn emergency_difference(
+        &self,
+        subject: &Subject,
+        micros: u64,
+        code: u16,
+        register: u8,
+    ) -> Option<Finding>
+        ensures { result ≡ emergency_difference subject.now self.now micros code register }
+    {
+        let finding = emergency_finding(
+            &subject.limits,
+            &self.entries,
+            self.nmt.judged_state(),
+            self.steady_when_free(subject),
+            self.emergency,
+            micros,
+            code,
+            register,
+        );
+        unless_restarted(self.may_be_restarted(subject, micros), finding)
     }
 }

@@ -266,8 +266,10 @@ impl Entries {
             entries.period = Some(period);
         }
         if let Some(inhibit) = shown_inhibit(ended) {
+            if entries.inhibit != Some(inhibit) {
+                entries.inhibit_shown = Some(ended.end);
+            }
             entries.inhibit = Some(inhibit);
-            entries.inhibit_shown = Some(ended.end);
         }
         entries
     }

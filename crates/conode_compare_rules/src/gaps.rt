@@ -8,18 +8,36 @@ ghost use Rattle.conode_compare_rules.specs.Progresses.{
   begins_anew,
   begun,
   client_since,
+  forgotten,
+  former_begun,
+  former_lost,
   free_at,
+  period_then,
+  recent,
   was_quiet,
   with_bad_line,
   with_gap,
 };
 
-use crate::heartbeats::{follows_closely, is_gap};
+use crate::changed_period::former_asked;
+use crate::heartbeats::{LONGEST_PERIOD, follows_closely, is_gap};
 use crate::limits::{Limits, Subject};
 use crate::nmt::Nmt;
 use crate::progress::Progress;
 use conode_compare_transfers::is_past;
 use conode_compare_values::Written;
+
+// when something came that the device may follow still: no longer ago than it takes to boot up
+fn recent(limits: &Limits, last: Option<u64>, micros: u64) -> Option<u64>
+    ensures { result ≡ recent limits.now last micros }
+{
+    match last {
+        Some(last) if !is_past(last, limits.boot, micros) => {
+            Some(if micros < last { micros } else { last })
+        }
+        _ => None,
+    }
+}
 
 impl Progress {
     // Whether the recording begins anew: a stamp steps back, or the recorder may have rested.
@@ -58,24 +76,71 @@ impl Progress {
     fn client_since(&self, subject: &Subject) -> bool
         ensures { result ≡ client_since subject.now self.now }
     {
-        self.other_client || self.damaged && subject.facts.clients.are_any()
+        self.other_client || self.damaged.is_some() && subject.facts.clients.are_any()
     }
 
     // When a client may have asked to write last: a bad line may have had its request.
     fn asked_since(&self, micros: u64) -> Option<u64>
         ensures { result ≡ asked_since self.now micros }
     {
-        if self.damaged { Some(micros) } else { None }
-    }
-
-    // When the recording begins anew, if a frame came before.
-    fn anew_since(&self, micros: u64) -> Option<u64>
-        ensures { result ≡ anew_since self.now micros }
-    {
-        if self.newest.is_some() || self.damaged {
+        if self.damaged.is_some() {
             Some(micros)
         } else {
             None
+        }
+    }
+
+    // When the newest command came that is forgotten, or when the recording began anew before, where
+    // the device may follow a command still.
+    fn forgotten(&self, limits: &Limits, micros: u64) -> Option<u64>
+        ensures { result ≡ forgotten limits.now self.now.nmt micros }
+    {
+        match self.nmt.commanded {
+            Some(command) => recent(limits, Some(command.micros), micros),
+            None => recent(limits, self.nmt.reset, micros),
+        }
+    }
+
+    // Since when the recording begins anew, where it doesn't begin as at its first frame.
+    fn anew_since(&self, limits: &Limits, micros: u64) -> Option<u64>
+        ensures { result ≡ anew_since limits.now self.now micros }
+    {
+        if self.damaged.is_some() {
+            Some(micros)
+        } else {
+            self.forgotten(limits, micros)
+        }
+    }
+
+    /// What 1017:00 may have, as far as one number says it: what it has, or what a client asked to
+    /// write last.
+    pub(crate) fn period_then(&self) -> Option<u16>
+        ensures { result ≡ period_then self.now }
+    {
+        self.entries.period.or(self.heartbeats.asked)
+    }
+
+    // The longest period that may run, once a line is bad: that had one write at most.
+    fn former_lost(&self) -> Option<u16>
+        ensures { result ≡ former_lost self.now }
+    {
+        if self.newest.is_none() {
+            return Some(LONGEST_PERIOD);
+        }
+        let period = self.period_then().unwrap_or(LONGEST_PERIOD);
+        former_asked(Some(period), self.heartbeats.former)
+    }
+
+    // The longest period that may run where the recording begins anew: any, but after one bad line.
+    fn former_begun(&self, limits: &Limits, micros: u64) -> Option<u16>
+        ensures { result ≡ former_begun limits.now self.now micros }
+    {
+        match self.damaged {
+            Some(newest)
+                if micros >= newest && !is_gap(limits, self.entries.period, newest, micros) => {
+                self.heartbeats.former
+            }
+            _ => Some(LONGEST_PERIOD),
         }
     }
 
@@ -84,7 +149,8 @@ impl Progress {
     pub fn note_bad_line(&mut self)
         ensures { self.new ≡ with_bad_line self.old }
     {
-        self.damaged = self.damaged || self.newest.is_some();
+        self.heartbeats.former = self.former_lost();
+        self.damaged = self.damaged.or(self.newest);
         self.newest = None;
     }
 
@@ -102,9 +168,11 @@ impl Progress {
             let sub_block = self.dialogue.sub_block;
             let other_client = self.client_since(subject);
             let asked_at = self.asked_since(micros);
-            let anew = self.anew_since(micros);
+            let anew = self.anew_since(&subject.limits, micros);
+            let former = self.former_begun(&subject.limits, micros);
             *self = Progress::new(subject);
             self.nmt = Nmt::at_begin(anew);
+            self.heartbeats.former = former;
             self.started = micros;
             self.asked_at = asked_at;
             self.begins = true;
@@ -134,6 +202,7 @@ impl Progress {
         self.heartbeats.since = None;
         self.heartbeats.sent = None;
         self.heartbeats.slow = None;
+        self.heartbeats.asked = None;
         self.emergency = None;
         self.dialogue.interrupt(micros);
         self.pdos.interrupt();

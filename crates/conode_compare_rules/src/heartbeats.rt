@@ -58,6 +58,8 @@ pub(crate) struct Heartbeats {
     pub(crate) former: Option<u16>,
     /// When the answer came since which what 1017:00 has is known again.
     pub(crate) answered: Option<u64>,
+    /// What a client asked last to write to 1017:00, where it did so in one frame of two bytes.
+    pub(crate) asked: Option<u16>,
 }
 
 /// After how many microseconds a heartbeat is late.
@@ -131,6 +133,7 @@ impl Heartbeats {
             slow: None,
             former: Some(LONGEST_PERIOD),
             answered: None,
+            asked: None,
         }
     }
 
@@ -146,6 +149,7 @@ impl Heartbeats {
             slow: self.slow,
             former: self.former,
             answered: self.answered,
+            asked: self.asked,
         }
     }
 
@@ -166,6 +170,7 @@ impl Heartbeats {
                 slow: None,
                 former: self.former,
                 answered: self.answered,
+                asked: self.asked,
             },
             _ => self,
         }

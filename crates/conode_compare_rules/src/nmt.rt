@@ -63,8 +63,8 @@ pub(crate) struct Nmt {
     pub(crate) state: NmtState,
     /// The newest command.
     pub(crate) commanded: Option<Commanded>,
-    /// The stamp of the newest reset command, or of the frame with which the recording began anew:
-    /// one may have come before that.
+    /// The stamp of the newest reset command; or since when the recording began anew: one may have
+    /// come before that.
     pub(crate) reset: Option<u64>,
     /// Whether more than one boot-up may come, since a reset was commanded before the boot-up of
     /// another one, or may have been.
@@ -260,8 +260,8 @@ impl Nmt {
         }
     }
 
-    /// A recording begins; `anew`: the stamp of the frame with which it begins anew. A device may
-    /// follow a command that came before.
+    /// A recording begins; `anew`: since when it begins anew, where that may have been a reset. A
+    /// device may follow a command that came before.
     pub(crate) fn at_begin(anew: Option<u64>) -> Nmt
         ensures { result ≡ at_begin anew }
     {
@@ -356,10 +356,13 @@ impl Nmt {
 
     /// What is remarked of a boot-up, where the device was up and no reset was commanded since.
     #[tactic(auto, unfolding(crate::specs::States::restart_remark))]
-    pub(crate) fn restart_remark(&self, micros: u64) -> Option<Remark>
-        ensures { result ≡ restart_remark self.now micros }
+    pub(crate) fn restart_remark(&self, limits: &Limits, micros: u64) -> Option<Remark>
+        ensures { result ≡ restart_remark limits.now self.now micros }
     {
-        if !is_up(self.state) || self.several || self.second_boot_up(micros).is_some() {
+        if !is_up(self.state)
+            || self.several_left(limits, micros)
+            || self.second_boot_up(micros).is_some()
+        {
             None
         } else {
             Some(Remark::Restarted)
@@ -493,6 +496,7 @@ impl Nmt {
     fn after_boot_up(self, limits: &Limits, micros: u64) -> Nmt
         ensures { result ≡ after_boot_up limits.now self micros }
     {
+        let several = self.several_left(limits, micros);
         Nmt {
             state: if self.boots_known(limits, micros) {
                 NmtState::PreOperational
@@ -501,8 +505,8 @@ impl Nmt {
             },
             commanded: self.commanded,
             reset: self.reset,
-            several: self.several,
-            booted: if self.several { None } else { Some(micros) },
+            several,
+            booted: if several { None } else { Some(micros) },
             due: self.due_booted(limits, micros),
             followed: None,
             changed: None,

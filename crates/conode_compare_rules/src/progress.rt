@@ -43,7 +43,7 @@ ghost use Rattle.conode_compare_rules.specs.Progresses.{
 };
 
 use crate::answers::silence_finding;
-use crate::emergencies::{emergency_finding, length_finding};
+use crate::emergencies::length_finding;
 use crate::entries::Entries;
 use crate::finding::{Finding, NmtState, Remark};
 use crate::heartbeats::{Heartbeats, LONGEST_PERIOD};
@@ -68,8 +68,8 @@ pub struct Progress {
     pub started: u64,
     /// Whether the recording begins with the newest frame, or begins anew; or that is an error frame.
     pub(crate) begins: bool,
-    /// Whether a line since the newest frame is bad, or since an earlier one, and no frame came yet.
-    pub(crate) damaged: bool,
+    /// The stamp of the newest frame before a line that is bad, where no frame came since.
+    pub(crate) damaged: Option<u64>,
     /// When the bus was free last: the stamp of the first of the frames that follow one another
     /// closely.
     pub free: u64,
@@ -101,7 +101,7 @@ impl Progress {
             newest: None,
             started: 0,
             begins: false,
-            damaged: false,
+            damaged: None,
             free: 0,
             nmt: Nmt::new(),
             heartbeats: Heartbeats::new(),
@@ -211,7 +211,7 @@ impl Progress {
             micros,
             0,
         );
-        self.remark = self.nmt.restart_remark(micros);
+        self.remark = self.nmt.restart_remark(&subject.limits, micros);
         self.nmt = self
             .nmt
             .after_control(&subject.limits, self.started, self.free, micros, 0);
@@ -223,6 +223,7 @@ impl Progress {
         self.heartbeats.since = Some(micros);
         self.heartbeats.sent = Some(self.free);
         self.heartbeats.former = self.booted_former(subject);
+        self.heartbeats.asked = None;
         Findings::of(None, None, None, frame, true)
     }
 
@@ -471,20 +472,10 @@ impl Progress {
         ensures findings { result ≡ emergency_findings subject.now self.old micros code register }
         ensures progress { self.new ≡ emergency_noted subject.now self.old micros }
     {
-        let steady = self.steady_when_free(subject);
         let shows = self.shows_by_emergency(subject);
         let follows = self.nmt.has_left_stopped() && shows;
+        let frame = self.emergency_difference(subject, micros, code, register);
         let late = self.notice_late(subject, self.entries.emergencies, micros);
-        let frame = emergency_finding(
-            &subject.limits,
-            &self.entries,
-            self.nmt.judged_state(),
-            steady,
-            self.emergency,
-            micros,
-            code,
-            register,
-        );
         if follows {
             self.nmt.note_followed(micros);
         }
