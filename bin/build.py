@@ -66,6 +66,10 @@ class Crate:
         """The folder of what was proved of an archive: it is the same for each processor, so that the next one takes it from there."""
         return f"{self.folder}/out/proved"
 
+    def place(self):
+        """The folder that the prover runs in."""
+        return self.folder
+
     def sources(self):
         """The crate's files and folders."""
         for part in ("src", "specs", "proofs"):
@@ -145,7 +149,7 @@ class Part(Crate):
         code = "".join(self.files.values())
         self.uses = [it for it in whole.uses if re.search(rf"\b{it}::", code)]
         self.share = len(self.uses) / len(whole.uses)
-        self.is_program = True
+        self.is_program, self.room = True, None
 
     @staticmethod
     def known(src):
@@ -184,17 +188,19 @@ class Part(Crate):
         bodies = [f"/// A command that is left out.\n{it} {{\n{body}}}\n" for it in calls]
         return "\n".join([f"//! `{command}`, left out.\n", "\n".join(uses) + "\n", *bodies])
 
-    def write(self):
-        """Writes its code; a file that is as it was stays."""
-        os.makedirs(f"{self.folder}/src", exist_ok=True)
-        for name in os.listdir(f"{self.folder}/src"):
-            if name not in self.files:
-                os.remove(f"{self.folder}/src/{name}")
-        for name, text in self.files.items():
-            path = f"{self.folder}/src/{name}"
-            if not os.path.exists(path) or open(path, encoding="utf-8").read() != text:
-                with open(path, "w", encoding="utf-8") as it:
+    def place(self):
+        """A folder with its code, outside the repository: rt stops at code in it that belongs to no crate of crates.txt."""
+        if not self.room:
+            self.room = tempfile.TemporaryDirectory(prefix="conode-")
+            os.mkdir(f"{self.room.name}/src")
+            for name, text in self.files.items():
+                with open(f"{self.room.name}/src/{name}", "w", encoding="utf-8") as it:
                     it.write(text)
+        return self.room.name
+
+    def sources(self):
+        """The files of the program that it is made of."""
+        return [f"{self.src}/{it}" for it in sorted(self.files) if "left out.\n" not in self.files[it]]
 
     def made(self):
         return f"{self.folder}/{self.name}"
@@ -205,10 +211,11 @@ class Part(Crate):
     def note(self, kit):
         """Notes the kit's version, and for `bin/conode` the files and folders that it is made of, from the root of the repository."""
         super().note(kit)
-        own = [f"crates/{self.name}/src/{it}" for it in sorted(self.files) if "left out.\n" not in self.files[it]]
+        own = [os.path.relpath(it, ROOT) for it in self.sources()]
         below = [f"crates/{it.name}/{part}" for it in self.below for part in ("src", "specs", "proofs")]
         with open(f"{self.folder}/made-of", "w", encoding="utf-8") as it:
             it.writelines(f"{path}\n" for path in ["crates.txt", *own, *(path for path in below if os.path.isdir(f"{ROOT}/{path}"))])
+        self.room.cleanup()
 
 
 def read_crates(wanted, target, commands=()):
@@ -376,7 +383,7 @@ class Run:
                 os.remove(f"{os.path.dirname(crate.made())}/stamp")
         if crate.is_archive and not crate.target:
             shutil.rmtree(crate.proved(), ignore_errors=True)
-        how = {"cwd": crate.folder, "stdin": subprocess.DEVNULL, "stdout": self.log, "stderr": subprocess.STDOUT}
+        how = {"cwd": crate.place(), "stdin": subprocess.DEVNULL, "stdout": self.log, "stderr": subprocess.STDOUT}
         # the prover keeps the memory that it has freed: a few percent less processor time, a tenth more memory
         how["env"] = {"MIMALLOC_PURGE_DELAY": "-1", **os.environ}
         words = [f"{kit}/bin/rattle", "build", *crate.words(kit, jobs)]
@@ -492,8 +499,7 @@ def run(wanted, target, commands, rest):
         return 1
     page, version = (subprocess.run([rt, it], stdout=subprocess.PIPE, check=True, text=True).stdout.strip() for it in ("doc", "version"))
     crates = read_crates(wanted, target, commands)
-    if commands:
-        crates[-1].write()
+    os.makedirs(crates[-1].folder, exist_ok=True)
     for number in (signal.SIGTERM, signal.SIGHUP):
         signal.signal(number, lambda number, _: sys.exit(128 + number))
     held = lock(crates)
