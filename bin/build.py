@@ -287,12 +287,13 @@ def read_measured(file):
 
 
 def foresee(crates, rate):
-    """Gives each crate the seconds that it should take on this machine, where one at SPEED is so many, and the memory."""
+    """Gives each crate the seconds that it should take on this machine, where one at SPEED is so many, and the memory; that rate."""
     said = {**read_measured(MEASURED), **read_measured(MEASURED_HERE)}
     for it in crates:
         lines = sum(open(path, "rb").read().count(b"\n") for path in it.sources() if path.endswith(".rt"))
         seconds, it.megabytes = said.get(it.name, (SECONDS + SECONDS_A_LINE * lines, MEGABYTES))
         it.seconds = seconds * rate * it.share
+    return rate
 
 
 def write_measured(took, rate):
@@ -430,13 +431,13 @@ def build(crates, kit, version, held):
     if not left:
         return True
     speed = Speed()
-    foresee(crates, speed.rate())
+    foreseen_by = foresee(crates, speed.rate())
     cores, count, ended, running, took = processors(), len(left), 0, [], {}
     say(
         f"proving {count} of {len(crates)} crates, about {minutes(estimate(left, [], cores))} on {cores} processors;"
         " Ctrl-C stops it, and the next start goes on from there"
     )
-    schedule, used, foreseen = Schedule(left), 0.0, 0.0
+    schedule, used, measured, looked = Schedule(left), 0.0, 0.0, time.monotonic()
     with tempfile.TemporaryDirectory(prefix="conode-") as room:
         try:
             while ended < count:
@@ -456,18 +457,27 @@ def build(crates, kit, version, held):
                         return False
                     it.crate.note(version)
                     ended += 1
-                    used, foreseen = used + it.used, foreseen + it.crate.seconds
+                    used, measured = used + it.used, measured + it.crate.seconds / foreseen_by
                     speed.look(1)
                     if not it.crate.target and it.crate.share == 1.0:
                         # (another processor's archive takes what was proved for x86-64)
                         took[it.crate.name] = it.used, it.megabytes
                         write_measured(took, speed.rate())
                     # what has ended says how fast this machine really is, the more the longer it took
-                    slower = (used + TRUSTED) / (foreseen + TRUSTED)
+                    slower = (used + TRUSTED) / (measured * foreseen_by + TRUSTED)
                     at_work = [(it.seconds_left(), it.crate, it.jobs) for it in running]
                     rest = slower * estimate([*schedule.left.values()], at_work, cores)
                     after = f"; about {minutes(rest)} left" if ended < count else ""
                     say(f"{ended} of {count}: {it.crate.name}, {minutes(time.monotonic() - it.begun)}{after}")
+                if time.monotonic() - looked > 5:
+                    # a machine that was slow at the start makes the first estimate too long: it is mended as soon as that shows
+                    speed.look(1)
+                    looked = time.monotonic()
+                    if speed.rate() < 0.85 * foreseen_by:
+                        foreseen_by = foresee(crates, speed.rate())
+                        at_work = [(it.seconds_left(), it.crate, it.jobs) for it in running]
+                        rest = estimate([*schedule.left.values()], at_work, cores)
+                        say(f"this machine is faster than it was at the start; about {minutes(rest)} left")
                 if not done:
                     time.sleep(0.2)
         finally:
