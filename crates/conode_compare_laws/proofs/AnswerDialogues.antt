@@ -34,14 +34,14 @@ module _ (answer started : ℕ) (d : Dialogue) (micros : ℕ) (side : Side) (fra
   asked_is = ap (λ w. asked_after w micros frame) (what_is d.channel micros side frame.bytes)
 
   pub doubted_is : (dialogue_heard answer started d micros side frame).doubted
-      ≡ (if leaves_request_open (owes answer started d) (owes_nothing d.newest) side (reads d.channel micros side frame.bytes).says frame || is_in_doubt (doubts_request answer d micros frame) (reads d.channel micros side frame.bytes).says.what then Some micros else d.doubted)
+      ≡ (if leaves_request_open (owes answer started d) (owes_nothing d.newest) side d.doubted (reads d.channel micros side frame.bytes).says frame || is_in_doubt (doubts_request answer d micros frame) (reads d.channel micros side frame.bytes).says.what then Some micros else d.doubted)
   unfolding dialogue_heard
   doubted_is =
-      ap (λ b. if b || is_in_doubt (doubts_request answer d micros frame) (followed d.channel micros side frame.bytes).says.what then Some micros else d.doubted) (leaves_is (owes answer started d) (owes_nothing d.newest) d.channel micros side frame)
-      ∙ ap (λ w. if leaves_request_open (owes answer started d) (owes_nothing d.newest) side (reads d.channel micros side frame.bytes).says frame || is_in_doubt (doubts_request answer d micros frame) w then Some micros else d.doubted) (what_is d.channel micros side frame.bytes)
+      ap (λ b. if b || is_in_doubt (doubts_request answer d micros frame) (followed d.channel micros side frame.bytes).says.what then Some micros else d.doubted) (leaves_is (owes answer started d) (owes_nothing d.newest) d.doubted d.channel micros side frame)
+      ∙ ap (λ w. if leaves_request_open (owes answer started d) (owes_nothing d.newest) side d.doubted (reads d.channel micros side frame.bytes).says frame || is_in_doubt (doubts_request answer d micros frame) w then Some micros else d.doubted) (what_is d.channel micros side frame.bytes)
 
   -- a request is left open
-  pub doubted_by : leaves_request_open (owes answer started d) (owes_nothing d.newest) side (reads d.channel micros side frame.bytes).says frame ≡ true → (dialogue_heard answer started d micros side frame).doubted ≡ Some micros
+  pub doubted_by : leaves_request_open (owes answer started d) (owes_nothing d.newest) side d.doubted (reads d.channel micros side frame.bytes).says frame ≡ true → (dialogue_heard answer started d micros side frame).doubted ≡ Some micros
   doubted_by leaves = doubted_is ∙ ap (λ b. if b || is_in_doubt (doubts_request answer d micros frame) (reads d.channel micros side frame.bytes).says.what then Some micros else d.doubted) leaves
 
 pub none_asked : (w : What) (micros : ℕ) (frame : FrameContent) → is_initiate w ≡ false → asked_after w micros frame ≡ None
@@ -113,7 +113,7 @@ later_heard answer started d micros frame s n =
     let o : GoesOpen f frame = client_open d.channel.heard d.channel.transfer r micros frame s n in
     let channel : (dialogue_heard answer started d micros Client frame).channel ≡ f.next = channel_is answer started d micros Client frame ∙ ap (λ (x : Followed). x.next) same in
     let doubts : Leaves Client f frame → (dialogue_heard answer started d micros Client frame).doubted ≡ Some micros =
-    λ h. doubted_by answer started d micros Client frame (ap (λ (x : Followed). leaves_request_open (owes answer started d) (owes_nothing d.newest) Client x.says frame) same ∙ h (owes answer started d) (owes_nothing d.newest)) in
+    λ h. doubted_by answer started d micros Client frame (ap (λ (x : Followed). leaves_request_open (owes answer started d) (owes_nothing d.newest) Client d.doubted x.says frame) same ∙ h (owes answer started d) (owes_nothing d.newest) d.doubted) in
     record {
       sound = subst (λ (x : Following). IfSome x.transfer Sound) (sym channel) g.sound;
       asked = asked_is answer started d micros Client frame ∙ ap (λ (x : Followed). asked_after x.says.what micros frame) same ∙ none_asked f.says.what micros frame g.what;

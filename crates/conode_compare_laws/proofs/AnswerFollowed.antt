@@ -64,9 +64,9 @@ what_is following micros side bytes = ap (λ (f : Followed). f.says.what) (same_
 pub next_is : (following : Following) (micros : ℕ) (side : Side) (bytes : List ℕ) → (followed following micros side bytes).next ≡ (reads following micros side bytes).next
 next_is following micros side bytes = ap (λ (f : Followed). f.next) (same_reading following.heard following.transfer micros side bytes bytes).followed
 
-pub leaves_is : (owed quiet : Bool) (following : Following) (micros : ℕ) (side : Side) (frame : FrameContent)
-    → leaves_request_open owed quiet side (followed following micros side frame.bytes).says frame ≡ leaves_request_open owed quiet side (reads following micros side frame.bytes).says frame
-leaves_is owed quiet following micros side frame = ap (λ (f : Followed). leaves_request_open owed quiet side f.says frame) (same_reading following.heard following.transfer micros side frame.bytes frame.bytes).followed
+pub leaves_is : (owed quiet : Bool) (doubted : Option ℕ) (following : Following) (micros : ℕ) (side : Side) (frame : FrameContent)
+    → leaves_request_open owed quiet side doubted (followed following micros side frame.bytes).says frame ≡ leaves_request_open owed quiet side doubted (reads following micros side frame.bytes).says frame
+leaves_is owed quiet doubted following micros side frame = ap (λ (f : Followed). leaves_request_open owed quiet side doubted f.says frame) (same_reading following.heard following.transfer micros side frame.bytes frame.bytes).followed
 
 -- ---- a frame that begins nothing
 
@@ -179,9 +179,10 @@ pub client_reading : (current : Option Transfer) (micros : ℕ) (bytes : List �
 client_reading None micros bytes s = refl
 client_reading (Some t) micros bytes s = rw (no_segment t s) refl
 
--- after a frame an earlier request may be answered, whether an answer was owed or not, and whether the device had answered all or not
+-- after a frame an earlier request may be answered, whether an answer was owed or not, whether the device had answered all or not, and
+-- whatever left a doubt before
 abbrev pub Leaves : Side → Followed → FrameContent → Type 0
-Leaves side f frame = (owed quiet : Bool) → leaves_request_open owed quiet side f.says frame ≡ true
+Leaves side f frame = (owed quiet : Bool) (doubted : Option ℕ) → leaves_request_open owed quiet side doubted f.says frame ≡ true
 
 -- so after a frame of the client that begins nothing; or the transfer is open
 abbrev pub GoesOpen : Followed → FrameContent → Type 0
@@ -223,36 +224,37 @@ not_aborted u crc = by u.irregular (size_fault u.size u.taken.count)
     by false None = not_aborted_crc u.taken.crc crc
     by false (Some size) = refl
 
-known_end : (owed quiet : Bool) (ending : Ending) (key : Key) (frame : FrameContent) → is_aborted ending ≡ false → is_known_end owed quiet true ending key frame ≡ false
+-- where the server doesn't confirm it
+known_end : (owed quiet : Bool) (ending : Ending) (key : Key) (frame : FrameContent) → is_aborted ending ≡ false → is_known_end owed quiet false true ending key frame ≡ false
 known_end owed quiet (Aborted side code) key frame h = absurd (false≢true (sym h))
 known_end owed quiet (Done crc) key frame h = refl
 known_end owed quiet _ key frame h = refl
 
--- the end of a block transfer without an abort
-pub block_ends : (owed quiet : Bool) (x : Ended) (frame : FrameContent) → is_block x.protocol ≡ true → is_aborted x.ending ≡ false → ends_in_doubt owed quiet (Some x) frame ≡ true
-block_ends owed quiet x frame block ending = ap (λ b. not (is_known_end owed quiet b x.ending x.key frame)) (same_block x.protocol block) ∙ ap not (known_end owed quiet x.ending x.key frame ending)
+-- the end of a block transfer by the client, without an abort
+pub block_ends : (owed quiet : Bool) (doubted : Option ℕ) (x : Ended) (frame : FrameContent) → is_block x.protocol ≡ true → is_aborted x.ending ≡ false → ends_in_doubt owed quiet Client doubted (Some x) frame ≡ true
+block_ends owed quiet doubted x frame block ending = ap (λ b. not (is_known_end owed quiet false b x.ending x.key frame)) (same_block x.protocol block) ∙ ap not (known_end owed quiet x.ending x.key frame ending)
 
--- its last confirmation, of a block transfer
-pub confirmed_in_doubt : (side : Side) (crc : Option ℕ) (heard : Bool) (w : What) (u : Transfer) (micros : ℕ) (frame : FrameContent) → is_block u.protocol ≡ true
-    → Leaves side (turns_at (Some crc) heard w u micros side) frame
-confirmed_in_doubt side crc heard w u micros frame block owed quiet =
-    or_last (is_odd side w) (ends_in_doubt owed quiet (Some (ended (one_more u) micros (verdict u crc))) frame)
-    (block_ends owed quiet (ended (one_more u) micros (verdict u crc)) frame block (not_aborted u crc))
+-- its confirmation of a block upload
+pub confirmed_in_doubt : (crc : Option ℕ) (heard : Bool) (w : What) (u : Transfer) (micros : ℕ) (frame : FrameContent) → is_block u.protocol ≡ true
+    → Leaves Client (turns_at (Some crc) heard w u micros Client) frame
+confirmed_in_doubt crc heard w u micros frame block owed quiet doubted =
+    or_last (is_odd Client w) (ends_in_doubt owed quiet Client doubted (Some (ended (one_more u) micros (verdict u crc))) frame)
+    (block_ends owed quiet doubted (ended (one_more u) micros (verdict u crc)) frame block (not_aborted u crc))
 
 open_turn : (x : Option (Option ℕ)) (heard : Bool) (w : What) (u : Transfer) (micros : ℕ) (frame : FrameContent) (go : Bool) → continues w ≡ go → is_turned w ≡ true
     → (is_some x ≡ true → is_block u.protocol ≡ true) → GoesOpen (turns_at x heard w u micros Client) frame
 open_turn x heard w u micros frame false c on ends = inl (odd x w c on)
   where
     odd : (x : Option (Option ℕ)) (w : What) → continues w ≡ false → is_turned w ≡ true → Leaves Client (turns_at x heard w u micros Client) frame
-    odd None what.Initiate c on owed quiet = absurd (false≢true on)
-    odd None what.Part c on owed quiet = absurd (false≢true (sym c))
-    odd None (what.Segment n) c on owed quiet = absurd (false≢true (sym c))
-    odd None _ c on owed quiet = refl
-    odd (Some crc) what.Initiate c on owed quiet = absurd (false≢true on)
-    odd (Some crc) what.Part c on owed quiet = absurd (false≢true (sym c))
-    odd (Some crc) (what.Segment n) c on owed quiet = absurd (false≢true (sym c))
-    odd (Some crc) _ c on owed quiet = refl
-open_turn (Some crc) heard w u micros frame true c on ends = inl (confirmed_in_doubt Client crc heard w u micros frame (ends refl))
+    odd None what.Initiate c on owed quiet doubted = absurd (false≢true on)
+    odd None what.Part c on owed quiet doubted = absurd (false≢true (sym c))
+    odd None (what.Segment n) c on owed quiet doubted = absurd (false≢true (sym c))
+    odd None _ c on owed quiet doubted = refl
+    odd (Some crc) what.Initiate c on owed quiet doubted = absurd (false≢true on)
+    odd (Some crc) what.Part c on owed quiet doubted = absurd (false≢true (sym c))
+    odd (Some crc) (what.Segment n) c on owed quiet doubted = absurd (false≢true (sym c))
+    odd (Some crc) _ c on owed quiet doubted = refl
+open_turn (Some crc) heard w u micros frame true c on ends = inl (confirmed_in_doubt crc heard w u micros frame (ends refl))
 open_turn None heard w u micros frame true c on ends = inr refl
 
 request_open : (heard : Bool) (t : Transfer) (request : SdoRequest) (micros : ℕ) (frame : FrameContent) → Sound t
@@ -265,22 +267,22 @@ request_open heard t request micros frame s =
 
 stray_open : (heard : Bool) (reading : Reading) (micros : ℕ) (frame : FrameContent) → is_begin reading ≡ false → GoesOpen (follows_by heard None reading micros Client frame.bytes) frame
 stray_open heard (Begin new) micros frame n = absurd (false≢true (sym n))
-stray_open true _ micros frame n = inl (λ owed quiet. refl)
-stray_open false _ micros frame n = inl (λ owed quiet. refl)
+stray_open true _ micros frame n = inl (λ owed quiet doubted. refl)
+stray_open false _ micros frame n = inl (λ owed quiet doubted. refl)
 
 abort_open : (heard : Bool) (t : Transfer) (code : AbortCode) (micros : ℕ) (frame : FrameContent) → GoesOpen (follows_by heard (Some t) (Abort code) micros Client frame.bytes) frame
 abort_open heard t code micros frame = inl (by (is_block t.protocol) (not_followed_by Client t frame.bytes))
   where
-    by : (block : Bool) (segment : Option (Option ℕ)) (owed quiet : Bool) → not (is_known_end owed quiet block (abort_ending Client segment code) t.key frame) ≡ true
-    by block None owed quiet = refl
-    by block (Some next) owed quiet = refl
+    by : (block : Bool) (segment : Option (Option ℕ)) (owed quiet : Bool) (doubted : Option ℕ) → not (is_known_end owed quiet false block (abort_ending Client segment code) t.key frame) ≡ true
+    by block None owed quiet doubted = refl
+    by block (Some next) owed quiet doubted = refl
 
 nothing_open : (heard : Bool) (t : Transfer) (micros : ℕ) (frame : FrameContent) → Sound t → GoesOpen (follows_by heard (Some t) Nothing micros Client frame.bytes) frame
 nothing_open heard t micros frame s = inl (by (confirmed_with t.stage))
   where
     by : (x : Option (Option ℕ)) → Leaves Client (turns_at x heard what.Unexpected (after t (turn_of t Nothing frame.bytes)) micros Client) frame
-    by None owed quiet = refl
-    by (Some crc) owed quiet = refl
+    by None owed quiet doubted = refl
+    by (Some crc) owed quiet doubted = refl
 
 -- what a request asks for
 abbrev pub asks_in : Option SdoRequest → Bool

@@ -88,7 +88,7 @@ later_next : (key : Key) (answer started : ℕ) (d : Dialogue) (micros : ℕ) (f
 later_next key answer started d micros frame s n =
     let same = client_is d micros frame (sound_in key d.channel.transfer s) in
     elim (later_stands key d.channel.heard d.channel.transfer (request_in frame.bytes) micros frame s n) [
-      | inl leaves ↦ inl (doubted_by answer started d micros Client frame (ap (λ (x : Followed). leaves_request_open (owes answer started d) (owes_nothing d.newest) Client x.says frame) same ∙ leaves (owes answer started d) (owes_nothing d.newest)))
+      | inl leaves ↦ inl (doubted_by answer started d micros Client frame (ap (λ (x : Followed). leaves_request_open (owes answer started d) (owes_nothing d.newest) Client d.doubted x.says frame) same ∙ leaves (owes answer started d) (owes_nothing d.newest) d.doubted))
       | inr stands ↦ inr (subst (λ (f : Following). StandsIn (request_in frame.bytes) f.transfer) (sym (channel_is answer started d micros Client frame ∙ ap (λ (x : Followed). x.next) same)) stands)
     ]
 

@@ -233,7 +233,7 @@ shape_after key answer started d micros frame s =
     (shape_goes key d.channel.heard d.channel.transfer _ micros Server frame.bytes s (server_no_begin d.channel.transfer micros frame.bytes))
 
 doubt_after : (answer started : ℕ) (d : Dialogue) (micros : ℕ) (frame : FrameContent) → d.doubted ≡ Some micros → (dialogue_heard answer started d micros Server frame).doubted ≡ Some micros
-doubt_after answer started d micros frame h = doubted_is answer started d micros Server frame ∙ by (leaves_request_open (owes answer started d) (owes_nothing d.newest) Server (reads d.channel micros Server frame.bytes).says frame || is_in_doubt (doubts_request answer d micros frame) (reads d.channel micros Server frame.bytes).says.what)
+doubt_after answer started d micros frame h = doubted_is answer started d micros Server frame ∙ by (leaves_request_open (owes answer started d) (owes_nothing d.newest) Server d.doubted (reads d.channel micros Server frame.bytes).says frame || is_in_doubt (doubts_request answer d micros frame) (reads d.channel micros Server frame.bytes).says.what)
   where
     by : (b : Bool) → (if b then Some micros else d.doubted) ≡ Some micros
     by true = refl

@@ -115,14 +115,14 @@ frame_stands (Some (NextSegment toggle)) _ u micros side h = h
 frame_stands _ w u micros side h = absurd h
 
 odd_frame : (x : Option (Option ℕ)) (heard : Bool) (w : What) (u : Transfer) (micros : ℕ) (frame : FrameContent) → continues w ≡ false → is_turned w ≡ true → Leaves Client (turns_at x heard w u micros Client) frame
-odd_frame None heard what.Initiate u micros frame c on owed quiet = absurd (false≢true on)
-odd_frame None heard what.Part u micros frame c on owed quiet = absurd (false≢true (sym c))
-odd_frame None heard (what.Segment n) u micros frame c on owed quiet = absurd (false≢true (sym c))
-odd_frame None heard _ u micros frame c on owed quiet = refl
-odd_frame (Some crc) heard what.Initiate u micros frame c on owed quiet = absurd (false≢true on)
-odd_frame (Some crc) heard what.Part u micros frame c on owed quiet = absurd (false≢true (sym c))
-odd_frame (Some crc) heard (what.Segment n) u micros frame c on owed quiet = absurd (false≢true (sym c))
-odd_frame (Some crc) heard _ u micros frame c on owed quiet = refl
+odd_frame None heard what.Initiate u micros frame c on owed quiet doubted = absurd (false≢true on)
+odd_frame None heard what.Part u micros frame c on owed quiet doubted = absurd (false≢true (sym c))
+odd_frame None heard (what.Segment n) u micros frame c on owed quiet doubted = absurd (false≢true (sym c))
+odd_frame None heard _ u micros frame c on owed quiet doubted = refl
+odd_frame (Some crc) heard what.Initiate u micros frame c on owed quiet doubted = absurd (false≢true on)
+odd_frame (Some crc) heard what.Part u micros frame c on owed quiet doubted = absurd (false≢true (sym c))
+odd_frame (Some crc) heard (what.Segment n) u micros frame c on owed quiet doubted = absurd (false≢true (sym c))
+odd_frame (Some crc) heard _ u micros frame c on owed quiet doubted = refl
 
 some_confirmed : (x : Option (Option ℕ)) → x ≡ None → is_some x ≡ false
 some_confirmed x e = ap is_some e
@@ -200,16 +200,16 @@ goes_on_stands key heard t (BlockDownloadInitiate k size) micros frame s = reque
 
 -- whatever it is
 stray_leaves : (heard : Bool) (reading : Reading) (micros : ℕ) (frame : FrameContent) → is_begin reading ≡ false → Leaves Client (follows_by heard None reading micros Client frame.bytes) frame
-stray_leaves heard (Begin new) micros frame n owed quiet = absurd (false≢true (sym n))
-stray_leaves true _ micros frame n owed quiet = refl
-stray_leaves false _ micros frame n owed quiet = refl
+stray_leaves heard (Begin new) micros frame n owed quiet doubted = absurd (false≢true (sym n))
+stray_leaves true _ micros frame n owed quiet doubted = refl
+stray_leaves false _ micros frame n owed quiet doubted = refl
 
 abort_leaves : (heard : Bool) (t : Transfer) (code : AbortCode) (micros : ℕ) (frame : FrameContent) → Leaves Client (follows_by heard (Some t) (Abort code) micros Client frame.bytes) frame
 abort_leaves heard t code micros frame = by (is_block t.protocol) (not_followed_by Client t frame.bytes)
   where
-    by : (block : Bool) (segment : Option (Option ℕ)) (owed quiet : Bool) → not (is_known_end owed quiet block (abort_ending Client segment code) t.key frame) ≡ true
-    by block None owed quiet = refl
-    by block (Some next) owed quiet = refl
+    by : (block : Bool) (segment : Option (Option ℕ)) (owed quiet : Bool) (doubted : Option ℕ) → not (is_known_end owed quiet false block (abort_ending Client segment code) t.key frame) ≡ true
+    by block None owed quiet doubted = refl
+    by block (Some next) owed quiet doubted = refl
 
 pub later_stands : (key : Key) (heard : Bool) (current : Option Transfer) (r : Option SdoRequest) (micros : ℕ) (frame : FrameContent) → IfSome current (Shape key) → initiates r ≡ false
     → Leaves Client (follows_by heard current (request_reading r micros frame.bytes) micros Client frame.bytes) frame

@@ -39,6 +39,11 @@ in_blocks AllAcknowledged = true
 in_blocks (BlockEnded crc) = true
 in_blocks _ = false
 
+-- the end came, which isn't confirmed
+abbrev pub is_ended : Stage → Bool
+is_ended (BlockEnded crc) = true
+is_ended _ = false
+
 pub record IsBlockUpload (t : Transfer) : Type 0 where
   pub direction : t.direction ≡ Upload
   pub protocol : is_block t.protocol ≡ true
@@ -243,19 +248,20 @@ asks_for_blocks _ = false
 -- where it is the next frame of the transfer, that is in blocks; and the last confirmation comes in blocks alone
 pub record Asked (blocks : Bool) (turn : Turn) : Type 0 where
   pub goes : blocks ≡ true → continues turn.what ≡ true → in_blocks turn.transfer.stage ≡ true
+  pub unended : blocks ≡ true → continues turn.what ≡ true → is_ended turn.transfer.stage ≡ false
   pub ends : is_some (confirmed_with turn.transfer.stage) ≡ true → is_block turn.transfer.protocol ≡ true
 
 -- a frame that doesn't go on with it
 off : (blocks : Bool) (turn : Turn) → continues turn.what ≡ false → confirmed_with turn.transfer.stage ≡ None → Asked blocks turn
-off blocks turn w c = record { goes = λ on part. absurd (false≢true (sym w ∙ part)); ends = λ h. absurd (false≢true (sym (ap is_some c) ∙ h)) }
+off blocks turn w c = record { goes = λ on part. absurd (false≢true (sym w ∙ part)); unended = λ on part. absurd (false≢true (sym w ∙ part)); ends = λ h. absurd (false≢true (sym (ap is_some c) ∙ h)) }
 
 -- a plain one
 plainly : (turn : Turn) → confirmed_with turn.transfer.stage ≡ None → Asked false turn
-plainly turn c = record { goes = λ on. absurd (false≢true on); ends = λ h. absurd (false≢true (sym (ap is_some c) ∙ h)) }
+plainly turn c = record { goes = λ on. absurd (false≢true on); unended = λ on. absurd (false≢true on); ends = λ h. absurd (false≢true (sym (ap is_some c) ∙ h)) }
 
 -- one in blocks
-blockwise : (blocks : Bool) (turn : Turn) → in_blocks turn.transfer.stage ≡ true → confirmed_with turn.transfer.stage ≡ None → Asked blocks turn
-blockwise blocks turn i c = record { goes = λ on part. i; ends = λ h. absurd (false≢true (sym (ap is_some c) ∙ h)) }
+blockwise : (blocks : Bool) (turn : Turn) → in_blocks turn.transfer.stage ≡ true → is_ended turn.transfer.stage ≡ false → confirmed_with turn.transfer.stage ≡ None → Asked blocks turn
+blockwise blocks turn i e c = record { goes = λ on part. i; unended = λ on part. e; ends = λ h. absurd (false≢true (sym (ap is_some c) ∙ h)) }
 
 either_asked : (blocks b : Bool) (x y : Turn) → Asked blocks x → Asked blocks y → Asked blocks (if b then x else y)
 either_asked blocks true x y p q = p
@@ -272,14 +278,14 @@ upload_request_asked (UploadAsked asked) t toggle c = either_asked false (same_b
 upload_request_asked _ t toggle c = plainly _ c
 
 started_asked : (stage : Stage) (t : Transfer) → confirmed_with t.stage ≡ None → Asked true (upload_started_at stage t)
-started_asked BlockInitiated t c = blockwise true _ refl refl
+started_asked BlockInitiated t c = blockwise true _ refl refl refl
 started_asked _ t c = off true _ refl c
 
 acknowledged_asked : (stage : Stage) (t : Transfer) (sequence block_size : ℕ) → confirmed_with t.stage ≡ None → Asked true (acknowledged_at stage t sequence block_size)
 acknowledged_asked (SubBlock last) t sequence block_size c =
     either_asked true (nat_lt sequence (awaited_number t)) _ _
-    (either_asked true (last && (sequence + 1 == awaited_number t)) _ _ (blockwise true _ refl refl) (blockwise true _ refl refl))
-    (blockwise true _ refl refl)
+    (either_asked true (last && (sequence + 1 == awaited_number t)) _ _ (blockwise true _ refl refl refl) (blockwise true _ refl refl refl))
+    (blockwise true _ refl refl refl)
 acknowledged_asked _ t sequence block_size c = off true _ refl c
 
 by_receiver_asked : (by_receiver : Bool) (t : Transfer) (sequence block_size : ℕ) → confirmed_with t.stage ≡ None → Asked true (acknowledged by_receiver t sequence block_size)
@@ -295,9 +301,9 @@ by_sender_asked true t unused crc c = ended_asked t.stage t unused crc c
 by_sender_asked false t unused crc c = plainly _ c
 
 end_at_asked : (stage : Stage) (t : Transfer) → is_block t.protocol ≡ true → Asked false (end_confirmed_at stage t)
-end_at_asked (BlockEnded crc) t p = record { goes = λ on. absurd (false≢true on); ends = λ h. p }
-end_at_asked Initiated t p = record { goes = λ on. absurd (false≢true on); ends = λ h. p }
-end_at_asked _ t p = record { goes = λ on. absurd (false≢true on); ends = λ h. p }
+end_at_asked (BlockEnded crc) t p = record { goes = λ on. absurd (false≢true on); unended = λ on. absurd (false≢true on); ends = λ h. p }
+end_at_asked Initiated t p = record { goes = λ on. absurd (false≢true on); unended = λ on. absurd (false≢true on); ends = λ h. p }
+end_at_asked _ t p = record { goes = λ on. absurd (false≢true on); unended = λ on. absurd (false≢true on); ends = λ h. p }
 
 end_in_blocks : (block : Bool) (t : Transfer) → is_block t.protocol ≡ block → confirmed_with t.stage ≡ None → Asked false (if block then end_confirmed_at t.stage t else unexpected t)
 end_in_blocks true t p c = end_at_asked t.stage t p

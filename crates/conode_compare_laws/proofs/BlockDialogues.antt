@@ -63,7 +63,7 @@ open_after : (answer started : ℕ) (d : Dialogue) (micros : ℕ) (frame : Frame
     → ((dialogue_heard answer started d micros Server frame).doubted ≡ Some micros)
     ⊎ ((is_some (dialogue_heard answer started d micros Server frame).channel.transfer ≡ true) × IfSome (dialogue_heard answer started d micros Server frame).channel.transfer Lasts)
 open_after answer started d micros frame none l = elim l.lasts [
-  | inl doubt ↦ inl (doubted_by answer started d micros Server frame (ap (λ b. leaves_request_open b (owes_nothing d.newest) Server (reads d.channel micros Server frame.bytes).says frame) (none_owed answer started d none) ∙ doubt (owes_nothing d.newest)))
+  | inl doubt ↦ inl (doubted_by answer started d micros Server frame (ap (λ b. leaves_request_open b (owes_nothing d.newest) Server d.doubted (reads d.channel micros Server frame.bytes).says frame) (none_owed answer started d none) ∙ doubt (owes_nothing d.newest) d.doubted))
   | inr live ↦ inr (
     ap (λ (f : Following). is_some f.transfer) (channel_is answer started d micros Server frame) ∙ live,
     subst (λ (f : Following). IfSome f.transfer Lasts) (sym (channel_is answer started d micros Server frame)) l.blocks,
@@ -77,7 +77,7 @@ sends_on answer started d micros frame h =
       live = s.live;
       asked = s.asked;
       lasts = elim h.lasts [
-        | inl doubt ↦ inl (doubted_is answer started d micros Server frame ∙ doubt_stays (leaves_request_open (owes answer started d) (owes_nothing d.newest) Server (reads d.channel micros Server frame.bytes).says frame || is_in_doubt (doubts_request answer d micros frame) (reads d.channel micros Server frame.bytes).says.what) micros d.doubted doubt)
+        | inl doubt ↦ inl (doubted_is answer started d micros Server frame ∙ doubt_stays (leaves_request_open (owes answer started d) (owes_nothing d.newest) Server d.doubted (reads d.channel micros Server frame.bytes).says frame || is_in_doubt (doubts_request answer d micros frame) (reads d.channel micros Server frame.bytes).says.what) micros d.doubted doubt)
         | inr live ↦ by d.channel.transfer refl live.0 live.1
       ];
     }
@@ -103,7 +103,7 @@ later_heard answer started d micros frame s n =
     let g : GoesOn d.channel.transfer f = goes_on d.channel.heard d.channel.transfer (reading_of d.channel.transfer Client micros frame.bytes) micros Client frame.bytes s n in
     let o : GoesOpen (asks_in (request_in frame.bytes)) f frame = client_open d.channel.heard d.channel.transfer micros frame s n in
     let channel : (dialogue_heard answer started d micros Client frame).channel ≡ f.next = channel_is answer started d micros Client frame in
-    let doubts : Leaves Client f frame → (dialogue_heard answer started d micros Client frame).doubted ≡ Some micros = λ h. doubted_by answer started d micros Client frame (h (owes answer started d) (owes_nothing d.newest)) in
+    let doubts : Leaves Client f frame → (dialogue_heard answer started d micros Client frame).doubted ≡ Some micros = λ h. doubted_by answer started d micros Client frame (h (owes answer started d) (owes_nothing d.newest) d.doubted) in
     record {
       live = subst (λ (x : Following). IfSome x.transfer Live) (sym channel) g.live;
       asked = asked_is answer started d micros Client frame ∙ none_asked f.says.what micros frame g.what;
@@ -145,7 +145,7 @@ doubted_begin answer started d micros frame b c = by (reading_of d.channel.trans
     begun : (t : Transfer) → reading_of d.channel.transfer Client micros frame.bytes ≡ Begin t → (d.sub_block ≡ true) ⊎ IsDown d.channel.transfer → (dialogue_heard answer started d micros Client frame).doubted ≡ Some micros
     begun t is (inl on) =
         doubted_is answer started d micros Client frame
-        ∙ ap (λ (x : Followed). if leaves_request_open (owes answer started d) (owes_nothing d.newest) Client x.says frame || is_in_doubt (doubts_request answer d micros frame) x.says.what then Some micros else d.doubted)
+        ∙ ap (λ (x : Followed). if leaves_request_open (owes answer started d) (owes_nothing d.newest) Client d.doubted x.says frame || is_in_doubt (doubts_request answer d micros frame) x.says.what then Some micros else d.doubted)
         (ap (λ r. follows_by d.channel.heard d.channel.transfer r micros Client frame.bytes) is)
         ∙ ap (λ b. if b then Some micros else d.doubted) (kept _ on)
     begun t is (inr down) = left d.channel.transfer refl down
@@ -154,9 +154,9 @@ doubted_begin answer started d micros frame b c = by (reading_of d.channel.trans
         left None e down = absurd down
         left (Some old) e down =
             doubted_by answer started d micros Client frame
-            (ap (λ (x : Followed). leaves_request_open (owes answer started d) (owes_nothing d.newest) Client x.says frame)
+            (ap (λ (x : Followed). leaves_request_open (owes answer started d) (owes_nothing d.newest) Client d.doubted x.says frame)
             (ap (λ r. follows_by d.channel.heard d.channel.transfer r micros Client frame.bytes) is ∙ ap (λ o. follows_by d.channel.heard o (Begin t) micros Client frame.bytes) e)
-            ∙ block_ends (owes answer started d) (owes_nothing d.newest) (ended old micros (left_ending old frame.bytes)) frame down.block (not_aborted_left old frame.bytes))
+            ∙ block_ends (owes answer started d) (owes_nothing d.newest) d.doubted (ended old micros (left_ending old frame.bytes)) frame down.block (not_aborted_left old frame.bytes))
 
     by : (reading : Reading) → reading_of d.channel.transfer Client micros frame.bytes ≡ reading → is_begin reading ≡ true → (dialogue_heard answer started d micros Client frame).doubted ≡ Some micros
     by (Begin t) is b = begun t is c.covered

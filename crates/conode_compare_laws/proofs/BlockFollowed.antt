@@ -13,26 +13,27 @@ use Rattle.co_frame.specs.declared.block_segment.BlockSegment.{BlockSegment}
 use Rattle.co_frame.specs.declared.sdo_request.SdoRequest.{SdoRequest}
 use Rattle.co_frame.specs.declared.sdo_request.SdoRequest.TheVariants.{DownloadSegment, UploadSegment as NextSegment, Abort as Abandon, BlockUploadEnd as UploadEnd, BlockUploadAcknowledge, BlockUploadStart, BlockDownloadEnd}
 use Rattle.conode_explain_transfers.specs.declared.ended.Ending.{Ending}
-use Rattle.conode_explain_transfers.specs.declared.ended.Ending.TheVariants.{Aborted, Done}
+use Rattle.conode_explain_transfers.specs.declared.ended.Ending.TheVariants.{Irregular}
 use Rattle.conode_explain_transfers.specs.declared.kinds.Side.{Side}
 use Rattle.conode_explain_transfers.specs.declared.kinds.Side.TheVariants.{Client, Server}
 use Rattle.conode_explain_transfers.specs.declared.kinds.What.{What}
 use Rattle.conode_explain_transfers.specs.declared.kinds.What.TheVariants as what
 use Rattle.conode_explain_transfers.specs.declared.transfer.Transfer.{Transfer}
 use Rattle.conode_explain_transfers.specs.BlockTurns.{block_segment, is_block}
-use Rattle.conode_explain_transfers.specs.Endings.{ended}
+use Rattle.conode_explain_transfers.specs.Endings.{crc_verdict, ended, size_fault, size_verdict, verdict}
 use Rattle.conode_explain_transfers.specs.Followed.{Followed, Following, abort_ending, one_more, turns_at, with_frame}
 use Rattle.conode_explain_transfers.specs.Readings.{awaits_segment}
 use Rattle.conode_explain_transfers.specs.Stages.{confirmed_with}
-use Rattle.conode_explain_transfers.specs.Transfers.{Turn, after}
+use Rattle.conode_explain_transfers.specs.Transfers.{Turn, after, is_download}
 use Rattle.conode_explain_transfers.specs.Turns.{request_turn}
 use Rattle.conode_explain_transfers.specs.Unanswered.{not_followed_by}
 use Rattle.conode_explain_laws.proofs.Readings.{Reading, Segment, Begin, Abort, Request, Response, Nothing, request_reading, plain_reading, beginning, segment_reading, sub_block_reading, reading_of, turn_of, follows_by}
 use Rattle.conode_explain_laws.proofs.Views.{is_begin, server_no_begin}
-use Rattle.conode_compare_transfers.specs.Dialogues.{continues, ends_in_doubt, is_initiate, is_known_end, is_odd, leaves_request_open}
-use Rattle.conode_compare_laws.proofs.AnswerTurns.{Asked, asked, asks_for_blocks, in_blocks, is_request, is_turned}
+use Rattle.conode_compare_transfers.specs.Dialogues as dialogues
+use Rattle.conode_compare_transfers.specs.Dialogues.{confirms_all, continues, ends_in_doubt, is_initiate, is_known_end, is_odd, leaves_request_open}
+use Rattle.conode_compare_laws.proofs.AnswerTurns.{Asked, asked, asks_for_blocks, in_blocks, is_ended, is_request, is_turned}
 use Rattle.conode_compare_laws.proofs.AnswerFollowed.{Leaves, asks_in, confirmed_in_doubt, reads, same_block, server_no_request}
-use Rattle.conode_compare_laws.proofs.BlockTurns.{Blocks, Lasts, LastsIn, Live, Turned, lasts, segment_lasts, turned}
+use Rattle.conode_compare_laws.proofs.BlockTurns.{Blocks, IsUnended, Lasts, LastsIn, Live, Turned, and_none, lasts, segment_lasts, turned}
 
 -- ---- a frame that begins nothing
 
@@ -91,39 +92,50 @@ or_last true b h = refl
 or_last false b h = h
 
 -- where no answer is owed, an abort too
-not_owed : (quiet : Bool) (ending : Ending) (key : Key) (frame : FrameContent) → is_known_end false quiet true ending key frame ≡ false
-not_owed quiet (Aborted Server code) key frame = refl
-not_owed quiet (Aborted Client code) key frame = refl
-not_owed quiet (Done crc) key frame = refl
-not_owed quiet _ key frame = refl
+not_owed : (quiet confirmed : Bool) (side : Side) (segment : Option (Option ℕ)) (code : AbortCode) (key : Key) (frame : FrameContent)
+    → is_known_end false quiet confirmed true (abort_ending side segment code) key frame ≡ false
+not_owed quiet confirmed Server None code key frame = refl
+not_owed quiet confirmed Client None code key frame = refl
+not_owed quiet confirmed side (Some next) code key frame = refl
 
 aborted_in_doubt : (heard : Bool) (t : Transfer) (code : AbortCode) (micros : ℕ) (side : Side) (frame : FrameContent) → is_block t.protocol ≡ true
-    → (quiet : Bool) → leaves_request_open false quiet side (follows_by heard (Some t) (Abort code) micros side frame.bytes).says frame ≡ true
-aborted_in_doubt heard t code micros side frame p quiet =
-    let ending = abort_ending side (not_followed_by side t frame.bytes) code in
-    or_last (is_odd side what.Part) (ends_in_doubt false quiet (Some (ended (one_more t) micros ending)) frame)
-    (ap (λ b. not (is_known_end false quiet b ending t.key frame)) (same_block t.protocol p) ∙ ap not (not_owed quiet ending t.key frame))
+    → (quiet : Bool) (doubted : Option ℕ) → leaves_request_open false quiet side doubted (follows_by heard (Some t) (Abort code) micros side frame.bytes).says frame ≡ true
+aborted_in_doubt heard t code micros side frame p quiet doubted =
+    let segment : Option (Option ℕ) = not_followed_by side t frame.bytes in
+    let ending : Ending = abort_ending side segment code in
+    let confirmed : Bool = confirms_all side doubted t.begun in
+    or_last (is_odd side what.Part) (ends_in_doubt false quiet side doubted (Some (ended (one_more t) micros ending)) frame)
+    (ap (λ b. not (is_known_end false quiet confirmed b ending t.key frame)) (same_block t.protocol p) ∙ ap not (not_owed quiet confirmed side segment code t.key frame))
+
+-- the server's confirmation of a download too, where frames are missing
+irregular_in_doubt : (crc : Option ℕ) (heard : Bool) (w : What) (u : Transfer) (micros : ℕ) (frame : FrameContent) → u.irregular ≡ true
+    → (quiet : Bool) (doubted : Option ℕ) → leaves_request_open false quiet Server doubted (turns_at (Some crc) heard w u micros Server).says frame ≡ true
+irregular_in_doubt crc heard w u micros frame h quiet doubted =
+    or_last (is_odd Server w) (ends_in_doubt false quiet Server doubted (Some (ended (one_more u) micros (verdict u crc))) frame)
+    (ap (λ (ending : Ending). not (is_known_end false quiet (confirms_all Server doubted u.begun) (dialogues.is_block u.protocol) ending u.key frame))
+    (ap (λ b. if b then Irregular else size_verdict (size_fault u.size u.taken.count) (crc_verdict u.taken.crc crc)) h))
 
 -- ---- the server's frames in blocks, after which no answer is owed: the transfer lasts, or its end leaves a doubt
 
 pub record LastsOn (f : Followed) (frame : FrameContent) : Type 0 where
-  pub lasts : ((quiet : Bool) → leaves_request_open false quiet Server f.says frame ≡ true) ⊎ (is_some f.next.transfer ≡ true)
+  pub lasts : ((quiet : Bool) (doubted : Option ℕ) → leaves_request_open false quiet Server doubted f.says frame ≡ true) ⊎ (is_some f.next.transfer ≡ true)
   pub blocks : IfSome f.next.transfer Lasts
 
 lasts_frame : (w : What) (u : Transfer) (micros : ℕ) (side : Side) → Lasts u → Lasts (with_frame w u micros side)
 lasts_frame what.Overtaken u micros side l = l
-lasts_frame _ u micros side l = record { stage = l.stage; block = l.block }
+lasts_frame _ u micros side l = record { stage = l.stage; block = l.block; unended = l.unended }
 
 turn_lasts : (x : Option (Option ℕ)) (heard : Bool) (w : What) (u : Transfer) (micros : ℕ) (frame : FrameContent) → is_block u.protocol ≡ true → (x ≡ None → in_blocks u.stage ≡ true)
-    → LastsOn (turns_at x heard w u micros Server) frame
-turn_lasts (Some crc) heard w u micros frame p i = record { lasts = inl (confirmed_in_doubt Server crc heard w u micros frame p false); blocks = tt }
-turn_lasts None heard w u micros frame p i = record { lasts = inr refl; blocks = lasts_frame w u micros Server (record { stage = i refl; block = p }) }
+    → (x ≡ None → IsUnended u) → (is_some x ≡ true → u.irregular ≡ true) → LastsOn (turns_at x heard w u micros Server) frame
+turn_lasts (Some crc) heard w u micros frame p i n r = record { lasts = inl (irregular_in_doubt crc heard w u micros frame (r refl)); blocks = tt }
+turn_lasts None heard w u micros frame p i n r = record { lasts = inr refl; blocks = lasts_frame w u micros Server (record { stage = i refl; block = p; unended = n refl }) }
 
 by_block_turn : (heard : Bool) (t : Transfer) (reading : Reading) (micros : ℕ) (frame : FrameContent) → is_request reading ≡ false → Lasts t
     → LastsOn (turns_at (confirmed_with (turn_of t reading frame.bytes).transfer.stage) heard (turn_of t reading frame.bytes).what (after t (turn_of t reading frame.bytes)) micros Server) frame
 by_block_turn heard t reading micros frame n l =
     let h : LastsIn (turn_of t reading frame.bytes) = lasts t reading frame.bytes n l in
     turn_lasts (confirmed_with (turn_of t reading frame.bytes).transfer.stage) heard (turn_of t reading frame.bytes).what (after t (turn_of t reading frame.bytes)) micros frame h.block h.stage
+    h.unended h.irregular
 
 lasts_by : (heard : Bool) (t : Transfer) (reading : Reading) (micros : ℕ) (frame : FrameContent) → is_begin reading ≡ false → is_request reading ≡ false → Lasts t
     → LastsOn (follows_by heard (Some t) reading micros Server frame.bytes) frame
@@ -153,15 +165,15 @@ open_turn : (blocks : Bool) (x : Option (Option ℕ)) (heard : Bool) (w : What) 
 open_turn blocks x heard w u micros frame false c on ends goes = doubted blocks _ frame (odd x w c on)
   where
     odd : (x : Option (Option ℕ)) (w : What) → continues w ≡ false → is_turned w ≡ true → Leaves Client (turns_at x heard w u micros Client) frame
-    odd None what.Initiate c on owed quiet = absurd (false≢true on)
-    odd None what.Part c on owed quiet = absurd (false≢true (sym c))
-    odd None (what.Segment n) c on owed quiet = absurd (false≢true (sym c))
-    odd None _ c on owed quiet = refl
-    odd (Some crc) what.Initiate c on owed quiet = absurd (false≢true on)
-    odd (Some crc) what.Part c on owed quiet = absurd (false≢true (sym c))
-    odd (Some crc) (what.Segment n) c on owed quiet = absurd (false≢true (sym c))
-    odd (Some crc) _ c on owed quiet = refl
-open_turn blocks (Some crc) heard w u micros frame true c on ends goes = doubted blocks _ frame (confirmed_in_doubt Client crc heard w u micros frame (ends refl))
+    odd None what.Initiate c on owed quiet doubted = absurd (false≢true on)
+    odd None what.Part c on owed quiet doubted = absurd (false≢true (sym c))
+    odd None (what.Segment n) c on owed quiet doubted = absurd (false≢true (sym c))
+    odd None _ c on owed quiet doubted = refl
+    odd (Some crc) what.Initiate c on owed quiet doubted = absurd (false≢true on)
+    odd (Some crc) what.Part c on owed quiet doubted = absurd (false≢true (sym c))
+    odd (Some crc) (what.Segment n) c on owed quiet doubted = absurd (false≢true (sym c))
+    odd (Some crc) _ c on owed quiet doubted = refl
+open_turn blocks (Some crc) heard w u micros frame true c on ends goes = doubted blocks _ frame (confirmed_in_doubt crc heard w u micros frame (ends refl))
 open_turn blocks None heard w u micros frame true c on ends goes = record { live = inr refl; lasting = λ b. inr (lasts_frame w u micros Client (goes b refl)) }
 
 request_open : (heard : Bool) (t : Transfer) (request : SdoRequest) (micros : ℕ) (frame : FrameContent) → Live t
@@ -171,37 +183,37 @@ request_open heard t request micros frame s =
     let h : Turned turn = turned t (Request request) frame.bytes s in
     let a : Asked (asks_for_blocks request) turn = asked t request frame.bytes s.unconfirmed in
     open_turn (asks_for_blocks request) (confirmed_with turn.transfer.stage) heard turn.what (after t turn) micros frame (continues turn.what) refl h.what a.ends
-    (λ b c. let i : in_blocks turn.transfer.stage ≡ true = a.goes b c in record { stage = i; block = h.blocks i })
+    (λ b c. let i : in_blocks turn.transfer.stage ≡ true = a.goes b c in record { stage = i; block = h.blocks i; unended = and_none (is_download turn.transfer.direction) (is_ended turn.transfer.stage) (a.unended b c) })
 
 segment_open : (blocks heard : Bool) (t : Transfer) (segment : BlockSegment) (micros : ℕ) (frame : FrameContent) → Live t → awaits_segment t Client ≡ true
     → GoesOpen blocks (follows_by heard (Some t) (Segment segment) micros Client frame.bytes) frame
 segment_open blocks heard t segment micros frame s awaited =
     let turn : Turn = block_segment t segment in
     let l : LastsIn turn = segment_lasts t segment s awaited in
-    by (confirmed_with turn.transfer.stage) turn.what (after t turn) l.block l.stage
+    by (confirmed_with turn.transfer.stage) turn.what (after t turn) l.block l.stage l.unended
   where
-    by : (x : Option (Option ℕ)) (w : What) (u : Transfer) → is_block u.protocol ≡ true → (x ≡ None → in_blocks u.stage ≡ true) → GoesOpen blocks (turns_at x heard w u micros Client) frame
-    by (Some crc) w u p i = doubted blocks _ frame (confirmed_in_doubt Client crc heard w u micros frame p)
-    by None w u p i = record { live = inr refl; lasting = λ on. inr (lasts_frame w u micros Client (record { stage = i refl; block = p })) }
+    by : (x : Option (Option ℕ)) (w : What) (u : Transfer) → is_block u.protocol ≡ true → (x ≡ None → in_blocks u.stage ≡ true) → (x ≡ None → IsUnended u) → GoesOpen blocks (turns_at x heard w u micros Client) frame
+    by (Some crc) w u p i n = doubted blocks _ frame (confirmed_in_doubt crc heard w u micros frame p)
+    by None w u p i n = record { live = inr refl; lasting = λ on. inr (lasts_frame w u micros Client (record { stage = i refl; block = p; unended = n refl })) }
 
 stray_open : (blocks heard : Bool) (reading : Reading) (micros : ℕ) (frame : FrameContent) → is_begin reading ≡ false → GoesOpen blocks (follows_by heard None reading micros Client frame.bytes) frame
 stray_open blocks heard (Begin new) micros frame n = absurd (false≢true (sym n))
-stray_open blocks true _ micros frame n = doubted blocks _ frame (λ owed quiet. refl)
-stray_open blocks false _ micros frame n = doubted blocks _ frame (λ owed quiet. refl)
+stray_open blocks true _ micros frame n = doubted blocks _ frame (λ owed quiet doubted. refl)
+stray_open blocks false _ micros frame n = doubted blocks _ frame (λ owed quiet doubted. refl)
 
 abort_open : (blocks heard : Bool) (t : Transfer) (code : AbortCode) (micros : ℕ) (frame : FrameContent) → GoesOpen blocks (follows_by heard (Some t) (Abort code) micros Client frame.bytes) frame
 abort_open blocks heard t code micros frame = doubted blocks _ frame (by (is_block t.protocol) (not_followed_by Client t frame.bytes))
   where
-    by : (block : Bool) (segment : Option (Option ℕ)) (owed quiet : Bool) → not (is_known_end owed quiet block (abort_ending Client segment code) t.key frame) ≡ true
-    by block None owed quiet = refl
-    by block (Some next) owed quiet = refl
+    by : (block : Bool) (segment : Option (Option ℕ)) (owed quiet : Bool) (doubted : Option ℕ) → not (is_known_end owed quiet false block (abort_ending Client segment code) t.key frame) ≡ true
+    by block None owed quiet doubted = refl
+    by block (Some next) owed quiet doubted = refl
 
 nothing_open : (blocks heard : Bool) (t : Transfer) (micros : ℕ) (frame : FrameContent) → GoesOpen blocks (follows_by heard (Some t) Nothing micros Client frame.bytes) frame
 nothing_open blocks heard t micros frame = doubted blocks _ frame (by (confirmed_with t.stage))
   where
     by : (x : Option (Option ℕ)) → Leaves Client (turns_at x heard what.Unexpected (after t (turn_of t Nothing frame.bytes)) micros Client) frame
-    by None owed quiet = refl
-    by (Some crc) owed quiet = refl
+    by None owed quiet doubted = refl
+    by (Some crc) owed quiet doubted = refl
 
 -- read as a request
 plain_open : (heard : Bool) (t : Transfer) (r : Option SdoRequest) (micros : ℕ) (frame : FrameContent) → Live t → is_begin (request_reading r micros frame.bytes) ≡ false

@@ -26,7 +26,7 @@ use Rattle.conode_explain_transfers.specs.Stages.{confirmed_with, is_initiated}
 use Rattle.conode_explain_transfers.specs.Transfers.{Turn, is_download, awaited_number, unexpected, repeated, overtaken}
 use Rattle.conode_explain_transfers.specs.Turns.{request_turn, response_turn}
 use Rattle.conode_explain_laws.proofs.Readings.{Reading, Segment, Request, Response, turn_of}
-use Rattle.conode_compare_laws.proofs.AnswerTurns.{in_blocks, is_request, is_turned, out_of_blocks, still_out}
+use Rattle.conode_compare_laws.proofs.AnswerTurns.{in_blocks, is_ended, is_request, is_turned, out_of_blocks, still_out, unconfirmed}
 
 -- ---- which transfers are in blocks
 
@@ -192,28 +192,56 @@ turned t _ frame s = spoiled t s.blocks
 
 -- ---- in blocks: a transfer stays so until it is confirmed
 
+-- the client's end of a download didn't come
+abbrev pub IsUnended : Transfer → Type 0
+IsUnended t = (is_download t.direction && is_ended t.stage) ≡ false
+
 pub record Lasts (t : Transfer) : Type 0 where
   pub stage : in_blocks t.stage ≡ true
   pub block : is_block t.protocol ≡ true
+  pub unended : IsUnended t
 
--- it is still in blocks, unless the frame was the last confirmation
+-- it is still in blocks, unless the frame was the last confirmation, before which frames are missing
 pub record LastsIn (turn : Turn) : Type 0 where
   pub block : is_block turn.transfer.protocol ≡ true
   pub stage : confirmed_with turn.transfer.stage ≡ None → in_blocks turn.transfer.stage ≡ true
+  pub unended : confirmed_with turn.transfer.stage ≡ None → IsUnended turn.transfer
+  pub irregular : is_some (confirmed_with turn.transfer.stage) ≡ true → turn.transfer.irregular ≡ true
+
+pub and_none : (a b : Bool) → b ≡ false → (a && b) ≡ false
+and_none true b h = h
+and_none false b h = refl
+
+not_true : (b : Bool) → not b ≡ true → b ≡ false
+not_true true h = absurd (false≢true h)
+not_true false h = refl
 
 either_lasts : (b : Bool) (x y : Turn) → LastsIn x → LastsIn y → LastsIn (if b then x else y)
 either_lasts true x y p q = p
 either_lasts false x y p q = q
 
 stays : (t : Transfer) → Lasts t → LastsIn (unexpected t)
-stays t l = record { block = l.block; stage = λ c. l.stage }
+stays t l = record { block = l.block; stage = λ c. l.stage; unended = λ c. l.unended; irregular = λ h. refl }
 
-on : (turn : Turn) → in_blocks turn.transfer.stage ≡ true → is_block turn.transfer.protocol ≡ true → LastsIn turn
-on turn i p = record { block = p; stage = λ c. i }
+goes : (turn : Turn) → in_blocks turn.transfer.stage ≡ true → is_block turn.transfer.protocol ≡ true → IsUnended turn.transfer → LastsIn turn
+goes turn i p n = record {
+  block = p;
+  stage = λ c. i;
+  unended = λ c. n;
+  irregular = λ h. absurd (false≢true (sym (ap is_some (unconfirmed turn.transfer.stage i)) ∙ h));
+}
+
+on : (turn : Turn) → in_blocks turn.transfer.stage ≡ true → is_block turn.transfer.protocol ≡ true → is_ended turn.transfer.stage ≡ false → LastsIn turn
+on turn i p e = goes turn i p (and_none (is_download turn.transfer.direction) (is_ended turn.transfer.stage) e)
 
 -- the last confirmation
-ends : (turn : Turn) → is_some (confirmed_with turn.transfer.stage) ≡ true → is_block turn.transfer.protocol ≡ true → LastsIn turn
-ends turn c p = record { block = p; stage = λ none. absurd (false≢true (sym (ap is_some none) ∙ c)) }
+ends : (turn : Turn) → is_some (confirmed_with turn.transfer.stage) ≡ true → is_block turn.transfer.protocol ≡ true → turn.transfer.irregular ≡ true → LastsIn turn
+ends turn c p r = record {
+  block = p;
+  stage = λ none. absurd (false≢true (sym (ap is_some none) ∙ c));
+  unended = λ none. absurd (false≢true (sym (ap is_some none) ∙ c));
+  irregular = λ h. r;
+}
 
 late : (stage : Stage) (t : Transfer) (key : Key) (turn : Turn) → in_blocks stage ≡ true → Lasts t
     → LastsIn (if is_initiated stage then (if same_key key t.key then turn else overtaken t) else unexpected t)
@@ -232,38 +260,40 @@ upload_segment_lasts _ t toggle segment last i l = stays t l
 
 block_segment_lasts : (stage : Stage) (t : Transfer) (segment : BlockSegment) → Lasts t → LastsIn (block_segment_at stage t segment)
 block_segment_lasts (SubBlock false) t segment l =
-    either_lasts (nat_lt segment.sequence t.next_number) (segment_again t segment) _ (on _ l.stage l.block)
-    (either_lasts (segment.sequence == awaited_number t) (segment_added t segment) (segment_ahead t segment) (on _ refl l.block) (on _ l.stage l.block))
-block_segment_lasts Initiated t segment l = either_lasts (is_download t.direction && is_block t.protocol) (segment_first t segment) (unexpected t) (on _ refl l.block) (stays t l)
+    either_lasts (nat_lt segment.sequence t.next_number) (segment_again t segment) _ (goes _ l.stage l.block l.unended)
+    (either_lasts (segment.sequence == awaited_number t) (segment_added t segment) (segment_ahead t segment) (on _ refl l.block refl) (goes _ l.stage l.block l.unended))
+block_segment_lasts Initiated t segment l = either_lasts (is_download t.direction && is_block t.protocol) (segment_first t segment) (unexpected t) (on _ refl l.block refl) (stays t l)
 block_segment_lasts _ t segment l = stays t l
 
 acknowledged_lasts : (stage : Stage) (t : Transfer) (sequence block_size : ℕ) → Lasts t → LastsIn (acknowledged_at stage t sequence block_size)
 acknowledged_lasts (SubBlock last) t sequence block_size l =
     either_lasts (nat_lt sequence (awaited_number t)) _ _
-    (either_lasts (last && (sequence + 1 == awaited_number t)) _ _ (on _ refl l.block) (on _ refl l.block))
-    (on _ refl l.block)
+    (either_lasts (last && (sequence + 1 == awaited_number t)) _ _ (on _ refl l.block refl) (on _ refl l.block refl))
+    (on _ refl l.block refl)
 acknowledged_lasts _ t sequence block_size l = stays t l
 
 by_receiver_lasts : (by_receiver : Bool) (t : Transfer) (sequence block_size : ℕ) → Lasts t → LastsIn (acknowledged by_receiver t sequence block_size)
 by_receiver_lasts true t sequence block_size l = acknowledged_lasts t.stage t sequence block_size l
 by_receiver_lasts false t sequence block_size l = stays t l
 
-ended_lasts : (stage : Stage) (t : Transfer) (unused crc : ℕ) → Lasts t → LastsIn (block_ended_at stage t unused crc)
-ended_lasts AllAcknowledged t unused crc l = on _ refl l.block
-ended_lasts _ t unused crc l = stays t l
+-- the server ends an upload
+ended_lasts : (stage : Stage) (t : Transfer) (unused crc : ℕ) → is_download t.direction ≡ false → Lasts t → LastsIn (block_ended_at stage t unused crc)
+ended_lasts AllAcknowledged t unused crc up l = goes _ refl l.block (ap (λ b. b && true) up)
+ended_lasts _ t unused crc up l = stays t l
 
-by_sender_lasts : (by_sender : Bool) (t : Transfer) (unused crc : ℕ) → Lasts t → LastsIn (block_ended by_sender t unused crc)
-by_sender_lasts true t unused crc l = ended_lasts t.stage t unused crc l
-by_sender_lasts false t unused crc l = stays t l
+by_sender_lasts : (by_sender : Bool) (t : Transfer) (unused crc : ℕ) → not (is_download t.direction) ≡ by_sender → Lasts t → LastsIn (block_ended by_sender t unused crc)
+by_sender_lasts true t unused crc up l = ended_lasts t.stage t unused crc (not_true (is_download t.direction) up) l
+by_sender_lasts false t unused crc up l = stays t l
 
-end_at_lasts : (stage : Stage) (t : Transfer) → Lasts t → LastsIn (end_confirmed_at stage t)
-end_at_lasts (BlockEnded crc) t l = ends _ refl l.block
-end_at_lasts Initiated t l = stays t l
-end_at_lasts _ t l = ends _ refl l.block
+-- it confirms a download, whose end didn't come
+end_at_lasts : (stage : Stage) (t : Transfer) → t.stage ≡ stage → is_download t.direction ≡ true → Lasts t → LastsIn (end_confirmed_at stage t)
+end_at_lasts (BlockEnded crc) t e down l = absurd (false≢true (sym l.unended ∙ ap (λ b. b && is_ended t.stage) down ∙ ap is_ended e))
+end_at_lasts Initiated t e down l = stays t l
+end_at_lasts _ t e down l = ends _ refl l.block refl
 
-end_lasts : (by_receiver : Bool) (t : Transfer) → Lasts t → LastsIn (end_confirmed by_receiver t)
-end_lasts true t l = either_lasts (is_block t.protocol) (end_confirmed_at t.stage t) (unexpected t) (end_at_lasts t.stage t l) (stays t l)
-end_lasts false t l = stays t l
+end_lasts : (by_receiver : Bool) (t : Transfer) → is_download t.direction ≡ by_receiver → Lasts t → LastsIn (end_confirmed by_receiver t)
+end_lasts true t down l = either_lasts (is_block t.protocol) (end_confirmed_at t.stage t) (unexpected t) (end_at_lasts t.stage t refl down l) (stays t l)
+end_lasts false t down l = stays t l
 
 response_lasts : (t : Transfer) (response : SdoResponse) (frame : List ℕ) → Lasts t → LastsIn (response_turn t response frame)
 response_lasts t (DownloadDone key) frame l = late t.stage t key _ l.stage l
@@ -272,10 +302,10 @@ response_lasts t (UploadExpedited key value) frame l = late t.stage t key _ l.st
 response_lasts t (UploadInitiated key size) frame l = late t.stage t key _ l.stage l
 response_lasts t (UploadSegment toggle segment last) frame l = upload_segment_lasts t.stage t toggle segment last l.stage l
 response_lasts t (BlockDownloadInitiated key block_size) frame l = late t.stage t key _ l.stage l
-response_lasts t BlockDownloadDone frame l = end_lasts (is_download t.direction) t l
+response_lasts t BlockDownloadDone frame l = end_lasts (is_download t.direction) t refl l
 response_lasts t (BlockDownloadAcknowledge sequence block_size) frame l = by_receiver_lasts (is_download t.direction) t sequence block_size l
 response_lasts t (BlockUploadInitiated key size) frame l = late t.stage t key _ l.stage l
-response_lasts t (BlockUploadEnd unused) frame l = by_sender_lasts (not (is_download t.direction)) t unused (crc_in frame) l
+response_lasts t (BlockUploadEnd unused) frame l = by_sender_lasts (not (is_download t.direction)) t unused (crc_in frame) refl l
 response_lasts t _ frame l = stays t l
 
 pub lasts : (t : Transfer) (reading : Reading) (frame : List ℕ) → is_request reading ≡ false → Lasts t → LastsIn (turn_of t reading frame)
@@ -293,11 +323,12 @@ and_second false b h = absurd (false≢true h)
 segment_lasts_at : (stage : Stage) (t : Transfer) (segment : BlockSegment) → t.stage ≡ stage → Blocks t → (if may_have_segment stage t.direction t.protocol then is_sender t.direction Client else false) ≡ true
     → LastsIn (block_segment_at stage t segment)
 segment_lasts_at (SubBlock last) t segment e b h =
-    block_segment_lasts (SubBlock last) t segment (record { stage = ap in_blocks e; block = b (ap in_blocks e) })
+    block_segment_lasts (SubBlock last) t segment
+    (record { stage = ap in_blocks e; block = b (ap in_blocks e); unended = and_none (is_download t.direction) (is_ended t.stage) (ap is_ended e) })
 segment_lasts_at Initiated t segment e b h = by (is_download t.direction && is_block t.protocol) h (and_second (is_download t.direction) (is_block t.protocol))
   where
     by : (first : Bool) → (if first then is_sender t.direction Client else false) ≡ true → (first ≡ true → is_block t.protocol ≡ true) → LastsIn (if first then segment_first t segment else unexpected t)
-    by true h p = on _ refl (p refl)
+    by true h p = on _ refl (p refl) refl
     by false h p = absurd (false≢true h)
 segment_lasts_at _ t segment e b h = absurd (false≢true h)
 

@@ -14,6 +14,9 @@ use Rattle.conode_explain_transfers.specs.declared.kinds.Side.TheVariants.{Serve
 use Rattle.conode_explain_transfers.specs.declared.kinds.What.TheVariants.{Part}
 use Rattle.conode_compare_transfers.specs.declared.breach.Breach.TheVariants.{Early, Toggle}
 use Rattle.conode_compare_transfers.specs.declared.dialogue.Exchange.{Exchange}
+use Rattle.conode_compare_transfers.specs.declared.newest.Newest.TheVariants.{AllAcknowledged, Answer, Request}
+use Rattle.conode_compare_transfers.specs.Dialogues.{comes_in_turn}
+use Rattle.conode_compare_transfers.specs.NewestFrames.{newest_after, newest_with}
 use Rattle.conode_compare_values.specs.declared.mismatch.Mismatch.TheVariants.{BeyondRoom, ValueConst, ValueLength}
 use Rattle.conode_compare_values.specs.SheetValues.{mismatch_at, row_mismatch, value_mismatch}
 use Rattle.conode_compare_values.specs.HeldNumbers.{held_mismatch, nothing_written}
@@ -25,7 +28,7 @@ use Rattle.conode_compare_rules.specs.declared.limits.Subject.{Subject}
 use Rattle.conode_compare_rules.specs.declared.nmt.Nmt.{Nmt}
 use Rattle.conode_compare_rules.specs.Answers.{answer_finding, confirmed_finding, ended_finding, held_finding, is_exact, stopped_finding, what_finding}
 use Rattle.conode_compare_rules.specs.EntriesInForce.{facts_of}
-use Rattle.conode_compare_rules.specs.Progresses.{follows_by_answer}
+use Rattle.conode_compare_rules.specs.Progresses.{follows_by_answer, is_judged}
 use Rattle.conode_compare_rules.specs.States.{is_settled, nothing_commanded}
 use Rattle.conode_compare_rules.proofs.Examples.{limits, key, row}
 
@@ -100,6 +103,25 @@ perhaps_earlier = refl
 answered_operational : stopped_finding limits 0 (record (stopped_at 100000) { state = Operational }) (answered_in true) ≡ None
 unfolding stopped_finding is_settled
 answered_operational = refl
+
+-- ---- which answers are judged
+
+abbrev answer : ℕ → FrameContent
+answer first = record { id = 0x585; bytes = first ∷ 0 ∷ 0 ∷ 0 ∷ 0 ∷ 0 ∷ 0 ∷ 0 ∷ [] }
+
+abbrev later_answer : Exchange
+later_answer = record (answered_in true) { asked = None }
+
+-- that of the initiate request; a confirmation in its turn; another one, and one of a transfer that isn't judged
+judged_answers : is_judged None (answered_in true) (answer 0x60) ∷ map (λ newest. is_judged newest later_answer (answer 0x20)) (Some Request ∷ Some Answer ∷ None ∷ [])
+    ≡ true ∷ true ∷ false ∷ false ∷ []
+unfolding comes_in_turn newest_after newest_with
+judged_answers = refl
+
+-- an earlier request may be answered; the end of a block upload, which counts with the client's confirmation
+unjudged_answers : is_judged (Some Request) (answered_in false) (answer 0x60) ∷ is_judged (Some AllAcknowledged) later_answer (answer 0xC1) ∷ [] ≡ false ∷ false ∷ []
+unfolding comes_in_turn newest_after newest_with
+unjudged_answers = refl
 
 -- ---- by the client's confirmation
 

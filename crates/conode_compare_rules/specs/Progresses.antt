@@ -18,6 +18,7 @@ use Rattle.conode_compare_rules.specs.declared.progress.Progress.{Progress}
 use Rattle.conode_compare_transfers.specs.declared.dialogue.Asked.{Asked}
 use Rattle.conode_compare_values.specs.declared.written.Written.{Written}
 use Rattle.conode_compare_transfers.specs.declared.dialogue.Exchange.{Exchange}
+use Rattle.conode_compare_transfers.specs.declared.newest.Newest.{Newest}
 use Rattle.conode_compare_rules.specs.declared.entries.Entries.{Entries}
 use Rattle.conode_compare_rules.specs.declared.finding.Finding.{Finding}
 use Rattle.conode_compare_rules.specs.declared.finding.Finding.TheVariants.{Pdo as PdoFinding}
@@ -33,7 +34,7 @@ use Rattle.conode_compare_rules.specs.declared.kind.FrameKind.{FrameKind}
 use Rattle.conode_compare_rules.specs.declared.kind.FrameKind.TheVariants.{Command, CommandToAll, LongCommand, Guarding, Control, OddControl, Emergency, OddEmergency, Sdo, Process, Polled, Fault, Other}
 use Rattle.conode_compare_rules.specs.declared.verdict.Findings.{Findings}
 use Rattle.conode_compare_rules.specs.Answers.{answer_finding, confirmed_finding, held_finding, silence_finding, stopped_finding}
-use Rattle.conode_compare_transfers.specs.Dialogues.{asks_to_write, dialogue_heard, given_up, interrupted, is_awaited, is_download, nothing_asked, nothing_left, exchange_in}
+use Rattle.conode_compare_transfers.specs.Dialogues.{asks_to_write, comes_in_turn, dialogue_heard, given_up, interrupted, is_awaited, is_download, nothing_asked, nothing_left, exchange_in}
 use Rattle.conode_compare_transfers.specs.Breaches.{key_in}
 use Rattle.conode_compare_values.specs.HeldNumbers.{is_kept, nothing_written, unmapped, with_process, written_heard}
 use Rattle.conode_compare_rules.specs.EmergencyRules.{emergency_finding, is_stopped, length_finding, unless_restarted}
@@ -559,13 +560,15 @@ abbrev pub answer_nmt : Subject → Progress → ℕ → Nmt
 answer_nmt subject progress micros =
     if is_overdue subject progress then nothing_commanded else (answer_noted subject progress micros).nmt
 
--- an answer is judged where it follows its initiate request, and answers that
+-- A frame of the device is judged where it follows an initiate request, and answers that; and where it goes on with the
+-- open transfer, or is its end, as each of its frames in its turn. `newest`: whose frame the one before it was.
 abbrev pub is_part : What → Bool
 is_part Part = true
 is_part other = false
 
-abbrev pub is_judged : Exchange → Bool
-is_judged exchange = exchange.certain && (is_some exchange.asked && is_part exchange.heard.what)
+abbrev pub is_judged : Option Newest → Exchange → FrameContent → Bool
+is_judged newest exchange frame =
+    exchange.certain && (comes_in_turn newest exchange.heard frame || (is_some exchange.asked && is_part exchange.heard.what))
 
 unfoldable pub answer_findings : Subject → List Row → Progress → ℕ → FrameContent → Findings
 answer_findings subject rows progress micros frame =
@@ -574,7 +577,7 @@ answer_findings subject rows progress micros frame =
     found (boot_finding subject.limits progress.nmt micros) (late_by subject progress true micros) None
     (option_or (stopped_finding subject.limits noted.started (answer_nmt subject progress micros) exchange)
     (option_or (answer_finding subject rows micros (answer_nmt subject progress micros) exchange frame) (held_finding subject noted.written exchange)))
-    (is_judged exchange)
+    (is_judged noted.dialogue.newest exchange frame)
 
 abbrev pub after_answer : Subject → Progress → ℕ → FrameContent → Progress
 after_answer subject progress micros frame = after_sdo subject (answer_noted subject progress micros) micros Server frame

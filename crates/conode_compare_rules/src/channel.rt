@@ -43,7 +43,9 @@ use co_frame::Frame;
 use co_sheet::EntryRow;
 use co_value::Key;
 use conode_compare_pdos::Pdos;
-use conode_compare_transfers::{Asked, Dialogue, Exchange, asks_to_write, is_past, key_in};
+use conode_compare_transfers::{
+    Asked, Dialogue, Exchange, Newest, asks_to_write, comes_in_turn, is_past, key_in,
+};
 use conode_explain_transfers::{Direction, Ended, Side, What};
 
 // the entries after a frame of the SDO channel; `other`: a transfer that ended shows nothing, since
@@ -171,11 +173,14 @@ fn asked_then(asks: bool, before: Option<u64>, micros: u64) -> Option<u64>
     if asks { Some(micros) } else { before }
 }
 
-// whether an answer is judged: it follows its initiate request, and answers that
-fn is_judged(exchange: &Exchange) -> bool
-    ensures { result ≡ is_judged exchange.now }
+// Whether a frame of the device is judged: it follows an initiate request, and answers that; or it
+// goes on with the open transfer, or is its end, as each of its frames in its turn. `newest`: whose
+// frame the one before it was.
+fn is_judged(newest: Option<Newest>, exchange: &Exchange, frame: &Frame) -> bool
+    ensures { result ≡ is_judged newest exchange.now frame.now }
 {
-    exchange.certain && exchange.asked.is_some() && matches!(exchange.heard.what, What::Part)
+    let answers = exchange.asked.is_some() && matches!(exchange.heard.what, What::Part);
+    exchange.certain && (comes_in_turn(newest, &exchange.heard, frame) || answers)
 }
 
 impl Progress {
@@ -274,12 +279,13 @@ impl Progress {
         let heartbeat = self.note_answer(subject, micros);
         let nmt = self.answer_nmt(overdue);
         let started = self.started;
+        let newest = self.dialogue.newest;
         let exchange = self.hear(subject, micros, Side::Server, frame);
         let held = held_finding(subject, &self.written, &exchange);
         let difference = stopped_finding(&subject.limits, started, &nmt, &exchange).or(
             answer_finding(subject, rows, micros, &nmt, &exchange, frame).or(held),
         );
-        let judged = is_judged(&exchange);
+        let judged = is_judged(newest, &exchange, frame);
         self.note_exchange(subject, exchange);
         Findings::of(boot, heartbeat, None, difference, judged)
     }

@@ -1,2 +1,3 @@
+mod BlockEndExamples
 mod Examples
 mod RequestExamples

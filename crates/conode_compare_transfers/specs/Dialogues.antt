@@ -78,23 +78,34 @@ entry_after what frame entry = entry
 abbrev pub is_final : Bool → AbortCode → Bool
 is_final quiet code = quiet || not (code.0 == timed_out)
 
--- A transfer that both ends know to have ended. An abort of another entry answers an earlier request. Of a
--- block transfer it isn't assumed, but where its initiate request, which came when no earlier one could be
--- answered (`owed`), is refused: then no segment and no acknowledge is on its way.
 abbrev pub is_block : Protocol → Bool
 is_block Block = true
 is_block other = false
 
-abbrev pub is_known_end : Bool → Bool → Bool → Ending → Key → FrameContent → Bool
-is_known_end owed quiet block (Done crc) key frame = not block
-is_known_end owed quiet block (Aborted Server code) key frame = (owed || not block) && (is_final quiet code && same_key (key_in frame) key)
-is_known_end owed quiet block other key frame = false
+-- The server confirms a block download (7.2.4.3.11), and nothing since its initiate request left a doubt, nor did
+-- that. The confirmation answers the client's end, its last frame: a server takes frames in turn, so it has taken
+-- all of them, and sent all that it sends for them. The end of a block upload is the client's confirmation
+-- (7.2.4.3.15), which isn't answered: whether the server has taken that isn't known.
+abbrev pub confirms_all : Side → Option ℕ → ℕ → Bool
+confirms_all Server doubted begun = option_map_or (λ d. nat_lt d begun) doubted true
+confirms_all Client doubted begun = false
 
-abbrev pub both_know_its_end : Bool → Bool → Ended → FrameContent → Bool
-both_know_its_end owed quiet ended frame = is_known_end owed quiet (is_block ended.protocol) ended.ending ended.key frame
+-- A transfer that both ends know to have ended. An abort of another entry answers an earlier request. Of a
+-- block transfer it is known where it is such a download (`confirmed`); and where its initiate request, which came
+-- when no earlier one could be answered (`owed`), is refused: then no segment and no acknowledge is on its way.
+abbrev pub is_known_end : Bool → Bool → Bool → Bool → Ending → Key → FrameContent → Bool
+is_known_end owed quiet confirmed block (Done crc) key frame = confirmed || not block
+is_known_end owed quiet confirmed block (Aborted Server code) key frame =
+    (owed || not block) && (is_final quiet code && same_key (key_in frame) key)
+is_known_end owed quiet confirmed block other key frame = false
 
-abbrev pub ends_in_doubt : Bool → Bool → Option Ended → FrameContent → Bool
-ends_in_doubt owed quiet ended frame = option_map_or (λ e. not (both_know_its_end owed quiet e frame)) ended false
+abbrev pub both_know_its_end : Bool → Bool → Side → Option ℕ → Ended → FrameContent → Bool
+both_know_its_end owed quiet side doubted ended frame =
+    is_known_end owed quiet (confirms_all side doubted ended.begun) (is_block ended.protocol) ended.ending ended.key frame
+
+abbrev pub ends_in_doubt : Bool → Bool → Side → Option ℕ → Option Ended → FrameContent → Bool
+ends_in_doubt owed quiet side doubted ended frame =
+    option_map_or (λ e. not (both_know_its_end owed quiet side doubted e frame)) ended false
 
 -- a frame that goes on with the open transfer
 abbrev pub continues : What → Bool
@@ -113,8 +124,9 @@ is_odd Client what = not (is_initiate what || continues what)
 
 -- After a frame an earlier request may still be answered: a transfer was left, or the frame goes on
 -- with none.
-abbrev pub leaves_request_open : Bool → Bool → Side → Heard → FrameContent → Bool
-leaves_request_open owed quiet side heard frame = is_odd side heard.what || ends_in_doubt owed quiet heard.ended frame
+abbrev pub leaves_request_open : Bool → Bool → Side → Option ℕ → Heard → FrameContent → Bool
+leaves_request_open owed quiet side doubted heard frame =
+    is_odd side heard.what || ends_in_doubt owed quiet side doubted heard.ended frame
 
 -- An initiate request of the same entry as the one before, while an earlier request may still be
 -- answered: the answer to that looks like its own, which comes later.
@@ -302,6 +314,28 @@ requested_after Server micros requested = requested
 abbrev pub awaited_for : Option Newest → ℕ → ℕ → Option ℕ
 awaited_for newest requested micros = if owes_nothing newest then Some (micros - requested) else None
 
+-- ---- a frame in its turn
+
+-- it ends no transfer, or one that is done
+abbrev pub is_done : Ending → Bool
+is_done (Done crc) = true
+is_done other = false
+
+abbrev pub ends_none_undone : Option Ended → Bool
+ends_none_undone ended = option_map_or (λ e. is_done e.ending) ended true
+
+-- the device's end of a block upload, scs = 6, which counts with the client's confirmation
+abbrev pub ends_upload : What → FrameContent → Bool
+ends_upload Part frame = byte_at frame 0 / 32 == 6
+ends_upload other frame = false
+
+-- A frame of the device goes on with the open transfer or is its end, as each of its frames in its turn. `newest`:
+-- whose frame the newest one of the transfer was before it.
+unfoldable pub comes_in_turn : Option Newest → Heard → FrameContent → Bool
+comes_in_turn newest heard frame =
+    (continues heard.what && (ends_none_undone heard.ended && not (ends_upload heard.what frame)))
+    && is_some (newest_with Server heard.what frame newest)
+
 -- ---- a frame
 
 -- what a frame is, by an end
@@ -320,7 +354,7 @@ exchange_in answer started dialogue micros side frame = record {
 -- answered all; `doubts`: a request is in doubt
 abbrev pub doubted_after : Bool → Bool → Bool → Side → Heard → FrameContent → Option ℕ → ℕ → Option ℕ
 doubted_after owed quiet doubts side heard frame doubted micros =
-    if leaves_request_open owed quiet side heard frame || is_in_doubt doubts heard.what then Some micros else doubted
+    if leaves_request_open owed quiet side doubted heard frame || is_in_doubt doubts heard.what then Some micros else doubted
 
 -- A transfer isn't judged whose initiate request comes while an earlier request may still be answered.
 abbrev pub newest_heard : Bool → Side → What → FrameContent → Option Newest → Option Newest

@@ -8,20 +8,16 @@ ghost use Rattle.conode_compare_transfers.specs.Dialogues.{
   asks_again,
   asks_to_write,
   awaited_for,
-  leaves_request_open,
   dialogue_heard,
-  doubted_after,
   doubts_request,
-  ends_in_doubt,
   entry_after,
-  both_know_its_end,
+  comes_in_turn,
+  ends_none_undone,
+  ends_upload,
   given_up,
   interrupted,
   is_certain,
-  is_final,
-  is_in_doubt,
   is_in_turn,
-  is_initiate,
   is_late_answer,
   is_left,
   is_of_other,
@@ -29,32 +25,29 @@ ghost use Rattle.conode_compare_transfers.specs.Dialogues.{
   is_slow_answer,
   is_timed,
   is_unasked,
-  leaves_block,
   leaves_slow,
   may_switch,
   misses_request,
   names_other,
   newest_heard,
   nothing_asked,
-  opens_sub_block,
   owes,
   owes_nothing,
-  continues,
   exchange_in,
   has_key,
   requested_after,
-  sub_block_after,
   word_written,
 };
 
 use crate::breach::{Breach, breach_at, byte_at, key_in};
+use crate::doubts::{continues, doubted_after, is_initiate, leaves_block, sub_block_after};
 use crate::left::Left;
 use crate::newest::{Newest, newest_with};
 use crate::times::is_past;
-use co_frame::{AbortCode, Frame};
+use co_frame::Frame;
 use co_profile::{RESTORE_PARAMETERS, STORE_PARAMETERS};
 use co_value::{Key, unsigned_of};
-use conode_explain_transfers::{Channel, Direction, Ended, Ending, Heard, Protocol, Side, What};
+use conode_explain_transfers::{Channel, Ended, Ending, Heard, Side, What};
 
 /// An initiate request that is not answered yet.
 #[derive(Clone, Copy)]
@@ -313,54 +306,6 @@ fn entry_after(what: What, frame: &Frame, entry: Option<Key>) -> Option<Key>
     }
 }
 
-// Whether nothing is answered after an abort of the device. One with 05040000 may be of an earlier
-// transfer of the entry, or sent before the device took the client's frame, which it answers later;
-// not where it has answered all (`quiet`).
-fn is_final(quiet: bool, code: AbortCode) -> bool
-    ensures { result ≡ is_final quiet code }
-{
-    quiet || code != AbortCode::TIMED_OUT
-}
-
-// Whether both ends know the end of a transfer that a frame ended. An abort of another entry answers
-// an earlier request. Of a block transfer it isn't assumed, but where its initiate request is refused,
-// and an answer was owed to that (`owed`).
-fn both_know_its_end(owed: bool, quiet: bool, ended: &Ended, frame: &Frame) -> bool
-    ensures { result ≡ both_know_its_end owed quiet ended.now frame.now }
-{
-    let is_block = matches!(ended.protocol, Protocol::Block);
-    match ended.ending {
-        Ending::Done { crc: _ } => !is_block,
-        Ending::Aborted {
-            by: Side::Server,
-            code,
-        } => (owed || !is_block) && is_final(quiet, code) && key_in(frame) == ended.key,
-        _ => false,
-    }
-}
-
-fn ends_in_doubt(owed: bool, quiet: bool, ended: &Option<Ended>, frame: &Frame) -> bool
-    ensures { result ≡ ends_in_doubt owed quiet ended.now frame.now }
-{
-    match ended {
-        Some(ended) => !both_know_its_end(owed, quiet, ended, frame),
-        None => false,
-    }
-}
-
-// whether a frame of the device goes on with the open transfer
-fn continues(what: What) -> bool
-    ensures { result ≡ continues what }
-{
-    matches!(what, What::Part | What::Segment { number: _ })
-}
-
-fn is_initiate(what: What) -> bool
-    ensures { result ≡ is_initiate what }
-{
-    matches!(what, What::Initiate)
-}
-
 // whose frame the newest one is; none of a transfer that isn't judged, since its request came while
 // an earlier one could be answered
 fn newest_heard(
@@ -379,79 +324,33 @@ fn newest_heard(
     }
 }
 
-// Whether a block download was left, and the server may go on with it. `other`: the frame is of
-// another entry.
-fn leaves_block(other: bool, ended: &Option<Ended>) -> bool
-    ensures { result ≡ leaves_block other ended.now }
+// whether a frame ends no transfer, or one that is done
+fn ends_none_undone(ended: &Option<Ended>) -> bool
+    ensures { result ≡ ends_none_undone ended.now }
 {
     match ended {
-        Some(ended) => {
-            matches!(
-                (ended.protocol, ended.direction),
-                (Protocol::Block, Direction::Download)
-            ) && (other || !matches!(ended.ending, Ending::Aborted { by: _, code: _ }))
-        }
-        None => false,
+        Some(ended) => matches!(ended.ending, Ending::Done { crc: _ }),
+        None => true,
     }
 }
 
-// whether segments of a block download are awaited after a frame of the server, by its first byte
-fn opens_sub_block(first: u8) -> bool
-    ensures { result ≡ opens_sub_block first }
+// whether a frame of the device is its end of a block upload (scs = 6), which counts with the
+// client's confirmation
+fn ends_upload(what: What, frame: &Frame) -> bool
+    ensures { result ≡ ends_upload what frame.now }
 {
-    first / 32 == 5 && first % 4 != 1
+    matches!(what, What::Part) && byte_at(frame, 0) / 32 == 6
 }
 
-// whether a sub-block may be open that isn't followed, after a frame by which a block download is
-// left, or not
-fn sub_block_after(side: Side, leaves: bool, what: What, first: u8, awaits: bool) -> bool
-    ensures { result ≡ sub_block_after side leaves what first awaits }
+/// Whether a frame of the device goes on with the open transfer or is its end, as each of its frames
+/// in its turn. `newest`: whose frame the newest one of the transfer was before it.
+#[tactic(auto, unfolding(crate::specs::Dialogues::comes_in_turn))]
+pub fn comes_in_turn(newest: Option<Newest>, heard: &Heard, frame: &Frame) -> bool
+    ensures { result ≡ comes_in_turn newest heard.now frame.now }
 {
-    match side {
-        Side::Client => awaits || leaves,
-        Side::Server if first / 32 == 4 => awaits || leaves,
-        Side::Server => opens_sub_block(first) && !continues(what),
-    }
-}
-
-// whether a frame is an initiate request that is in doubt
-fn is_in_doubt(doubts: bool, what: What) -> bool
-    ensures { result ≡ is_in_doubt doubts what }
-{
-    doubts && is_initiate(what)
-}
-
-// whether after a frame an earlier request may still be answered
-fn leaves_request_open(owed: bool, quiet: bool, side: Side, heard: &Heard, frame: &Frame) -> bool
-    ensures { result ≡ leaves_request_open owed quiet side heard.now frame.now }
-{
-    let odd = match side {
-        Side::Server => !continues(heard.what),
-        Side::Client => !(is_initiate(heard.what) || continues(heard.what)),
-    };
-    odd || ends_in_doubt(owed, quiet, &heard.ended, frame)
-}
-
-// The stamp of the newest frame by which an earlier request may still be answered. `owed`: an answer
-// is owed to the initiate request right before this frame; `quiet`: the device has answered all;
-// `doubts`: a request is in doubt.
-fn doubted_after(
-    owed: bool,
-    quiet: bool,
-    doubts: bool,
-    side: Side,
-    heard: &Heard,
-    frame: &Frame,
-    doubted: Option<u64>,
-    micros: u64,
-) -> Option<u64>
-    ensures { result ≡ doubted_after owed quiet doubts side heard.now frame.now doubted micros }
-{
-    if leaves_request_open(owed, quiet, side, heard, frame) || is_in_doubt(doubts, heard.what) {
-        Some(micros)
-    } else {
-        doubted
-    }
+    continues(heard.what)
+        && (ends_none_undone(&heard.ended) && !ends_upload(heard.what, frame))
+        && newest_with(Side::Server, heard.what, frame, newest).is_some()
 }
 
 // whether no earlier request can be answered at a stamp

@@ -5,13 +5,16 @@
 
 mod breach;
 mod dialogue;
+mod doubts;
 mod left;
 mod newest;
 mod timeouts;
 mod times;
 
 pub use breach::{Breach, breach_at, byte_at, key_in};
-pub use dialogue::{Asked, Dialogue, Exchange, asks_to_write, is_timed, word_written};
+pub use dialogue::{
+    Asked, Dialogue, Exchange, asks_to_write, comes_in_turn, is_timed, word_written,
+};
 pub use left::Left;
 pub use newest::{Newest, newest_with};
 pub use timeouts::{early_abort, is_late, resumed_after, served_key};
