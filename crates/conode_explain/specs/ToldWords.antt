@@ -1,9 +1,14 @@
 -- What is said of SDO transfers: of their frames, and of those that ended.
-use Rattle.std.specs.Prelude.{ℕ, Bool, List, [], ◌++◌, codes, decimal, Option, Some, None, option_and_then, unwrap_or}
+use Rattle.std.specs.Prelude.{ℕ, Bool, List, [], ◌++◌, codes, decimal, Option, Some, None, option_and_then, option_map, unwrap_or}
 use Rattle.co_value.specs.declared.key.Key.{Key}
+use Rattle.co_value.specs.KeyTexts.{key_text}
+use Rattle.co_frame.specs.declared.sdo_response.SdoResponse.{SdoResponse}
+use Rattle.co_frame.specs.declared.sdo_response.SdoResponse.TheVariants.{DownloadDone}
+use Rattle.co_frame.specs.SdoResponses.{response_in}
 use Rattle.co_sheet_changes.specs.Names.{Names, entry_of, shown_name}
 use Rattle.co_text.specs.Printed.{digits_text}
 use Rattle.conode_record.specs.declared.content.Content.{Content}
+use Rattle.conode_record.specs.declared.content.Content.TheVariants.{Data}
 use Rattle.conode_record.specs.declared.fields.Identifier.{Identifier}
 use Rattle.conode_explain_entries.specs.declared.further.ChannelIds.{ChannelIds}
 use Rattle.conode_explain_transfers.specs.declared.told.Part.{Part}
@@ -13,14 +18,17 @@ use Rattle.conode_explain_transfers.specs.declared.ended.Ended.{Ended}
 use Rattle.conode_explain_transfers.specs.declared.ended.Ending.{Ending}
 use Rattle.conode_explain_transfers.specs.declared.ended.Ending.TheVariants.{Aborted}
 use Rattle.conode_explain_transfers.specs.declared.kinds.Side.{Side}
+use Rattle.conode_explain_transfers.specs.declared.kinds.What.{What}
+use Rattle.conode_explain_transfers.specs.declared.kinds.What.TheVariants as whats
 use Rattle.conode_explain_pdo.specs.declared.claim.Claim.{Claim}
 use Rattle.conode_explain_pdo.specs.Buses.{Bus, names_at}
-use Rattle.conode_explain_entries.specs.Ends.{end_text, transfer_text}
+use Rattle.conode_explain_entries.specs.Ends.{end_text, quoted, transfer_text}
 use Rattle.conode_explain_entries.specs.Frames.{after_text, segment_number, segment_text}
 use Rattle.conode_explain_forms.specs.EndedValues.{end_value}
 use Rattle.conode_explain_forms.specs.Refusals.{refusal_note}
 use Rattle.conode_explain.specs.AbortWords.{words_of}
 use Rattle.conode_explain.specs.FrameWords.{words_of_content}
+use Rattle.conode_explain.specs.Transfers.{service_text}
 
 -- the name of a node's entry; empty where it has none
 unfoldable pub name_bytes : Names → ℕ → Key → List ℕ
@@ -41,15 +49,44 @@ unfoldable pub part_words : Bus → List Claim → Bool → Last → Identifier 
 part_words bus claims named last id content node part =
     part_front bus claims named last id content node part.side (segment_number part.what) ++ after_text part.what part.of (name_in (names_at bus node) node part.of)
 
-abbrev pub words_in : Bus → List Claim → Bool → Last → Identifier → Content → ℕ → Option Part → List ℕ
-words_in bus claims named last id content node None = words_of_content bus claims named last id content
-words_in bus claims named last id content node (Some part) = part_words bus claims named last id content node part
+-- The response to the initiate request of a segmented download has the bytes of the one that ends an expedited
+-- download (CiA 301, 7.2.4.3.3): by itself a frame doesn't show whether the download is done with it.
+abbrev pub key_of_response : SdoResponse → Option Key
+key_of_response (DownloadDone key) = Some key
+key_of_response other = None
+
+abbrev pub response_key : Content → Option Key
+response_key (Data bytes) = option_and_then key_of_response (response_in bytes)
+response_key other = None
+
+-- the next frame of the open transfer
+abbrev pub part_key : What → Content → Option Key
+part_key whats.Part content = response_key content
+part_key other content = None
+
+-- the entry of a download that goes on with the frame that is such a response
+abbrev pub accepted_key : What → Option Ended → Content → Option Key
+accepted_key what None content = part_key what content
+accepted_key what (Some ended) content = None
+
+unfoldable pub accepted_words : ℕ → Key → List ℕ → List ℕ
+accepted_words node key name =
+    service_text (codes "SDO answer node ") node (codes " download ") ++ key_text key ++ codes " accepted" ++ quoted name
+
+abbrev pub accepted_in : Bus → ℕ → Key → List ℕ
+accepted_in bus node key = accepted_words node key (name_bytes (names_at bus node) node key)
+
+abbrev pub words_in : Bus → List Claim → Bool → Last → Identifier → Content → ℕ → Option Ended → Option Part → List ℕ
+words_in bus claims named last id content node ended None = words_of_content bus claims named last id content
+words_in bus claims named last id content node ended (Some part) =
+    unwrap_or (option_map (accepted_in bus node) (accepted_key part.what ended content))
+    (part_words bus claims named last id content node part)
 
 -- what a frame says that is read as one with this identifier, by what its SDO channel says about it,
 -- where the last frames of its node had this
 abbrev pub told_words : Bus → List Claim → Bool → Last → Identifier → Content → Option Told → List ℕ
 told_words bus claims named last id content None = words_of_content bus claims named last id content
-told_words bus claims named last id content (Some told) = words_in bus claims named last id content told.node told.part
+told_words bus claims named last id content (Some told) = words_in bus claims named last id content told.node told.ended told.part
 
 -- ---- transfers that ended
 

@@ -6,19 +6,25 @@ ghost use Rattle.conode_explain_pdo.specs.Buses.{bus_view};
 ghost use Rattle.conode_record.specs.Grammar.{IsIdentifier};
 ghost use Rattle.co_text.specs.Printed.{digits_text};
 ghost use Rattle.conode_explain.specs.Nodes.{last_at};
+ghost use Rattle.conode_explain_entries.specs.Ends.{quoted};
 ghost use Rattle.conode_explain.specs.ToldWords.{
+  accepted_key,
+  accepted_words,
   channel_words,
   ended_words,
   ending_words,
   name_bytes,
   part_words,
   name_in,
+  response_key,
   told_words,
   transfer_words,
 };
 
 use crate::abort_words::words_of;
 use crate::frame_words::set_words;
+use crate::transfer::push_service;
+use co_frame::{Frame, SdoResponse};
 use co_sheet_changes::{Names, shown_name};
 use co_text::{push_byte, push_decimal, push_digit};
 use co_value::Key;
@@ -28,8 +34,8 @@ use conode_explain_entries::{
 use conode_explain_forms::{push_end_value, push_refusal};
 use conode_explain_pdo::{Bus, Claim};
 use conode_explain_services::Nodes;
-use conode_explain_transfers::{Ended, Ending, Part, Told};
-use conode_record::{Identifier, Record};
+use conode_explain_transfers::{Ended, Ending, Part, Told, What};
+use conode_record::{Content, Identifier, Record};
 use std::alloc::AllocError;
 
 // the name of a node's entry; empty where it has none
@@ -83,6 +89,51 @@ fn set_part_words(
     push_after(said, part.what, part.of, name)
 }
 
+// the entry of the response to a download's initiate request
+fn response_key(content: &Content<'_>) -> Option<Key>
+    ensures { result ≡ response_key content.now }
+{
+    match content {
+        Content::Data(bytes) => match SdoResponse::read(&Frame::packed(0, bytes)) {
+            Some(SdoResponse::DownloadDone { key }) => Some(key),
+            _ => None,
+        },
+        _ => None,
+    }
+}
+
+// the entry of a download that goes on with the frame that is such a response
+fn accepted_key(what: What, ended: &Option<Ended>, content: &Content<'_>) -> Option<Key>
+    ensures { result ≡ accepted_key what ended.now content.now }
+{
+    match (what, ended) {
+        (What::Part, None) => response_key(content),
+        _ => None,
+    }
+}
+
+fn push_quoted(said: &mut String, name: &str) -> Result<(), AllocError>
+    ensures { OnOk result (string_bytes said.new ≡ string_bytes said.old ++ quoted name.now) }
+{
+    if name.is_empty() {
+        return Ok(());
+    }
+    attempt!(said.push_str(" \""));
+    attempt!(said.push_str(name));
+    said.push_str("\"")
+}
+
+#[tactic(auto, unfolding(crate::specs::ToldWords::accepted_words))]
+fn push_accepted(said: &mut String, node: u8, key: Key, name: &str) -> Result<(), AllocError>
+    ensures { OnOk result
+        (string_bytes said.new ≡ string_bytes said.old ++ accepted_words node key name.now) }
+{
+    attempt!(push_service(said, "SDO answer node ", node, " download "));
+    attempt!(said.push_str(key.text().as_str()));
+    attempt!(said.push_str(" accepted"));
+    push_quoted(said, name)
+}
+
 /// Sets `said` to what a frame says that is read as one with this identifier; `claims` are the PDOs
 /// that it is, `named` is whether a COB-ID of a channel or of a service has its identifier, `nodes`
 /// have what the last frames of its node had, `told` is what its SDO channel says about it. On an
@@ -109,6 +160,15 @@ pub(crate) fn set_told_words(
     let Some(part) = told.part else {
         return set_words(said, bus, claims, named, nodes, id, frame);
     };
+    if let Some(key) = accepted_key(part.what, &told.ended, &frame.content) {
+        said.clear();
+        return push_accepted(
+            said,
+            told.node,
+            key,
+            name_of(bus.names(told.node), told.node, key),
+        );
+    }
     set_part_words(said, bus, claims, named, nodes, id, frame, told.node, part)
 }
 

@@ -107,8 +107,14 @@ fn value_bytes(data_type: DataType, content: &ExpeditedData) -> &[u8]
     }
 }
 
+/// Appends a service, its node, and what follows.
 #[tactic(auto, unfolding(crate::specs::Transfers::service_text))]
-fn push_service(text: &mut String, service: &str, node: u8, end: &str) -> Result<(), AllocError>
+pub(crate) fn push_service(
+    text: &mut String,
+    service: &str,
+    node: u8,
+    end: &str,
+) -> Result<(), AllocError>
     ensures { OnOk result (string_bytes text.new
         ≡ string_bytes text.old ++ service_text service.now node end.now) }
 {
