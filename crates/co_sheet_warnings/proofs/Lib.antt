@@ -10,6 +10,8 @@ mod RepeatExamples
 mod LineExamples
 mod LimitExamples
 mod NodeIdSumExamples
+mod ReservedValueExamples
+mod AccessExamples
 mod SectionNameExamples
 mod PieceLemmas
 mod ByLineLemmas

@@ -1,7 +1,7 @@
 -- The tables of words have each kind's words in its row.
 use Rattle.std.proofs.Common.{◌≡◌, ◌<◌, ℕ, List, [], get_or, map, refl, arith}
 use Rattle.co_sheet_warnings.specs.declared.warning.WarningKind.{WarningKind}
-use Rattle.co_sheet_warnings.specs.declared.warning.WarningKind.TheVariants.{SubNumber, SubIndex0, VarSubIndices, FileInfoKeys, DeviceInfoKeys, PdoCount, WrongList, UncountedKey, Unlisted, IdentityNumber, FixedCobId, NodeIdPlace, NodeIdSum, NegativeLimit, MisspeltSection, MisspeltKey, SharedCobId, InhibitTime, OwnHeartbeat, HeartbeatTwice, NoErrorControl, LongLine, Utf8, NotAscii, NodeId, ListOrder, EqualNames, MissingName, UnknownKey, DateFormat, LineEnds}
+use Rattle.co_sheet_warnings.specs.declared.warning.WarningKind.TheVariants.{SubNumber, SubIndex0, VarSubIndices, FileInfoKeys, DeviceInfoKeys, PdoCount, WrongList, UncountedKey, Unlisted, IdentityNumber, FixedCobId, NodeIdPlace, NodeIdSum, NegativeLimit, ReservedValue, WrongAccess, MisspeltSection, MisspeltKey, SharedCobId, InhibitTime, OwnHeartbeat, HeartbeatTwice, NoErrorControl, LongLine, Utf8, NotAscii, NodeId, ListOrder, EqualNames, MissingName, UnknownKey, DateFormat, LineEnds}
 use Rattle.co_sheet_warnings.specs.declared.words.TheConstants.{NAMES, MEANINGS, FIXES, SUBJECTS}
 use Rattle.co_sheet_warnings.specs.WarningWords.{name_of, meaning_of, fix_of, subject_of}
 use Rattle.co_sheet_warnings.specs.private.Views.{kind_row}
@@ -33,6 +33,8 @@ named FixedCobId = refl
 named NodeIdPlace = refl
 named NodeIdSum = refl
 named NegativeLimit = refl
+named ReservedValue = refl
+named WrongAccess = refl
 named MisspeltSection = refl
 named (MisspeltKey key) = refl
 named (SharedCobId node) = refl
@@ -66,6 +68,8 @@ meant FixedCobId = refl
 meant NodeIdPlace = refl
 meant NodeIdSum = refl
 meant NegativeLimit = refl
+meant ReservedValue = refl
+meant WrongAccess = refl
 meant MisspeltSection = refl
 meant (MisspeltKey key) = refl
 meant (SharedCobId node) = refl
@@ -99,6 +103,8 @@ ruled FixedCobId = refl
 ruled NodeIdPlace = refl
 ruled NodeIdSum = refl
 ruled NegativeLimit = refl
+ruled ReservedValue = refl
+ruled WrongAccess = refl
 ruled MisspeltSection = refl
 ruled (MisspeltKey key) = refl
 ruled (SharedCobId node) = refl
@@ -132,6 +138,8 @@ fixed FixedCobId = refl
 fixed NodeIdPlace = refl
 fixed NodeIdSum = refl
 fixed NegativeLimit = refl
+fixed ReservedValue = refl
+fixed WrongAccess = refl
 fixed MisspeltSection = refl
 fixed (MisspeltKey key) = refl
 fixed (SharedCobId node) = refl
@@ -151,7 +159,7 @@ fixed DateFormat = refl
 fixed LineEnds = refl
 
 -- no row past the last
-pub few_rows : (kind : WarningKind) → kind_row kind < 31
+pub few_rows : (kind : WarningKind) → kind_row kind < 33
 few_rows SubNumber = omega arith
 few_rows SubIndex0 = omega arith
 few_rows VarSubIndices = omega arith
@@ -166,6 +174,8 @@ few_rows FixedCobId = omega arith
 few_rows NodeIdPlace = omega arith
 few_rows NodeIdSum = omega arith
 few_rows NegativeLimit = omega arith
+few_rows ReservedValue = omega arith
+few_rows WrongAccess = omega arith
 few_rows MisspeltSection = omega arith
 few_rows (MisspeltKey key) = omega arith
 few_rows (SharedCobId node) = omega arith

@@ -11,6 +11,8 @@ pub mod Lines
 pub mod Communication
 pub mod Infos
 pub mod Repeats
+pub mod ReservedValues
+pub mod Accesses
 pub mod NodeIdSums
 pub mod Warnings
 pub mod WarningWords

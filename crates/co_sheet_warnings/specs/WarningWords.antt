@@ -17,6 +17,8 @@ use Rattle.co_sheet_warnings.specs.declared.warning.WarningKind.TheVariants.{
   NodeIdPlace,
   NodeIdSum,
   NegativeLimit,
+  ReservedValue,
+  WrongAccess,
   MisspeltSection,
   MisspeltKey,
   SharedCobId,
@@ -52,6 +54,8 @@ name_of FixedCobId = codes "FixedCobId"
 name_of NodeIdPlace = codes "NodeIdPlace"
 name_of NodeIdSum = codes "NodeIdSum"
 name_of NegativeLimit = codes "NegativeLimit"
+name_of ReservedValue = codes "ReservedValue"
+name_of WrongAccess = codes "WrongAccess"
 name_of MisspeltSection = codes "MisspeltSection"
 name_of (MisspeltKey meant) = codes "MisspeltKey"
 name_of (SharedCobId node) = codes "SharedCobId"
@@ -90,6 +94,8 @@ meaning_of NodeIdSum =
     codes "the default with $NODEID is outside the type or the limits for every node-ID"
 meaning_of NegativeLimit =
     codes "this HighLimit is -1 at its type, so no number from 0 on is permitted"
+meaning_of ReservedValue = codes "CiA 301 reserves this value"
+meaning_of WrongAccess = codes "CiA 301 has another access for this entry"
 meaning_of MisspeltSection =
     codes "nothing reads a section of this name, and the standard has one like it"
 meaning_of (MisspeltKey meant) = codes "the standard has no such key, but one like it"
@@ -132,6 +138,9 @@ fix_of NodeIdPlace = codes "write $NODEID first, as $NODEID+0x180"
 fix_of NodeIdSum = codes "correct the default or the limits"
 fix_of NegativeLimit =
     codes "give the greatest number of the type, as 0x7F or 0x7FFF, or take the limit out"
+fix_of ReservedValue =
+    codes "give a transmission type of 0 to 240 or from 254 on, of a TPDO also 252 or 253; to 1019h 0 or 2 to 240"
+fix_of WrongAccess = codes "give the entry that access"
 fix_of MisspeltSection = codes "write the name as the standard has it, as [DeviceInfo], [1018sub1]"
 fix_of (MisspeltKey meant) = codes "write the key as the standard has it"
 fix_of (SharedCobId node) =
@@ -167,6 +176,9 @@ subject_of FixedCobId = codes "CiA 301, predefined connection set"
 subject_of NodeIdPlace = codes "CiA 306-1, object description"
 subject_of NodeIdSum = codes "CiA 306-1, object description"
 subject_of NegativeLimit = codes "CiA 306-1, object description"
+subject_of ReservedValue =
+    codes "CiA 301, transmission types and synchronous counter overflow value"
+subject_of WrongAccess = codes "CiA 301, objects of the communication profile"
 subject_of MisspeltSection = codes "CiA 306-1, structure of an EDS"
 subject_of (MisspeltKey meant) = codes "CiA 306-1, structure of an EDS"
 subject_of (SharedCobId node) = codes "CiA 301, COB-IDs"

@@ -40,6 +40,8 @@ use Rattle.co_sheet_warnings.specs.declared.warning.WarningKind.TheVariants.{
   NodeIdPlace,
   NodeIdSum,
   NegativeLimit,
+  ReservedValue,
+  WrongAccess,
   MisspeltSection,
   MisspeltKey,
   SharedCobId,
@@ -65,7 +67,9 @@ use Rattle.co_sheet_warnings.specs.ReadTexts.{ReadText, read_text}
 use Rattle.co_sheet_warnings.specs.SubIndices.{sub_number, sub_index_0, var_sub_indices, missing_name}
 use Rattle.co_sheet_warnings.specs.Lists.{wrong_lists, uncounted_keys, list_orders, unlisted, no_error_control}
 use Rattle.co_sheet_warnings.specs.CobIds.{fixed_cob_id, node_id_place}
+use Rattle.co_sheet_warnings.specs.Accesses.{wrong_access}
 use Rattle.co_sheet_warnings.specs.Limits.{negative_limit}
+use Rattle.co_sheet_warnings.specs.ReservedValues.{reserved_value}
 use Rattle.co_sheet_warnings.specs.SectionNames.{misspelt_section}
 use Rattle.co_sheet_warnings.specs.Communication.{inhibit_time, own_heartbeat, heartbeat_twice}
 use Rattle.co_sheet_warnings.specs.NodeIds.{no_node_id}
@@ -102,6 +106,8 @@ places_in t FixedCobId s = fixed_cob_id t.sections s
 places_in t NodeIdPlace s = node_id_place s
 places_in t NodeIdSum s = node_id_sum t.node s
 places_in t NegativeLimit s = negative_limit s
+places_in t ReservedValue s = reserved_value s
+places_in t WrongAccess s = wrong_access s
 places_in t MisspeltSection s = misspelt_section t.sections s
 places_in t InhibitTime s = inhibit_time t.sections s s.kind
 places_in t OwnHeartbeat s = own_heartbeat t.node s s.kind
@@ -149,7 +155,7 @@ first_kinds =
     SubNumber ∷ SubIndex0 ∷ VarSubIndices ∷ FileInfoKeys (replicate 10 false)
     ∷ DeviceInfoKeys (replicate 22 false) ∷ PdoCount ∷ WrongList ∷ UncountedKey ∷ Unlisted
     ∷ IdentityNumber 1 ∷ IdentityNumber 2 ∷ IdentityNumber 3 ∷ FixedCobId ∷ NodeIdPlace
-    ∷ NodeIdSum ∷ NegativeLimit ∷ MisspeltSection ∷ []
+    ∷ NodeIdSum ∷ NegativeLimit ∷ ReservedValue ∷ WrongAccess ∷ MisspeltSection ∷ []
 
 abbrev pub last_kinds : List WarningKind
 last_kinds =

@@ -4,12 +4,14 @@ ghost use Rattle.std.specs.Prelude.{◌≡◌, option_to_list};
 ghost use Rattle.co_sheet_text.specs.Views.{section_view};
 ghost use Rattle.co_sheet_warnings.specs.Warnings.{places_in};
 
+use crate::accesses::wrong_access;
 use crate::cob_ids::{fixed_cob_id, node_id_place};
 use crate::communication::{heartbeat_twice, inhibit_time, own_heartbeat};
 use crate::limits::negative_limit;
 use crate::node_id::no_node_id;
 use crate::node_id_sums::node_id_sum;
 use crate::read_text::ReadText;
+use crate::reserved_values::reserved_value;
 use crate::section_names::misspelt_section;
 use crate::sub_indices::{missing_name, sub_index_0, sub_number, unlisted, var_sub_indices};
 use crate::warning::WarningKind;
@@ -29,6 +31,8 @@ pub(crate) fn place_in(text: &ReadText, kind: WarningKind, section: &TextSection
         WarningKind::NodeIdPlace => node_id_place(section),
         WarningKind::NodeIdSum => node_id_sum(text.node, section),
         WarningKind::NegativeLimit => negative_limit(section),
+        WarningKind::ReservedValue => reserved_value(section),
+        WarningKind::WrongAccess => wrong_access(section),
         WarningKind::MisspeltSection => misspelt_section(text, section),
         WarningKind::InhibitTime => inhibit_time(text, section),
         WarningKind::OwnHeartbeat => own_heartbeat(text.node, section),

@@ -22,6 +22,7 @@ macro_rules! attempt_in_memory {
     };
 }
 
+mod accesses;
 mod cob_ids;
 mod communication;
 mod find;
@@ -37,12 +38,14 @@ mod node_id_sums;
 mod places;
 mod read_text;
 mod repeats;
+mod reserved_values;
 mod section_names;
 mod sub_indices;
 mod warning;
 mod whole;
 mod words;
 
+pub use accesses::{FixedAccess, fixed_access};
 pub use find::find_warnings;
 pub use infos::{device_keys, file_keys, object_count};
 pub use known_key::{KnownKey, is_near};

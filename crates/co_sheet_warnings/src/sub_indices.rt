@@ -17,9 +17,10 @@ ghost use Rattle.co_sheet_warnings.specs.SubIndices.{
 };
 ghost use Rattle.co_sheet_warnings.specs.private.Views.{is_constant_section};
 
+use crate::accesses::is_constant_word;
 use crate::read_text::ReadText;
 use co_sheet::EntrySection;
-use co_sheet_text::{Property, SectionKind, TextSection, same_name};
+use co_sheet_text::{Property, SectionKind, TextSection};
 
 /// Whether an index is in a range with both its ends. Conditions call it, so that the order of
 /// numbers is proved once.
@@ -133,7 +134,7 @@ fn is_constant(section: &TextSection) -> bool
     ensures { result ≡ is_constant_section (section_view section.now) }
 {
     match section.property(b"AccessType") {
-        Some(given) => same_name(given.value, b"ro") || same_name(given.value, b"const"),
+        Some(given) => is_constant_word(given.value),
         None => false,
     }
 }

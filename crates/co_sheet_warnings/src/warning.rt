@@ -35,6 +35,10 @@ pub enum WarningKind {
     NodeIdSum,
     /// A HighLimit without a LowLimit that is -1 by the sign of its type.
     NegativeLimit,
+    /// A transmission type or a synchronous counter overflow value that CiA 301 reserves.
+    ReservedValue,
+    /// An access other than CiA 301 has it for the entry.
+    WrongAccess,
     /// A section that nothing reads, with a name that is like one of the standard.
     MisspeltSection,
     /// A key that the standard doesn't have, and that is like one of its own.

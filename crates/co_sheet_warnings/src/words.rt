@@ -30,23 +30,25 @@ fn row(kind: WarningKind) -> usize
         WarningKind::NodeIdPlace => 11,
         WarningKind::NodeIdSum => 12,
         WarningKind::NegativeLimit => 13,
-        WarningKind::MisspeltSection => 14,
-        WarningKind::MisspeltKey(_) => 15,
-        WarningKind::SharedCobId(_) => 16,
-        WarningKind::InhibitTime => 17,
-        WarningKind::OwnHeartbeat => 18,
-        WarningKind::HeartbeatTwice(_) => 19,
-        WarningKind::NoErrorControl => 20,
-        WarningKind::LongLine => 21,
-        WarningKind::Utf8 => 22,
-        WarningKind::NotAscii => 23,
-        WarningKind::NodeId => 24,
-        WarningKind::ListOrder => 25,
-        WarningKind::EqualNames => 26,
-        WarningKind::MissingName => 27,
-        WarningKind::UnknownKey => 28,
-        WarningKind::DateFormat => 29,
-        WarningKind::LineEnds => 30,
+        WarningKind::ReservedValue => 14,
+        WarningKind::WrongAccess => 15,
+        WarningKind::MisspeltSection => 16,
+        WarningKind::MisspeltKey(_) => 17,
+        WarningKind::SharedCobId(_) => 18,
+        WarningKind::InhibitTime => 19,
+        WarningKind::OwnHeartbeat => 20,
+        WarningKind::HeartbeatTwice(_) => 21,
+        WarningKind::NoErrorControl => 22,
+        WarningKind::LongLine => 23,
+        WarningKind::Utf8 => 24,
+        WarningKind::NotAscii => 25,
+        WarningKind::NodeId => 26,
+        WarningKind::ListOrder => 27,
+        WarningKind::EqualNames => 28,
+        WarningKind::MissingName => 29,
+        WarningKind::UnknownKey => 30,
+        WarningKind::DateFormat => 31,
+        WarningKind::LineEnds => 32,
     }
 }
 
@@ -59,7 +61,7 @@ fn text_at(texts: &[&'static str], row: usize) -> &'static str
 }
 
 /// The names of all kinds, by row.
-const NAMES: [&str; 31] = [
+const NAMES: [&str; 33] = [
     "SubNumber",
     "SubIndex0",
     "VarSubIndices",
@@ -74,6 +76,8 @@ const NAMES: [&str; 31] = [
     "NodeIdPlace",
     "NodeIdSum",
     "NegativeLimit",
+    "ReservedValue",
+    "WrongAccess",
     "MisspeltSection",
     "MisspeltKey",
     "SharedCobId",
@@ -101,7 +105,7 @@ pub fn name_of(kind: WarningKind) -> &'static str
 }
 
 /// What a warning of each kind means, by row.
-const MEANINGS: [&str; 31] = [
+const MEANINGS: [&str; 33] = [
     "SubNumber isn't the number of the object's sub-index sections",
     "sub-index 0 isn't the highest sub-index of the object",
     "the object is a VAR or a DOMAIN, so its sub-index sections aren't read",
@@ -116,6 +120,8 @@ const MEANINGS: [&str; 31] = [
     "$NODEID comes after the number, which other tools don't read",
     "the default with $NODEID is outside the type or the limits for every node-ID",
     "this HighLimit is -1 at its type, so no number from 0 on is permitted",
+    "CiA 301 reserves this value",
+    "CiA 301 has another access for this entry",
     "nothing reads a section of this name, and the standard has one like it",
     "the standard has no such key, but one like it",
     "an entry before it has the same identifier, for this node-ID",
@@ -143,7 +149,7 @@ pub fn meaning_of(kind: WarningKind) -> &'static str
 }
 
 /// How a warning of each kind is fixed, by row.
-const FIXES: [&str; 31] = [
+const FIXES: [&str; 33] = [
     "count the sections; one may be missing, or its name misspelt",
     "give it the highest sub-index, or describe the one that is missing",
     "give it ObjectType=0x8 or 0x9, or take these sections out",
@@ -159,6 +165,9 @@ const FIXES: [&str; 31] = [
     "write $NODEID first, as $NODEID+0x180",
     "correct the default or the limits",
     "give the greatest number of the type, as 0x7F or 0x7FFF, or take the limit out",
+    "give a transmission type of 0 to 240 or from 254 on, of a TPDO also 252 or 253; to 1019h 0 or 2 \
+    to 240",
+    "give the entry that access",
     "write the name as the standard has it, as [DeviceInfo], [1018sub1]",
     "write the key as the standard has it",
     "give each PDO, SDO channel and EMCY an identifier of its own, or set bit 31",
@@ -186,7 +195,7 @@ pub fn fix_of(kind: WarningKind) -> &'static str
 }
 
 /// The subject that has the rule of each kind, by row.
-const SUBJECTS: [&str; 31] = [
+const SUBJECTS: [&str; 33] = [
     "CiA 306-1, object description",
     "CiA 301, sub-index 0 of arrays and records",
     "CiA 306-1, object description",
@@ -201,6 +210,8 @@ const SUBJECTS: [&str; 31] = [
     "CiA 306-1, object description",
     "CiA 306-1, object description",
     "CiA 306-1, object description",
+    "CiA 301, transmission types and synchronous counter overflow value",
+    "CiA 301, objects of the communication profile",
     "CiA 306-1, structure of an EDS",
     "CiA 306-1, structure of an EDS",
     "CiA 301, COB-IDs",

@@ -5,7 +5,7 @@ use co_sheet_faults::{FaultKind, SheetFault, find_faults, fix_of, meaning_of, su
 use co_sheet_text::{number_in, same_name, trim, without_mark};
 use co_text::{split_at_first, split_line};
 use conode_json::characters_of;
-use conode_lint_text::{About, Finding, Place, Severity, push_finding, push_more};
+use conode_lint_text::{About, Finding, Place, Severity, missing_section, push_finding, push_more};
 use conode_text::{Value, push_filled};
 use std::alloc::{AllocError, Global};
 
@@ -86,11 +86,19 @@ fn place_of(kind: FaultKind) -> Place {
     }
 }
 
+// what a fault is about, if its line doesn't show it: the section that is missing
+fn about_of(fault: SheetFault, text: &[u8]) -> About {
+    match fault.kind {
+        FaultKind::MissingSection => missing_section(fault.line, text),
+        _ => About::Line,
+    }
+}
+
 fn finding_of<'a>(fault: SheetFault, text: &'a [u8]) -> Finding<'a> {
     Finding {
         line: fault.line,
         place: place_of(fault.kind),
-        about: About::Line,
+        about: about_of(fault, text),
         severity: Severity::Error,
         name: fault.kind.name(),
         meaning: meaning_of(&fault),

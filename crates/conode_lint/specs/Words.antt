@@ -94,6 +94,7 @@ warning_about sections line text (warning.MisspeltKey known) =
     facts.misspelt_key line sections known
 warning_about sections line text warning.MisspeltSection = facts.misspelt_section text
 warning_about sections line text warning.WrongList = facts.wrong_list text
+warning_about sections line text warning.WrongAccess = facts.wrong_access line sections
 warning_about sections line text warning.Utf8 = facts.utf8 text
 warning_about sections line text other = about.Line
 

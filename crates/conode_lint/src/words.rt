@@ -29,7 +29,7 @@ use conode_lint_text::{
     About, Place, Severity, bad_access, bad_default, bad_limits, bad_list, bad_number, bad_type,
     device_info, duplicate_key, duplicate_section, file_info, first_at, identity_number,
     listed_twice, missing_key, missing_mandatory, missing_section, misspelt_key, misspelt_section,
-    pdo_count, sub_index_0, sub_number, too_large, utf8, wrong_list,
+    pdo_count, sub_index_0, sub_number, too_large, utf8, wrong_access, wrong_list,
 };
 
 /// Its name, as `BadList`.
@@ -129,6 +129,7 @@ fn warning_about(
         WarningKind::MisspeltKey(known) => misspelt_key(sections, line, known),
         WarningKind::MisspeltSection => misspelt_section(text),
         WarningKind::WrongList => wrong_list(text),
+        WarningKind::WrongAccess => wrong_access(sections, line),
         WarningKind::Utf8 => utf8(text),
         _ => About::Line,
     }

@@ -9,7 +9,7 @@ use Rattle.co_sheet_text.specs.declared.section_kind.SectionKind.TheVariants.{De
 use Rattle.co_sheet_text.specs.Sections.{TextSection, form_of}
 use Rattle.co_sheet_warnings.specs.declared.warning.Warning.{Warning}
 use Rattle.co_sheet_warnings.specs.declared.warning.WarningKind.{WarningKind}
-use Rattle.co_sheet_warnings.specs.declared.warning.WarningKind.TheVariants.{SubNumber, SubIndex0, VarSubIndices, FileInfoKeys, DeviceInfoKeys, PdoCount, Unlisted, IdentityNumber, FixedCobId, NodeIdPlace, NodeIdSum, NegativeLimit, SharedCobId, InhibitTime, OwnHeartbeat, HeartbeatTwice, NoErrorControl, LongLine}
+use Rattle.co_sheet_warnings.specs.declared.warning.WarningKind.TheVariants.{SubNumber, SubIndex0, VarSubIndices, FileInfoKeys, DeviceInfoKeys, PdoCount, Unlisted, IdentityNumber, FixedCobId, NodeIdPlace, NodeIdSum, NegativeLimit, ReservedValue, WrongAccess, SharedCobId, InhibitTime, OwnHeartbeat, HeartbeatTwice, NoErrorControl, LongLine}
 use Rattle.conode_lint_marks.specs.declared.mark.Subject.TheVariants as mark
 use Rattle.conode_lint_marks.specs.AtFault.{is_complete, kinds_at_fault}
 use Rattle.conode_lint_marks.specs.BuildLines.{value_line}
@@ -110,6 +110,11 @@ cob_id = refl
 limit : left_by (fault BadDefault 11 ∷ fault BadNumber 12 ∷ []) (warning NegativeLimit 11 ∷ warning NegativeLimit 12 ∷ warning NegativeLimit 13 ∷ []) ≡ warning NegativeLimit 13 ∷ []
 unfolding known_warnings unknown_of is_complete kinds_at_fault doubts_of whole_line value_line
 limit = refl
+
+-- a value and an access: nothing is said of one at fault
+fixed : left_by (fault BadDefault 11 ∷ fault DuplicateKey 12 ∷ []) (warning ReservedValue 11 ∷ warning WrongAccess 12 ∷ warning ReservedValue 13 ∷ warning WrongAccess 13 ∷ []) ≡ warning ReservedValue 13 ∷ warning WrongAccess 13 ∷ []
+unfolding known_warnings unknown_of is_complete kinds_at_fault doubts_of whole_line value_line
+fixed = refl
 
 -- a sum: nothing is said in a section at fault, at another line too; before the first section
 sum : map (λ f. left_by (f ∷ []) (warning NodeIdSum 12 ∷ warning NodeIdSum 22 ∷ [])) (fault BadNumber 9 ∷ fault BadType 11 ∷ fault BadDefault 12 ∷ fault BadLimits 19 ∷ fault DuplicateSection 20 ∷ fault BadLine 30 ∷ [])

@@ -349,9 +349,11 @@ fn rests_on_fault(
         }
         WarningKind::InhibitTime => is_time_in_doubt(forms.sections(), doubts, line),
         WarningKind::FixedCobId => is_one_of(bad, line) || begins_at(line, faults),
-        WarningKind::NodeIdPlace | WarningKind::NegativeLimit | WarningKind::OwnHeartbeat => {
-            begins_at(line, faults)
-        }
+        WarningKind::NodeIdPlace
+        | WarningKind::NegativeLimit
+        | WarningKind::ReservedValue
+        | WarningKind::WrongAccess
+        | WarningKind::OwnHeartbeat => begins_at(line, faults),
         WarningKind::NodeIdSum => is_at_fault_here(kinds, doubts, here),
         _ => false,
     }

@@ -2,6 +2,7 @@
 use Rattle.std.proofs.Common.{◌≡◌, ℕ, true, false, List, Some, None, [], ◌∷◌, ◌++◌, codes, map, refl}
 use Rattle.std.specs.Prelude.{pos, negsuc, replicate}
 use Rattle.std.specs.Fmt.{digits}
+use Rattle.co_sheet_warnings.specs.declared.accesses.FixedAccess.TheVariants.{ReadOnly, Readable, ReadWrite}
 use Rattle.co_sheet_warnings.specs.declared.known_key.KnownKey.TheVariants.{AccessType, DataType, NrOfRxPdo}
 use Rattle.co_text.specs.Printed.{digits_text}
 use Rattle.co_value.specs.declared.data_type.DataType.TheVariants.{Boolean, Integer8, Integer16, Unsigned8, Unsigned16}
@@ -9,11 +10,11 @@ use Rattle.conode_text.specs.Filled.{filled}
 use Rattle.co_sheet_text.specs.declared.section_kind.SectionKind.{SectionKind}
 use Rattle.co_sheet_text.specs.declared.section_kind.SectionKind.TheVariants.{MandatoryObjects, OptionalObjects, ManufacturerObjects, Object, SubIndex}
 use Rattle.co_sheet_text.specs.Sections.{Property, TextSection}
-use Rattle.conode_lint_text.specs.declared.finding.About.TheVariants.{Line, FirstAt, Misspelt, MisspeltBeside, Fact}
+use Rattle.conode_lint_text.specs.declared.finding.About.TheVariants.{Line, FirstAt, Misspelt, MisspeltBeside, NoSection, Access, Fact}
 use Rattle.conode_lint_text.specs.declared.fact.Fact.TheVariants as fact
 use Rattle.conode_lint_text.specs.declared.meant_section.MeantSection.TheVariants as meant
 use Rattle.conode_lint_text.specs.FactTexts.{fact_text, hexadecimal, missing_text, texts_of, words_of}
-use Rattle.conode_lint_text.specs.Facts.{bad_access, bad_list, bad_number, bad_type, count_fact, device_info, duplicate_key, duplicate_section, file_info, first_at, identity_number, list_fact, listed_twice, missing_key, missing_mandatory, missing_section, misspelt_key, misspelt_section, pdo_count, sub_index_0, sub_number, too_large, utf8, wrong_list}
+use Rattle.conode_lint_text.specs.Facts.{bad_access, bad_list, bad_number, bad_type, count_fact, device_info, duplicate_key, duplicate_section, file_info, first_at, identity_number, list_fact, listed_twice, missing_key, missing_mandatory, missing_section, misspelt_key, misspelt_section, pdo_count, sub_index_0, sub_number, too_large, utf8, wrong_access, wrong_list}
 use Rattle.conode_lint_text.specs.Bounds.{bad_default, bad_limits}
 use Rattle.conode_lint_text.specs.Findings.{about_message, fix_with}
 
@@ -149,7 +150,7 @@ high_indices : list_fact (section 1 MandatoryObjects
 high_indices = refl
 
 -- the whole text, and a line
-no_line : too_large 0 ∷ too_large 1 ∷ missing_section 0 [] ∷ missing_section 1 (codes "1=0x2000") ∷ [] ≡ Fact fact.LargeText ∷ Line ∷ Fact fact.NoMandatoryList ∷ Line ∷ []
+no_line : too_large 0 ∷ too_large 1 ∷ missing_section 0 [] ∷ missing_section 1 (codes "1=0x2000") ∷ [] ≡ Fact fact.LargeText ∷ Line ∷ Fact fact.NoMandatoryList ∷ NoSection 0x2000 ∷ []
 no_line = refl
 
 -- of the lists above: 1018h is past the count of the first
@@ -170,6 +171,20 @@ type_text : fact_text (fact.FixedType 7) ∷ fix_with (Fact (fact.FixedType 7)) 
 unfolding fact_text words_of texts_of fix_with filled digits digits_text
 type_text = refl
 
+-- the section that is missing, as sheets name it
+section_text : about_message (NoSection 0x1A00) (codes "m") ∷ fix_with (NoSection 0x1A00) (codes "f") ∷ [] ≡ codes "the listed object has no section [1A00]" ∷ codes "add it; or take the object out of its list, unless it is mandatory" ∷ []
+unfolding about_message fix_with filled digits digits_text
+section_text = refl
+
+-- the access of the entry whose section the line is in; of an entry without one nothing is said
+accesses : map (λ line. wrong_access line (section 10 (Object 0x1000) [] ∷ section 20 (Object 0x1017) [] ∷ section 30 (SubIndex (record { index = 0x1010; sub = 1 })) [] ∷ section 40 (SubIndex (record { index = 0x1003; sub = 0 })) [] ∷ [])) (10 ∷ 11 ∷ 20 ∷ 21 ∷ 31 ∷ 41 ∷ [])
+    ≡ Line ∷ Access ReadOnly ∷ Access ReadOnly ∷ Line ∷ Access Readable ∷ Access ReadWrite ∷ []
+accesses = refl
+
+access_texts : map (λ access. about_message (Access access) (codes "m")) (ReadOnly ∷ Readable ∷ ReadWrite ∷ []) ≡ codes "CiA 301 has AccessType=ro or const here" ∷ codes "CiA 301 has AccessType=rw here" ∷ codes "CiA 301 has AccessType=rw here" ∷ []
+unfolding about_message
+access_texts = refl
+
 bad_numbers : map bad_number (codes " defaultvalue = x" ∷ codes "ParameterValue=x" ∷ codes "LowLimit=x" ∷ codes "objecttype = VAR" ∷ codes "ObjectType=7 ; VAR" ∷ [])
     ≡ Fact fact.NoValue ∷ Fact fact.NoValue ∷ Line ∷ Fact fact.NoObjectType ∷ Fact fact.CommentInValue ∷ []
 bad_numbers = refl
@@ -183,7 +198,8 @@ odd_accesses : map bad_access (codes "AccessType=ro ; x" ∷ codes "AccessType=\
 odd_accesses = refl
 
 -- of at most four decimal digits an index may have been meant in hexadecimal
-decimal_indices : map (missing_section 1) (codes "1=6110" ∷ codes "1=9999" ∷ codes "1=10000" ∷ codes "1=0x6110" ∷ codes "1=x" ∷ []) ≡ Fact (fact.DecimalIndex 6110) ∷ Fact (fact.DecimalIndex 9999) ∷ Line ∷ Line ∷ Line ∷ []
+decimal_indices : map (missing_section 1) (codes "1=6110" ∷ codes "1=9999" ∷ codes "1=10000" ∷ codes "1=0x6110" ∷ codes "1=0xFFFF" ∷ codes "1=0x10000" ∷ codes "1=x" ∷ [])
+    ≡ Fact (fact.DecimalIndex 6110) ∷ Fact (fact.DecimalIndex 9999) ∷ NoSection 10000 ∷ NoSection 0x6110 ∷ NoSection 0xFFFF ∷ Line ∷ Line ∷ []
 decimal_indices = refl
 
 low_indices : map wrong_list (codes "1=1008" ∷ codes "1=1000" ∷ codes "1=999" ∷ codes "1=4095" ∷ codes "1=4096" ∷ codes "1=0xFFF" ∷ codes "1=0x1000" ∷ codes "1=x" ∷ [])

@@ -15,6 +15,7 @@ use Rattle.co_sheet_text.specs.Numerals.{is_number_in, unsigned_number}
 use Rattle.co_sheet_text.specs.Properties.{number_at, property_number}
 use Rattle.co_sheet_text.specs.Sections.{Property, TextSection, is_bracket, is_equals, property_at, section_at}
 use Rattle.co_sheet_text.specs.Text.{same_name, trim}
+use Rattle.co_sheet_warnings.specs.Accesses.{fixed_access}
 use Rattle.co_sheet_warnings.specs.Infos.{object_count}
 use Rattle.co_sheet_warnings.specs.KnownKeys.{key_text}
 use Rattle.co_sheet_warnings.specs.Lines.{has_other_byte}
@@ -23,7 +24,7 @@ use Rattle.co_sheet_warnings.specs.declared.known_key.KnownKey.{KnownKey}
 use Rattle.conode_lint_text.specs.MeantSections.{meant_section}
 use Rattle.conode_lint_text.specs.declared.fact.Fact.TheVariants as fact
 use Rattle.conode_lint_text.specs.declared.finding.About.{About}
-use Rattle.conode_lint_text.specs.declared.finding.About.TheVariants.{Line, FirstAt, Misspelt, MisspeltBeside, Fact}
+use Rattle.conode_lint_text.specs.declared.finding.About.TheVariants.{Line, FirstAt, Misspelt, MisspeltBeside, NoSection, Access, Fact}
 
 -- ---- sections
 
@@ -154,8 +155,13 @@ too_large line = if line == 0 then Fact fact.LargeText else Line
 abbrev pub is_decimal_index : List ℕ → ℕ → Bool
 is_decimal_index value index = is_number_in 10 value && nat_le index 9999
 
+-- another index names the section that is missing
+abbrev pub section_fact : ℕ → About
+section_fact index = if nat_lt index 0x10000 then NoSection index else Line
+
 abbrev pub listed_fact : List ℕ → ℕ → About
-listed_fact value index = if is_decimal_index value index then Fact (fact.DecimalIndex index) else Line
+listed_fact value index =
+    if is_decimal_index value index then Fact (fact.DecimalIndex index) else section_fact index
 
 abbrev pub missing_section : ℕ → List ℕ → About
 missing_section line text =
@@ -259,6 +265,13 @@ abbrev pub bad_type : ℕ → List TextSection → List ℕ → About
 bad_type line sections text =
     if same_name (key_name text) (codes "DataType")
     then option_map_or (type_fact (key_number text)) (section_before line sections) Line else Line
+
+-- of the WrongAccess of a line: the access that CiA 301 has for the entry
+abbrev pub access_fact : TextSection → About
+access_fact s = option_map_or (λ access. Access access) (fixed_access s.kind) Line
+
+abbrev pub wrong_access : ℕ → List TextSection → About
+wrong_access line sections = option_map_or access_fact (section_before line sections) Line
 
 -- of the DuplicateKey of a line
 abbrev pub first_key : List ℕ → TextSection → About

@@ -3,13 +3,15 @@ use Rattle.std.specs.Prelude.{ℕ, ◌+◌, ◌==◌, nat_lt, true, false, if◌
 use Rattle.std.specs.List.{position_or_len}
 use Rattle.co_text.specs.Printed.{digits_text}
 use Rattle.co_sheet_warnings.specs.KnownKeys.{key_text}
+use Rattle.co_sheet_warnings.specs.declared.accesses.FixedAccess.{FixedAccess}
+use Rattle.co_sheet_warnings.specs.declared.accesses.FixedAccess.TheVariants.{ReadOnly, Readable, ReadWrite}
 use Rattle.conode_text.specs.Filled.{filled}
 use Rattle.conode_json.specs.Characters.{characters_of}
 use Rattle.conode_lint_text.specs.Characters.{blanks}
 use Rattle.conode_lint_text.specs.FactTexts.{fact_text}
 use Rattle.conode_lint_text.specs.declared.fact.Fact.TheVariants.{HighIndex, NoMandatoryList, NotListed, LargeText, NoValue, NoObjectType, ByteOrderMark, CommentInValue, QuotedValue, NoPairs, DecimalIndex, LowDecimal, LowIndex, FixedType, NoType, NoAccess, NoTypeOrAccess}
 use Rattle.conode_lint_text.specs.declared.finding.About.{About}
-use Rattle.conode_lint_text.specs.declared.finding.About.TheVariants.{Line, Object, Entry, Sum, NoSum, Bits, FirstAt, Misspelt, MisspeltBeside, Fact}
+use Rattle.conode_lint_text.specs.declared.finding.About.TheVariants.{Line, Object, Entry, Sum, NoSum, Bits, FirstAt, Misspelt, MisspeltBeside, NoSection, Access, Fact}
 use Rattle.conode_lint_text.specs.declared.finding.Finding.{Finding}
 use Rattle.conode_lint_text.specs.declared.finding.Place.{Place}
 use Rattle.conode_lint_text.specs.declared.finding.Place.TheVariants.{Beginning, Value}
@@ -38,6 +40,12 @@ unfoldable pub column_of : Finding → ℕ
 column_of finding =
     if finding.line == 0 then 0 else place_in finding.place (characters_of finding.text.now) + 1
 
+-- the access that CiA 301 has for an entry
+abbrev pub access_text : FixedAccess → List ℕ
+access_text ReadOnly = codes "CiA 301 has AccessType=ro or const here"
+access_text Readable = codes "CiA 301 has AccessType=rw here"
+access_text ReadWrite = codes "CiA 301 has AccessType=rw here"
+
 -- what is wrong, after what it is about if the line doesn't show that: an object, an entry, with the
 -- node-IDs for which a sum is right, or with how many bits a mapping maps; of what comes twice with the first one's line; of a misspelt key,
 -- what is meant; or else what the sheet has there
@@ -60,6 +68,9 @@ about_message (Misspelt known) meaning =
     filled (codes "the standard has no such key: did you mean %") (key_text known ∷ [])
 about_message (MisspeltBeside known) meaning =
     filled (codes "the standard has no such key: did you mean %, which is there too") (key_text known ∷ [])
+about_message (NoSection index) meaning =
+    filled (codes "the listed object has no section [%]") (digits_text 16 4 index ∷ [])
+about_message (Access access) meaning = access_text access
 about_message (Fact fact) meaning = fact_text fact
 
 -- what is wrong
@@ -84,6 +95,8 @@ fix_with (Fact QuotedValue) fix = codes "take the quotes out"
 fix_with (Fact NoPairs) fix = codes "write pairs of hexadecimal digits without blanks, as 00A1FF"
 fix_with (Fact (DecimalIndex index)) fix =
     codes "write the index in hexadecimal, after 0x; or add the section"
+fix_with (NoSection index) fix =
+    codes "add it; or take the object out of its list, unless it is mandatory"
 fix_with (Fact (LowDecimal index)) fix = codes "write the index in hexadecimal, after 0x"
 fix_with (Fact (LowIndex index)) fix = codes "take it out of the list"
 fix_with (MisspeltBeside known) fix = codes "take it out"

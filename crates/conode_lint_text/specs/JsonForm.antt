@@ -4,12 +4,12 @@ use Rattle.std.specs.List.{flat_map}
 use Rattle.json.specs.Token.{Token, begin_object, end_object, end_array}
 use Rattle.conode_json.specs.Characters.{utf8_of}
 use Rattle.conode_json.specs.Members.{array_begin, count_member, flag_member, object_begin, text_member}
-use Rattle.conode_lint_text.specs.Findings.{column_of, fix_of, message_of, severity_name}
+use Rattle.conode_lint_text.specs.Findings.{column_of, fix_of, help_of, message_of, severity_name}
 use Rattle.conode_lint_text.specs.Members.{member_name}
-use Rattle.conode_lint_text.specs.TextForm.{piece_text}
+use Rattle.conode_lint_text.specs.TextForm.{left_out_text}
 use Rattle.conode_lint_text.specs.declared.finding.Finding.{Finding}
 use Rattle.conode_lint_text.specs.declared.parts.Part.{Part}
-use Rattle.conode_lint_text.specs.declared.parts.Part.TheVariants.{BeginObject, EndObject, EndArray, Object, Array, Text, Piece, Line, Number, Column, Flag}
+use Rattle.conode_lint_text.specs.declared.parts.Part.TheVariants.{BeginObject, EndObject, EndArray, Object, Array, Text, Severity, Message, Help, LeftOut, Line, Number, Column, Flag}
 
 -- a member that is an object with a text
 abbrev pub message_member : List ℕ → List ℕ → List Token
@@ -23,7 +23,11 @@ part_tokens EndArray = end_array ∷ []
 part_tokens (Object member) = object_begin (member_name member)
 part_tokens (Array member) = array_begin (member_name member)
 part_tokens (Text member text) = text_member (member_name member) text.now
-part_tokens (Piece member piece) = text_member (member_name member) (piece_text piece)
+part_tokens (Severity member severity) = text_member (member_name member) (severity_name severity)
+part_tokens (Message member finding) = text_member (member_name member) (message_of finding.now)
+part_tokens (Help member rule) =
+    text_member (member_name member) (help_of rule.now.fix.now rule.now.subject.now)
+part_tokens (LeftOut member more) = text_member (member_name member) (left_out_text more)
 part_tokens (Line member line) = text_member (member_name member) (utf8_of line.now)
 part_tokens (Number member count) = count_member (member_name member) count
 part_tokens (Column member finding) = count_member (member_name member) (column_of finding.now)

@@ -4,6 +4,7 @@ ghost use Rattle.std.specs.Prelude.{◌≡◌, map, option_map};
 ghost use Rattle.std.specs.Option.{option_copied};
 ghost use Rattle.co_sheet_text.specs.Views.{section_view};
 ghost use Rattle.conode_lint_text.specs.Facts.{
+  access_fact,
   bad_access,
   bad_number,
   bad_type,
@@ -44,6 +45,7 @@ ghost use Rattle.conode_lint_text.specs.Facts.{
   pdo_count,
   pdo_fact,
   section_before,
+  section_fact,
   section_kind,
   section_name,
   section_on,
@@ -56,6 +58,7 @@ ghost use Rattle.conode_lint_text.specs.Facts.{
   too_large,
   type_fact,
   utf8,
+  wrong_access,
   wrong_list,
 };
 
@@ -65,7 +68,7 @@ use crate::meant_section::meant_section;
 use co_profile::fixed_type;
 use co_sheet::section_at;
 use co_sheet_text::{SectionKind, TextSection, number_in, same_name, trim, unsigned_number};
-use co_sheet_warnings::{KnownKey, has_other_byte, object_count, value_in};
+use co_sheet_warnings::{KnownKey, fixed_access, has_other_byte, object_count, value_in};
 use co_text::split_at_first;
 use co_value::Key;
 
@@ -149,17 +152,27 @@ fn is_decimal_index(value: &[u8], index: u64) -> bool
     number_in(10, value).is_some() && index <= 9999
 }
 
+// the section of an index
+fn section_fact(index: u64) -> About
+    ensures { result ≡ section_fact index }
+{
+    if index < 0x1_0000 {
+        return About::NoSection(index as u16);
+    }
+    About::Line
+}
+
 fn listed_fact(value: &[u8], index: u64) -> About
     ensures { result ≡ listed_fact value.now index }
 {
     if is_decimal_index(value, index) {
         return About::Fact(Fact::DecimalIndex(index));
     }
-    About::Line
+    section_fact(index)
 }
 
 /// Of the MissingSection of a line, 0 where there is no list of the mandatory objects: an index in
-/// decimal digits.
+/// decimal digits, or else the name of the section.
 pub fn missing_section(line: usize, text: &[u8]) -> About
     ensures { result ≡ missing_section line text.now }
 {
@@ -382,6 +395,25 @@ pub fn bad_type(sections: &[TextSection<'_, '_>], line: usize, text: &[u8]) -> A
     }
     match section_before(sections, line) {
         Some(section) => type_fact(key_number(text), section),
+        None => About::Line,
+    }
+}
+
+fn access_fact(section: &TextSection<'_, '_>) -> About
+    ensures { result ≡ access_fact (section_view section.now) }
+{
+    match fixed_access(section.kind) {
+        Some(access) => About::Access(access),
+        None => About::Line,
+    }
+}
+
+/// Of the WrongAccess of a line: the access that CiA 301 has for the entry.
+pub fn wrong_access(sections: &[TextSection<'_, '_>], line: usize) -> About
+    ensures { result ≡ wrong_access line (map section_view sections.now) }
+{
+    match section_before(sections, line) {
+        Some(section) => access_fact(section),
         None => About::Line,
     }
 }

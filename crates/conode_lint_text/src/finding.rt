@@ -1,7 +1,7 @@
 //! What `lint` finds.
 
 use crate::fact::Fact;
-use co_sheet_warnings::KnownKey;
+use co_sheet_warnings::{FixedAccess, KnownKey};
 
 /// The severity of a finding.
 #[derive(Clone, Copy)]
@@ -42,6 +42,10 @@ pub enum About {
     Misspelt(KnownKey),
     /// The same, where the one that is meant is there too.
     MisspeltBeside(KnownKey),
+    /// A listed object without a section, by the index that names the section.
+    NoSection(u16),
+    /// An access other than this one, which CiA 301 has for the entry.
+    Access(FixedAccess),
     /// What the sheet has there, which is said in place of what is wrong.
     Fact(Fact),
 }

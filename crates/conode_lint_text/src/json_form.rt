@@ -13,7 +13,6 @@ ghost use Rattle.conode_lint_text.specs.JsonForm.{
 use crate::finding::Finding;
 use crate::member::Member;
 use crate::parts::Part;
-use crate::pieces::Piece;
 use crate::words::fix_of;
 use conode_json::{Document, HasTokens, JsonWriter, put_parts};
 use std::alloc::{AllocError, Global};
@@ -33,9 +32,9 @@ fn put_finding<'p>(
             Part::BeginObject,
             Part::Number(Member::Line, finding.line),
             Part::Column(Member::Column, finding),
-            Part::Piece(Member::Severity, Piece::Severity(finding.severity)),
+            Part::Severity(Member::Severity, finding.severity),
             Part::Text(Member::Name, finding.name),
-            Part::Piece(Member::Meaning, Piece::Message(finding)),
+            Part::Message(Member::Meaning, finding),
             Part::Line(Member::Text, finding.text),
             Part::Text(Member::Fix, fix_of(finding)),
             Part::Text(Member::Subject, finding.subject),

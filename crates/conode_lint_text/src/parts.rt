@@ -10,14 +10,16 @@ ghost use Rattle.conode_lint_text.specs.Members.{member_name};
 ghost use Rattle.conode_lint_text.specs.TextForm.{piece_text};
 
 use crate::column::own_column;
-use crate::finding::Finding;
+use crate::finding::{Finding, Rule, Severity};
 use crate::member::Member;
 use crate::pieces::Piece;
+use crate::words::severity_name;
 use conode_json::{HasTokens, JsonWriter};
 use conode_text::HasText;
 use std::alloc::{AllocError, Global};
 
-/// A part of a document.
+/// A part of a document. It has no `Piece`: each step of code with a part by value would cost what all
+/// texts of a piece do.
 #[derive(Clone, Copy)]
 pub(crate) enum Part<'a> {
     BeginObject,
@@ -28,8 +30,13 @@ pub(crate) enum Part<'a> {
     /// The beginning of a member that is an array.
     Array(Member),
     Text(Member, &'a str),
-    /// A text that is made of a value.
-    Piece(Member, Piece<'a>),
+    Severity(Member, Severity),
+    /// What is wrong.
+    Message(Member, &'a Finding<'a>),
+    /// How to fix what a rule is about, and the subject of the standard.
+    Help(Member, &'a Rule<'a>),
+    /// How many findings aren't listed, in words.
+    LeftOut(Member, usize),
     /// A line of a file, in UTF-8.
     Line(Member, &'a [u8]),
     Number(Member, usize),
@@ -38,6 +45,7 @@ pub(crate) enum Part<'a> {
     Flag(Member, bool),
 }
 
+// a text that is made of a value
 fn put_piece(
     alloc: Global,
     writer: &mut JsonWriter,
@@ -80,7 +88,18 @@ impl HasTokens for Part<'_> {
             Part::Object(member) => writer.begin_object_of(member.name()),
             Part::Array(member) => writer.begin_array_of(member.name()),
             Part::Text(member, text) => writer.put_text(member.name(), text),
-            Part::Piece(member, piece) => put_piece(alloc, writer, member, piece),
+            Part::Severity(member, severity) => {
+                writer.put_text(member.name(), severity_name(severity))
+            }
+            Part::Message(member, finding) => {
+                put_piece(alloc, writer, member, Piece::Message(finding))
+            }
+            Part::Help(member, rule) => {
+                put_piece(alloc, writer, member, Piece::Help(rule.fix, rule.subject))
+            }
+            Part::LeftOut(member, more) => {
+                put_piece(alloc, writer, member, Piece::LeftOut(more))
+            }
             Part::Line(member, line) => writer.put_bytes(alloc, member.name(), line),
             Part::Number(member, count) => writer.put_count(member.name(), count as u64),
             Part::Column(member, finding) => put_column(alloc, writer, member, finding),

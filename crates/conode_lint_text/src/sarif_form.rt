@@ -21,7 +21,6 @@ use crate::column::own_column;
 use crate::finding::{Finding, Rule};
 use crate::member::Member;
 use crate::parts::Part;
-use crate::pieces::Piece;
 use crate::words::fix_of;
 use conode_json::{Document, HasTokens, JsonWriter, put_parts};
 use std::alloc::{AllocError, Global};
@@ -47,10 +46,10 @@ fn put_rule<'p>(
             Part::Text(Member::Text, rule.meaning),
             Part::EndObject,
             Part::Object(Member::Help),
-            Part::Piece(Member::Text, Piece::Help(rule.fix, rule.subject)),
+            Part::Help(Member::Text, rule),
             Part::EndObject,
             Part::Object(Member::DefaultConfiguration),
-            Part::Piece(Member::Level, Piece::Severity(rule.severity)),
+            Part::Severity(Member::Level, rule.severity),
             Part::EndObject,
             Part::EndObject,
         ],
@@ -168,9 +167,9 @@ fn put_result<'p>(document: &mut Document, uri: &'p str, finding: &'p Finding<'p
     document.put(&[
         Part::BeginObject,
         Part::Text(Member::RuleId, finding.name),
-        Part::Piece(Member::Level, Piece::Severity(finding.severity)),
+        Part::Severity(Member::Level, finding.severity),
         Part::Object(Member::Message),
-        Part::Piece(Member::Text, Piece::Message(finding)),
+        Part::Message(Member::Text, finding),
         Part::EndObject,
         Part::Array(Member::Locations),
         Part::BeginObject,
@@ -235,7 +234,7 @@ fn put_left_out(document: &mut Document, more: usize)
         Part::BeginObject,
         Part::Text(Member::Level, "note"),
         Part::Object(Member::Message),
-        Part::Piece(Member::Text, Piece::LeftOut(more)),
+        Part::LeftOut(Member::Text, more),
         Part::EndObject,
         Part::EndObject,
         Part::EndArray,

@@ -1,10 +1,11 @@
 //! The words of a finding.
 
 ghost use Rattle.std.specs.Prelude.{◌≡◌, ◌++◌, OnOk, string_bytes};
-ghost use Rattle.conode_lint_text.specs.Findings.{about_message, fix_of, help_of, message_of, severity_name};
+ghost use Rattle.conode_lint_text.specs.Findings.{about_message, access_text, fix_of, help_of, message_of, severity_name};
 
 use crate::fact::{Fact, push_fact};
 use crate::finding::{About, Finding, Severity};
+use co_sheet_warnings::FixedAccess;
 use conode_text::{Value, push_filled};
 use std::alloc::AllocError;
 
@@ -15,6 +16,16 @@ pub(crate) fn severity_name(severity: Severity) -> &'static str
     match severity {
         Severity::Error => "error",
         Severity::Warning => "warning",
+    }
+}
+
+// the access that CiA 301 has for an entry
+fn access_text(access: FixedAccess) -> &'static str
+    ensures { result.now ≡ access_text access }
+{
+    match access {
+        FixedAccess::ReadOnly => "CiA 301 has AccessType=ro or const here",
+        FixedAccess::Readable | FixedAccess::ReadWrite => "CiA 301 has AccessType=rw here",
     }
 }
 
@@ -83,6 +94,12 @@ fn push_about(text: &mut String, about: About, meaning: &str) -> Result<(), Allo
             "the standard has no such key: did you mean %, which is there too",
             &[Value::Words(known.name())],
         ),
+        About::NoSection(index) => push_filled(
+            text,
+            "the listed object has no section [%]",
+            &[Value::Short(index)],
+        ),
+        About::Access(access) => text.push_str(access_text(access)),
         About::Fact(fact) => push_fact(text, fact),
     }
 }
@@ -119,6 +136,9 @@ pub(crate) fn fix_of<'a>(finding: &Finding<'a>) -> &'a str
         About::Fact(Fact::NoPairs) => "write pairs of hexadecimal digits without blanks, as 00A1FF",
         About::Fact(Fact::DecimalIndex(_)) => {
             "write the index in hexadecimal, after 0x; or add the section"
+        }
+        About::NoSection(_) => {
+            "add it; or take the object out of its list, unless it is mandatory"
         }
         About::Fact(Fact::LowDecimal(_)) => "write the index in hexadecimal, after 0x",
         About::Fact(Fact::LowIndex(_)) => "take it out of the list",

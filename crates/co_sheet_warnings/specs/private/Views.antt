@@ -30,6 +30,8 @@ use Rattle.co_sheet_warnings.specs.declared.warning.WarningKind.TheVariants.{
   NodeIdPlace,
   NodeIdSum,
   NegativeLimit,
+  ReservedValue,
+  WrongAccess,
   MisspeltSection,
   MisspeltKey,
   SharedCobId,
@@ -75,23 +77,25 @@ kind_row FixedCobId = 10
 kind_row NodeIdPlace = 11
 kind_row NodeIdSum = 12
 kind_row NegativeLimit = 13
-kind_row MisspeltSection = 14
-kind_row (MisspeltKey meant) = 15
-kind_row (SharedCobId node) = 16
-kind_row InhibitTime = 17
-kind_row OwnHeartbeat = 18
-kind_row (HeartbeatTwice given) = 19
-kind_row NoErrorControl = 20
-kind_row LongLine = 21
-kind_row Utf8 = 22
-kind_row NotAscii = 23
-kind_row NodeId = 24
-kind_row ListOrder = 25
-kind_row EqualNames = 26
-kind_row MissingName = 27
-kind_row UnknownKey = 28
-kind_row DateFormat = 29
-kind_row LineEnds = 30
+kind_row ReservedValue = 14
+kind_row WrongAccess = 15
+kind_row MisspeltSection = 16
+kind_row (MisspeltKey meant) = 17
+kind_row (SharedCobId node) = 18
+kind_row InhibitTime = 19
+kind_row OwnHeartbeat = 20
+kind_row (HeartbeatTwice given) = 21
+kind_row NoErrorControl = 22
+kind_row LongLine = 23
+kind_row Utf8 = 24
+kind_row NotAscii = 25
+kind_row NodeId = 26
+kind_row ListOrder = 27
+kind_row EqualNames = 28
+kind_row MissingName = 29
+kind_row UnknownKey = 30
+kind_row DateFormat = 31
+kind_row LineEnds = 32
 
 -- the lines of a list that fail a check
 abbrev pub list_places : ListCheck → TextSection → List ℕ
