@@ -16,7 +16,7 @@ use conode_explain_pdo::KnownSheet;
 use conode_explain_text::StampForm;
 use conode_io::{CmdFault, bad_word, cannot_read, flushed, stopped};
 use conode_logs::Form;
-use conode_sheets::{SheetText, bad_sheet, readable_texts};
+use conode_sheets::{SheetText, bad_sheet, readable_texts, sheet_as_recording};
 use std::alloc::Global;
 use std::fs;
 use std::io::{Input, Read, Write};
@@ -34,7 +34,7 @@ fn no_memory<O: Write, E: Write>(out: &mut O, err: &mut E) -> ExitCode
 }
 
 // Explains an input; the first line of a table of signals comes first. Says on `err` how many lines
-// are bad, or why it stopped.
+// are bad, or that it is a data sheet, or why it stopped.
 fn explain_input<R: Read, O: Write, E: Write>(
     alloc: Global,
     input: &mut R,
@@ -54,6 +54,7 @@ fn explain_input<R: Read, O: Write, E: Write>(
             let _ = writeln!(err, "bad lines: {bad}");
             ExitCode::FAILURE
         }
+        Err(CmdFault::BadLine(_)) => sheet_as_recording(err),
         Err(fault) => stopped(fault, out, err).status(),
     }
 }
@@ -344,8 +345,8 @@ fn explain_filtered<R: Files + AllocGlobal + Input, O: Write, E: Write>(
 /// on `err`, and the status is 2; so it is with an option that asks for other lines than a table of
 /// signals. Then the sheets are read: a fault of one goes to `out`, and where there are several,
 /// its path to `err`. A signal that no sheet has is named on `err`, and the status is 2. Bad lines,
-/// and a file that can't be read, are named on `err`. The status is 0 where all lines are good,
-/// else 1.
+/// a file that can't be read, and a recording that is a data sheet, are named on `err`. The status
+/// is 0 where all lines are good, else 1.
 #[tactic(auto, using(crate::proofs::WriteLemmas::one_or_two))]
 pub fn explain_files<R: Files + AllocGlobal + Input, O: Write, E: Write>(
     rt: &R,

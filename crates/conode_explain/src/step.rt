@@ -1,6 +1,16 @@
 //! One line of a log after another.
 
-ghost use Rattle.std.specs.Prelude.{◌≡◌, ◌≤◌, ◌==◌, ◌&&◌, OnOk, IfOk, IfSome, IfNone, is_some};
+ghost use Rattle.std.specs.Prelude.{
+  ◌≡◌,
+  ◌≤◌,
+  ◌==◌,
+  ◌&&◌,
+  OnOk,
+  IfOk,
+  IfSome,
+  IfNone,
+  is_some,
+};
 ghost use Rattle.std.specs.Io.KnownBytes.{Keeps, IsAtEnd};
 ghost use Rattle.co_stream.specs.Held.{nothing_held, to_come};
 ghost use Rattle.co_stream.specs.Readings.{Gave};
@@ -32,6 +42,7 @@ use conode_explain_pdo::Claim;
 use conode_io::{CmdFault, flush};
 use conode_logs::{Form, Log};
 use conode_record::{LogLine, RecordLine};
+use conode_sheets::{IS_SHEET, is_section_line};
 use std::alloc::{AllocError, Global};
 use std::io::{Read, Write};
 
@@ -110,6 +121,24 @@ fn take_any(text: &mut Vec<u8>, log: &mut Log, line: &[u8]) -> Result<Said, Allo
         }
         Err(bad) => Ok(Said::Bad(bad.words())),
     }
+}
+
+// What is wrong with a line that this log's reader doesn't know. A section line of a data sheet
+// before the first line that shows the form of a log ends it.
+#[inline(never)]
+fn unless_sheet(
+    form: Form,
+    line: &[u8],
+    words: &'static str,
+) -> Result<Option<&'static str>, CmdFault>
+    ensures { IfOk result (λ wrong. count_if (is_some wrong) ≡ 1) }
+{
+    if let Form::Unknown = form {
+        if is_section_line(line) {
+            return Err(IS_SHEET);
+        }
+    }
+    Ok(Some(words))
 }
 
 // names a line with which this is wrong; 1 for one
@@ -203,7 +232,7 @@ impl Explaining {
                 self.frame.as_slice(),
                 out,
             ),
-            Ok(Said::Bad(words)) => Ok(Some(words)),
+            Ok(Said::Bad(words)) => unless_sheet(self.log.form, self.lines.line(), words),
             Err(_) => Err(CmdFault::Memory),
         }
     }

@@ -156,6 +156,12 @@ late : value_text TimeOfDay 48 (0xFF ∷ 0x5B ∷ 0x26 ∷ 0xF5 ∷ 0x12 ∷ 0x3
 unfolding value_text moment_text ms_text date_of date_in_year day_of_year year_of_cycle date_text time_of_day_text digits digits_text
 late = refl
 
+-- one ms later it is past the end of the day; the bits that don't count don't
+past_the_day : value_text TimeOfDay 48 (0x00 ∷ 0x5C ∷ 0x26 ∷ 0xF5 ∷ 0x12 ∷ 0x39 ∷ [])
+    ≡ codes "2024-01-01 24:00:00.000 (past the end of the day)"
+unfolding value_text moment_text ms_text date_of date_in_year day_of_year year_of_cycle date_text time_of_day_text digits digits_text
+past_the_day = refl
+
 difference : value_text TimeDifference 48 (0xE9 ∷ 0x03 ∷ 0 ∷ 0 ∷ 2 ∷ 1 ∷ []) ≡ codes "258 d 00:00:01.001"
 unfolding value_text difference_text ms_text time_of_day_text digits digits_text
 difference = refl

@@ -6,9 +6,11 @@ ghost use Rattle.co_text.specs.Printed.{digits_text, printed_digit};
 ghost use Rattle.conode_explain_values.specs.Times.{
   days_in,
   difference_text,
+  is_past_day,
   moment_text,
   ms_in,
   ms_text,
+  past_words,
 };
 
 use arrayvec::ArrayString;
@@ -64,7 +66,26 @@ fn push_ms(text: &mut String, ms: u64) -> Result<(), AllocError>
     push_filled(text, ".%", &[Value::Words(rest.as_str())])
 }
 
-/// Appends a TIME_OF_DAY as its date and time.
+// a day has 86,400,000 ms; 28 bits have more
+fn is_past_day(bytes: &[u8]) -> bool
+    requires { length bytes.now ≡ 6 }
+    ensures { result ≡ is_past_day bytes.now }
+{
+    ms_in(bytes) > 86_399_999
+}
+
+fn past_words(bytes: &[u8]) -> &'static str
+    requires { length bytes.now ≡ 6 }
+    ensures { result.now ≡ past_words bytes.now }
+{
+    if is_past_day(bytes) {
+        " (past the end of the day)"
+    } else {
+        ""
+    }
+}
+
+/// Appends a TIME_OF_DAY as its date and time; and that it is past the end of the day, where it is.
 #[tactic(auto, unfolding(crate::specs::Times::moment_text))]
 pub(crate) fn push_moment(text: &mut String, bytes: &[u8]) -> Result<(), AllocError>
     requires { length bytes.now ≡ 6 }
@@ -73,7 +94,8 @@ pub(crate) fn push_moment(text: &mut String, bytes: &[u8]) -> Result<(), AllocEr
 {
     attempt!(push_day(text, days_in(bytes) + FIRST_DAY));
     attempt!(text.push_str(" "));
-    push_ms(text, ms_in(bytes))
+    attempt!(push_ms(text, ms_in(bytes)));
+    text.push_str(past_words(bytes))
 }
 
 /// Appends a TIME_DIFFERENCE as its days and time.

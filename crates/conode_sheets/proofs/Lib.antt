@@ -1,2 +1,3 @@
 pub mod SheetWordLemmas
+mod SectionLineExamples
 mod WordExamples

@@ -1,2 +1,3 @@
+pub mod SectionLines
 pub mod SheetTexts
 pub mod SheetWords

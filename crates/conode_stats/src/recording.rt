@@ -26,6 +26,7 @@ pub struct Recording {
 /// feed counts as bad only if it is too long: a recording that is stopped ends within a line.
 ///
 /// * `Read`: the reader failed. `NeverEnds`: there are 2^64 - 1 lines. `Memory`: memory ran out.
+/// * `BadLine` of 0: it is a data sheet, by a section line before any line that shows the form.
 pub fn count<R: Read, E: Write>(
     alloc: Global,
     reader: &mut R,

@@ -10,7 +10,7 @@ use crate::tokens::page_json;
 use co_sheet::{FaultKind, SheetFault, read};
 use conode_io::{CmdFault, cannot_read, flushed, hand_over, stopped};
 use conode_logs::Form;
-use conode_sheets::{SheetText, bad_sheet, readable_texts};
+use conode_sheets::{SheetText, bad_sheet, readable_texts, sheet_as_recording};
 use conode_stats_text::{Page, SheetFacts, page_text};
 use std::alloc::{AllocError, Global};
 use std::fs;
@@ -107,6 +107,7 @@ fn stats_input<R: Read, O: Write, E: Write>(
     match flushed(out, outcome) {
         Ok(0) => ExitCode::SUCCESS,
         Ok(_) => ExitCode::FAILURE,
+        Err(CmdFault::BadLine(_)) => sheet_as_recording(err),
         Err(fault) => stopped(fault, out, err).status(),
     }
 }
@@ -211,8 +212,8 @@ fn bad_rate<E: Write>(word: &str, err: &mut E) -> ExitCode
 /// for `-`. A word that is no bit rate, or names no sheet, is named on `err`, and the status is 2.
 /// Then the sheets are read, one with faults without what is at fault, of which `err` names the file;
 /// one that can't be read so has its fault on `out`, and where there are several, its path on `err`.
-/// Bad lines, and a file that can't be read, are named on `err`. The status is 0 if all
-/// lines are good, else 1.
+/// Bad lines, a file that can't be read, and a recording that is a data sheet, are named on `err`.
+/// The status is 0 if all lines are good, else 1.
 pub fn stats_file<R: Files + AllocGlobal + Input, O: Write, E: Write>(
     rt: &R,
     path: &str,

@@ -17,6 +17,7 @@ use conode_convert::{TOO_LONG, add_frame, name_bad_line, name_cut, read_fault};
 use conode_io::CmdFault;
 use conode_logs::{Form, Log};
 use conode_record::{BadLogLine, LogLine, RecordLine};
+use conode_sheets::{IS_SHEET, is_section_line};
 use conode_stats_counts::Counts;
 use std::alloc::Global;
 use std::io::{Read, Write};
@@ -58,6 +59,26 @@ fn count_record<E: Write>(
     }
 }
 
+// Names a line that this log's reader doesn't know, and returns 1. A section line of a data sheet
+// before the first line that shows the form of a log ends it.
+fn name_unknown<E: Write>(
+    form: Form,
+    number: u64,
+    line: &[u8],
+    bad: BadLogLine,
+    err: &mut E,
+) -> Result<u64, CmdFault>
+    ensures { IfOk result (λ bad. bad ≡ 1) }
+{
+    if let Form::Unknown = form {
+        if is_section_line(line) {
+            return Err(IS_SHEET);
+        }
+    }
+    name_bad_line(number, bad.words(), err);
+    Ok(1)
+}
+
 // Counts a line's frame, if it has one. Returns 1 and names the line if it is bad, else 0.
 #[tactic(auto, unfolding(crate::specs::Frames::line_at), using(crate::proofs::LogLemmas::candump_line, crate::proofs::LogLemmas::candump_log))]
 fn count_line<E: Write>(
@@ -87,10 +108,7 @@ fn count_line<E: Write>(
                 Err(_) => Err(CmdFault::Memory),
             }
         }
-        Err(bad) => {
-            name_bad_line(number, bad.words(), err);
-            Ok(1)
-        }
+        Err(bad) => name_unknown(log.form, number, line, bad, err),
     }
 }
 

@@ -3,7 +3,7 @@ use Rattle.std.proofs.Common.{◌≡◌, Some, None, refl}
 use Rattle.std.specs.Prelude.{codes}
 use Rattle.std.specs.Fmt.{digits}
 use Rattle.co_text.specs.Printed.{digits_text}
-use Rattle.conode_stats_text.specs.Cells.{seconds, tenths, thousandths}
+use Rattle.conode_stats_text.specs.Cells.{figure, seconds, tenths, thousandths}
 use Rattle.conode_stats_text.specs.Figures.{ratio, room_in}
 use Rattle.conode_stats_text.specs.StatsLines.{frames_in, id_text}
 
@@ -35,6 +35,19 @@ unfolding room_in
 room = refl
 
 -- ---- cells
+
+-- a figure that fits, one that fills all but the blank, and wider ones
+figure_in_column : figure 5 (codes "12") ≡ codes "   12"
+figure_in_column = refl
+
+widest_figure : figure 5 (codes "1234") ≡ codes " 1234"
+widest_figure = refl
+
+figure_of_the_width : figure 5 (codes "12345") ≡ codes " 12345"
+figure_of_the_width = refl
+
+wide_figure : figure 5 (codes "123456") ≡ codes " 123456"
+wide_figure = refl
 
 tenths_text : tenths 1234 ≡ codes "123.4"
 unfolding tenths digits_text digits

@@ -7,6 +7,10 @@ use Rattle.conode_explain_text.specs.Columns.{escaped_name}
 abbrev pub right : ℕ → List ℕ → List ℕ
 right width text = replicate (width - length text) 32 ++ text
 
+-- a figure: right-aligned, with a blank before it, also where it is wider than the column
+abbrev pub figure : ℕ → List ℕ → List ℕ
+figure width text = codes " " ++ right (width - 1) text
+
 -- left-aligned
 abbrev pub left : ℕ → List ℕ → List ℕ
 left width text = text ++ replicate (width - length text) 32

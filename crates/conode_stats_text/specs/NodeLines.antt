@@ -5,7 +5,7 @@ use Rattle.conode_stats_counts.specs.declared.node.Node.{Node}
 use Rattle.conode_stats_counts.specs.declared.node.Shown.{Shown}
 use Rattle.conode_stats_counts.specs.declared.state.NmtState.{NmtState}
 use Rattle.conode_stats_counts.specs.declared.state.NmtState.TheVariants.{BootUp, PreOperational, Operational, Stopped, Unknown}
-use Rattle.conode_stats_text.specs.Cells.{left, name_text, or_none, right, seconds, thousandths}
+use Rattle.conode_stats_text.specs.Cells.{figure, left, name_text, or_none, seconds, thousandths}
 use Rattle.conode_stats_text.specs.StatsLines.{node_front}
 
 -- the words of a state
@@ -32,7 +32,7 @@ millis_of end micros = if end == 0 then None else Some (micros / 1000)
 
 -- the cell of a time in a column of this width
 abbrev pub time_cell : ℕ → ℕ → ℕ → List ℕ
-time_cell end width micros = right width (or_none thousandths (millis_of end micros))
+time_cell end width micros = figure width (or_none thousandths (millis_of end micros))
 
 -- the longest answer in milliseconds
 abbrev pub answer_of : ℕ → Option ℕ → Option ℕ
@@ -46,10 +46,10 @@ shown_word (Some last) = state_word last.state
 -- the line of a node on an interface whose last frame has a stamp
 unfoldable pub node_line : List ℕ → ℕ → ℕ → Node → List ℕ
 node_line interface end number node =
-    concat (left 15 (name_text interface) ∷ codes "  " ∷ right 8 (decimal number) ∷ right 13 (decimal node.boot_ups) ∷ right 12 (decimal node.restarts)
+    concat (left 15 (name_text interface) ∷ codes "  " ∷ figure 8 (decimal number) ∷ figure 13 (decimal node.boot_ups) ∷ figure 12 (decimal node.restarts)
     ∷ time_cell end 13 node.times.boot_up ∷ time_cell end 19 node.times.pre_operational ∷ time_cell end 15 node.times.operational
     ∷ time_cell end 13 node.times.stopped ∷ time_cell end 13 node.times.unknown
-    ∷ right 19 (or_none thousandths (answer_of end node.longest_answer)) ∷ codes "  " ∷ shown_word node.last ∷ codes "\n" ∷ [])
+    ∷ figure 19 (or_none thousandths (answer_of end node.longest_answer)) ∷ codes "  " ∷ shown_word node.last ∷ codes "\n" ∷ [])
 
 -- whether a node sent a frame of error control, or an answer
 abbrev pub is_shown : Node → Bool

@@ -6,7 +6,7 @@ use Rattle.conode_stats_text.specs.declared.cells.Cell.{Cell}
 use Rattle.conode_stats_text.specs.declared.cells.Cell.TheVariants.{Column, Id, Count, Tenths as TenthsCell, Millis as MillisCell, Gap}
 use Rattle.conode_stats_text.specs.declared.pieces.Piece.{Piece}
 use Rattle.conode_stats_text.specs.declared.pieces.Piece.TheVariants.{Words, Name, Node, Number, Seconds, Millis, Load, Long, Short, Entry}
-use Rattle.conode_stats_text.specs.Cells.{left, name_text, or_none, right, seconds, tenths, thousandths}
+use Rattle.conode_stats_text.specs.Cells.{figure, left, name_text, or_none, right, seconds, tenths, thousandths}
 use Rattle.conode_stats_text.specs.StatsLines.{id_text, load_tenths, node_front}
 
 abbrev pub piece_text : Piece → List ℕ
@@ -30,11 +30,11 @@ shown_text (Count width count) = decimal count
 shown_text (TenthsCell width number) = or_none tenths number
 shown_text (MillisCell width number) = or_none thousandths number
 
--- names are to the left of 15 columns, figures to the right of a width
+-- names are to the left of 15 columns, identifiers and figures to the right of a width
 abbrev pub cell_text : Cell → List ℕ
 cell_text (Gap words) = words.now
 cell_text (Column name) = left 15 (name_text name.now)
 cell_text (Id width id) = right width (id_text id)
-cell_text (Count width count) = right width (decimal count)
-cell_text (TenthsCell width number) = right width (or_none tenths number)
-cell_text (MillisCell width number) = right width (or_none thousandths number)
+cell_text (Count width count) = figure width (decimal count)
+cell_text (TenthsCell width number) = figure width (or_none tenths number)
+cell_text (MillisCell width number) = figure width (or_none thousandths number)

@@ -5,7 +5,7 @@ use Rattle.co_text.specs.Printed.{digits_text}
 use Rattle.conode_stats_counts.specs.declared.load.Load.{Load}
 use Rattle.conode_stats_counts.specs.declared.row.Row.{Row}
 use Rattle.conode_stats_counts.specs.declared.tally.Tally.{Tally}
-use Rattle.conode_stats_text.specs.Cells.{left, name_text, or_none, right, seconds, tenths, thousandths}
+use Rattle.conode_stats_text.specs.Cells.{figure, left, name_text, or_none, right, seconds, tenths, thousandths}
 use Rattle.conode_stats_text.specs.Figures.{gap_of, load, mean, rate, room_in}
 
 -- an identifier in three digits; in eight, if it has 29 bits or is of an error frame
@@ -15,9 +15,9 @@ id_text id = if nat_lt id 0x800 then digits_text 16 3 id else digits_text 16 8 (
 -- the line of an identifier on an interface, with the figures of its gaps
 unfoldable pub row_line : List ℕ → Row → List ℕ
 row_line interface row =
-    concat (left 15 (name_text interface) ∷ codes "  " ∷ right 8 (id_text row.can_id) ∷ right 13 (decimal row.tally.frames)
-    ∷ right 12 (or_none tenths (rate row.tally)) ∷ right 15 (or_none thousandths (gap_of row.tally row.tally.smallest))
-    ∷ right 12 (or_none thousandths (mean row.tally)) ∷ right 14 (or_none thousandths (gap_of row.tally row.tally.greatest)) ∷ codes "\n" ∷ [])
+    concat (left 15 (name_text interface) ∷ codes "  " ∷ right 8 (id_text row.can_id) ∷ figure 13 (decimal row.tally.frames)
+    ∷ figure 12 (or_none tenths (rate row.tally)) ∷ figure 15 (or_none thousandths (gap_of row.tally row.tally.smallest))
+    ∷ figure 12 (or_none thousandths (mean row.tally)) ∷ figure 14 (or_none thousandths (gap_of row.tally row.tally.greatest)) ∷ codes "\n" ∷ [])
 
 -- a load
 abbrev pub load_tenths : ℕ → ℕ → List ℕ

@@ -3,6 +3,7 @@
 
 ghost use Rattle.std.specs.Prelude.{◌≡◌, ◌++◌, OnOk, string_bytes, replicate};
 ghost use Rattle.conode_stats_text.specs.Cells.{
+  figure,
   left,
   or_none,
   right,
@@ -18,7 +19,8 @@ use co_text::{push_decimal, push_digit, push_u32};
 use conode_explain_text::{push_micros, push_name};
 use std::alloc::AllocError;
 
-/// A cell of a table, or what is between two. Figures are at the right of a column of a width.
+/// A cell of a table, or what is between two. Identifiers and figures are at the right of a column
+/// of a width; a figure has a blank before it, also where it is wider than the column.
 #[derive(Clone, Copy)]
 pub(crate) enum Cell<'a> {
     /// Words between columns.
@@ -48,6 +50,14 @@ fn push_right(text: &mut String, width: usize, cell: &str) -> Result<(), AllocEr
 {
     attempt!(push_blanks(text, width.saturating_sub(cell.len())));
     text.push_str(cell)
+}
+
+fn push_figure(text: &mut String, width: usize, cell: &str) -> Result<(), AllocError>
+    ensures { OnOk result
+        (string_bytes text.new ≡ string_bytes text.old ++ figure width cell.now) }
+{
+    attempt!(text.push(' '));
+    push_right(text, width.saturating_sub(1), cell)
 }
 
 fn push_left(text: &mut String, width: usize, cell: &str) -> Result<(), AllocError>
@@ -151,10 +161,10 @@ fn push_cell(text: &mut String, shown: &mut String, cell: &Cell<'_>) -> Result<(
     match *cell {
         Cell::Gap(_) => text.push_str(shown.as_str()),
         Cell::Column(_) => push_left(text, 15, shown.as_str()),
-        Cell::Id(width, _)
-        | Cell::Count(width, _)
-        | Cell::Tenths(width, _)
-        | Cell::Millis(width, _) => push_right(text, width, shown.as_str()),
+        Cell::Id(width, _) => push_right(text, width, shown.as_str()),
+        Cell::Count(width, _) | Cell::Tenths(width, _) | Cell::Millis(width, _) => {
+            push_figure(text, width, shown.as_str())
+        }
     }
 }
 

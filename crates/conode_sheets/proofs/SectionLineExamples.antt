@@ -1,0 +1,15 @@
+-- Which lines are section lines of a data sheet, evaluated on both sides of each edge.
+use Rattle.std.proofs.Common.{◌≡◌, [], ◌∷◌, false, map, refl, true}
+use Rattle.std.specs.Prelude.{codes}
+use Rattle.conode_sheets.specs.SectionLines.{is_section_line}
+
+section_lines : map is_section_line (codes "[FileInfo]" ∷ codes "[deviceinfo]" ∷ codes " [ MandatoryObjects ] " ∷ codes "[1018]" ∷ codes "[1018sub1]" ∷ codes "[DeviceComissioning]" ∷ [])
+    ≡ true ∷ true ∷ true ∷ true ∷ true ∷ true ∷ []
+unfolding is_section_line
+section_lines = refl
+
+-- a section that isn't read, as a maker's own; one without `]`, with more after it, without `[`, without a name; a frame
+other_lines : map is_section_line (codes "[Tools]" ∷ codes "[1018" ∷ codes "[1] can0" ∷ codes "1018]" ∷ codes "[]" ∷ codes "" ∷ codes "(1.000000) can0 705#00" ∷ [])
+    ≡ false ∷ false ∷ false ∷ false ∷ false ∷ false ∷ false ∷ []
+unfolding is_section_line
+other_lines = refl
