@@ -35,13 +35,16 @@ document_begin about shown = joined (
 abbrev pub end_of : Kept → Option ℕ
 end_of report = option_map (λ begin. report.end) report.begin
 
--- how it ended: the verdict, how many frames have which verdict, the lines of the recording, the stamps of its first and
--- its newest frame, and how many differences aren't listed
+-- how it ended: the verdict, how many frames have which verdict, of which services the unjudged ones are, the lines of the
+-- recording, the stamps of its first and its newest frame, and how many differences aren't listed
 unfoldable pub ended_members : List ℕ → Tally → Kept → Option ℕ → List Token
 ended_members verdict tally report end = joined (
     text_member (codes "verdict") verdict ∷ object_begin (codes "frames")
     ∷ number_member (codes "prescribed") (pos tally.prescribed) ∷ number_member (codes "different") (pos tally.different)
     ∷ number_member (codes "unjudged") (pos tally.unjudged) ∷ (end_object ∷ [])
+    ∷ object_begin (codes "unjudgedFrames") ∷ number_member (codes "heartbeats") (pos tally.services.heartbeats)
+    ∷ number_member (codes "emcy") (pos tally.services.emergencies) ∷ number_member (codes "sdoAnswers") (pos tally.services.answers)
+    ∷ number_member (codes "tpdos") (pos tally.services.tpdos) ∷ (end_object ∷ [])
     ∷ number_member (codes "lines") (pos report.lines) ∷ number_member (codes "badLines") (pos report.bad_lines)
     ∷ number_if (codes "begin") (option_map pos report.begin) ∷ number_if (codes "end") (option_map pos end)
     ∷ number_member (codes "unlisted") (pos report.unlisted) ∷ [])

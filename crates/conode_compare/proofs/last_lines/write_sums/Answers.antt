@@ -1,8 +1,8 @@
 use Rattle.conode_compare.specs.LastLines.{last_line, values_lines}
 use Rattle.conode_compare.specs.Views.{comparison_view}
 use Rattle.conode_compare.proofs.WriteLemmas.{with_more, without_more}
-use Rattle.conode_compare.proofs.last_lines.write_last_lines.Goals as goal
-use Rattle.conode_compare.proofs.last_lines.write_last_lines.Goals.{then-settings+in-Ok-write_values, else-settings}
+use Rattle.conode_compare.proofs.last_lines.write_sums.Goals as goal
+use Rattle.conode_compare.proofs.last_lines.write_sums.Goals.{then-settings+in-Ok-write_values, else-settings}
 
 pub returns : goal.returns
 returns g c =
