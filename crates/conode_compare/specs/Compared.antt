@@ -139,7 +139,7 @@ findings_noted micros details found kept =
 abbrev pub frame_noted : Comparison → Progress → ℕ → FrameKind → Kept → Kept
 frame_noted c progress micros kind kept =
     with_frame c.rows kept micros kind (before_at kept.rpdos c.subject.facts.modular progress kind) (progress_with c.subject progress micros kind).nmt.state
-    (findings_at c.subject c.rows progress micros kind)
+    (progress_with c.subject progress micros kind).free (findings_at c.subject c.rows progress micros kind)
 
 -- an upload of an entry that is held shows the number that was written
 abbrev pub number_noted : Comparison → Progress → Kept → Kept

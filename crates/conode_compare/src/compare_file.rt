@@ -264,10 +264,10 @@ fn compare_sheet<R: Files + AllocGlobal + Input, O: Write, E: Write>(
     rt: &R,
     sheet: &Sheet<'_>,
     originals: &Originals,
-    names: SheetNames<'_>,
+    names: &SheetNames<'_>,
     master: bool,
     paths: &Paths<'_>,
-    asked: Asked<'_>,
+    asked: &Asked<'_>,
     out: &mut O,
     err: &mut E,
 ) -> ExitCode
@@ -297,7 +297,7 @@ fn compare_sheet<R: Files + AllocGlobal + Input, O: Write, E: Write>(
         subject,
         rows,
         originals,
-        names,
+        names: *names,
         recording: paths.recording,
         interface,
         choices: asked.choices,
@@ -317,7 +317,7 @@ fn compare_text<R: Files + AllocGlobal + Input, O: Write, E: Write>(
     text: &[u8],
     sheet: &Sheet<'_>,
     paths: &Paths<'_>,
-    asked: Asked<'_>,
+    asked: &Asked<'_>,
     out: &mut O,
     err: &mut E,
 ) -> ExitCode
@@ -328,7 +328,9 @@ fn compare_text<R: Files + AllocGlobal + Input, O: Write, E: Write>(
         Ok(originals) => {
             let names = SheetNames::in_text(text);
             let master = is_boot_up_master(text);
-            compare_sheet(rt, sheet, &originals, names, master, paths, asked, out, err)
+            compare_sheet(
+                rt, sheet, &originals, &names, master, paths, asked, out, err,
+            )
         }
         Err(_) => {
             let _ = out_of_memory(out);
@@ -373,7 +375,7 @@ pub fn compare_files<R: Files + AllocGlobal + Input, O: Write, E: Write>(
     };
     let paths = Paths { sheet, recording };
     match read(rt.alloc(), text.as_slice()) {
-        Ok(sheet) => compare_text(rt, text.as_slice(), &sheet, &paths, asked, out, err),
+        Ok(sheet) => compare_text(rt, text.as_slice(), &sheet, &paths, &asked, out, err),
         Err(fault) => refuse(fault, out, err),
     }
 }

@@ -131,7 +131,8 @@ fn document_kind(
     let before = report.before(settings.subject.facts.modular, progress, kind);
     let found = progress.take(&settings.subject, settings.rows, micros, kind);
     let state = progress.state();
-    attempt!(report.take_frame(settings.rows, micros, kind, &before, state, &found));
+    let free = progress.free;
+    attempt!(report.take_frame(settings.rows, micros, kind, &before, state, free, &found));
     if progress.is_number_kept(&settings.subject) {
         report.pass(Kind::ValueHeld);
     }
