@@ -1,6 +1,7 @@
 //! The interfaces of a recording whose frames aren't compared.
 
 ghost use Rattle.std.specs.Prelude.{◌≡◌, ◌≤◌, length};
+ghost use Rattle.std.specs.Str.{bytes_eq};
 ghost use Rattle.conode_compare.specs.InterfacesSeen.{has_name, interfaces_with, no_interfaces};
 
 use arrayvec::ArrayVec;
@@ -15,6 +16,12 @@ const MOST_NAMED: usize = 8;
 pub struct InterfacesSeen {
     /// Their names: the first nine.
     pub names: ArrayVec<ArrayVec<u8, 15>, 9>,
+}
+
+fn is_name(seen: &ArrayVec<u8, 15>, name: &[u8]) -> bool
+    ensures { result ≡ bytes_eq seen.now.items name.now }
+{
+    seen.as_slice() == name
 }
 
 // writes a name on `err`, after a comma where it isn't the first one
@@ -38,10 +45,7 @@ impl InterfacesSeen {
     fn has(&self, name: &[u8]) -> bool
         ensures { result ≡ has_name self.now.names.items name.now }
     {
-        self.names
-            .as_slice()
-            .iter()
-            .any(|seen| seen.as_slice() == name)
+        self.names.as_slice().iter().any(|seen| is_name(seen, name))
     }
 
     /// A frame of this interface came, which isn't compared.
@@ -52,7 +56,7 @@ impl InterfacesSeen {
         if self.has(name) || !(self.names.len() < 9) {
             return;
         }
-        let mut kept = ArrayVec::new();
+        let mut kept: ArrayVec<u8, 15> = ArrayVec::new();
         kept.try_extend_from_slice(name).unwrap();
         self.names.push(kept);
     }
@@ -70,15 +74,16 @@ impl InterfacesSeen {
             write_name(is_first, compared, err);
             is_first = false;
         }
-        for name in names.iter().take(MOST_NAMED) {
+        let named = &names[..names.len().min(MOST_NAMED)];
+        for name in named {
             write_name(is_first, name.as_slice(), err);
             is_first = false;
         }
-        let end: &[u8] = if names.len() > MOST_NAMED {
-            b", ..\n"
+        let end = if names.len() > MOST_NAMED {
+            ", ..\n"
         } else {
-            b"\n"
+            "\n"
         };
-        let _ = hand_over(end, err);
+        let _ = hand_over(end.as_bytes(), err);
     }
 }
