@@ -18,14 +18,15 @@ use Rattle.conode_compare_report.specs.Outcomes.{outcome_name, outcome_of}
 -- what was compared, and how: the node-ID, the identity and the names of the sheet, as far as it has them, and the identity
 -- that the recording shows; how exactly the device is judged, in ms and in percent
 unfoldable pub document_begin : Described → Identity → List Token
-document_begin about shown = joined (
-    (begin_object ∷ []) ∷ number_member (codes "version") (pos 1) ∷ text_member (codes "program") about.version
-    ∷ text_member (codes "sheet") about.sheet ∷ text_member (codes "recording") about.recording
-    ∷ object_begin (codes "device") ∷ number_member (codes "node") (pos about.node)
+document_begin about shown =
+    joined ((begin_object ∷ []) ∷ number_member (codes "version") (pos 1) ∷ [])
+    ++ text_member (codes "program") about.version ++ text_member (codes "sheet") about.sheet
+    ++ text_member (codes "recording") about.recording
+    ++ joined (object_begin (codes "device") ∷ number_member (codes "node") (pos about.node)
     ∷ number_if (codes "vendor") (option_map pos about.vendor) ∷ number_if (codes "product") (option_map pos about.product)
-    ∷ number_if (codes "revision") (option_map pos about.revision)
-    ∷ bytes_if (codes "vendorName") about.vendor_name ∷ bytes_if (codes "productName") about.product_name
-    ∷ number_if (codes "recordedRevision") (option_map pos shown.revision)
+    ∷ number_if (codes "revision") (option_map pos about.revision) ∷ [])
+    ++ bytes_if (codes "vendorName") about.vendor_name ++ bytes_if (codes "productName") about.product_name
+    ++ joined (number_if (codes "recordedRevision") (option_map pos shown.revision)
     ∷ number_if (codes "recordedSerial") (option_map pos shown.serial) ∷ (end_object ∷ [])
     ∷ object_begin (codes "limits") ∷ number_member (codes "tolerance") (pos about.limits.tolerance)
     ∷ number_member (codes "drift") (pos about.limits.drift) ∷ number_member (codes "answer") (pos about.limits.answer)
