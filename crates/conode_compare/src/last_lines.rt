@@ -108,7 +108,7 @@ fn write_values<O: Write>(
 
 // writes the line that counts the frames, then, if that is asked for, the values that the recording
 // showed
-#[tactic(auto, using(conode_io::proofs::WriteLemmas::lines_after))]
+#[tactic(auto, using(crate::proofs::WriteLemmas::with_more, crate::proofs::WriteLemmas::without_more))]
 fn write_sums<O: Write>(
     text: &mut String,
     settings: &Settings<'_, '_>,
