@@ -80,14 +80,14 @@ module _ (c : Comparison) where
   frame_written number so_far frame rest more silent h = by (is_compared c.interface so_far.first.items frame.interface)
     where
       by : (b : Bool)
-          → (if b && is_none so_far.report then taken_lines c number so_far frame (kind_at c frame) else []) ++ more (if b then frame_taken c so_far frame (kind_at c frame) else other_seen c.interface so_far)
+          → (if b && is_none so_far.report then taken_lines c number so_far frame (kind_at c frame) else []) ++ more (if b then frame_taken c so_far frame (kind_at c frame) else other_seen c.interface frame.interface so_far)
           ≡ lines_shown c (shown_from c so_far.progress so_far.receptions so_far.notes
           (if b then FrameIn number frame ∷ chosen_frames c.interface (first_with so_far.first frame.interface) rest else chosen_frames c.interface so_far.first rest))
       by true =
           ap (λ (none : Bool). (if none then taken_lines c number so_far frame (kind_at c frame) else []) ++ more (frame_taken c so_far frame (kind_at c frame))) (ap is_none silent)
           ∙ ap (λ (l : List (List ℕ)). taken_lines c number so_far frame (kind_at c frame) ++ l)
           (h (frame_taken c so_far frame (kind_at c frame)) (ap (option_map (kind_noted c so_far.progress frame.micros (kind_at c frame))) silent))
-      by false = h (other_seen c.interface so_far) silent
+      by false = h (other_seen c.interface frame.interface so_far) silent
 
   named_written : (so_far : Comparing) (name : Option (List ℕ)) (rest : List LineRead) (more : Comparing → List (List ℕ)) → so_far.report ≡ None
       → ((after : Comparing) → after.report ≡ None → more after ≡ lines_after after rest)
@@ -155,11 +155,11 @@ module _ (c : Comparison) where
   frame_counted number so_far frame rest more h = by (is_compared c.interface so_far.first.items frame.interface)
     where
       by : (b : Bool)
-          → more (if b then frame_taken c so_far frame (kind_at c frame) else other_seen c.interface so_far)
+          → more (if b then frame_taken c so_far frame (kind_at c frame) else other_seen c.interface frame.interface so_far)
           ≡ tally_of so_far.tally (shown_from c so_far.progress so_far.receptions so_far.notes
           (if b then FrameIn number frame ∷ chosen_frames c.interface (first_with so_far.first frame.interface) rest else chosen_frames c.interface so_far.first rest))
       by true = h (frame_taken c so_far frame (kind_at c frame))
-      by false = h (other_seen c.interface so_far)
+      by false = h (other_seen c.interface frame.interface so_far)
 
   named_counted : (so_far : Comparing) (name : Option (List ℕ)) (rest : List LineRead) (more : Comparing → Tally) → ((after : Comparing) → more after ≡ tally_after after rest)
       → more (if may_be_compared c.interface so_far.first.items name then bad_noted so_far else bad_counted so_far) ≡ tally_after so_far (BadLine name ∷ rest)

@@ -30,7 +30,7 @@ module _ (c : Comparison) (so_far : Comparing) (frame : Record) (chosen : is_com
   whole : frame_taken c so_far frame kind ≡ frame_with c so_far frame
   whole =
       ap (frame_taken c so_far frame) kind-is
-      ∙ if_so (is_compared c.interface so_far.first.items frame.interface) (frame_taken c so_far frame (kind_at c frame)) (other_seen c.interface so_far) chosen
+      ∙ if_so (is_compared c.interface so_far.first.items frame.interface) (frame_taken c so_far frame (kind_at c frame)) (other_seen c.interface frame.interface so_far) chosen
 
   -- where a document is wanted
   kept_taken : (kept report : Kept) → so_far.report ≡ Some kept → report ≡ kind_noted c so_far.progress frame.micros kind kept

@@ -49,6 +49,7 @@ use Rattle.conode_compare.specs.declared.comparing.Comparing.{Comparing}
 use Rattle.conode_compare.specs.declared.notes.Noted.{Noted}
 use Rattle.conode_compare.specs.BadLines.{has_no_frame, interface_in}
 use Rattle.conode_compare.specs.Detailed.{asks_to_write, first_bytes, passed_at}
+use Rattle.conode_compare.specs.InterfacesSeen.{interfaces_with, no_interfaces}
 use Rattle.conode_compare.specs.NodesSeen.{no_nodes, nodes_with}
 use Rattle.conode_compare.specs.Noted.{choice_lines, noted_at, nothing_noted, notes_with}
 
@@ -138,7 +139,7 @@ findings_noted micros details found kept =
 abbrev pub frame_noted : Comparison → Progress → ℕ → FrameKind → Kept → Kept
 frame_noted c progress micros kind kept =
     with_frame c.rows kept micros kind (before_at kept.rpdos c.subject.facts.modular progress kind) (progress_with c.subject progress micros kind).nmt.state
-    (findings_at c.subject c.rows progress micros kind)
+    (progress_with c.subject progress micros kind).free (findings_at c.subject c.rows progress micros kind)
 
 -- an upload of an entry that is held shows the number that was written
 abbrev pub number_noted : Comparison → Progress → Kept → Kept
@@ -165,6 +166,7 @@ nothing_compared subject report = record {
   tally = no_frames;
   first = record { items = [] };
   several = false;
+  others = no_interfaces;
   breaks = 0;
   nodes = no_nodes;
   notes = nothing_noted;
@@ -217,9 +219,10 @@ unfoldable pub frame_taken : Comparison → Comparing → Record → FrameKind �
 frame_taken c so_far frame kind = record {
   progress = with_receptions c.subject (progress_at c so_far frame kind) (receptions_at c so_far frame kind);
   receptions = receptions_at c so_far frame kind;
-  tally = tally_with so_far.tally (found_at c so_far frame kind).verdict;
+  tally = tally_with so_far.tally kind (found_at c so_far frame kind).verdict;
   first = first_with so_far.first frame.interface;
   several = so_far.several;
+  others = so_far.others;
   breaks = so_far.breaks;
   nodes = nodes_with so_far.nodes frame;
   notes = notes_with c.choices c.learned c.subject c.rows so_far.notes kind (progress_at c so_far frame kind);
@@ -233,19 +236,20 @@ frame_noted_by c so_far frame kind verdict =
     record so_far {
       progress = with_receptions c.subject so_far.progress received;
       receptions = received;
-      tally = tally_with so_far.tally verdict;
+      tally = tally_with so_far.tally kind verdict;
       first = first_with so_far.first frame.interface;
       nodes = nodes_with so_far.nodes frame;
       notes = notes_with c.choices c.learned c.subject c.rows so_far.notes kind so_far.progress;
     }
 
--- where none is named, there is another one
-abbrev pub other_seen : Option (List ℕ) → Comparing → Comparing
-other_seen interface so_far = record so_far { several = so_far.several || is_none interface }
+-- a frame of another one, of this name: where none is named, there are several
+abbrev pub other_seen : Option (List ℕ) → List ℕ → Comparing → Comparing
+other_seen interface name so_far = record so_far { several = so_far.several || is_none interface; others = interfaces_with so_far.others name }
 
 abbrev pub frame_with : Comparison → Comparing → Record → Comparing
 frame_with c so_far frame =
-    if is_compared c.interface so_far.first.items frame.interface then frame_taken c so_far frame (kind_at c frame) else other_seen c.interface so_far
+    if is_compared c.interface so_far.first.items frame.interface then frame_taken c so_far frame (kind_at c frame)
+    else other_seen c.interface frame.interface so_far
 
 -- ---- lines of the recording
 

@@ -148,7 +148,7 @@ picked these shown = flat_map (λ s. these s.kind s.found) shown
 -- how many have which verdict, with those before
 abbrev pub tally_of : Tally → List FrameShown → Tally
 tally_of tally [] = tally
-tally_of tally (s ∷ later) = tally_of (tally_with tally s.found.verdict) later
+tally_of tally (s ∷ later) = tally_of (tally_with tally s.kind s.found.verdict) later
 
 -- ---- what the program finds
 

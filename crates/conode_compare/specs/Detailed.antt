@@ -1,5 +1,5 @@
 -- What the line of a difference says that the difference doesn't have.
-use Rattle.std.specs.Prelude.{ℕ, ℤ, pos, ◌==◌, Bool, true, false, if◌then◌else◌, List, [], length, take, Option, Some, None, unwrap_or}
+use Rattle.std.specs.Prelude.{ℕ, ℤ, pos, ◌==◌, Bool, true, false, if◌then◌else◌, List, [], length, take, Option, unwrap_or}
 use Rattle.std.specs.Option.{option_map_or}
 use Rattle.co_sheet.specs.Content.{Row}
 use Rattle.co_sheet_changes.specs.Names.{row_at}

@@ -1,5 +1,5 @@
 -- The last lines of a comparison: how many frames have which verdict, and the values of entries.
-use Rattle.std.specs.Prelude.{ℕ, nat_lt, if◌then◌else◌, List, [], ◌∷◌, Option, Some, None}
+use Rattle.std.specs.Prelude.{ℕ, ◌==◌, nat_lt, if◌then◌else◌, List, [], ◌∷◌, ◌++◌, Option, Some, None}
 use Rattle.std.specs.List.{flat_map}
 use Rattle.co_sheet.specs.Content.{Row}
 use Rattle.co_value.specs.Types.{width_of}
@@ -10,7 +10,8 @@ use Rattle.conode_compare_notes.specs.LearnedValues.{number_of as shown_number}
 use Rattle.conode_compare_pdos.specs.SheetNumbers.{number_of as sheet_number}
 use Rattle.conode_compare_text.specs.ChoiceTexts.{choices_summary}
 use Rattle.conode_compare_text.specs.LearnedTexts.{learned_line}
-use Rattle.conode_compare_text.specs.Tallies.{summary}
+use Rattle.conode_compare_text.specs.declared.tally.Tally.{Tally}
+use Rattle.conode_compare_text.specs.Tallies.{summary, unjudged_line}
 use Rattle.conode_compare.specs.declared.comparing.Comparing.{Comparing}
 use Rattle.conode_compare.specs.Compared.{Comparison}
 
@@ -39,5 +40,12 @@ values_lines c learned rows = flat_map (value_lines c learned) rows
 abbrev pub if_learned : Comparison → Comparing → List (List ℕ)
 if_learned c comparing = if c.learned then values_lines c comparing.notes.learned c.rows else []
 
+abbrev pub sum_lines : Comparison → Comparing → List (List ℕ)
+sum_lines c comparing = last_line c comparing ∷ if_learned c comparing
+
+-- before them, where frames are unjudged, of which services these are
+abbrev pub unjudged_lines : Tally → List (List ℕ)
+unjudged_lines tally = if tally.unjudged == 0 then [] else unjudged_line tally.services ∷ []
+
 abbrev pub last_lines : Comparison → Comparing → List (List ℕ)
-last_lines c comparing = last_line c comparing ∷ if_learned c comparing
+last_lines c comparing = unjudged_lines comparing.tally ++ sum_lines c comparing

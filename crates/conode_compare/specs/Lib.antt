@@ -3,6 +3,7 @@ pub mod Compared
 pub mod ComparedFrames
 pub mod Detailed
 pub mod Documents
+pub mod InterfacesSeen
 pub mod LastLines
 pub mod NodesSeen
 pub mod Noted

@@ -14,9 +14,8 @@ use crate::compared::compare;
 use crate::comparing::Comparing;
 use crate::document::{Format, Wanted, about_of, new_report, write_document};
 use crate::last_lines::write_last_lines;
-use crate::nodes_seen::NodesSeen;
 use crate::writes::Settings;
-use co_sheet::{EntryRow, Sheet, read};
+use co_sheet::{EntryRow, FaultKind, Sheet, SheetFault, read};
 use co_sheet_changes::Originals;
 use conode_compare_report::{SheetNames, is_boot_up_master};
 use conode_compare_rules::{Limits, Subject, facts_of};
@@ -38,6 +37,10 @@ const STANDARD_INPUT: &str = "-";
 
 /// The status of a comparison that can't be made.
 const NOT_COMPARED: u8 = 2;
+
+/// What may help where a data sheet is refused.
+const ADAPT: &str =
+    "try conode adapt SHEET: it rewrites a vendor's sheet to one that compare takes";
 
 /// What is asked for.
 #[derive(Clone, Copy)]
@@ -93,15 +96,6 @@ fn verdict_status(tally: Tally, several: bool) -> u8
     }
 }
 
-// what is said of a recording at its end, beside its lines
-#[derive(Drop)]
-struct Ends {
-    tally: Tally,
-    several: bool,
-    nodes: NodesSeen,
-    anew: u64,
-}
-
 // how often the recording began anew after bad lines: not after the last ones, where no frame came
 // since
 fn begun_anew(newest: Option<u64>, breaks: u64) -> u64
@@ -119,17 +113,21 @@ fn say_number<E: Write>(words: &str, number: u64, err: &mut E) {
 }
 
 // says on `err` how often the recording began anew after bad lines; and why the status is 2, if it
-// is
-fn say_ends<E: Write>(node: u8, ends: &Ends, err: &mut E) {
-    if ends.anew > 0 {
-        say_number("begun anew after bad lines:", ends.anew, err);
+// is, with what can be named in its place
+fn say_ends<E: Write>(node: u8, comparing: &Comparing, err: &mut E) {
+    let anew = begun_anew(comparing.progress.newest, comparing.breaks);
+    if anew > 0 {
+        say_number("begun anew after bad lines:", anew, err);
     }
-    if ends.several {
+    if comparing.several {
         let _ = bad_word("several interfaces: name one with --interface", err);
-    } else if no_frame(ends.tally) {
+    } else if no_frame(comparing.tally) {
         say_number("no frame of node", node as u64, err);
-        ends.nodes.name(err);
+        comparing.nodes.name(err);
+    } else {
+        return;
     }
+    comparing.others.name(comparing.first.as_slice(), err);
 }
 
 // writes the last lines, or the document
@@ -164,7 +162,7 @@ fn compare_and_write<R: Read, O: Write, E: Write>(
     form: Form,
     out: &mut O,
     err: &mut E,
-) -> Result<Ends, CmdFault>
+) -> Result<Comparing, CmdFault>
     requires { AllPairs (λ e f. is_key_before e.key f.key ≡ true) settings.now.rows.now }
     ensures written { OnOk result (IfSome (R.remaining input.old) (λ text.
         WritesLines (O.contents out.old) (O.contents out.new)
@@ -174,12 +172,7 @@ fn compare_and_write<R: Read, O: Write, E: Write>(
     let report = attempt_in_memory!(new_report(alloc, settings, wanted.format));
     let comparing = attempt!(compare(alloc, input, settings, form, report, out, err));
     attempt!(write_end(alloc, settings, wanted, &comparing, out));
-    Ok(Ends {
-        tally: comparing.tally,
-        several: comparing.several,
-        nodes: comparing.nodes,
-        anew: begun_anew(comparing.progress.newest, comparing.breaks),
-    })
+    Ok(comparing)
 }
 
 // compares an input
@@ -197,9 +190,9 @@ fn compare_input<R: Read, O: Write, E: Write>(
 {
     let outcome = compare_and_write(alloc, input, settings, wanted, form, out, err);
     match flushed(out, outcome) {
-        Ok(ends) => {
-            say_ends(settings.subject.node, &ends, err);
-            ExitCode::from(verdict_status(ends.tally, ends.several))
+        Ok(comparing) => {
+            say_ends(settings.subject.node, &comparing, err);
+            ExitCode::from(verdict_status(comparing.tally, comparing.several))
         }
         Err(fault) => {
             let _ = stopped(fault, out, err);
@@ -271,10 +264,10 @@ fn compare_sheet<R: Files + AllocGlobal + Input, O: Write, E: Write>(
     rt: &R,
     sheet: &Sheet<'_>,
     originals: &Originals,
-    names: SheetNames<'_>,
+    names: &SheetNames<'_>,
     master: bool,
     paths: &Paths<'_>,
-    asked: Asked<'_>,
+    asked: &Asked<'_>,
     out: &mut O,
     err: &mut E,
 ) -> ExitCode
@@ -304,7 +297,7 @@ fn compare_sheet<R: Files + AllocGlobal + Input, O: Write, E: Write>(
         subject,
         rows,
         originals,
-        names,
+        names: *names,
         recording: paths.recording,
         interface,
         choices: asked.choices,
@@ -324,7 +317,7 @@ fn compare_text<R: Files + AllocGlobal + Input, O: Write, E: Write>(
     text: &[u8],
     sheet: &Sheet<'_>,
     paths: &Paths<'_>,
-    asked: Asked<'_>,
+    asked: &Asked<'_>,
     out: &mut O,
     err: &mut E,
 ) -> ExitCode
@@ -335,12 +328,25 @@ fn compare_text<R: Files + AllocGlobal + Input, O: Write, E: Write>(
         Ok(originals) => {
             let names = SheetNames::in_text(text);
             let master = is_boot_up_master(text);
-            compare_sheet(rt, sheet, &originals, names, master, paths, asked, out, err)
+            compare_sheet(
+                rt, sheet, &originals, &names, master, paths, asked, out, err,
+            )
         }
         Err(_) => {
             let _ = out_of_memory(out);
             ExitCode::from(NOT_COMPARED)
         }
+    }
+}
+
+// says why a text is no data sheet that is compared, and which command may make one of it
+fn refuse<O: Write, E: Write>(fault: SheetFault, out: &mut O, err: &mut E) -> ExitCode
+    ensures { exit_status result ≡ 2 }
+{
+    let _ = faulty_sheet(fault, out);
+    match fault.kind {
+        FaultKind::Memory | FaultKind::TooLarge => ExitCode::from(NOT_COMPARED),
+        _ => bad_word(ADAPT, err),
     }
 }
 
@@ -369,10 +375,7 @@ pub fn compare_files<R: Files + AllocGlobal + Input, O: Write, E: Write>(
     };
     let paths = Paths { sheet, recording };
     match read(rt.alloc(), text.as_slice()) {
-        Ok(sheet) => compare_text(rt, text.as_slice(), &sheet, &paths, asked, out, err),
-        Err(fault) => {
-            let _ = faulty_sheet(fault, out);
-            ExitCode::from(NOT_COMPARED)
-        }
+        Ok(sheet) => compare_text(rt, text.as_slice(), &sheet, &paths, &asked, out, err),
+        Err(fault) => refuse(fault, out, err),
     }
 }

@@ -1,6 +1,6 @@
 //! Frames of a recording, compared one after another.
 
-ghost use Rattle.std.specs.Prelude.{◌≡◌, ◌≤◌, ◌||◌, if◌then◌else◌, length, is_none, IfOk, OnOk, true};
+ghost use Rattle.std.specs.Prelude.{◌≡◌, ◌≤◌, if◌then◌else◌, length, IfOk, OnOk, true};
 ghost use Rattle.std.specs.List.{AllPairs};
 ghost use Rattle.std.specs.Option.{option_copied};
 ghost use Rattle.co_value.specs.Keys.{is_key_before};
@@ -19,12 +19,14 @@ ghost use Rattle.conode_compare.specs.Compared.{
   line_noted,
   may_have_frame,
   nothing_compared,
+  other_seen,
 };
 ghost use Rattle.conode_compare.specs.Noted.{noted_at};
 ghost use Rattle.conode_compare.specs.Views.{comparison_view};
 
 use crate::bad_lines::{has_no_frame, interface_in};
 use crate::details::details_of;
+use crate::interfaces_seen::InterfacesSeen;
 use crate::kept::note_findings;
 use crate::nodes_seen::NodesSeen;
 use crate::notes::{Noted, Notes};
@@ -51,6 +53,8 @@ pub struct Comparing {
     pub first: ArrayVec<u8, 15>,
     /// Whether frames came on another one, where none is named.
     pub several: bool,
+    /// The interfaces of frames that aren't compared.
+    pub others: InterfacesSeen,
     /// After how many of the frames bad lines may have had one, up to 2^64 - 1.
     pub breaks: u64,
     /// The nodes that were seen.
@@ -70,6 +74,7 @@ impl Drop for Comparing {
             tally: _,
             first: _,
             several: _,
+            others: _,
             breaks: _,
             nodes: _,
             notes,
@@ -126,22 +131,14 @@ fn document_kind(
     let before = report.before(settings.subject.facts.modular, progress, kind);
     let found = progress.take(&settings.subject, settings.rows, micros, kind);
     let state = progress.state();
-    attempt!(report.take_frame(settings.rows, micros, kind, &before, state, &found));
+    let free = progress.free;
+    attempt!(report.take_frame(settings.rows, micros, kind, &before, state, free, &found));
     if progress.is_number_kept(&settings.subject) {
         report.pass(Kind::ValueHeld);
     }
     let details = details_of(settings, kind, &progress.exchange, found.frame);
     attempt!(note_findings(report, micros, &details, &found));
     Ok(found.verdict)
-}
-
-// notes a frame of another interface: where none is named, there are several
-fn note_other(several: &mut bool, interface: Option<&[u8]>)
-    ensures { several.new ≡ (several.old || is_none (option_copied interface.entry)) }
-{
-    if interface.is_none() {
-        *several = true;
-    }
 }
 
 // notes the interface of the first frame
@@ -166,6 +163,7 @@ impl Comparing {
             tally: Tally::new(),
             first: ArrayVec::new(),
             several: false,
+            others: InterfacesSeen::new(),
             breaks: 0,
             nodes: NodesSeen::new(),
             notes: Notes::new(alloc),
@@ -199,6 +197,17 @@ impl Comparing {
         }
     }
 
+    // notes a frame of another interface: where none is named, there are several
+    fn note_other(&mut self, interface: Option<&[u8]>, name: &[u8])
+        requires { length name.now ≤ 15 }
+        ensures { self.new ≡ other_seen (option_copied interface.entry) name.now self.old }
+    {
+        self.others.note(name);
+        if interface.is_none() {
+            self.several = true;
+        }
+    }
+
     // Counts a frame of the interface with its verdict, and takes what else it shows than the
     // progress that it is part of already. Returns what is noted at it. On an `Err` memory ran out.
     fn note_frame(
@@ -216,7 +225,7 @@ impl Comparing {
         ensures next { OnOk result (self.new ≡ frame_noted_by
             (comparison_view settings.now) self.old frame.now kind.now verdict) }
     {
-        self.tally.count(verdict);
+        self.tally.count(kind, verdict);
         note_first(&mut self.first, frame.interface.bytes());
         self.nodes.note(frame);
         let noted = attempt!(self.notes.take(settings, kind, &self.progress));
@@ -250,7 +259,7 @@ impl Comparing {
     {
         let name = frame.interface.bytes();
         if !is_compared(settings.interface, self.first.as_slice(), name) {
-            note_other(&mut self.several, settings.interface);
+            self.note_other(settings.interface, name);
             return Ok(());
         }
         let kind = kind_of(settings.subject.node, frame.id, &frame.content);

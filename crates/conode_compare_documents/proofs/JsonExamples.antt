@@ -48,7 +48,9 @@ no_name = refl
 -- a recording without a frame of the interface
 no_stamps : outcome_members about (nothing_kept [] 5)
     ≡ key (codes "verdict") ∷ string (codes "differences") ∷ key (codes "frames") ∷ begin_object ∷ key (codes "prescribed") ∷ number (codes "2")
-    ∷ key (codes "different") ∷ number (codes "1") ∷ key (codes "unjudged") ∷ number (codes "0") ∷ end_object
+    ∷ key (codes "different") ∷ number (codes "1") ∷ key (codes "unjudged") ∷ number (codes "18") ∷ end_object
+    ∷ key (codes "unjudgedFrames") ∷ begin_object ∷ key (codes "heartbeats") ∷ number (codes "3") ∷ key (codes "emcy") ∷ number (codes "4")
+    ∷ key (codes "sdoAnswers") ∷ number (codes "5") ∷ key (codes "tpdos") ∷ number (codes "6") ∷ end_object
     ∷ key (codes "lines") ∷ number (codes "0") ∷ key (codes "badLines") ∷ number (codes "0") ∷ key (codes "unlisted") ∷ number (codes "0") ∷ []
 unfolding ended_members nothing_kept object_begin text_member number_member digits
 no_stamps = refl
@@ -57,7 +59,8 @@ no_stamps = refl
 
 document : json_document about report
     ≡ codes "{\"version\":1,\"program\":\"0.12.0\",\"sheet\":\"a&b.eds\",\"recording\":\"a.log\",\"device\":{\"node\":5,\"vendor\":69,\"revision\":4294967295,\"vendorName\":\"A\\\"B\",\"recordedSerial\":123456},"
-    ++ codes "\"limits\":{\"tolerance\":10,\"drift\":1,\"answer\":1000,\"boot\":10000},\"verdict\":\"differences\",\"frames\":{\"prescribed\":2,\"different\":1,\"unjudged\":0},"
+    ++ codes "\"limits\":{\"tolerance\":10,\"drift\":1,\"answer\":1000,\"boot\":10000},\"verdict\":\"differences\",\"frames\":{\"prescribed\":2,\"different\":1,\"unjudged\":18},"
+    ++ codes "\"unjudgedFrames\":{\"heartbeats\":3,\"emcy\":4,\"sdoAnswers\":5,\"tpdos\":6},"
     ++ codes "\"lines\":8,\"badLines\":1,\"begin\":1000000,\"end\":3020001,\"unlisted\":0,"
     ++ codes "\"findings\":[{\"line\":3,\"stamp\":3020001,\"kind\":\"heartbeat-late\",\"text\":\"heartbeat-late: 1020.001 ms since the last one, 1017:00 has 1000 ms\","
     ++ codes "\"rule\":\"a heartbeat comes within the producer heartbeat time, 1017:00 (CiA 301, 7.2.8.3.2)\","

@@ -43,7 +43,7 @@ about = record {
   vendor = Some 69;
   product = None;
   revision = Some 0xFFFFFFFF;
-  tally = record { prescribed = 2; different = 1; unjudged = 0 };
+  tally = record { prescribed = 2; different = 1; unjudged = 18; services = record { heartbeats = 3; emergencies = 4; answers = 5; tpdos = 6 } };
   several = false;
 }
 

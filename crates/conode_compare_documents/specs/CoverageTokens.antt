@@ -15,9 +15,10 @@ use Rattle.conode_compare_documents.specs.Parts.{bytes_if, joined}
 
 -- an entry of the sheet: its key, its name, left out if it has none, and which transfers the recording has of it
 unfoldable pub entry_tokens : Row × Covered → List Token
-entry_tokens (row, covered) = joined (
-    (begin_object ∷ []) ∷ number_member (codes "index") (pos row.key.index) ∷ number_member (codes "subIndex") (pos row.key.sub)
-    ∷ bytes_if (codes "name") row.name ∷ flag_member (codes "read") covered.read
+entry_tokens (row, covered) =
+    joined ((begin_object ∷ []) ∷ number_member (codes "index") (pos row.key.index) ∷ number_member (codes "subIndex") (pos row.key.sub) ∷ [])
+    ++ bytes_if (codes "name") row.name
+    ++ joined (flag_member (codes "read") covered.read
     ∷ flag_member (codes "written") covered.written ∷ flag_member (codes "refused") covered.refused ∷ (end_object ∷ []) ∷ [])
 
 unfoldable pub entries_member : List Row → List Covered → List Token

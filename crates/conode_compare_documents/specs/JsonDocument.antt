@@ -18,14 +18,15 @@ use Rattle.conode_compare_report.specs.Outcomes.{outcome_name, outcome_of}
 -- what was compared, and how: the node-ID, the identity and the names of the sheet, as far as it has them, and the identity
 -- that the recording shows; how exactly the device is judged, in ms and in percent
 unfoldable pub document_begin : Described → Identity → List Token
-document_begin about shown = joined (
-    (begin_object ∷ []) ∷ number_member (codes "version") (pos 1) ∷ text_member (codes "program") about.version
-    ∷ text_member (codes "sheet") about.sheet ∷ text_member (codes "recording") about.recording
-    ∷ object_begin (codes "device") ∷ number_member (codes "node") (pos about.node)
+document_begin about shown =
+    joined ((begin_object ∷ []) ∷ number_member (codes "version") (pos 1) ∷ [])
+    ++ text_member (codes "program") about.version ++ text_member (codes "sheet") about.sheet
+    ++ text_member (codes "recording") about.recording
+    ++ joined (object_begin (codes "device") ∷ number_member (codes "node") (pos about.node)
     ∷ number_if (codes "vendor") (option_map pos about.vendor) ∷ number_if (codes "product") (option_map pos about.product)
-    ∷ number_if (codes "revision") (option_map pos about.revision)
-    ∷ bytes_if (codes "vendorName") about.vendor_name ∷ bytes_if (codes "productName") about.product_name
-    ∷ number_if (codes "recordedRevision") (option_map pos shown.revision)
+    ∷ number_if (codes "revision") (option_map pos about.revision) ∷ [])
+    ++ bytes_if (codes "vendorName") about.vendor_name ++ bytes_if (codes "productName") about.product_name
+    ++ joined (number_if (codes "recordedRevision") (option_map pos shown.revision)
     ∷ number_if (codes "recordedSerial") (option_map pos shown.serial) ∷ (end_object ∷ [])
     ∷ object_begin (codes "limits") ∷ number_member (codes "tolerance") (pos about.limits.tolerance)
     ∷ number_member (codes "drift") (pos about.limits.drift) ∷ number_member (codes "answer") (pos about.limits.answer)
@@ -35,13 +36,16 @@ document_begin about shown = joined (
 abbrev pub end_of : Kept → Option ℕ
 end_of report = option_map (λ begin. report.end) report.begin
 
--- how it ended: the verdict, how many frames have which verdict, the lines of the recording, the stamps of its first and
--- its newest frame, and how many differences aren't listed
+-- how it ended: the verdict, how many frames have which verdict, of which services the unjudged ones are, the lines of the
+-- recording, the stamps of its first and its newest frame, and how many differences aren't listed
 unfoldable pub ended_members : List ℕ → Tally → Kept → Option ℕ → List Token
 ended_members verdict tally report end = joined (
     text_member (codes "verdict") verdict ∷ object_begin (codes "frames")
     ∷ number_member (codes "prescribed") (pos tally.prescribed) ∷ number_member (codes "different") (pos tally.different)
     ∷ number_member (codes "unjudged") (pos tally.unjudged) ∷ (end_object ∷ [])
+    ∷ object_begin (codes "unjudgedFrames") ∷ number_member (codes "heartbeats") (pos tally.services.heartbeats)
+    ∷ number_member (codes "emcy") (pos tally.services.emergencies) ∷ number_member (codes "sdoAnswers") (pos tally.services.answers)
+    ∷ number_member (codes "tpdos") (pos tally.services.tpdos) ∷ (end_object ∷ [])
     ∷ number_member (codes "lines") (pos report.lines) ∷ number_member (codes "badLines") (pos report.bad_lines)
     ∷ number_if (codes "begin") (option_map pos report.begin) ∷ number_if (codes "end") (option_map pos end)
     ∷ number_member (codes "unlisted") (pos report.unlisted) ∷ [])

@@ -12,9 +12,9 @@ use Rattle.conode_compare_documents.specs.Parts.{joined}
 
 -- a line of the recording
 unfoldable pub context_tokens : KeptLine → List Token
-context_tokens line = joined (
-    (begin_object ∷ []) ∷ number_member (codes "line") (pos line.number) ∷ text_member (codes "text") (utf8_of line.bytes)
-    ∷ (end_object ∷ []) ∷ [])
+context_tokens line =
+    joined ((begin_object ∷ []) ∷ number_member (codes "line") (pos line.number) ∷ [])
+    ++ text_member (codes "text") (utf8_of line.bytes) ++ end_object ∷ []
 
 -- the lines around a difference
 unfoldable pub context_member : List KeptLine → List Token
@@ -22,10 +22,11 @@ context_member lines = array_begin (codes "context") ++ flat_map context_tokens 
 
 -- where and when, what was found, its kind, and what CiA 301 prescribes
 unfoldable pub said_tokens : Noted → List ℕ → List Token
-said_tokens noted text = joined (
-    (begin_object ∷ []) ∷ number_member (codes "line") (pos noted.line) ∷ number_member (codes "stamp") (pos noted.micros)
-    ∷ text_member (codes "kind") (kind_name (kind_of noted.finding)) ∷ text_member (codes "text") text
-    ∷ text_member (codes "rule") (kind_rule (kind_of noted.finding)) ∷ [])
+said_tokens noted text =
+    joined ((begin_object ∷ []) ∷ number_member (codes "line") (pos noted.line) ∷ number_member (codes "stamp") (pos noted.micros)
+    ∷ text_member (codes "kind") (kind_name (kind_of noted.finding)) ∷ [])
+    ++ text_member (codes "text") text
+    ++ joined (text_member (codes "rule") (kind_rule (kind_of noted.finding)) ∷ [])
 
 -- a difference
 unfoldable pub noted_tokens : List KeptLine → Noted → List Token

@@ -24,7 +24,9 @@ fn put_entry(document: &mut Document, row: &EntryRow<'_>, covered: Covered)
         Part::BeginObject,
         Part::Number(Member::Index, row.key.index as u64),
         Part::Number(Member::SubIndex, row.key.sub as u64),
-        Part::Bytes(Member::Name, row.name),
+    ]);
+    document.put_bytes(Member::Name, row.name);
+    document.put(&[
         Part::Flag(Member::Read, covered.read),
         Part::Flag(Member::Written, covered.written),
         Part::Flag(Member::Refused, covered.refused),

@@ -16,16 +16,12 @@ use crate::words::finding_words;
 use conode_compare_report::{ContextLine, Kind, Noted, Report};
 use std::alloc::Global;
 
-#[tactic(auto, unfolding(crate::specs::NotedTokens::context_tokens))]
 fn put_context_line(document: &mut Document, line: &ContextLine)
     ensures { Appended document.old (context_tokens line.now) document.new }
 {
-    document.put(&[
-        Part::BeginObject,
-        Part::Number(Member::Line, line.number),
-        Part::Bytes(Member::Text, Some(line.bytes.as_slice())),
-        Part::EndObject,
-    ]);
+    document.put(&[Part::BeginObject, Part::Number(Member::Line, line.number)]);
+    document.put_bytes(Member::Text, Some(line.bytes.as_slice()));
+    document.put(&[Part::EndObject]);
 }
 
 // the lines around a difference
@@ -46,14 +42,16 @@ fn put_found(alloc: Global, document: &mut Document, noted: &Noted)
 {
     let kind = Kind::of(noted.finding);
     match finding_words(alloc, noted) {
-        Ok(text) => document.put(&[
-            Part::BeginObject,
-            Part::Number(Member::Line, noted.line),
-            Part::Number(Member::Stamp, noted.micros),
-            Part::Text(Member::Kind, kind.name()),
-            Part::Text(Member::Text, text.as_str()),
-            Part::Text(Member::Rule, kind.rule()),
-        ]),
+        Ok(text) => {
+            document.put(&[
+                Part::BeginObject,
+                Part::Number(Member::Line, noted.line),
+                Part::Number(Member::Stamp, noted.micros),
+                Part::Text(Member::Kind, kind.name()),
+            ]);
+            document.put_text(Member::Text, text.as_str());
+            document.put(&[Part::Text(Member::Rule, kind.rule())]);
+        }
         Err(_) => document.fail(),
     }
 }

@@ -28,19 +28,20 @@ fn begin_document(document: &mut Document, about: &About<'_, '_>, coverage: &Cov
         (document_begin (about_view about.now) coverage.now.identity) document.new }
 {
     let shown = coverage.identity;
+    document.put(&[Part::BeginObject, Part::Number(Member::Version, VERSION)]);
+    document.put_text(Member::Program, about.version);
+    document.put_text(Member::Sheet, about.sheet);
+    document.put_text(Member::Recording, about.recording);
     document.put(&[
-        Part::BeginObject,
-        Part::Number(Member::Version, VERSION),
-        Part::Text(Member::Program, about.version),
-        Part::Text(Member::Sheet, about.sheet),
-        Part::Text(Member::Recording, about.recording),
         Part::Object(Member::Device),
         Part::Number(Member::Node, about.node as u64),
         Part::NumberIf(Member::Vendor, about.vendor),
         Part::NumberIf(Member::Product, about.product),
         Part::NumberIf(Member::Revision, about.revision),
-        Part::Bytes(Member::VendorName, about.names.vendor),
-        Part::Bytes(Member::ProductName, about.names.product),
+    ]);
+    document.put_bytes(Member::VendorName, about.names.vendor);
+    document.put_bytes(Member::ProductName, about.names.product);
+    document.put(&[
         Part::NumberIf(Member::RecordedRevision, shown.revision),
         Part::NumberIf(Member::RecordedSerial, shown.serial),
         Part::EndObject,
@@ -64,7 +65,7 @@ fn end_of(report: &Report) -> Option<u64>
 // how it ended, with this verdict, the newest frame at this stamp
 fn put_ended(
     document: &mut Document,
-    verdict: &str,
+    verdict: &'static str,
     tally: Tally,
     report: &Report,
     end: Option<u64>,
@@ -78,6 +79,12 @@ fn put_ended(
         Part::Number(Member::Prescribed, tally.prescribed),
         Part::Number(Member::Different, tally.different),
         Part::Number(Member::Unjudged, tally.unjudged),
+        Part::EndObject,
+        Part::Object(Member::UnjudgedFrames),
+        Part::Number(Member::Heartbeats, tally.services.heartbeats),
+        Part::Number(Member::Emergencies, tally.services.emergencies),
+        Part::Number(Member::Answers, tally.services.answers),
+        Part::Number(Member::Tpdos, tally.services.tpdos),
         Part::EndObject,
         Part::Number(Member::Lines, report.lines),
         Part::Number(Member::BadLines, report.bad_lines),

@@ -29,6 +29,11 @@ pub(crate) enum Member {
     Prescribed,
     Different,
     Unjudged,
+    UnjudgedFrames,
+    Heartbeats,
+    Emergencies,
+    Answers,
+    Tpdos,
     Lines,
     BadLines,
     Begin,
@@ -66,7 +71,7 @@ pub(crate) enum Member {
 }
 
 /// Their names, in this order.
-static NAMES: [&str; 57] = [
+static NAMES: [&str; 62] = [
     "version",
     "program",
     "sheet",
@@ -90,6 +95,11 @@ static NAMES: [&str; 57] = [
     "prescribed",
     "different",
     "unjudged",
+    "unjudgedFrames",
+    "heartbeats",
+    "emcy",
+    "sdoAnswers",
+    "tpdos",
     "lines",
     "badLines",
     "begin",

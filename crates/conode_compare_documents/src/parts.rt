@@ -3,11 +3,13 @@
 
 ghost use Rattle.std.specs.Prelude.{◌≡◌, [], ◌∷◌, ◌++◌, option_map, IfOk, None, OnOk, Some};
 ghost use Rattle.std.specs.List.{flat_map};
+ghost use Rattle.std.specs.Option.{option_copied};
 ghost use Rattle.json.specs.Print.{print};
 ghost use Rattle.co_text.specs.Printed.{digits_text};
 ghost use Rattle.conode_json.specs.Appended.{Appended};
 ghost use Rattle.conode_json.specs.Members.{text_member};
-ghost use Rattle.conode_compare_documents.specs.Parts.{part_tokens};
+ghost use Rattle.conode_compare_documents.specs.Members.{member_name};
+ghost use Rattle.conode_compare_documents.specs.Parts.{bytes_if, part_tokens};
 
 use crate::member::Member;
 use co_text::push_u32;
@@ -15,9 +17,10 @@ use conode_json::JsonWriter;
 use std::alloc::{AllocError, Global};
 use std::marker::Model;
 
-/// A part of a document.
+/// A part of a document, but for texts from outside, which have a function each: so it has no lifetime
+/// parameter, with which the proof of the code would write out its type at each step.
 #[derive(Clone, Copy)]
-pub(crate) enum Part<'a> {
+pub(crate) enum Part {
     BeginObject,
     EndObject,
     /// The beginning of a member that is an object.
@@ -25,9 +28,8 @@ pub(crate) enum Part<'a> {
     /// The beginning of a member that is an array.
     Array(Member),
     EndArray,
-    Text(Member, &'a str),
-    /// A text from outside, in UTF-8; nothing for `None`.
-    Bytes(Member, Option<&'a [u8]>),
+    /// A text of the program.
+    Text(Member, &'static str),
     Number(Member, u64),
     /// A number, nothing for `None`.
     NumberIf(Member, Option<u64>),
@@ -45,7 +47,29 @@ fn put_code(alloc: Global, writer: &mut JsonWriter, name: &str, code: u32) -> Re
     writer.put_text(name, digits.as_str())
 }
 
-fn put_part(alloc: Global, writer: &mut JsonWriter, part: &Part<'_>) -> Result<(), AllocError>
+fn put_text(writer: &mut JsonWriter, member: Member, text: &str) -> Result<(), AllocError>
+    ensures { OnOk result
+        (writer.new ≡ writer.old ++ text_member (member_name member) text.now) }
+{
+    writer.put_text(member.name(), text)
+}
+
+fn put_bytes(
+    alloc: Global,
+    writer: &mut JsonWriter,
+    member: Member,
+    bytes: Option<&[u8]>,
+) -> Result<(), AllocError>
+    ensures { OnOk result (writer.new
+        ≡ writer.old ++ bytes_if (member_name member) (option_copied bytes.entry)) }
+{
+    match bytes {
+        Some(bytes) => writer.put_bytes(alloc, member.name(), bytes),
+        None => Ok(()),
+    }
+}
+
+fn put_part(alloc: Global, writer: &mut JsonWriter, part: &Part) -> Result<(), AllocError>
     ensures { OnOk result (writer.new ≡ writer.old ++ part_tokens part.now) }
 {
     match *part {
@@ -54,18 +78,17 @@ fn put_part(alloc: Global, writer: &mut JsonWriter, part: &Part<'_>) -> Result<(
         Part::Object(member) => writer.begin_object_of(member.name()),
         Part::Array(member) => writer.begin_array_of(member.name()),
         Part::EndArray => writer.end_array(),
-        Part::Text(member, text) => writer.put_text(member.name(), text),
-        Part::Bytes(member, Some(bytes)) => writer.put_bytes(alloc, member.name(), bytes),
+        Part::Text(member, text) => put_text(writer, member, text),
         Part::Number(member, number) | Part::NumberIf(member, Some(number)) => {
             writer.put_number(alloc, member.name(), i128::from(number))
         }
-        Part::Bytes(_, None) | Part::NumberIf(_, None) => Ok(()),
+        Part::NumberIf(_, None) => Ok(()),
         Part::Flag(member, is) => writer.put_flag(member.name(), is),
         Part::Code(member, code) => put_code(alloc, writer, member.name(), code),
     }
 }
 
-fn put_parts(alloc: Global, writer: &mut JsonWriter, parts: &[Part<'_>]) -> Result<(), AllocError>
+fn put_parts(alloc: Global, writer: &mut JsonWriter, parts: &[Part]) -> Result<(), AllocError>
     ensures { OnOk result (writer.new ≡ writer.old ++ flat_map part_tokens parts.now) }
 {
     for part in parts {
@@ -109,13 +132,36 @@ impl Document {
 
     /// Appends parts, one after another.
     #[tactic(auto, using(conode_text::proofs::Appending::kept, conode_text::proofs::Appending::never_whole))]
-    pub(crate) fn put(&mut self, parts: &[Part<'_>])
+    pub(crate) fn put(&mut self, parts: &[Part])
         ensures { Appended self.old (flat_map part_tokens parts.now) self.new }
     {
         if !self.is_whole {
             return;
         }
         self.is_whole = put_parts(self.alloc, &mut self.writer, parts).is_ok();
+    }
+
+    /// Appends a text.
+    #[tactic(auto, using(conode_text::proofs::Appending::kept, conode_text::proofs::Appending::never_whole))]
+    pub(crate) fn put_text(&mut self, member: Member, text: &str)
+        ensures { Appended self.old (text_member (member_name member) text.now) self.new }
+    {
+        if !self.is_whole {
+            return;
+        }
+        self.is_whole = put_text(&mut self.writer, member, text).is_ok();
+    }
+
+    /// Appends a text from outside, in UTF-8; nothing for `None`.
+    #[tactic(auto, using(conode_text::proofs::Appending::kept, conode_text::proofs::Appending::never_whole))]
+    pub(crate) fn put_bytes(&mut self, member: Member, bytes: Option<&[u8]>)
+        ensures { Appended self.old
+            (bytes_if (member_name member) (option_copied bytes.entry)) self.new }
+    {
+        if !self.is_whole {
+            return;
+        }
+        self.is_whole = put_bytes(self.alloc, &mut self.writer, member, bytes).is_ok();
     }
 
     /// Memory ran out for what is to be appended.

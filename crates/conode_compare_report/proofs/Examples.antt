@@ -45,8 +45,8 @@ use Rattle.conode_compare_report.specs.Counts.{numbered_with}
 use Rattle.conode_compare_report.specs.Coverages.{CoverageView, coverage_with, lane_of, no_coverage, no_services, service_of, services_with, transfers_with}
 use Rattle.conode_compare_report.specs.Identities.{no_identity}
 use Rattle.conode_compare_report.specs.Kinds.{kind_number}
-use Rattle.conode_compare_report.specs.Occasions.{answer_passed, command_passed, control_passed, counts_found, counts_passed, emergency_passed, ended_passed, frame_passed, no_counts, side_passed, tpdo_passed, upload_passed}
-use Rattle.conode_compare_report.specs.Reports.{nothing_kept, with_bad_line, with_finding, with_frame, with_line}
+use Rattle.conode_compare_report.specs.Occasions.{answer_passed, command_passed, control_passed, counts_found, counts_passed, emergency_passed, ended_passed, frame_passed, is_free_since, no_counts, side_passed, tpdo_passed, upload_passed}
+use Rattle.conode_compare_report.specs.Reports.{control_with, nothing_kept, with_bad_line, with_finding, with_frame, with_line}
 use Rattle.conode_compare_report.specs.Services.{service_number}
 use Rattle.conode_compare_report.specs.SheetNames.{info_in, is_boot_up_master}
 use Rattle.conode_compare_report.specs.Spans.{LanesView, bin_with, both_bins, empty_bin, joined, lanes_with, no_lanes, no_states, widened}
@@ -228,23 +228,31 @@ in_force period inhibit = record { period = period; emergencies = true; inhibit 
 abbrev before : NmtState → Option ℕ → Option ℕ → Role → Before
 before state period inhibit role = record { state = state; entries = in_force period inhibit; modular = false; role = role }
 
-heartbeat : shown (control_passed (before Operational (Some 1000) None role.Other) 5 no_counts) ≡ HeartbeatLate ∷ HeartbeatState ∷ HeartbeatLength ∷ []
+heartbeat : shown (control_passed (before Operational (Some 1000) None role.Other) true 5 no_counts) ≡ HeartbeatLate ∷ HeartbeatState ∷ HeartbeatLength ∷ []
 unfolding control_passed counts_passed
 heartbeat = refl
 
-heartbeat_without_period : shown (control_passed (before Operational (Some 0) None role.Other) 5 no_counts) ≡ HeartbeatState ∷ HeartbeatLength ∷ []
+heartbeat_without_period : shown (control_passed (before Operational (Some 0) None role.Other) true 5 no_counts) ≡ HeartbeatState ∷ HeartbeatLength ∷ []
 unfolding control_passed counts_passed
 heartbeat_without_period = refl
 
-heartbeat_of_unknown_period : shown (control_passed (before Operational None None role.Other) 127 no_counts) ≡ HeartbeatState ∷ HeartbeatLength ∷ []
+heartbeat_of_unknown_period : shown (control_passed (before Operational None None role.Other) true 127 no_counts) ≡ HeartbeatState ∷ HeartbeatLength ∷ []
 unfolding control_passed counts_passed
 heartbeat_of_unknown_period = refl
 
-boot_up : shown (control_passed (before Unknown (Some 1000) None role.Other) 0 no_counts) ≡ HeartbeatLength ∷ SecondSender ∷ []
+-- on a busy bus it can't be seen that it is late
+heartbeat_on_busy_bus : shown (control_passed (before Operational (Some 1000) None role.Other) false 5 no_counts) ≡ HeartbeatState ∷ HeartbeatLength ∷ []
+unfolding control_passed counts_passed
+heartbeat_on_busy_bus = refl
+
+free_since : map (is_free_since (Some 1000)) (999 ∷ 1000 ∷ 1001 ∷ []) ∷ map (is_free_since None) (1001 ∷ []) ∷ [] ≡ (false ∷ false ∷ true ∷ []) ∷ (false ∷ []) ∷ []
+free_since = refl
+
+boot_up : shown (control_passed (before Unknown (Some 1000) None role.Other) true 0 no_counts) ≡ HeartbeatLength ∷ SecondSender ∷ []
 unfolding control_passed counts_passed
 boot_up = refl
 
-boot_up_after_reset : shown (control_passed (before Initialising (Some 1000) None role.Other) 0 no_counts) ≡ HeartbeatLength ∷ BootMissing ∷ SecondSender ∷ []
+boot_up_after_reset : shown (control_passed (before Initialising (Some 1000) None role.Other) true 0 no_counts) ≡ HeartbeatLength ∷ BootMissing ∷ SecondSender ∷ []
 unfolding control_passed counts_passed
 boot_up_after_reset = refl
 
@@ -417,7 +425,7 @@ unfolding ended_passed upload_passed counts_passed
 aborted_by_client = refl
 
 -- a frame with a difference, or one that isn't judged, counts for no other kind
-by_verdict : map (λ verdict. length (shown (frame_passed rows (frame.Control 5) (before Operational None None role.Other) None verdict no_counts)))
+by_verdict : map (λ verdict. length (shown (frame_passed rows (frame.Control 5) (before Operational None None role.Other) true None verdict no_counts)))
     (Some Prescribed ∷ None ∷ Some Different ∷ Some Unjudged ∷ [])
     ≡ 2 ∷ 2 ∷ 0 ∷ 0 ∷ []
 unfolding frame_passed control_passed counts_passed
@@ -506,7 +514,10 @@ types_counted = refl
 -- ---- a frame
 
 abbrev one_frame : Kept
-one_frame = with_frame rows empty_report 9000 (frame.Control 5) (before PreOperational None None role.Other) Operational nothing_found
+one_frame = with_frame rows empty_report 9000 (frame.Control 5) (before PreOperational None None role.Other) Operational 9000 nothing_found
+
+newest_control : map (control_with (Some 5) 9) (frame.Control 0 ∷ frame.OddControl 2 ∷ frame.Emergency 0 0 ∷ []) ≡ Some 9 ∷ Some 9 ∷ Some 5 ∷ []
+newest_control = refl
 
 frame_begins : one_frame.begin ≡ Some 9000
 unfolding with_frame nothing_kept

@@ -17,14 +17,14 @@ use Rattle.conode_compare_report.specs.Views.{Kept}
 pub data Happening : Type 0 where
   Came : List ℕ → Happening
   WasBad : Happening
-  Framed : List Row → ℕ → FrameKind → Before → NmtState → Findings → Happening
+  Framed : List Row → ℕ → FrameKind → Before → NmtState → ℕ → Findings → Happening
   Passed : Kind → Happening
   Found : ℕ → Details → Finding → Happening
 
 abbrev pub happened : Kept → Happening → Kept
 happened kept (Came line) = with_line kept line
 happened kept WasBad = with_bad_line kept
-happened kept (Framed rows micros kind before state found) = with_frame rows kept micros kind before state found
+happened kept (Framed rows micros kind before state free found) = with_frame rows kept micros kind before state free found
 happened kept (Passed kind) = with_passed kept kind
 happened kept (Found micros details finding) = with_finding kept micros details finding
 

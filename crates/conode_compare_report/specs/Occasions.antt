@@ -84,13 +84,17 @@ abbrev pub is_stopped : NmtState → Bool
 is_stopped Stopped = true
 is_stopped other = false
 
--- a boot-up, or a heartbeat
-unfoldable pub control_passed : Before → ℕ → List Counted → List Counted
-control_passed before byte counts =
+-- whether the bus was free after this stamp, by when it was free last
+abbrev pub is_free_since : Option ℕ → ℕ → Bool
+is_free_since stamp free = option_map_or (λ stamp. nat_lt stamp free) stamp false
+
+-- a boot-up, or a heartbeat; only where the bus was free since the last one it can be seen to be late
+unfoldable pub control_passed : Before → Bool → ℕ → List Counted → List Counted
+control_passed before free byte counts =
     let is_boot_up = byte == 0 in
     counts_passed (is_boot_up && is_booting before.state) BootMissing
     (counts_passed is_boot_up SecondSender
-    (counts_passed (not is_boot_up && is_set before.entries.period) HeartbeatLate
+    (counts_passed ((not is_boot_up && is_set before.entries.period) && free) HeartbeatLate
     (counts_passed (not is_boot_up) HeartbeatState (counts_passed true HeartbeatLength counts))))
 
 unfoldable pub emergency_passed : Before → List Counted → List Counted
@@ -232,12 +236,13 @@ if_ended_passed modular rows (Some ended) counts = ended_passed modular rows end
 
 -- ---- a frame
 
-abbrev pub kind_passed : FrameKind → Before → Option Heard → List Counted → List Counted
-kind_passed (Control byte) before heard counts = control_passed before byte counts
-kind_passed (Emergency code register) before heard counts = emergency_passed before counts
-kind_passed (Process id length) before heard counts = role_passed before.role counts
-kind_passed (Sdo side frame) before heard counts = side_passed side before heard frame.bytes counts
-kind_passed _ before heard counts = counts
+-- `free`: the bus was free since the last frame of error control
+abbrev pub kind_passed : FrameKind → Before → Bool → Option Heard → List Counted → List Counted
+kind_passed (Control byte) before free heard counts = control_passed before free byte counts
+kind_passed (Emergency code register) before free heard counts = emergency_passed before counts
+kind_passed (Process id length) before free heard counts = role_passed before.role counts
+kind_passed (Sdo side frame) before free heard counts = side_passed side before heard frame.bytes counts
+kind_passed _ before free heard counts = counts
 
 -- a frame that shows no difference, and isn't unjudged
 abbrev pub passes : Option Verdict → Bool
@@ -246,6 +251,6 @@ passes (Some Prescribed) = true
 passes (Some Different) = false
 passes (Some Unjudged) = false
 
-unfoldable pub frame_passed : List Row → FrameKind → Before → Option Heard → Option Verdict → List Counted → List Counted
-frame_passed rows kind before heard verdict counts =
-    if passes verdict then if_ended_passed before.modular rows (ended_in heard) (kind_passed kind before heard counts) else counts
+unfoldable pub frame_passed : List Row → FrameKind → Before → Bool → Option Heard → Option Verdict → List Counted → List Counted
+frame_passed rows kind before free heard verdict counts =
+    if passes verdict then if_ended_passed before.modular rows (ended_in heard) (kind_passed kind before free heard counts) else counts

@@ -7,7 +7,7 @@ use Rattle.conode_compare_text.specs.declared.details.Details.{Details}
 use Rattle.conode_compare_rules.specs.declared.finding.Finding.{Finding}
 use Rattle.conode_compare_rules.specs.declared.finding.NmtState.{NmtState}
 use Rattle.conode_compare_rules.specs.declared.kind.FrameKind.{FrameKind}
-use Rattle.conode_compare_rules.specs.declared.kind.FrameKind.TheVariants.{Control, Sdo}
+use Rattle.conode_compare_rules.specs.declared.kind.FrameKind.TheVariants.{Control, OddControl, Sdo}
 use Rattle.conode_compare_rules.specs.declared.verdict.Findings.{Findings}
 use Rattle.conode_compare_report.specs.declared.before.Before.{Before}
 use Rattle.conode_compare_report.specs.declared.kind.Kind.{Kind}
@@ -17,7 +17,7 @@ use Rattle.conode_compare_report.specs.Contexts.{KeptLine}
 use Rattle.conode_compare_report.specs.Counts.{one_more}
 use Rattle.conode_compare_report.specs.Coverages.{coverage_with, lane_of, no_coverage}
 use Rattle.conode_compare_report.specs.Kinds.{kind_of}
-use Rattle.conode_compare_report.specs.Occasions.{counts_passed, counts_found, ended_in, frame_passed, no_counts}
+use Rattle.conode_compare_report.specs.Occasions.{counts_passed, counts_found, ended_in, frame_passed, is_free_since, no_counts}
 use Rattle.conode_compare_report.specs.Spans.{bin_with, lanes_with, no_lanes}
 use Rattle.conode_compare_report.specs.Views.{Kept}
 
@@ -36,6 +36,7 @@ nothing_kept rows node = record {
   recent = [];
   wanted = 0;
   channel = nothing_heard;
+  control = None;
   rpdos = rpdos_of rows node;
 }
 
@@ -85,18 +86,25 @@ abbrev pub begin_with : Option ℕ → ℕ → Option ℕ
 begin_with None micros = Some micros
 begin_with (Some begin) micros = Some begin
 
--- a frame that is compared: what was known before it, the state that is known after it, and what is
--- found at it
-unfoldable pub with_frame : List Row → Kept → ℕ → FrameKind → Before → NmtState → Findings → Kept
-with_frame rows kept micros kind before state found =
+-- the stamp of the newest frame of error control
+abbrev pub control_with : Option ℕ → ℕ → FrameKind → Option ℕ
+control_with control micros (Control byte) = Some micros
+control_with control micros (OddControl length) = Some micros
+control_with control micros _ = control
+
+-- a frame that is compared: what was known before it, the state that is known after it, when the bus was free last, and
+-- what is found at it
+unfoldable pub with_frame : List Row → Kept → ℕ → FrameKind → Before → NmtState → ℕ → Findings → Kept
+with_frame rows kept micros kind before state free found =
     let heard = heard_of kept.channel micros kind in
     record kept {
-      kinds = frame_passed rows kind before heard found.verdict kept.kinds;
+      kinds = frame_passed rows kind before (is_free_since kept.control free) heard found.verdict kept.kinds;
       coverage = coverage_with rows kind before.role state (ended_in heard) kept.coverage;
       lanes = lanes_with micros (bin_with state (lane_of kind before.role) (number_found found)) kept.lanes;
       begin = begin_with kept.begin micros;
       end = micros;
       channel = channel_after kept.channel micros kind;
+      control = control_with kept.control micros kind;
     }
 
 -- a frame could have shown a difference of this kind, and shows none

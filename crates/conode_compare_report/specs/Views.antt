@@ -21,8 +21,9 @@ pub record Kept : Type 0 where
   pub begin : Option ℕ
   pub end : ℕ
   -- lines before the next one that are not kept so far, at most four; the number up to which lines
-  -- are kept; the device's SDO channel; its RPDOs
+  -- are kept; the device's SDO channel; the stamp of the newest frame of error control; its RPDOs
   pub recent : List KeptLine
   pub wanted : ℕ
   pub channel : Following
+  pub control : Option ℕ
   pub rpdos : Rpdos

@@ -27,6 +27,7 @@ ghost use Rattle.conode_compare_report.specs.Occasions.{
   is_compared,
   is_done,
   is_expedited,
+  is_free_since,
   is_refused,
   is_set,
   is_stopped,
@@ -118,6 +119,16 @@ fn is_set(time: Option<u16>) -> bool
     }
 }
 
+/// Whether the bus was free after this stamp, by when it was free last.
+pub(crate) fn is_free_since(stamp: Option<u64>, free: u64) -> bool
+    ensures { result ≡ is_free_since stamp free }
+{
+    match stamp {
+        Some(stamp) => stamp < free,
+        None => false,
+    }
+}
+
 fn is_booting(state: NmtState) -> bool
     ensures { result ≡ is_booting state }
 {
@@ -130,10 +141,10 @@ fn is_stopped(state: NmtState) -> bool
     matches!(state, NmtState::Stopped)
 }
 
-// a boot-up, or a heartbeat
+// a boot-up, or a heartbeat; `free`: the bus was free since the last one
 #[tactic(auto, unfolding(crate::specs::Occasions::control_passed))]
-fn pass_control(counts: &mut [Counted], before: &Before, byte: u8)
-    ensures { counts.new ≡ control_passed before.now byte counts.old }
+fn pass_control(counts: &mut [Counted], before: &Before, free: bool, byte: u8)
+    ensures { counts.new ≡ control_passed before.now free byte counts.old }
 {
     let is_boot_up = byte == 0;
     pass_all(
@@ -142,7 +153,7 @@ fn pass_control(counts: &mut [Counted], before: &Before, byte: u8)
             (true, Kind::HeartbeatLength),
             (!is_boot_up, Kind::HeartbeatState),
             (
-                !is_boot_up && is_set(before.entries.period),
+                !is_boot_up && is_set(before.entries.period) && free,
                 Kind::HeartbeatLate,
             ),
             (is_boot_up, Kind::SecondSender),
@@ -406,11 +417,17 @@ fn pass_ended(counts: &mut [Counted], modular: bool, rows: &[EntryRow<'_>], ende
     }
 }
 
-fn pass_kind(counts: &mut [Counted], kind: &FrameKind, before: &Before, heard: &Option<Heard>)
-    ensures { counts.new ≡ kind_passed kind.now before.now heard.now counts.old }
+fn pass_kind(
+    counts: &mut [Counted],
+    kind: &FrameKind,
+    before: &Before,
+    free: bool,
+    heard: &Option<Heard>,
+)
+    ensures { counts.new ≡ kind_passed kind.now before.now free heard.now counts.old }
 {
     match kind {
-        FrameKind::Control(byte) => pass_control(counts, before, *byte),
+        FrameKind::Control(byte) => pass_control(counts, before, free, *byte),
         FrameKind::Emergency(_, _) => pass_emergency(counts, before),
         FrameKind::Process(_, _) => pass_role(counts, before.role),
         FrameKind::Sdo(side, frame) => pass_side(counts, *side, before, heard, frame.bytes()),
@@ -428,24 +445,27 @@ fn passes(verdict: Option<Verdict>) -> bool
     }
 }
 
-/// Counts the kinds that a frame could have shown. What ended with it is in `heard`.
+/// Counts the kinds that a frame could have shown. What ended with it is in `heard`; `free`: the bus was
+/// free since the last frame of error control.
 #[tactic(auto, unfolding(crate::specs::Occasions::frame_passed))]
 pub(crate) fn pass_frame(
     counts: &mut [Counted],
     rows: &[EntryRow<'_>],
     kind: &FrameKind,
     before: &Before,
+    free: bool,
     heard: &Option<Heard>,
     verdict: Option<Verdict>,
 )
     requires { AllPairs (λ e f. is_key_before e.key f.key ≡ true) rows.now }
     ensures { counts.new
-        ≡ frame_passed (map row_view rows.now) kind.now before.now heard.now verdict counts.old }
+        ≡ frame_passed (map row_view rows.now) kind.now before.now free heard.now verdict
+        counts.old }
 {
     if !passes(verdict) {
         return;
     }
-    pass_kind(counts, kind, before, heard);
+    pass_kind(counts, kind, before, free, heard);
     if let Some(
         Heard {
             what: _,

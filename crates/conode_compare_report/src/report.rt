@@ -27,6 +27,7 @@ ghost use Rattle.conode_compare_report.specs.Widths.{StampsFit, seen_of, spans_o
 ghost use Rattle.conode_compare_report.specs.Reports.{
   begin_with,
   channel_after,
+  control_with,
   heard_of,
   if_listed,
   listed_in,
@@ -46,7 +47,7 @@ use crate::coverage::{Coverage, ended_in};
 use crate::kind::{Counted, Kind};
 use crate::lanes::Lanes;
 use crate::noted::{ContextLine, Noted, around};
-use crate::occasions::{find, no_counts, pass, pass_frame};
+use crate::occasions::{find, is_free_since, no_counts, pass, pass_frame};
 use crate::service::lane_of;
 use co_sheet::EntryRow;
 use conode_compare_rules::{Finding, Findings, FrameKind, NmtState, Progress};
@@ -83,6 +84,8 @@ pub struct Report {
     // lines up to this number are kept at once
     wanted: u64,
     channel: Channel,
+    // the stamp of the newest frame of error control
+    control: Option<u64>,
     rpdos: Rpdos,
     alloc: Global,
 }
@@ -106,6 +109,7 @@ impl Model for Report {
       recent = report.recent.items;
       wanted = report.wanted;
       channel = report.channel;
+      control = report.control;
       rpdos = report.rpdos;
     } };
 }
@@ -163,6 +167,15 @@ fn hear(channel: &mut Channel, micros: u64, kind: &FrameKind) -> Option<Heard>
     }
 }
 
+// notes the stamp of a frame of error control
+fn note_control(control: &mut Option<u64>, micros: u64, kind: &FrameKind)
+    ensures { control.new ≡ control_with control.old micros kind.now }
+{
+    if let FrameKind::Control(_) | FrameKind::OddControl(_) = kind {
+        *control = Some(micros);
+    }
+}
+
 fn one_of(finding: Option<Finding>) -> u32
     ensures { result ≡ one_of finding }
 {
@@ -203,6 +216,7 @@ impl Report {
             recent: Vec::new(alloc),
             wanted: 0,
             channel: Channel::new(),
+            control: None,
             rpdos: Rpdos::of(rows, node),
             alloc,
         })
@@ -237,7 +251,8 @@ impl Report {
     }
 
     /// A frame of the newest line: its stamp in microseconds, its kind, what was known before it,
-    /// the state that is known after it, and what is found at it. `Err`: out of memory.
+    /// the state that is known after it, when the bus was free last, and what is found at it.
+    /// `Err`: out of memory.
     #[tactic(auto, unfolding(crate::specs::Reports::with_frame))]
     pub fn take_frame(
         &mut self,
@@ -246,14 +261,24 @@ impl Report {
         kind: &FrameKind,
         before: &Before,
         state: NmtState,
+        free: u64,
         found: &Findings,
     ) -> Result<(), AllocError>
         requires { AllPairs (λ e f. is_key_before e.key f.key ≡ true) rows.now }
         ensures { OnOk result (self.new ≡ with_frame
-            (map row_view rows.now) self.old micros kind.now before.now state found.now) }
+            (map row_view rows.now) self.old micros kind.now before.now state free found.now) }
     {
         let heard = hear(&mut self.channel, micros, kind);
-        pass_frame(&mut self.kinds, rows, kind, before, &heard, found.verdict);
+        let is_free = is_free_since(self.control, free);
+        pass_frame(
+            &mut self.kinds,
+            rows,
+            kind,
+            before,
+            is_free,
+            &heard,
+            found.verdict,
+        );
         attempt!(
             self.coverage
                 .add(rows, kind, before.role, state, ended_in(&heard))
@@ -262,6 +287,7 @@ impl Report {
         attempt!(self.lanes.add(micros, state, lane, number_found(found)));
         self.begin = self.begin.or(Some(micros));
         self.end = micros;
+        note_control(&mut self.control, micros, kind);
         Ok(())
     }
 

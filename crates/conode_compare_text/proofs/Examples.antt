@@ -14,7 +14,8 @@ use Rattle.conode_compare_transfers.specs.declared.breach.Breach.TheVariants.{To
 use Rattle.conode_compare_values.specs.declared.mismatch.Mismatch.TheVariants.{ValueLength, ValueConst, ConstText, ReadRefused, ReadServed, Written, AboveLimit, BelowLimit, BeyondRoom}
 use Rattle.conode_compare_rules.specs.declared.finding.Finding.TheVariants.{BootMissing, SecondBootUp, HeartbeatLength, NoState, WrongState, TwoStates, HeartbeatLate, EmergencyLength, EmergencyRegister, EmergencyInhibit, NoAnswer, AnswerKey, AnswerForm, AnswerStopped, Transfer, Value, Held, Pdo}
 use Rattle.conode_compare_rules.specs.declared.finding.NmtState.TheVariants.{PreOperational, Operational}
-use Rattle.conode_compare_rules.specs.declared.kind.FrameKind.TheVariants.{Control, Sdo}
+use Rattle.conode_compare_rules.specs.declared.kind.FrameKind.TheVariants.{Control, Emergency, Fault, OddControl, OddEmergency, Process, Sdo}
+use Rattle.conode_compare_rules.specs.declared.verdict.Verdict.TheVariants.{Prescribed, Different, Unjudged}
 use Rattle.conode_compare_choices.specs.declared.choice.Choice.TheVariants.{Segments, NoSize, ShortSegment, NoCrc, BlockSize, Switched, Code, Timeout, NoTimeout, Heartbeat, Phase, NoEmergency, OtherEmergency}
 use Rattle.conode_compare_choices.specs.declared.length_error.LengthError.TheVariants.{ShortRpdo, LongRpdo, OddSync}
 use Rattle.conode_compare_notes.specs.declared.warning.Warning.TheVariants.{Changed, ChangedBytes, OddCode, OtherError, OtherRevision, OtherText, Restarted, SteppedBack, Stored}
@@ -24,7 +25,7 @@ use Rattle.conode_text.specs.Filled.{filled}
 use Rattle.conode_compare_text.specs.FindingTexts.{finding_line, finding_text, mismatch_text, pdo_text, transfer_text}
 use Rattle.conode_compare_text.specs.Beside.{came_at, no_details, nothing_came}
 use Rattle.conode_compare_text.specs.LearnedTexts.{learned_line, other_text, typed_text}
-use Rattle.conode_compare_text.specs.Tallies.{summary, tally_text}
+use Rattle.conode_compare_text.specs.Tallies.{no_frames, none_unjudged, summary, tally_text, tally_with, unjudged_line, unjudged_with}
 use Rattle.conode_compare_text.specs.Values.{bytes_text, came_text, eight_digits, hexadecimal, line_front, millis_text, shown_value}
 use Rattle.conode_compare_text.specs.WarningTexts.{warning_line, warning_text}
 
@@ -166,14 +167,40 @@ value_held : finding_text plain (Held (record { key = key; shown = 0x5; written 
 unfolding finding_text shown_value hexadecimal eight_digits digits_text filled
 value_held = refl
 
-sums : summary 5 (record { prescribed = 118; different = 2; unjudged = 14 })
+sums : summary 5 (record { prescribed = 118; different = 2; unjudged = 14; services = none_unjudged })
     ≡ codes "node 5: 118 frames as prescribed, 2 with a difference, 14 unjudged" ++ 10 ∷ []
 unfolding summary tally_text digits filled
 sums = refl
 
-one_frame : summary 5 (record { prescribed = 1; different = 1; unjudged = 1 }) ≡ codes "node 5: 1 frame as prescribed, 1 with a difference, 1 unjudged" ++ 10 ∷ []
+one_frame : summary 5 (record { prescribed = 1; different = 1; unjudged = 1; services = none_unjudged }) ≡ codes "node 5: 1 frame as prescribed, 1 with a difference, 1 unjudged" ++ 10 ∷ []
 unfolding summary tally_text digits filled
 one_frame = refl
+
+-- ---- of which services the unjudged frames are
+
+error_control : unjudged_with none_unjudged (Control 5) ∷ unjudged_with none_unjudged (OddControl 2) ∷ []
+    ≡ record none_unjudged { heartbeats = 1 } ∷ record none_unjudged { heartbeats = 1 } ∷ []
+error_control = refl
+
+emergencies : unjudged_with none_unjudged (Emergency 0x8110 0x11) ∷ unjudged_with none_unjudged (OddEmergency 2) ∷ []
+    ≡ record none_unjudged { emergencies = 1 } ∷ record none_unjudged { emergencies = 1 } ∷ []
+emergencies = refl
+
+tpdos : unjudged_with none_unjudged (Process 0x185 2) ≡ record none_unjudged { tpdos = 1 }
+tpdos = refl
+
+-- an error frame has no verdict
+no_service : unjudged_with none_unjudged Fault ≡ none_unjudged
+no_service = refl
+
+-- only unjudged frames are counted by their service
+by_verdict : map (λ verdict. (tally_with no_frames (Control 5) verdict).services.heartbeats) (None ∷ Some Prescribed ∷ Some Different ∷ Some Unjudged ∷ []) ≡ 0 ∷ 0 ∷ 0 ∷ 1 ∷ []
+by_verdict = refl
+
+by_service : unjudged_line (record { heartbeats = 2; emergencies = 1; answers = 11; tpdos = 0 })
+    ≡ codes "unjudged: heartbeats 2, EMCY 1, SDO answers 11, TPDOs 0" ++ 10 ∷ []
+unfolding unjudged_line digits filled
+by_service = refl
 
 -- ---- TPDOs
 
@@ -311,12 +338,12 @@ choice_at_line : choice_line (codes "r.log") 12 (NoCrc key) ≡ codes "r.log:12:
 unfolding choice_line choice_text digits_text digits filled line_front
 choice_at_line = refl
 
-sums_choices : choices_summary 5 (record { prescribed = 118; different = 2; unjudged = 14 }) 3
+sums_choices : choices_summary 5 (record { prescribed = 118; different = 2; unjudged = 14; services = none_unjudged }) 3
     ≡ codes "node 5: 118 frames as prescribed, 2 with a difference, 14 unjudged, 3 choices" ++ 10 ∷ []
 unfolding choices_summary tally_text digits filled
 sums_choices = refl
 
-sums_choice : choices_summary 5 (record { prescribed = 118; different = 2; unjudged = 14 }) 1
+sums_choice : choices_summary 5 (record { prescribed = 118; different = 2; unjudged = 14; services = none_unjudged }) 1
     ≡ codes "node 5: 118 frames as prescribed, 2 with a difference, 14 unjudged, 1 choice" ++ 10 ∷ []
 unfolding choices_summary tally_text digits filled
 sums_choice = refl

@@ -69,7 +69,7 @@ said_text (Three words first second third) =
 
 -- `recording.log:123: `
 unfoldable pub line_front : List ℕ → ℕ → List ℕ
-line_front recording line = filled (codes "%:%: ") (recording ∷ decimal line ∷ [])
+line_front recording line = recording ++ filled (codes ":%: ") (decimal line ∷ [])
 
 -- `recording.log:123: heartbeat-late: ..`, of what is said
 abbrev pub line_text : List ℕ → ℕ → List ℕ → List ℕ

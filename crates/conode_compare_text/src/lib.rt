@@ -23,5 +23,5 @@ pub use choice_text::{set_choice_line, set_choices_summary};
 pub use details::{Came, Details, Passed};
 pub use finding_text::{push_finding, set_finding_line};
 pub use learned_text::set_learned_line;
-pub use tally::{Tally, set_summary};
+pub use tally::{Tally, Unjudged, set_summary, set_unjudged_line};
 pub use warning_text::set_warning_line;

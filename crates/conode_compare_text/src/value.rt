@@ -23,11 +23,12 @@ use conode_explain_values::{ValueType, push_value};
 use conode_text::{HasText, push_filled};
 use std::alloc::AllocError;
 
-/// A value in a line.
+/// A value in a line. It has no lifetime parameter: of a value with one, the proof of the code writes
+/// out the type at each step.
 #[derive(Clone, Copy)]
-pub(crate) enum Value<'a> {
-    /// Words, as they are.
-    Words(&'a str),
+pub(crate) enum Value {
+    /// Words of the program, as they are.
+    Words(&'static str),
     /// A number in decimal digits.
     Number(u64),
     /// The same, with its sign.
@@ -148,7 +149,7 @@ fn push_came(text: &mut String, came: Came) -> Result<(), AllocError>
     }
 }
 
-impl HasText for Value<'_> {
+impl HasText for Value {
     ghost text_of = { printed };
 
     fn push(&self, text: &mut String) -> Result<(), AllocError> {
@@ -175,11 +176,11 @@ pub(crate) enum Said {
     /// Words as they are.
     Alone(&'static str),
     /// Words with one place.
-    One(&'static str, Value<'static>),
+    One(&'static str, Value),
     /// Words with two places.
-    Two(&'static str, Value<'static>, Value<'static>),
+    Two(&'static str, Value, Value),
     /// Words with three places.
-    Three(&'static str, Value<'static>, Value<'static>, Value<'static>),
+    Three(&'static str, Value, Value, Value),
 }
 
 /// Appends what is said. On an `Err` memory ran out, and a part of it may be there.
@@ -209,11 +210,8 @@ pub(crate) fn set_line(
         (string_bytes text.new ≡ line_text recording.now line (said_text said)) }
 {
     text.clear();
-    attempt!(push_filled(
-        text,
-        "%:%: ",
-        &[Value::Words(recording), Value::Number(line)],
-    ));
+    attempt!(text.push_str(recording));
+    attempt!(push_filled(text, ":%: ", &[Value::Number(line)]));
     attempt!(push_said(text, said));
     text.push('\n')
 }
