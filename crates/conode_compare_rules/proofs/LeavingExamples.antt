@@ -23,6 +23,7 @@ use Rattle.conode_compare_rules.specs.OtherClients.{no_clients}
 use Rattle.conode_compare_rules.specs.Progresses.{after_emergency, after_process, before_recording, channel_heard, emergency_noted, exchange_at, may_miss_abort, moment_at, nmt_heard}
 use Rattle.conode_compare_rules.specs.States.{after_boot_up, after_command, after_control, after_other, awaits_boot_up, is_settled, nothing_commanded}
 use Rattle.co_frame.specs.FrameContent.{FrameContent}
+use Rattle.co_frame.specs.SdoRequests.{request_row_in}
 use Rattle.conode_compare_transfers.specs.Dialogues.{dialogue_heard, exchange_in}
 use Rattle.conode_compare_rules.proofs.Examples.{limits}
 
@@ -191,11 +192,11 @@ abbrev doubted_request : Nmt → Option ℕ
 doubted_request nmt = (channel_heard subject (record (aborted nmt) { nmt = in_state Operational }) 9000000 Client upload).dialogue.doubted
 
 in_doubt : map (λ state. doubted_request (in_state state)) (Stopped ∷ Operational ∷ []) ≡ Some 9000000 ∷ Some 2000000 ∷ []
-unfolding channel_heard exchange_at exchange_in dialogue_heard
+unfolding channel_heard exchange_at exchange_in dialogue_heard request_row_in
 in_doubt = refl
 
 in_doubt_leaving : map (λ leaving. doubted_request (record starting { leaving = leaving })) (Awaited ∷ Shown 1999999 ∷ []) ≡ Some 9000000 ∷ Some 2000000 ∷ []
-unfolding channel_heard exchange_at exchange_in dialogue_heard
+unfolding channel_heard exchange_at exchange_in dialogue_heard request_row_in
 in_doubt_leaving = refl
 
 -- until an answer of the device that is no abort; an abort of the device may be of that transfer
