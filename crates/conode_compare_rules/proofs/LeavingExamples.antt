@@ -20,8 +20,11 @@ use Rattle.conode_compare_rules.specs.declared.nmt.Nmt.{Nmt}
 use Rattle.conode_compare_rules.specs.declared.progress.Progress.{Progress}
 use Rattle.conode_compare_rules.specs.Heartbeats.{overdue_by}
 use Rattle.conode_compare_rules.specs.OtherClients.{no_clients}
-use Rattle.conode_compare_rules.specs.Progresses.{after_emergency, after_process, before_recording, emergency_noted, moment_at, nmt_heard}
+use Rattle.conode_compare_rules.specs.Progresses.{after_emergency, after_process, before_recording, channel_heard, emergency_noted, exchange_at, may_miss_abort, moment_at, nmt_heard}
 use Rattle.conode_compare_rules.specs.States.{after_boot_up, after_command, after_control, after_other, awaits_boot_up, is_settled, nothing_commanded}
+use Rattle.co_frame.specs.FrameContent.{FrameContent}
+use Rattle.co_frame.specs.SdoRequests.{request_row_in}
+use Rattle.conode_compare_transfers.specs.Dialogues.{dialogue_heard, exchange_in}
 use Rattle.conode_compare_rules.proofs.Examples.{limits}
 
 -- ---- a command
@@ -157,3 +160,50 @@ tpdos = refl
 another_pdo : (after_process subject (at 110001) 120000 0x186 4).nmt.leaving ≡ Awaited
 unfolding after_process is_settled overdue_by sighting moment_at
 another_pdo = refl
+
+-- ---- an abort of the client
+
+-- 08000000 of 2003:00
+abbrev abort : FrameContent
+abort = record { id = 0x605; bytes = 0x80 ∷ 0x03 ∷ 0x20 ∷ 0 ∷ 0 ∷ 0 ∷ 0 ∷ 0x08 ∷ [] }
+
+-- an upload of 1000:00
+abbrev upload : FrameContent
+upload = record { id = 0x605; bytes = 0x40 ∷ 0x00 ∷ 0x10 ∷ 0 ∷ 0 ∷ 0 ∷ 0 ∷ 0 ∷ [] }
+
+misses_in : map (λ state. may_miss_abort (in_state state) 100000 abort) (Stopped ∷ Unknown ∷ PreOperational ∷ Operational ∷ Initialising ∷ [])
+    ≡ true ∷ true ∷ false ∷ false ∷ false ∷ []
+misses_in = refl
+
+-- before a frame shows that it isn't stopped any more, at the same time, and later
+misses_leaving : map (λ leaving. may_miss_abort (record starting { leaving = leaving }) 150000 abort) (Nothing ∷ Awaited ∷ Shown 150000 ∷ Shown 149999 ∷ [])
+    ≡ false ∷ true ∷ true ∷ false ∷ []
+misses_leaving = refl
+
+-- another frame
+misses_upload : may_miss_abort (in_state Stopped) 100000 upload ≡ false
+misses_upload = refl
+
+-- then the next request is in doubt, however late it comes; else it isn't
+abbrev aborted : Nmt → Progress
+aborted nmt = channel_heard subject (record (before_recording subject) { newest = Some 2000000; free = 2000000; nmt = nmt }) 2000000 Client abort
+
+abbrev doubted_request : Nmt → Option ℕ
+doubted_request nmt = (channel_heard subject (record (aborted nmt) { nmt = in_state Operational }) 9000000 Client upload).dialogue.doubted
+
+in_doubt : map (λ state. doubted_request (in_state state)) (Stopped ∷ Operational ∷ []) ≡ Some 9000000 ∷ Some 2000000 ∷ []
+unfolding channel_heard exchange_at exchange_in dialogue_heard request_row_in
+in_doubt = refl
+
+in_doubt_leaving : map (λ leaving. doubted_request (record starting { leaving = leaving })) (Awaited ∷ Shown 1999999 ∷ []) ≡ Some 9000000 ∷ Some 2000000 ∷ []
+unfolding channel_heard exchange_at exchange_in dialogue_heard request_row_in
+in_doubt_leaving = refl
+
+-- until an answer of the device that is no abort; an abort of the device may be of that transfer
+abbrev answered_by : ℕ → Bool
+answered_by first =
+    (channel_heard subject (aborted (in_state Stopped)) 9000000 Server (record { id = 0x585; bytes = first ∷ 0x00 ∷ 0x10 ∷ 0 ∷ 0 ∷ 0 ∷ 0 ∷ 0 ∷ [] })).dialogue.sub_block
+
+until_answer : map answered_by (0x43 ∷ 0x80 ∷ []) ≡ false ∷ true ∷ []
+unfolding channel_heard exchange_at exchange_in dialogue_heard
+until_answer = refl

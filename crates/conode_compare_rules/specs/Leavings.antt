@@ -1,6 +1,6 @@
 -- Whether a device may still be stopped after a command that leads out of stopped: CiA 301 sets no time for
 -- a transition (7.3.2.2), and a stopped device answers no request.
-use Rattle.std.specs.Prelude.{ℕ, nat_le, Bool, true, false, if◌then◌else◌}
+use Rattle.std.specs.Prelude.{ℕ, nat_le, Bool, true, false, ◌||◌, if◌then◌else◌}
 use Rattle.conode_compare_rules.specs.declared.finding.NmtState.{NmtState}
 use Rattle.conode_compare_rules.specs.declared.finding.NmtState.TheVariants.{Unknown, PreOperational, Operational, Stopped}
 use Rattle.conode_compare_rules.specs.declared.leaving.Leaving.{Leaving}
@@ -35,3 +35,7 @@ abbrev pub was_stopped : Leaving → ℕ → Bool
 was_stopped Nothing asked = false
 was_stopped Awaited asked = true
 was_stopped (Shown micros) asked = nat_le asked micros
+
+-- the device may be stopped when a frame comes
+abbrev pub may_be_stopped_at : NmtState → Leaving → ℕ → Bool
+may_be_stopped_at state leaving micros = may_be_stopped state || was_stopped leaving micros

@@ -33,8 +33,8 @@ use conode_compare_transfers::{
 use conode_compare_values::{Written, mismatch_at};
 use conode_explain_transfers::{Ended, Protocol, What};
 
-// an abort (CiA 301, 7.2.4.3.17)
-fn is_abort(frame: &Frame) -> bool
+/// Whether a frame of the SDO channel is an abort (CiA 301, 7.2.4.3.17).
+pub(crate) fn is_abort(frame: &Frame) -> bool
     ensures { result ≡ is_abort frame.now }
 {
     byte_at(frame, 0) / 32 == 4

@@ -22,6 +22,8 @@ ghost use Rattle.conode_compare_rules.specs.Progresses.{
   is_doubtful,
   late_by,
   leaves_unknown,
+  left_open,
+  may_miss_abort,
   pdos_beside,
   pdos_by,
   pdos_heard,
@@ -30,7 +32,7 @@ ghost use Rattle.conode_compare_rules.specs.Progresses.{
   shown_beside,
 };
 
-use crate::answers::{answer_finding, confirmed_finding, held_finding, stopped_finding};
+use crate::answers::{answer_finding, confirmed_finding, held_finding, is_abort, stopped_finding};
 use crate::changed_period::{newest_asked, period_asked_by};
 use crate::clients::is_channel;
 use crate::entries::{Entries, shares_id};
@@ -183,6 +185,23 @@ fn is_judged(newest: Option<Newest>, exchange: &Exchange, frame: &Frame) -> bool
     exchange.certain && (comes_in_turn(newest, &exchange.heard, frame) || answers)
 }
 
+// whether a client's frame is an abort that the device may not take, since it may be stopped
+fn may_miss_abort(nmt: &Nmt, micros: u64, frame: &Frame) -> bool
+    ensures { result ≡ may_miss_abort nmt.now micros frame.now }
+{
+    is_abort(frame) && nmt.may_be_stopped_at(micros)
+}
+
+// the dialogue after a client's frame that the device may not have taken: the transfer may go on
+fn leave_open(dialogue: &mut Dialogue, side: Side, misses: bool)
+    ensures { dialogue.new ≡ left_open side misses dialogue.old }
+{
+    match side {
+        Side::Client => dialogue.sub_block = misses || dialogue.sub_block,
+        Side::Server => {}
+    }
+}
+
 impl Progress {
     // a frame of the SDO channel is heard
     #[tactic(auto, unfolding(crate::specs::Progresses::exchange_at, crate::specs::Progresses::channel_heard))]
@@ -192,6 +211,7 @@ impl Progress {
         ensures written { self.new.written ≡ self.old.written }
     {
         let doubtful = is_doubtful(subject.limits.answer, &self.dialogue, micros);
+        let misses = may_miss_abort(&self.nmt, micros, frame);
         let period = self.entries.period;
         let period_then = self.period_then();
         let exchange = self
@@ -227,6 +247,7 @@ impl Progress {
         hear_pdos_by(&mut self.pdos, side, frame, micros);
         let asks = asks_for_profile(side, frame);
         self.asked_at = asked_then(asks, self.asked_at, micros);
+        leave_open(&mut self.dialogue, side, misses);
         exchange
     }
 

@@ -6,6 +6,7 @@ ghost use Rattle.conode_compare_rules.specs.Leavings.{
   leaving_after,
   leaving_shown,
   may_be_stopped,
+  may_be_stopped_at,
   was_stopped,
 };
 ghost use Rattle.conode_compare_rules.specs.States.{with_left};
@@ -78,5 +79,12 @@ impl Nmt {
         ensures { self.new ≡ with_left self.old shows micros }
     {
         self.leaving = self.leaving.shown(shows, micros);
+    }
+
+    /// Whether the device may be stopped when a frame comes, so that it may not take a client's.
+    pub(crate) fn may_be_stopped_at(&self, micros: u64) -> bool
+        ensures { result ≡ may_be_stopped_at self.now.state self.now.leaving micros }
+    {
+        may_be_stopped(self.state) || self.leaving.was_stopped(micros)
     }
 }
