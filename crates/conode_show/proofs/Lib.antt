@@ -1,3 +1,4 @@
 pub mod JsonExamples
 pub mod RetypedLemmas
 mod Grouped
+mod ShownExamples

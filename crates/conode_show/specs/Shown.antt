@@ -16,8 +16,6 @@ use Rattle.std.specs.Prelude.{
   Option,
   Some,
   None,
-  is_none,
-  option_and_then,
 }
 use Rattle.std.specs.List.{list_any}
 use Rattle.std.specs.Option.{option_map_or}
@@ -43,13 +41,15 @@ use Rattle.conode_show.specs.JsonForm.{json_document, json_reason}
 abbrev pub is_too_large : List ℕ → Bool
 is_too_large text = nat_lt 1048576 (length text)
 
--- in each form the document of sections in order, and why a text isn't shown
+-- in each form the document of sections in order
 abbrev pub document_in : Form → Option ℕ → List TextSection → List ℕ
 document_in (Lines format) node sections = document format node sections
 document_in Json node sections = json_document node sections
 
+-- what is written of a text that isn't shown: in JSON a document with the reason, in lines nothing,
+-- since standard error has it
 abbrev pub reason_in : Form → List ℕ → List ℕ
-reason_in (Lines format) words = words ++ 10 ∷ []
+reason_in (Lines format) words = []
 reason_in Json words = json_reason words
 
 -- a property; DataType with the code of the original type
@@ -86,29 +86,32 @@ has_object sections = list_any (λ s. is_of_object s.kind) sections
 abbrev pub large_reason : Option OtherFormat → List ℕ
 large_reason format = option_map_or format_meaning format (fault_text (fault_at 0 TooLarge))
 
--- why a text of another format isn't shown, if it has no object
-abbrev pub unless_object : List TextSection → OtherFormat → Option (List ℕ)
-unless_object sections format =
-    if has_object sections then None else Some (format_meaning format)
+-- why a text without an object isn't shown: its format, if that is another one, else this
+abbrev pub empty_reason : Option OtherFormat → List ℕ
+empty_reason format =
+    option_map_or format_meaning format (codes "this is no EDS: it has no section of an object, as [1000]")
 
--- why a text isn't shown as it is: it is too large, or of another format and has no object
-unfoldable pub reason : List ℕ → Option (List ℕ)
-reason text =
-    if is_too_large text then Some (large_reason (text_format text))
-    else option_and_then (unless_object (sections_read (lines_of text))) (text_format text)
+abbrev pub unless_object : Option OtherFormat → List TextSection → Option (List ℕ)
+unless_object format sections = if has_object sections then None else Some (empty_reason format)
 
 -- the text with the sections of its compact forms; without them, if it is too large with them
 abbrev pub whole_text : List ℕ → Option (List ℕ) → List ℕ
 whole_text text None = text
 whole_text text (Some whole) = whole
 
-abbrev pub whole_shown : Form → Option ℕ → List ℕ → List ℕ
-whole_shown form node text = document_of form node (sections_of (whole_text text (expanded text)))
+-- why a text of this format isn't shown, if neither it nor its compact forms have an object
+abbrev pub unless_whole : Option OtherFormat → List ℕ → Option (List ℕ)
+unless_whole format text = unless_object format (sections_read (lines_of (whole_text text (expanded text))))
 
--- the document of a text, or why it isn't shown
+-- why a text isn't shown: it is too large, or has no object
+unfoldable pub reason : List ℕ → Option (List ℕ)
+reason text =
+    if is_too_large text then Some (large_reason (text_format text)) else unless_whole (text_format text) text
+
+-- the document of a text with the sections of its compact forms, if there is no reason against it
+abbrev pub shown_unless : Form → Option ℕ → Option (List ℕ) → List ℕ → List ℕ
+shown_unless form node why text = option_map_or (reason_in form) why (document_of form node (sections_of text))
+
+-- the document of a text, or what is written where it isn't shown
 unfoldable pub shown : Form → Option ℕ → List ℕ → List ℕ
-shown form node text = option_map_or (reason_in form) (reason text) (whole_shown form node text)
-
--- whether it is shown
-unfoldable pub is_shown : List ℕ → Bool
-is_shown text = is_none (reason text)
+shown form node text = shown_unless form node (reason text) (whole_text text (expanded text))

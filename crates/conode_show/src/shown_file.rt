@@ -4,13 +4,9 @@ ghost use Rattle.std.specs.Prelude.{
   ◌≡◌,
   ◌⊎◌,
   ◌≤◌,
-  [],
-  ◌∷◌,
-  ◌++◌,
   length,
   map,
-  is_some,
-  None,
+  Some,
   IfOk,
   IfErr,
   OnOk,
@@ -29,15 +25,18 @@ ghost use Rattle.conode_show.specs.Retyped.{retyped_view};
 ghost use Rattle.conode_show.specs.Shown.{
   document_in,
   document_of,
+  empty_reason,
   has_object,
   is_of_object,
-  is_shown,
   large_reason,
   reason,
   reason_in,
   sections_of,
   shown,
-  whole_shown,
+  shown_unless,
+  unless_object,
+  unless_whole,
+  whole_text,
 };
 
 use crate::form::Form;
@@ -129,22 +128,6 @@ fn document_parsed(
     }
 }
 
-// the document of a text's sections
-fn document_of(
-    alloc: Global,
-    form: Form,
-    node: Option<u8>,
-    text: &[u8],
-) -> Result<Vec<u8>, AllocError>
-    requires { length text.now ≤ 1048576 }
-    ensures { IfOk result (λ made. made.items ≡ document_of form node (sections_of text.now)) }
-{
-    match read_sections(alloc, text) {
-        Ok(parsed) => document_parsed(alloc, form, node, text, &parsed),
-        Err(fault) => Err(fault),
-    }
-}
-
 fn is_of_object(kind: SectionKind) -> bool
     ensures { result ≡ is_of_object kind }
 {
@@ -171,17 +154,6 @@ fn has_object_in(alloc: Global, parsed: &ParsedText) -> Result<bool, AllocError>
     }
 }
 
-// whether a section of a text is that of an object or a sub-index
-fn has_object(alloc: Global, text: &[u8]) -> Result<bool, AllocError>
-    requires { length text.now ≤ 1048576 }
-    ensures { IfOk result (λ has. has ≡ has_object (sections_read (lines_of text.now))) }
-{
-    match read_sections(alloc, text) {
-        Ok(parsed) => has_object_in(alloc, &parsed),
-        Err(fault) => Err(fault),
-    }
-}
-
 // why a text that is too large isn't shown
 fn large_reason(format: Option<OtherFormat>) -> &'static str
     ensures { result.now ≡ large_reason format }
@@ -192,34 +164,13 @@ fn large_reason(format: Option<OtherFormat>) -> &'static str
     }
 }
 
-// why a text isn't shown: it is too large, or of another format and has no object
-#[tactic(auto, unfolding(crate::specs::Shown::reason))]
-fn reason(alloc: Global, text: &[u8]) -> Result<Option<&'static str>, AllocError>
-    ensures reason { IfOk result (λ made. option_copied made ≡ reason text.now) }
-    ensures small { IfOk result (λ made.
-        option_copied made ≡ None → length text.now ≤ 1048576) }
+// why a text without an object isn't shown
+fn empty_reason(format: Option<OtherFormat>) -> &'static str
+    ensures { result.now ≡ empty_reason format }
 {
-    let format = attempt!(text_format(alloc, text));
-    if text.len() > GREATEST_SIZE {
-        return Ok(Some(large_reason(format)));
-    }
-    let Some(format) = format else {
-        return Ok(None);
-    };
-    if attempt!(has_object(alloc, text)) {
-        Ok(None)
-    } else {
-        Ok(Some(format_meaning(format)))
-    }
-}
-
-// the line of a reason
-fn reason_line(alloc: Global, words: &str) -> Result<Vec<u8>, AllocError>
-    ensures { IfOk result (λ text. text.items ≡ words.now ++ 10 ∷ []) }
-{
-    match format!(in alloc; "{words}\n") {
-        Ok(text) => Ok(text.into_bytes()),
-        Err(fault) => Err(fault),
+    match format {
+        Some(format) => format_meaning(format),
+        None => "this is no EDS: it has no section of an object, as [1000]",
     }
 }
 
@@ -227,57 +178,117 @@ fn reason_in(alloc: Global, form: Form, words: &str) -> Result<Vec<u8>, AllocErr
     ensures { IfOk result (λ text. text.items ≡ reason_in form words.now) }
 {
     match form {
-        Form::Lines(_) => reason_line(alloc, words),
+        Form::Lines(_) => Ok(Vec::new(alloc)),
         Form::Json => json_reason(alloc, words),
     }
 }
 
-// what is written of a text with the sections of its compact forms, or without them, if it is too
-// large with them
-fn whole_shown(
-    alloc: Global,
-    form: Form,
-    node: Option<u8>,
-    text: &[u8],
-) -> Result<Vec<u8>, AllocError>
-    requires { length text.now ≤ 1048576 }
-    ensures { IfOk result (λ made. made.items ≡ whole_shown form node text.now) }
+// What is written of a text, and why it isn't shown.
+#[derive(Drop)]
+struct Written {
+    text: Vec<u8>,
+    why: Option<&'static str>,
+}
+
+// a text that isn't shown
+fn not_shown(alloc: Global, form: Form, why: &'static str) -> Result<Written, AllocError>
+    ensures text { IfOk result (λ made. made.text.items ≡ reason_in form why.now) }
+    ensures why { IfOk result (λ made. option_copied made.why ≡ Some why.now) }
 {
-    match attempt!(expanded(alloc, text)) {
-        Some(whole) => document_of(alloc, form, node, whole.as_slice()),
-        None => document_of(alloc, form, node, text),
+    match reason_in(alloc, form, why) {
+        Ok(text) => Ok(Written {
+            text,
+            why: Some(why),
+        }),
+        Err(fault) => Err(fault),
     }
 }
 
-// what is written of a text, and whether its dictionary is shown
-#[tactic(auto, unfolding(crate::specs::Shown::shown, crate::specs::Shown::is_shown))]
-fn shown(
+// a parsed text, if it has an object
+fn shown_parsed(
     alloc: Global,
     form: Form,
     node: Option<u8>,
+    format: Option<OtherFormat>,
     text: &[u8],
-) -> Result<(Vec<u8>, bool), AllocError>
-    ensures text { IfOk result (λ made. made.0.items ≡ shown form node text.now) }
-    ensures readable { IfOk result (λ made. made.1 ≡ is_shown text.now) }
+    parsed: &ParsedText<'_>,
+) -> Result<Written, AllocError>
+    requires size { length text.now ≤ 1048576 }
+    requires parsed { parsed.now ≡ sections_read (lines_of text.now) }
+    ensures text { IfOk result (λ made. made.text.items
+        ≡ shown_unless form node (unless_object format parsed.now) text.now) }
+    ensures why { IfOk result (λ made.
+        option_copied made.why ≡ unless_object format parsed.now) }
 {
-    match attempt!(reason(alloc, text)) {
-        Some(words) => match reason_in(alloc, form, words) {
-            Ok(made) => Ok((made, false)),
+    match has_object_in(alloc, parsed) {
+        Ok(true) => match document_parsed(alloc, form, node, text, parsed) {
+            Ok(text) => Ok(Written { text, why: None }),
             Err(fault) => Err(fault),
         },
-        None => match whole_shown(alloc, form, node, text) {
-            Ok(made) => Ok((made, true)),
-            Err(fault) => Err(fault),
-        },
+        Ok(false) => not_shown(alloc, form, empty_reason(format)),
+        Err(fault) => Err(fault),
     }
+}
+
+// a text with the sections of its compact forms
+fn shown_read(
+    alloc: Global,
+    form: Form,
+    node: Option<u8>,
+    format: Option<OtherFormat>,
+    text: &[u8],
+) -> Result<Written, AllocError>
+    requires { length text.now ≤ 1048576 }
+    ensures text { IfOk result (λ made. made.text.items ≡ shown_unless form node
+        (unless_object format (sections_read (lines_of text.now))) text.now) }
+    ensures why { IfOk result (λ made. option_copied made.why
+        ≡ unless_object format (sections_read (lines_of text.now))) }
+{
+    match read_sections(alloc, text) {
+        Ok(parsed) => shown_parsed(alloc, form, node, format, text, &parsed),
+        Err(fault) => Err(fault),
+    }
+}
+
+// a text with the sections of its compact forms, or without them, if it is too large with them
+fn shown_whole(
+    alloc: Global,
+    form: Form,
+    node: Option<u8>,
+    format: Option<OtherFormat>,
+    text: &[u8],
+) -> Result<Written, AllocError>
+    requires { length text.now ≤ 1048576 }
+    ensures text { IfOk result (λ made. made.text.items ≡ shown_unless form node
+        (unless_whole format text.now) (whole_text text.now (expanded text.now))) }
+    ensures why { IfOk result (λ made. option_copied made.why ≡ unless_whole format text.now) }
+{
+    match attempt!(expanded(alloc, text)) {
+        Some(whole) => shown_read(alloc, form, node, format, whole.as_slice()),
+        None => shown_read(alloc, form, node, format, text),
+    }
+}
+
+// what is written of a text, and why it isn't shown
+#[tactic(auto, unfolding(crate::specs::Shown::shown, crate::specs::Shown::reason))]
+fn shown(alloc: Global, form: Form, node: Option<u8>, text: &[u8]) -> Result<Written, AllocError>
+    ensures text { IfOk result (λ made. made.text.items ≡ shown form node text.now) }
+    ensures why { IfOk result (λ made. option_copied made.why ≡ reason text.now) }
+{
+    let format = attempt!(text_format(alloc, text));
+    if text.len() > GREATEST_SIZE {
+        return not_shown(alloc, form, large_reason(format));
+    }
+    shown_whole(alloc, form, node, format, text)
 }
 
 /// Shows the object dictionary of a data sheet (CiA 306): its entries by index and sub-index, then
 /// its PDOs and the other services of the communication profile in words. A faulty line is left
 /// out, and the others are shown, also those that compact forms give, if the text has at most
-/// 1,048,576 bytes with these. A text that has more without them isn't read, and one of another
-/// format without an object isn't shown; the reason is written instead, in JSON as a document.
-/// Returns whether the dictionary is shown.
+/// 1,048,576 bytes with these. A text that has more without them isn't read, and one without an
+/// object isn't shown, so none that is no sheet.
+/// Returns why it isn't shown, in words: another format, or what is wrong with it. As JSON a document
+/// has them too; else nothing is written then.
 ///
 /// All is written at once. `Memory`: memory ran out, and nothing has been written. `Write`: the
 /// writer failed, and at most a part has been written.
@@ -287,8 +298,8 @@ pub fn show<W: Write>(
     form: Form,
     node: Option<u8>,
     writer: &mut W,
-) -> Result<bool, CmdFault>
-    ensures readable { IfOk result (λ readable. readable ≡ is_shown text.now) }
+) -> Result<Option<&'static str>, CmdFault>
+    ensures why { IfOk result (λ why. option_copied why ≡ reason text.now) }
     ensures text { OnOk result (Appends (W.contents writer.old) (W.contents writer.new)
         (shown form node text.now)) }
     ensures write { result ≡ Err CmdFault.Write →
@@ -299,33 +310,46 @@ pub fn show<W: Write>(
     ensures err { IfErr result (λ fault. (fault ≡ CmdFault.Write) ⊎ (fault ≡ CmdFault.Memory)) }
 {
     match shown(alloc, form, node, text) {
-        Ok((document, is_shown)) => match hand_over(document.as_slice(), writer) {
-            Ok(()) => Ok(is_shown),
+        Ok(made) => match hand_over(made.text.as_slice(), writer) {
+            Ok(()) => Ok(made.why),
             Err(fault) => Err(fault),
         },
         Err(_) => Err(CmdFault::Memory),
     }
 }
 
+// Says why a text isn't shown, where its document doesn't. If even this can't be written, only the
+// status shows it.
+fn say_why<E: Write>(form: Form, why: &str, err: &mut E) {
+    if let Form::Lines(_) = form {
+        let _ = writeln!(err, "{why}");
+    }
+}
+
 // the status of what was shown; if not all of it could be written, `out` has why, or `err`
 fn status_of<O: Write, E: Write>(
-    outcome: Result<bool, CmdFault>,
+    form: Form,
+    outcome: Result<Option<&'static str>, CmdFault>,
     out: &mut O,
     err: &mut E,
 ) -> ExitCode
     ensures { (exit_status result ≡ 0) ⊎ (exit_status result ≡ 1) }
 {
     match flushed(out, outcome) {
-        Ok(true) => ExitCode::SUCCESS,
-        Ok(false) => ExitCode::FAILURE,
+        Ok(None) => ExitCode::SUCCESS,
+        Ok(Some(why)) => {
+            say_why(form, why, err);
+            ExitCode::FAILURE
+        }
         Err(CmdFault::Memory) => out_of_memory(out),
         Err(fault) => stopped(fault, out, err).status(),
     }
 }
 
-/// Shows the data sheet of a path, or of standard input for `-`, as `show` does. If not all of it could be written, `out` has
-/// why, or `err` if `out` can't be written. A file that can't be read is named on `err`. The status
-/// is 0 if the dictionary is shown, else 1.
+/// Shows the data sheet of a path, or of standard input for `-`, as `show` does; `err` has why it
+/// isn't shown, or as JSON `out`. If not all of it could be written, `out` has why, or `err` if `out`
+/// can't be written. A file that can't be read is named on `err`. The status is 0 if the dictionary
+/// is shown, else 1.
 pub fn show_file<R: Files + AllocGlobal + Input, O: Write, E: Write>(
     rt: &R,
     path: &str,
@@ -339,7 +363,7 @@ pub fn show_file<R: Files + AllocGlobal + Input, O: Write, E: Write>(
     match text_of(rt, path) {
         Ok(text) => {
             let outcome = show(rt.alloc(), text.as_slice(), form, node, out);
-            status_of(outcome, out, err)
+            status_of(form, outcome, out, err)
         }
         Err(fault) => no_text(fault, path, out, err),
     }
