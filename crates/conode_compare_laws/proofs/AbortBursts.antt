@@ -56,7 +56,7 @@ use Rattle.conode_compare_transfers.specs.declared.dialogue.Dialogue.{Dialogue}
 use Rattle.conode_compare_transfers.specs.Dialogues.{dialogue_heard, owes_nothing}
 use Rattle.conode_compare_rules.specs.declared.limits.Subject.{Subject}
 use Rattle.conode_compare_rules.specs.declared.progress.Progress.{Progress}
-use Rattle.conode_compare_rules.specs.Progresses.{begun}
+use Rattle.conode_compare_rules.specs.Progresses.{begun, left_open}
 use Rattle.conode_compare_laws.specs.AnswerFindings.{timeout_differences}
 use Rattle.conode_compare_laws.proofs.AbortFrames.{IsAt, IsInTime, at_next, client_owing, client_requested, client_run, server_gone, server_run, while_owing, without_end}
 use Rattle.conode_compare_laws.proofs.AbortOthers.{begun_has}
@@ -330,6 +330,10 @@ record Owing (r : Option SdoRequest) (micros : ℕ) (d : Dialogue) : Type 0 wher
 none_owing : (r : Option SdoRequest) (micros : ℕ) (d : Dialogue) → d.newest ≡ None → Owing r micros d
 none_owing r micros d none = record { at = inl none; owing = ap owes_nothing none; blocks = λ asks. inl none }
 
+-- a frame of the client that the device may not have taken
+owing_open : (r : Option SdoRequest) (micros : ℕ) (misses : Bool) (d : Dialogue) → Owing r micros d → Owing r micros (left_open Client misses d)
+owing_open r micros misses d h = record { at = h.at; owing = h.owing; blocks = h.blocks }
+
 record Bursts (micros : ℕ) (d : Dialogue) : Type 0 where
   pub at : IsAt micros d
   pub inside : InBurst d
@@ -421,5 +425,5 @@ pub exchange_runs : (subject : Subject) (rows : List Row) (micros : ℕ) (d : De
 exchange_runs subject rows micros d contents log frame p id all =
     let long : length (frames_on (0x580 + subject.node) (reply_to d contents log frame.bytes)) ≡ length (reply_to d contents log frame.bytes) = length-map (reply_to d contents log frame.bytes) _ in
     client_run subject rows micros p frame [] (Owing (request_in frame.bytes) micros) _ (request_kind subject.node frame id)
-    (request_owing subject.limits.answer (begun subject p micros).started (begun subject p micros).dialogue micros frame)
+    (owing_open (request_in frame.bytes) micros _ _ (request_owing subject.limits.answer (begun subject p micros).started (begun subject p micros).dialogue micros frame))
     (λ q h. answers_run subject rows micros (request_in frame.bytes) (reply_to d contents log frame.bytes) q (sends d contents (opened_after log) frame.bytes) (subst (λ x. x ≤ 127) long all) h)

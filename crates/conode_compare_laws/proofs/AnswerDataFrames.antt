@@ -36,7 +36,7 @@ use Rattle.conode_compare_rules.specs.declared.limits.Subject.{Subject}
 use Rattle.conode_compare_rules.specs.declared.progress.Progress.{Progress}
 use Rattle.conode_compare_rules.specs.Answers.{breach_finding}
 use Rattle.conode_compare_rules.specs.FrameKinds.{data_kind}
-use Rattle.conode_compare_rules.specs.Progresses.{after_frame, begun, channel_heard, exchange_noted, findings_at, findings_in, late_noted, progress_with}
+use Rattle.conode_compare_rules.specs.Progresses.{after_frame, begun, channel_heard, exchange_noted, findings_at, findings_in, late_noted, left_open, may_miss_abort, progress_with}
 use Rattle.conode_compare_laws.specs.AnswerFindings.{data_differences, of_data}
 use Rattle.conode_compare_laws.proofs.AnswerDialogues.{channel_is}
 use Rattle.conode_compare_laws.proofs.AnswerEnds.{AllWhole, IsWhole, abort_answers, is_partial}
@@ -111,8 +111,13 @@ pub none_found : (subject : Subject) (rows : List Row) (p : Progress) (micros : 
 none_found subject rows p micros Server frame h = server_found of_data refl no_data subject rows p micros frame (λ c. no_breach subject.limits.answer p.started p.dialogue micros Server frame h)
 none_found subject rows p micros Client frame h = client_found of_data refl no_data subject rows p micros frame (λ c. no_breach subject.limits.answer p.started p.dialogue micros Client frame h)
 
+-- whether the device may not have taken it
+pub open_channel : (side : Side) (misses : Bool) (d : Dialogue) → (left_open side misses d).channel ≡ d.channel
+open_channel Client misses d = refl
+open_channel Server misses d = refl
+
 -- what is known then
-sdo_after : (subject : Subject) (p : Progress) (micros : ℕ) (side : Side) (frame : FrameContent) (After : Option ℕ → Dialogue → Type 0) → After p.newest (dialogue_heard subject.limits.answer p.started p.dialogue micros side frame)
+sdo_after : (subject : Subject) (p : Progress) (micros : ℕ) (side : Side) (frame : FrameContent) (After : Option ℕ → Dialogue → Type 0) → After p.newest (left_open side (may_miss_abort p.nmt micros frame) (dialogue_heard subject.limits.answer p.started p.dialogue micros side frame))
     → After (after_frame subject p micros (Sdo side frame)).newest (after_frame subject p micros (Sdo side frame)).dialogue
 unfolding channel_heard exchange_noted late_noted
 sdo_after subject p micros Server frame After h = h
@@ -127,7 +132,7 @@ sdo_run subject rows micros p frame later side after is h rest =
     let q : Progress = begun subject p micros in
     let Next : Option ℕ → Dialogue → Type 0 = λ newest d. (newest ≡ Some micros) × (d.channel ≡ (reads q.dialogue.channel micros side frame.bytes).next) in
     let next : Next (after_frame subject q micros (Sdo side frame)).newest (after_frame subject q micros (Sdo side frame)).dialogue =
-    sdo_after subject q micros side frame Next (begun_newest subject p micros, channel_is subject.limits.answer q.started q.dialogue micros side frame) in
+    sdo_after subject q micros side frame Next (begun_newest subject p micros, open_channel side _ _ ∙ channel_is subject.limits.answer q.started q.dialogue micros side frame) in
     subst (λ kind. (data_differences kind (findings_in subject rows (begun subject p micros) micros kind) ≡ []) × AllRun data_differences subject rows micros (after_frame subject (begun subject p micros) micros kind) later after) (sym is)
     (none_found subject rows q micros side frame h, rest (after_frame subject q micros (Sdo side frame)) next.0 next.1)
 

@@ -17,6 +17,7 @@ use Rattle.conode_explain_laws.proofs.Readings.{Begin, begun_with, follows_by, r
 use Rattle.conode_compare_transfers.specs.declared.dialogue.Asked.{Asked}
 use Rattle.conode_compare_transfers.specs.declared.dialogue.Dialogue.{Dialogue}
 use Rattle.conode_compare_transfers.specs.declared.left.Left.{Left}
+use Rattle.conode_compare_rules.specs.Progresses.{left_open}
 use Rattle.conode_compare_transfers.specs.Dialogues.{asked_after, dialogue_heard, doubts_request, exchange_in, is_awaited, is_certain, is_initiate, is_of_earlier, is_in_doubt, leaves_request_open, owes, owes_nothing}
 use Rattle.conode_compare_transfers.specs.Times.{is_past}
 use Rattle.conode_compare_laws.proofs.AnswerTurns.{Sound}
@@ -128,6 +129,10 @@ pub record InitiateHeard (t : Transfer) (micros : ℕ) (d : Dialogue) : Type 0 w
   pub request : Asked
   pub asked : d.asked ≡ Some request
   pub at_once : request.micros ≡ micros
+
+-- one that the device may not have taken
+pub initiate_open : (t : Transfer) (micros : ℕ) (misses : Bool) (d : Dialogue) → InitiateHeard t micros d → InitiateHeard t micros (left_open Client misses d)
+initiate_open t micros misses d h = record { transfer = h.transfer; sound = h.sound; request = h.request; asked = h.asked; at_once = h.at_once }
 
 pub initiate_heard : (answer started : ℕ) (d : Dialogue) (micros : ℕ) (frame : FrameContent) (r : SdoRequest) (t : Transfer) → IfSome d.channel.transfer Sound → request_in frame.bytes ≡ Some r
     → begun_with r micros frame.bytes ≡ Some t → request_reading (Some r) micros frame.bytes ≡ Begin t → Sound (begun_after d.channel.transfer frame.bytes t)

@@ -58,7 +58,7 @@ use Rattle.conode_compare_rules.specs.declared.progress.Progress.{Progress}
 use Rattle.conode_compare_rules.specs.EmergencyRules.{is_stopped}
 use Rattle.conode_compare_rules.specs.FrameKinds.{command_kind, control_kind, data_kind, emergency_kind, length_of}
 use Rattle.conode_compare_rules.specs.declared.kind.FrameKind.TheVariants.{Process}
-use Rattle.conode_compare_rules.specs.Progresses.{answer_nmt, answer_noted, begun as begun_progress, is_overdue, late_noted, progress_with}
+use Rattle.conode_compare_rules.specs.Progresses.{answer_nmt, answer_noted, begun as begun_progress, is_overdue, late_noted, left_open, progress_with}
 use Rattle.conode_compare_rules.specs.declared.nmt.Nmt.{Nmt}
 use Rattle.conode_compare_rules.specs.States.{after_other, awaits_boot_up, nothing_commanded}
 use Rattle.conode_compare_laws.specs.AnswerFindings.{answer_differences}
@@ -69,8 +69,8 @@ use Rattle.conode_compare_laws.proofs.AnswerDialogues.{asked_before, in_doubt, w
 use Rattle.conode_compare_laws.proofs.AnswerOpened.{exchange_with}
 use Rattle.conode_compare_laws.proofs.BlockTurns.{Live}
 use Rattle.conode_compare_laws.proofs.BlockFollowed.{begins_plain}
-use Rattle.conode_compare_laws.proofs.BlockCovers.{Apart, Covers, OpensOne, covers_server, initiate_apart}
-use Rattle.conode_compare_laws.proofs.BlockDialogues.{InitiateHeard, LaterHeard, Sends, ServerHeard, initiate_heard, later_heard, sends_on, server_heard, server_turned}
+use Rattle.conode_compare_laws.proofs.BlockCovers.{Apart, Covers, OpensOne, covers_open, covers_server, initiate_apart}
+use Rattle.conode_compare_laws.proofs.BlockDialogues.{InitiateHeard, LaterHeard, Sends, ServerHeard, initiate_heard, initiate_open, later_heard, later_open, sends_on, server_heard, server_turned}
 use Rattle.conode_compare_laws.proofs.BlockDevice.{IsInside, outside_stays, refused_never}
 use Rattle.conode_compare_laws.proofs.AnswerSteps.{Quiet, Same, answer_found, begun_same, client_quiet, frame_runs, server_quiet}
 use Rattle.conode_compare_laws.proofs.Runs.{AllRun, joined}
@@ -157,6 +157,10 @@ covers_with answer started d micros frame s a o = covers_server answer started d
 abbrev pub Covering : List Answer → Dialogue → Type 0
 Covering [] d = Covers d
 Covering (x ∷ later) d = IfSome d.channel.transfer Apart × OpensWith (answer_bytes x)
+
+pub covering_open : (answers : List Answer) (misses : Bool) (d : Dialogue) → Covering answers d → Covering answers (left_open Client misses d)
+covering_open [] misses d c = covers_open misses d c
+covering_open (x ∷ later) misses d c = c
 
 -- ---- while answers are sent
 
@@ -450,7 +454,7 @@ module _ (Opening : Type 0) (subject : Subject) (rows : List Row) (micros : ℕ)
       quiet_map subject rows p micros (Sdo Client frame) (λ q. Later (asks_in r) micros q.newest q.dialogue) _
       (λ q l. later_runs Opening subject rows micros (asks_in r) (request_answers d contents current r) q never (request_few d contents current r) l.now l.heard)
       (client_quiet subject rows p micros frame (λ newest nmt x. Later (asks_in r) micros newest x)
-      (record { now = ready.newest; heard = subst (λ o. LaterHeard (asks_in o) micros (dialogue_heard subject.limits.answer p.started p.dialogue micros Client frame)) is heard }))
+      (record { now = ready.newest; heard = later_open (asks_in r) micros _ _ (subst (λ o. LaterHeard (asks_in o) micros (dialogue_heard subject.limits.answer p.started p.dialogue micros Client frame)) is heard) }))
 
   -- a segment for explain, where the device begins a block download
   begins_none : (answers : List Answer) → IsFew answers → is_begin (reading_of p.dialogue.channel.transfer Client micros frame.bytes) ≡ false
@@ -461,7 +465,7 @@ module _ (Opening : Type 0) (subject : Subject) (rows : List Row) (micros : ℕ)
       quiet_map subject rows p micros (Sdo Client frame) (λ q. (q.newest ≡ Some micros) × LaterHeard (asks_in (request_in frame.bytes)) micros q.dialogue × (Opening → Covering answers q.dialogue)) _
       (λ q l. few_runs Opening subject rows micros (asks_in (request_in frame.bytes)) answers q few l.0 l.1 l.2)
       (client_quiet subject rows p micros frame (λ newest nmt x. (newest ≡ Some micros) × LaterHeard (asks_in (request_in frame.bytes)) micros x × (Opening → Covering answers x))
-      (ready.newest, heard, covering))
+      (ready.newest, later_open (asks_in (request_in frame.bytes)) micros _ _ heard, λ o. covering_open answers _ _ (covering o)))
 
   begins_one : (request : SdoRequest) (t : Transfer) → t.stage ≡ Initiated → reading_of p.dialogue.channel.transfer Client micros frame.bytes ≡ Begin t
       → AnswersRun Opening subject rows micros (begun_after p.dialogue.channel.transfer frame.bytes t) (initiate_answers d contents request) → Answered (initiate_answers d contents request)
@@ -469,8 +473,12 @@ module _ (Opening : Type 0) (subject : Subject) (rows : List Row) (micros : ℕ)
       quiet_map subject rows p micros (Sdo Client frame) (λ q. Asks (begun_after p.dialogue.channel.transfer frame.bytes t) micros q) _ (λ q a. runs q a)
       (quiet_map subject rows p micros (Sdo Client frame) (λ q. (q.newest ≡ Some micros) × (is_stopped q.nmt.state ≡ false) × InitiateHeard (begun_after p.dialogue.channel.transfer frame.bytes t) micros q.dialogue) _
       (λ q h. record { newest = h.0; running = h.1; heard = h.2 })
-      (client_quiet subject rows p micros frame (λ newest nmt x. (newest ≡ Some micros) × (is_stopped nmt.state ≡ false) × InitiateHeard (begun_after p.dialogue.channel.transfer frame.bytes t) micros x)
-      (ready.newest, ready.running, initiate_heard subject.limits.answer p.started p.dialogue micros frame t reading (begun_live (is_next_segment p.dialogue.channel.transfer frame.bytes) t first))))
+      (client_quiet subject rows p micros frame (λ newest nmt x. (newest ≡ Some micros) × (is_stopped nmt.state ≡ false) × InitiateHeard (begun_after p.dialogue.channel.transfer frame.bytes t) micros x) (
+        ready.newest,
+        ready.running,
+        initiate_open (begun_after p.dialogue.channel.transfer frame.bytes t) micros _ _
+            (initiate_heard subject.limits.answer p.started p.dialogue micros frame t reading (begun_live (is_next_segment p.dialogue.channel.transfer frame.bytes) t first)),
+      )))
 
   -- read as a request
   by_plain : (r : Option SdoRequest) → request_in frame.bytes ≡ r → reading_of p.dialogue.channel.transfer Client micros frame.bytes ≡ request_reading r micros frame.bytes → AreBytes frame.bytes → IfSome r (HasKey frame.bytes)

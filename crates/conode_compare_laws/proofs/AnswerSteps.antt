@@ -55,6 +55,8 @@ use Rattle.conode_compare_rules.specs.Progresses.{
   heartbeat_findings,
   late_by_tpdo,
   late_noted,
+  left_open,
+  may_miss_abort,
   process_findings,
   progress_with,
   request_findings,
@@ -70,7 +72,7 @@ use Rattle.conode_compare_rules.specs.Verdicts.{found}
 use Rattle.conode_compare_laws.specs.AnswerFindings.{answer_differences, of_answers}
 use Rattle.conode_compare_laws.proofs.LongCommands.{long_such}
 use Rattle.conode_compare_laws.proofs.BlockTurns.{Live}
-use Rattle.conode_compare_laws.proofs.BlockCovers.{Covers, covers_interrupted, interrupted_kept}
+use Rattle.conode_compare_laws.proofs.BlockCovers.{Covers, covers_interrupted, covers_open, interrupted_kept}
 use Rattle.conode_compare_laws.proofs.AnswerFound.{commanded_since, doubted_silent, held_none, never_past, no_end, none_awaited, none_confirmed, only_or, silent, unsettled_after}
 use Rattle.conode_compare_laws.proofs.Runs.{AllRun}
 use Rattle.conode_compare_laws.proofs.Shown.{Stage, boots, runs, stage_after}
@@ -125,6 +127,11 @@ if_none (Some x) P h = absurd (let no : is_some (Some x) ≡ false = ap is_some 
 pub none_holds : (Idle Inside : Type 0) (stage : Stage) (newest : Option ℕ) (commanded : Option Commanded) (d : Dialogue) → IfSome d.channel.transfer Live → d.asked ≡ None → (Inside → Covers d)
     → HoldsOf Idle Inside stage newest commanded d
 none_holds Idle Inside stage newest commanded d s none c = record { live = s; asked = if_none d.asked (Awaits Idle stage newest commanded d.doubted) none; covers = c }
+
+-- a frame of the client that the device may not have taken
+pub holds_open : (Idle Inside : Type 0) (stage : Stage) (newest : Option ℕ) (commanded : Option Commanded) (misses : Bool) (d : Dialogue) → HoldsOf Idle Inside stage newest commanded d
+    → HoldsOf Idle Inside stage newest commanded (left_open Client misses d)
+holds_open Idle Inside stage newest commanded misses d h = record { live = h.live; asked = h.asked; covers = λ i. covers_open misses d (h.covers i) }
 
 -- ---- a recording that begins anew at a frame, and one that was quiet
 
@@ -405,7 +412,7 @@ client_none subject rows p micros frame = by (exchange_at subject p micros Clien
 
 -- after which this holds of what is known of the channel
 pub client_quiet : (subject : Subject) (rows : List Row) (p : Progress) (micros : ℕ) (frame : FrameContent) (After : Option ℕ → Nmt → Dialogue → Type 0)
-    → After p.newest p.nmt (dialogue_heard subject.limits.answer p.started p.dialogue micros Client frame)
+    → After p.newest p.nmt (left_open Client (may_miss_abort p.nmt micros frame) (dialogue_heard subject.limits.answer p.started p.dialogue micros Client frame))
     → Quiet subject rows p micros (Sdo Client frame) (λ q. After q.newest q.nmt q.dialogue)
 unfolding channel_heard exchange_noted
 client_quiet subject rows p micros frame After h = record { none = client_none subject rows p micros frame; next = h }

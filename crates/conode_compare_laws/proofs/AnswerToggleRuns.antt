@@ -84,7 +84,7 @@ use Rattle.conode_compare_rules.specs.declared.progress.Progress.{Progress}
 use Rattle.conode_compare_rules.specs.declared.verdict.Findings.{Findings}
 use Rattle.conode_compare_rules.specs.Answers.{breach_finding}
 use Rattle.conode_compare_rules.specs.FrameKinds.{data_kind}
-use Rattle.conode_compare_rules.specs.Progresses.{after_frame, before_recording, begun, channel_heard, exchange_noted, findings_at, findings_in, late_noted, progress_with}
+use Rattle.conode_compare_rules.specs.Progresses.{after_frame, before_recording, begun, channel_heard, exchange_noted, findings_at, findings_in, late_noted, left_open, may_miss_abort, progress_with}
 use Rattle.conode_compare_laws.specs.AnswerFindings.{of_toggles, toggle_differences}
 use Rattle.conode_compare_laws.specs.AnswerSenders.{AllSendOther, AreOther, HaveOtherChannels, IsOther, SendsOther}
 use Rattle.conode_compare_laws.specs.Differences.{differences_from, differences_in}
@@ -205,14 +205,14 @@ newest_gone answer started d micros frame n = none_comes _ (followed d.channel m
 
 -- ---- frames one after another
 
-pub sdo_after : (subject : Subject) (p : Progress) (micros : ℕ) (side : Side) (frame : FrameContent) (After : Option ℕ → Dialogue → Type 0) → After p.newest (dialogue_heard subject.limits.answer p.started p.dialogue micros side frame)
+pub sdo_after : (subject : Subject) (p : Progress) (micros : ℕ) (side : Side) (frame : FrameContent) (After : Option ℕ → Dialogue → Type 0) → After p.newest (left_open side (may_miss_abort p.nmt micros frame) (dialogue_heard subject.limits.answer p.started p.dialogue micros side frame))
     → After (after_frame subject p micros (Sdo side frame)).newest (after_frame subject p micros (Sdo side frame)).dialogue
 unfolding channel_heard exchange_noted late_noted
 sdo_after subject p micros Server frame After h = h
 sdo_after subject p micros Client frame After h = h
 
 sdo_run : (subject : Subject) (rows : List Row) (micros : ℕ) (p : Progress) (frame : FrameContent) (later : List FrameContent) (side : Side) (Next : Dialogue → Type 0) (after : Progress → Type 0) → data_kind subject.node frame ≡ Sdo side frame
-    → (side ≡ Client) ⊎ IsOnce micros (begun subject p micros).dialogue frame.bytes → Next (dialogue_heard subject.limits.answer (begun subject p micros).started (begun subject p micros).dialogue micros side frame)
+    → (side ≡ Client) ⊎ IsOnce micros (begun subject p micros).dialogue frame.bytes → Next (left_open side (may_miss_abort (begun subject p micros).nmt micros frame) (dialogue_heard subject.limits.answer (begun subject p micros).started (begun subject p micros).dialogue micros side frame))
     → ((q : Progress) → q.newest ≡ Some micros → Next q.dialogue → AllRun toggle_differences subject rows micros q later after)
     → AllRun toggle_differences subject rows micros p (frame ∷ later) after
 unfolding findings_at progress_with
@@ -343,6 +343,13 @@ pub data Ready (r : Option SdoRequest) (d : Dialogue) : Type 0 where
   awaits_done : (toggle last : Bool) (items : ArrayVec ℕ) → r ≡ Some (DownloadSegment toggle items last) → IfSome d.channel.transfer (λ u. u.stage ≡ DownloadSent toggle last) → Ready r d
   awaits_next : (toggle : Bool) → r ≡ Some (NextSegment toggle) → IfSome d.channel.transfer (λ u. u.stage ≡ UploadAsked toggle) → Ready r d
 
+-- whichever frames of the client the device may not have taken
+ready_open : (r : Option SdoRequest) (misses : Bool) (d : Dialogue) → Ready r d → Ready r (left_open Client misses d)
+ready_open r misses d (quiet h) = quiet h
+ready_open r misses d (awaits_first i h) = awaits_first i h
+ready_open r misses d (awaits_done toggle last items is h) = awaits_done toggle last items is h
+ready_open r misses d (awaits_next toggle is h) = awaits_next toggle is h
+
 pub ready : (answer started : ℕ) (d : Dialogue) (micros : ℕ) (frame : FrameContent) → Ready (request_in frame.bytes) (dialogue_heard answer started d micros Client frame)
 ready answer started d micros frame = by (client_heard d.channel micros frame.bytes)
   where
@@ -433,7 +440,7 @@ request_runs : (subject : Subject) (rows : List Row) (micros : ℕ) (d : Descrip
     → AllRun toggle_differences subject rows micros p (frame ∷ []) (λ q. AllRun toggle_differences subject rows micros q (frames_on (0x580 + subject.node) (reply_to d contents log frame.bytes)) Any)
 request_runs subject rows micros d contents log frame p id =
     sdo_run subject rows micros p frame [] Client (Ready (request_in frame.bytes)) _ (request_kind subject.node frame id) (inl refl)
-    (ready subject.limits.answer (begun subject p micros).started (begun subject p micros).dialogue micros frame) (λ q n next. answers_run subject rows micros d contents q n (opened_after log) frame.bytes next)
+    (ready_open (request_in frame.bytes) _ _ (ready subject.limits.answer (begun subject p micros).started (begun subject p micros).dialogue micros frame)) (λ q n next. answers_run subject rows micros d contents q n (opened_after log) frame.bytes next)
 
 -- one that isn't answered
 ignored_runs : (subject : Subject) (rows : List Row) (micros : ℕ) (frame : FrameContent) (p : Progress) → frame.id ≡ 0x600 + subject.node → AllRun toggle_differences subject rows micros p (frame ∷ []) Any

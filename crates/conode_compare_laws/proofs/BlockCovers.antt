@@ -39,6 +39,7 @@ use Rattle.conode_explain_laws.proofs.Readings.{Reading, Segment, Begin, Abort, 
 use Rattle.conode_explain_laws.proofs.Views.{is_abort_reading, is_begin}
 use Rattle.conode_compare_transfers.specs.declared.dialogue.Dialogue.{Dialogue}
 use Rattle.conode_compare_transfers.specs.Breaches.{byte_at}
+use Rattle.conode_compare_rules.specs.Progresses.{left_open}
 use Rattle.conode_compare_transfers.specs.Dialogues.{continues, dialogue_heard, interrupted, is_aborted, leaves_block, names_other, opens_sub_block, sub_block_after}
 use Rattle.conode_compare_transfers.specs.Dialogues as dialogues
 use Rattle.conode_compare_laws.proofs.AnswerTurns.{in_blocks}
@@ -530,3 +531,7 @@ interrupted_kept d micros c = by d.channel.transfer c.covered
 
 pub covers_interrupted : (d : Dialogue) (micros : ℕ) → Covers d → Covers (interrupted d micros)
 covers_interrupted d micros c = record { apart = tt; covered = inl (interrupted_kept d micros c) }
+
+-- a frame of the client that the device may not have taken
+pub covers_open : (misses : Bool) (d : Dialogue) → Covers d → Covers (left_open Client misses d)
+covers_open misses d c = record { apart = c.apart; covered = elim c.covered [ inl on ↦ inl (or_last misses d.sub_block on) | inr down ↦ inr down ] }

@@ -15,6 +15,7 @@ use Rattle.conode_explain_laws.proofs.Readings.{Reading, Begin, follows_by, read
 use Rattle.conode_explain_laws.proofs.Views.{is_begin}
 use Rattle.conode_compare_transfers.specs.declared.dialogue.Asked.{Asked}
 use Rattle.conode_compare_transfers.specs.declared.dialogue.Dialogue.{Dialogue}
+use Rattle.conode_compare_rules.specs.Progresses.{left_open}
 use Rattle.conode_compare_transfers.specs.Dialogues.{asked_after, dialogue_heard, doubts_request, exchange_in, is_certain, is_in_doubt, leaves_request_open, owes, owes_nothing}
 use Rattle.conode_compare_laws.proofs.AnswerTurns.{is_turned}
 use Rattle.conode_compare_laws.proofs.AnswerFollowed.{Leaves, asks_in, block_ends, not_aborted_left, reads, what_is}
@@ -96,6 +97,10 @@ pub record LaterHeard (blocks : Bool) (micros : ℕ) (d : Dialogue) : Type 0 whe
   pub still_open : (d.doubted ≡ Some micros) ⊎ (is_some d.channel.transfer ≡ true)
   pub lasting : blocks ≡ true → (d.doubted ≡ Some micros) ⊎ IfSome d.channel.transfer Lasts
 
+-- one that the device may not have taken
+pub later_open : (blocks : Bool) (micros : ℕ) (misses : Bool) (d : Dialogue) → LaterHeard blocks micros d → LaterHeard blocks micros (left_open Client misses d)
+later_open blocks micros misses d h = record { live = h.live; asked = h.asked; still_open = h.still_open; lasting = h.lasting }
+
 pub later_heard : (answer started : ℕ) (d : Dialogue) (micros : ℕ) (frame : FrameContent) → IfSome d.channel.transfer Live → is_begin (reading_of d.channel.transfer Client micros frame.bytes) ≡ false
     → LaterHeard (asks_in (request_in frame.bytes)) micros (dialogue_heard answer started d micros Client frame)
 later_heard answer started d micros frame s n =
@@ -119,6 +124,10 @@ pub record InitiateHeard (t : Transfer) (micros : ℕ) (d : Dialogue) : Type 0 w
   pub request : Asked
   pub asked : d.asked ≡ Some request
   pub at_once : request.micros ≡ micros
+
+-- one that the device may not have taken
+pub initiate_open : (t : Transfer) (micros : ℕ) (misses : Bool) (d : Dialogue) → InitiateHeard t micros d → InitiateHeard t micros (left_open Client misses d)
+initiate_open t micros misses d h = record { transfer = h.transfer; live = h.live; request = h.request; asked = h.asked; at_once = h.at_once }
 
 pub initiate_heard : (answer started : ℕ) (d : Dialogue) (micros : ℕ) (frame : FrameContent) (t : Transfer) → reading_of d.channel.transfer Client micros frame.bytes ≡ Begin t
     → Live (begun_after d.channel.transfer frame.bytes t) → InitiateHeard (begun_after d.channel.transfer frame.bytes t) micros (dialogue_heard answer started d micros Client frame)

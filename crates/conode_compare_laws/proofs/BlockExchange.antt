@@ -36,16 +36,16 @@ use Rattle.conode_compare_rules.specs.declared.kind.FrameKind.TheVariants.{Sdo}
 use Rattle.conode_compare_rules.specs.declared.limits.Subject.{Subject}
 use Rattle.conode_compare_rules.specs.declared.nmt.Commanded.{Commanded}
 use Rattle.conode_compare_rules.specs.declared.progress.Progress.{Progress}
-use Rattle.conode_compare_rules.specs.Progresses.{begun as begun_progress}
+use Rattle.conode_compare_rules.specs.Progresses.{begun as begun_progress, left_open}
 use Rattle.conode_compare_laws.specs.AnswerFindings.{answer_differences}
 use Rattle.conode_compare_laws.proofs.Runs.{AllRun}
 use Rattle.conode_compare_laws.proofs.Shown.{Stage}
 use Rattle.conode_compare_laws.proofs.AnswerFollowed.{asks_in}
 use Rattle.conode_compare_laws.proofs.AnswerSteps.{Awaits, Holds, HoldsOf, InDoubt, IsBy, Quiet, client_quiet, frame_runs, none_holds}
-use Rattle.conode_compare_laws.proofs.AnswerExchange.{Covering, IsFew, IsFinished, Later, OpensAt, Ready, acknowledge_opens, begun_live, doubted_runs, few_runs, map_runs, quiet_map, request_kind}
+use Rattle.conode_compare_laws.proofs.AnswerExchange.{Covering, IsFew, IsFinished, Later, OpensAt, Ready, acknowledge_opens, begun_live, covering_open, doubted_runs, few_runs, map_runs, quiet_map, request_kind}
 use Rattle.conode_compare_laws.proofs.BlockTurns.{Live}
 use Rattle.conode_compare_laws.proofs.BlockCovers.{Covers, IsFresh, apart_heard, covers_client, fresh}
-use Rattle.conode_compare_laws.proofs.BlockDialogues.{InitiateHeard, doubted_begin, initiate_heard, later_heard}
+use Rattle.conode_compare_laws.proofs.BlockDialogues.{InitiateHeard, doubted_begin, initiate_heard, later_heard, later_open}
 use Rattle.conode_compare_laws.proofs.BlockDevice.{Acknowledges, IsInside, Quietly, Refuses, sub_block_replies}
 
 -- ---- what isn't answered isn't read as an abort
@@ -179,6 +179,10 @@ pub record Doubting (micros : ℕ) (newest : Option ℕ) (d : Dialogue) : Type 0
   pub at_once : request.micros ≡ micros
   pub doubted : d.doubted ≡ Some micros
 
+-- one that the device may not have taken
+doubting_open : (micros : ℕ) (newest : Option ℕ) (misses : Bool) (d : Dialogue) → Doubting micros newest d → Doubting micros newest (left_open Client misses d)
+doubting_open micros newest misses d h = record { now = h.now; live = h.live; request = h.request; asked = h.asked; at_once = h.at_once; doubted = h.doubted }
+
 in_doubt_now : (t micros : ℕ) (doubted : Option ℕ) → t ≡ micros → doubted ≡ Some micros → InDoubt t doubted
 in_doubt_now t micros doubted e is = subst (InDoubt t) (sym is) (omega arith)
 
@@ -226,7 +230,7 @@ module _ (Idle Opening : Type 0) (subject : Subject) (rows : List Row) (micros :
           → Quiet subject rows p micros (Sdo Client frame) (λ q. AllRun answer_differences subject rows micros q (frames_on (0x580 + subject.node) answers) (Holds Idle Opening stage))
       begun t first is =
           quiet_map subject rows p micros (Sdo Client frame) (λ q. Doubting micros q.newest q.dialogue × (Opening → Covering answers q.dialogue)) _ (λ q h. doubting_runs answers q few h.0 h.1)
-          (client_quiet subject rows p micros frame (λ newest nmt d. Doubting micros newest d × (Opening → Covering answers d)) (doubting t first is, c))
+          (client_quiet subject rows p micros frame (λ newest nmt d. Doubting micros newest d × (Opening → Covering answers d)) (doubting_open micros p.newest _ _ (doubting t first is), λ o. covering_open answers _ _ (c o)))
 
       heard : is_begin (reading_of p.dialogue.channel.transfer Client micros frame.bytes) ≡ false
           → Quiet subject rows p micros (Sdo Client frame) (λ q. AllRun answer_differences subject rows micros q (frames_on (0x580 + subject.node) answers) (Holds Idle Opening stage))
@@ -235,7 +239,7 @@ module _ (Idle Opening : Type 0) (subject : Subject) (rows : List Row) (micros :
           (λ q h. map_runs subject rows micros (frames_on (0x580 + subject.node) answers) q (IsFinished Opening) (Holds Idle Opening stage) (λ r f. finished_holds Idle Opening stage r f)
           (few_runs Opening subject rows micros (asks_in (request_in frame.bytes)) answers q few h.0.now h.0.heard h.1))
           (client_quiet subject rows p micros frame (λ newest nmt d. Later (asks_in (request_in frame.bytes)) micros newest d × (Opening → Covering answers d))
-          (record { now = ready.newest; heard = later_heard subject.limits.answer p.started p.dialogue micros frame ready.live n }, c))
+          (record { now = ready.newest; heard = later_open (asks_in (request_in frame.bytes)) micros _ _ (later_heard subject.limits.answer p.started p.dialogue micros frame ready.live n) }, λ o. covering_open answers _ _ (c o)))
 
       by : (reading : Reading) → reading_of p.dialogue.channel.transfer Client micros frame.bytes ≡ reading → IsFresh (reading_of p.dialogue.channel.transfer Client micros frame.bytes)
           → Quiet subject rows p micros (Sdo Client frame) (λ q. AllRun answer_differences subject rows micros q (frames_on (0x580 + subject.node) answers) (Holds Idle Opening stage))

@@ -31,7 +31,7 @@ use Rattle.conode_compare_laws.proofs.BlockTurns.{Live}
 use Rattle.conode_compare_laws.proofs.BlockFollowed.{begins_plain}
 use Rattle.conode_compare_laws.proofs.BlockCovers.{IsFresh, covers_client, fresh}
 use Rattle.conode_compare_laws.proofs.BlockDialogues.{InitiateHeard, initiate_heard, later_heard}
-use Rattle.conode_compare_laws.proofs.AnswerSteps.{Awaits, Excused, Holds, HoldsOf, IsBy, begun_holds, begun_newest, client_quiet, frame_runs, none_holds}
+use Rattle.conode_compare_laws.proofs.AnswerSteps.{Awaits, Excused, Holds, HoldsOf, IsBy, begun_holds, begun_newest, client_quiet, frame_runs, holds_open, none_holds}
 use Rattle.conode_compare_laws.proofs.AnswerExchange.{begun_live, request_kind}
 
 -- ---- what explain reads
@@ -114,5 +114,5 @@ ignored_runs Idle Inside subject rows micros p frame state id ignores short h =
     let q : Progress = begun subject p micros in
     frame_runs subject rows micros p frame (Sdo Client frame) (Holds Idle Inside (runs state)) (request_kind subject.node frame id)
     (client_quiet subject rows q micros frame (λ newest nmt d. HoldsOf Idle Inside (runs state) newest nmt.commanded d)
-    (ignored_holds Idle Inside subject q micros frame state (begun_newest subject p micros) held
-    (λ b. ignores (reading_initiates q.dialogue.channel.transfer micros frame.bytes b)) (λ i. short_abort q.dialogue.channel.transfer micros frame.bytes (short i))))
+    (holds_open Idle Inside (runs state) q.newest q.nmt.commanded _ _ (ignored_holds Idle Inside subject q micros frame state (begun_newest subject p micros) held
+    (λ b. ignores (reading_initiates q.dialogue.channel.transfer micros frame.bytes b)) (λ i. short_abort q.dialogue.channel.transfer micros frame.bytes (short i)))))

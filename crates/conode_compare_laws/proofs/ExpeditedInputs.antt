@@ -1,6 +1,6 @@
 -- All inputs of a device: what its transfers show of an entry is what the entry has, where it has that throughout and no expedited
 -- download of it is confirmed.
-use Rattle.std.proofs.Common.{◌≡◌, ℕ, ◌+◌, Bool, true, false, List, [], ◌∷◌, ◌++◌, map, length, Option, Some, None, refl, sym, ap, ◌⊎◌, inl, inr, subst}
+use Rattle.std.proofs.Common.{◌≡◌, ℕ, ◌+◌, Bool, true, false, List, [], ◌∷◌, ◌++◌, map, length, Option, Some, None, refl, sym, ap, ◌∙◌, ◌⊎◌, inl, inr, subst}
 use Rattle.std.specs.Prelude.{◌==◌, IfSome}
 use Rattle.std.specs.List.{AllByRecursion}
 use Rattle.std.proofs.lemmas.Bool.{eqb-true, false≢true}
@@ -41,11 +41,12 @@ use Rattle.conode_compare_rules.specs.declared.kind.FrameKind.TheVariants.{Sdo}
 use Rattle.conode_compare_rules.specs.declared.limits.Subject.{Subject}
 use Rattle.conode_compare_rules.specs.declared.progress.Progress.{Progress}
 use Rattle.conode_compare_rules.specs.FrameKinds.{data_kind}
-use Rattle.conode_compare_rules.specs.Progresses.{after_frame, before_recording, begun, channel_heard, exchange_noted, late_noted, progress_with}
+use Rattle.conode_compare_rules.specs.Progresses.{after_frame, before_recording, begun, channel_heard, exchange_noted, late_noted, left_open, may_miss_abort, progress_with}
 use Rattle.conode_compare_laws.specs.AnswerSenders.{AllSendOther, AreOther, HasBytes, HaveBytes, HaveOtherChannels, IsOther, SendsOther}
 use Rattle.conode_compare_laws.specs.Identifiers.{AreElsewhere, IsAside, IsElsewhere}
 use Rattle.conode_compare_laws.specs.ShownWords.{AllHaveWord, HasWord, is_expedited_download, number_asked}
 use Rattle.conode_compare_laws.specs.Recordings.{Stamped, frame_of, heard_from, recording}
+use Rattle.conode_compare_laws.proofs.AnswerDataFrames.{open_channel}
 use Rattle.conode_compare_laws.proofs.AnswerCalm.{calm_exchange}
 use Rattle.conode_compare_laws.proofs.AnswerDevice.{IsNumbered, expired_at, found_with, no_exchange_of_event, none_at_event, none_at_frame, none_stopped, numbered, timed_out}
 use Rattle.conode_compare_laws.proofs.AnswerDialogues.{channel_is}
@@ -96,7 +97,7 @@ module _ (key : Key) (word : ℕ) where
 
   -- ---- a frame of the channel
 
-  sdo_after : (subject : Subject) (p : Progress) (micros : ℕ) (side : Side) (frame : FrameContent) (After : Dialogue → Type 0) → After (dialogue_heard subject.limits.answer p.started p.dialogue micros side frame)
+  sdo_after : (subject : Subject) (p : Progress) (micros : ℕ) (side : Side) (frame : FrameContent) (After : Dialogue → Type 0) → After (left_open side (may_miss_abort p.nmt micros frame) (dialogue_heard subject.limits.answer p.started p.dialogue micros side frame))
       → After (after_frame subject p micros (Sdo side frame)).dialogue
   unfolding channel_heard exchange_noted late_noted
   sdo_after subject p micros Server frame After h = h
@@ -112,7 +113,7 @@ module _ (key : Key) (word : ℕ) where
   sdo_shows subject micros p frame later side Next after is shown next rest =
       let q : Progress = begun subject p micros in
       let after_it : Next (after_frame subject q micros (Sdo side frame)).dialogue.channel.transfer =
-      sdo_after subject q micros side frame (λ d. Next d.channel.transfer) (subst (λ (f : Following). Next f.transfer) (sym (channel_is subject.limits.answer q.started q.dialogue micros side frame)) next) in
+      sdo_after subject q micros side frame (λ d. Next d.channel.transfer) (subst (λ (f : Following). Next f.transfer) (sym (open_channel side _ _ ∙ channel_is subject.limits.answer q.started q.dialogue micros side frame)) next) in
       subst (λ kind. ShowsAt key word (begun subject p micros) micros kind × AllShow key word subject micros (after_frame subject (begun subject p micros) micros kind) later after) (sym is)
       (subst (λ o. IfSome o (Shown key word)) (sym (ended_is q.dialogue.channel micros side frame.bytes)) shown, rest (after_frame subject q micros (Sdo side frame)) after_it)
 

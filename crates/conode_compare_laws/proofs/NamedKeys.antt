@@ -273,7 +273,8 @@ beside_such P false o h = h
 
 sdo_open : (P : Key → Type 0) (subject : Subject) (p : Progress) (micros : ℕ) (side : Side) (frame : FrameContent) → NamesBy P side frame.bytes → IsOpenOn P p → IsOpenOn P (after_sdo subject p micros side frame)
 unfolding channel_heard exchange_noted dialogue_heard
-sdo_open P subject p micros side frame n h = (followed_such P p.dialogue.channel micros side frame.bytes n h).next
+sdo_open P subject p micros Client frame n h = (followed_such P p.dialogue.channel micros Client frame.bytes n h).next
+sdo_open P subject p micros Server frame n h = (followed_such P p.dialogue.channel micros Server frame.bytes n h).next
 
 pub noted_open : (P : Key → Type 0) (subject : Subject) (p : Progress) (micros : ℕ) → IsOpenOn P p → IsOpenOn P (answer_noted subject p micros)
 unfolding late_noted

@@ -43,7 +43,7 @@ use Rattle.conode_compare_laws.specs.AnswerFindings.{transfer_differences}
 use Rattle.conode_compare_laws.specs.AnswerSenders.{is_block_upload_begin}
 use Rattle.conode_compare_laws.proofs.AnswerBreaches.{FineEnd}
 use Rattle.conode_compare_laws.proofs.AnswerDevice.{Clean, outside}
-use Rattle.conode_compare_laws.proofs.AnswerDialogues.{InitiateHeard, channel_is, client_is, initiate_heard}
+use Rattle.conode_compare_laws.proofs.AnswerDialogues.{InitiateHeard, channel_is, client_is, initiate_heard, initiate_open}
 use Rattle.conode_compare_laws.proofs.AnswerExchange.{request_kind, small_key}
 use Rattle.conode_compare_laws.proofs.AnswerFollowed.{begins_sound, no_begin, reads}
 use Rattle.conode_compare_laws.proofs.AnswerOpened.{IsOf, asked_key, exchange_with, of_initiate}
@@ -150,7 +150,7 @@ module _ (subject : Subject) (rows : List Row) (micros : ℕ) (d : Description) 
       let q : Progress = begun subject p micros in
       let quiet : Quiet subject rows q micros (Sdo Client frame) (λ x. (x.newest ≡ Some micros) × InitiateHeard (begun_after (begun subject p micros).dialogue.channel.transfer frame.bytes t) micros x.dialogue) =
       request_quiet subject rows q micros frame (λ newest x. (newest ≡ Some micros) × InitiateHeard (begun_after (begun subject p micros).dialogue.channel.transfer frame.bytes t) micros x) (inr (begin_fine micros frame q.dialogue request t s is reading))
-      (begun_newest subject p micros, initiate_heard subject.limits.answer q.started q.dialogue micros frame request t s is begins reading sound) in
+      (begun_newest subject p micros, initiate_open (begun_after (begun subject p micros).dialogue.channel.transfer frame.bytes t) micros _ _ (initiate_heard subject.limits.answer q.started q.dialogue micros frame request t s is begins reading sound)) in
       frame_runs subject rows micros p frame (Sdo Client frame)
       (λ x. AllRun transfer_differences subject rows micros x (frames_on (0x580 + subject.node) (initiate_answers d contents request)) (KnownAt (Exchanged (exchange_with d contents log frame.bytes) ∷ log)))
       (request_kind subject.node frame id) (record { none = quiet.none; next = go (after_frame subject q micros (Sdo Client frame)) quiet.next.0 quiet.next.1.transfer })

@@ -17,6 +17,7 @@ use Rattle.conode_compare_rules.specs.FrameKinds.{data_kind}
 use Rattle.conode_compare_rules.specs.Progresses.{after_frame, begun, findings_at, findings_in, progress_with}
 use Rattle.conode_compare_laws.specs.ValueFindings.{on_channel}
 use Rattle.conode_compare_laws.proofs.AnswerDialogues.{channel_is}
+use Rattle.conode_compare_laws.proofs.AnswerDataFrames.{open_channel}
 use Rattle.conode_compare_laws.proofs.AnswerExchange.{answer_kind}
 use Rattle.conode_compare_laws.proofs.AnswerFollowed.{reads}
 use Rattle.conode_compare_laws.proofs.AnswerSteps.{Same, begun_newest, begun_same}
@@ -38,7 +39,7 @@ module _ (only : Option Finding → List Finding) (nothing : only None ≡ []) (
       let q : Progress = begun subject p micros in
       let Next : Option ℕ → Dialogue → Type 0 = λ newest d. (newest ≡ Some micros) × (d.channel ≡ (reads q.dialogue.channel micros side frame.bytes).next) in
       let next : Next (after_frame subject q micros (Sdo side frame)).newest (after_frame subject q micros (Sdo side frame)).dialogue =
-      sdo_after subject q micros side frame Next (begun_newest subject p micros, channel_is subject.limits.answer q.started q.dialogue micros side frame) in
+      sdo_after subject q micros side frame Next (begun_newest subject p micros, open_channel side _ _ ∙ channel_is subject.limits.answer q.started q.dialogue micros side frame) in
       subst (λ kind. (on_channel only kind (findings_in subject rows (begun subject p micros) micros kind) ≡ []) × AllRun (on_channel only) subject rows micros (after_frame subject (begun subject p micros) micros kind) later after) (sym is)
       (none_found only nothing others subject rows q micros side frame h, rest (after_frame subject q micros (Sdo side frame)) next.0 next.1)
 
