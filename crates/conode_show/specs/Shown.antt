@@ -7,8 +7,6 @@ use Rattle.std.specs.Prelude.{
   false,
   List,
   [],
-  ◌∷◌,
-  ◌++◌,
   length,
   map,
   codes,

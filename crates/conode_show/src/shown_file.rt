@@ -286,9 +286,8 @@ fn shown(alloc: Global, form: Form, node: Option<u8>, text: &[u8]) -> Result<Wri
 /// its PDOs and the other services of the communication profile in words. A faulty line is left
 /// out, and the others are shown, also those that compact forms give, if the text has at most
 /// 1,048,576 bytes with these. A text that has more without them isn't read, and one without an
-/// object isn't shown, so none that is no sheet.
-/// Returns why it isn't shown, in words: another format, or what is wrong with it. As JSON a document
-/// has them too; else nothing is written then.
+/// object isn't shown, so none that is no sheet. Returns why it isn't shown, in words. As JSON a
+/// document has them too; else nothing is written then.
 ///
 /// All is written at once. `Memory`: memory ran out, and nothing has been written. `Write`: the
 /// writer failed, and at most a part has been written.
@@ -347,9 +346,9 @@ fn status_of<O: Write, E: Write>(
 }
 
 /// Shows the data sheet of a path, or of standard input for `-`, as `show` does; `err` has why it
-/// isn't shown, or as JSON `out`. If not all of it could be written, `out` has why, or `err` if `out`
-/// can't be written. A file that can't be read is named on `err`. The status is 0 if the dictionary
-/// is shown, else 1.
+/// isn't shown, or as JSON `out`. If not all of it could be written, `out` has why, or `err` if
+/// `out` can't be written. A file that can't be read is named on `err`. The status is 0 if the
+/// dictionary is shown, else 1.
 pub fn show_file<R: Files + AllocGlobal + Input, O: Write, E: Write>(
     rt: &R,
     path: &str,
