@@ -43,7 +43,7 @@ use Rattle.conode_compare_rules.specs.declared.progress.Progress.{Progress}
 use Rattle.conode_compare_rules.specs.declared.verdict.Findings.{Findings}
 use Rattle.conode_compare_rules.specs.EmergencyRules.{emergency_finding, fits_register, gap_finding, has_register, inhibit_finding, inhibit_with, is_in_force, is_inhibited, is_stopped, least_gap, may_wait}
 use Rattle.conode_compare_rules.specs.FrameKinds.{command_kind, command_to, control_kind, data_kind, emergency_kind, length_of, long_command_in}
-use Rattle.conode_compare_rules.specs.Progresses.{before_recording, begun, emergency_findings, findings_at, findings_in, may_be_restarted, progress_with, steady_when_free}
+use Rattle.conode_compare_rules.specs.Progresses.{before_recording, begun, emergency_findings, findings_at, findings_in, may_be_restarted, may_have_waited, progress_with, steady_when_free}
 use Rattle.conode_compare_rules.specs.States.{is_initialising, judged_state}
 use Rattle.conode_compare_rules.specs.Verdicts.{found}
 use Rattle.conode_compare_laws.specs.Differences.{besides_inhibit, differences_from, differences_in, emergency_differences, state_differences}
@@ -138,10 +138,10 @@ unfolding inhibit_finding
 inhibit_none limits entries None micros = refl
 inhibit_none limits entries (Some last) micros = with_none limits entries.inhibit entries.inhibit_shown last micros
 
-finding_none : (limits : Limits) (entries : Entries) (state : NmtState) (settled : Bool) (last : Option ℕ) (micros code register : ℕ) → is_stopped state ≡ false → has_register code register ≡ true
-    → besides_inhibit (emergency_finding limits entries state settled last micros code register) ≡ []
+finding_none : (limits : Limits) (entries : Entries) (state : NmtState) (settled waits : Bool) (last : Option ℕ) (micros code register : ℕ) → is_stopped state ≡ false → has_register code register ≡ true
+    → besides_inhibit (emergency_finding limits entries state settled waits last micros code register) ≡ []
 unfolding emergency_finding
-finding_none limits entries state settled last micros code register up odd = by (not entries.emergencies || is_initialising state) settled (is_stopped state) (fits_register (may_wait limits entries last) code register) up (ap (λ b. b || ((register == 0) && may_wait limits entries last)) odd)
+finding_none limits entries state settled waits last micros code register up odd = by (not entries.emergencies || is_initialising state) settled (is_stopped state) (fits_register (waits || may_wait limits entries last) code register) up (ap (λ b. b || ((register == 0) && (waits || may_wait limits entries last))) odd)
   where
     by : (unknown settled stopped has : Bool) → stopped ≡ false → has ≡ true
         → besides_inhibit (if unknown then None else (if settled && stopped then Some EmergencyStopped else (if not has then Some (EmergencyRegister code register) else inhibit_finding limits entries last micros))) ≡ []
@@ -159,9 +159,9 @@ judged_none : (subject : Subject) (rows : List Row) (p : Progress) (micros code 
     → emergency_differences (Emcy code register) (findings_in subject rows p micros (Emcy code register)) ≡ []
 unfolding emergency_findings found
 judged_none subject rows p micros code register up odd =
-    let f : Option Finding = emergency_finding subject.limits p.entries (judged_state p.nmt) (steady_when_free subject p) p.emergency micros code register in
+    let f : Option Finding = emergency_finding subject.limits p.entries (judged_state p.nmt) (steady_when_free subject p) (may_have_waited subject p micros) p.emergency micros code register in
     restarted_none (is_inhibited f && may_be_restarted subject p micros) f
-    (finding_none subject.limits p.entries (judged_state p.nmt) (steady_when_free subject p) p.emergency micros code register (freer_running p.nmt.state p.nmt.due up) odd)
+    (finding_none subject.limits p.entries (judged_state p.nmt) (steady_when_free subject p) (may_have_waited subject p micros) p.emergency micros code register (freer_running p.nmt.state p.nmt.due up) odd)
 
 -- its bytes are read as it is
 whole : (e : Emergency) → e.manufacturer ≡ no_manufacturer → e ≡ record { code = e.code; register = e.register; manufacturer = no_manufacturer }

@@ -59,6 +59,7 @@ use Rattle.conode_compare_rules.specs.Progresses.{
   findings_in,
   late_noted,
   may_be_restarted,
+  may_have_waited,
   progress_with,
   steady_when_free,
   with_gap,
@@ -371,11 +372,11 @@ unfolding inhibit_finding
 inhibit_none limits entries None micros inhibit sent known since over = refl
 inhibit_none limits entries (Some last) micros inhibit sent known since over = with_none limits entries.inhibit entries.inhibit_shown last micros inhibit sent known since over
 
-finding_none : (limits : Limits) (entries : Entries) (state : NmtState) (settled : Bool) (last : Option ℕ) (micros code register : ℕ) → inhibit_finding limits entries last micros ≡ None
-    → only_inhibit (emergency_finding limits entries state settled last micros code register) ≡ []
+finding_none : (limits : Limits) (entries : Entries) (state : NmtState) (settled waits : Bool) (last : Option ℕ) (micros code register : ℕ) → inhibit_finding limits entries last micros ≡ None
+    → only_inhibit (emergency_finding limits entries state settled waits last micros code register) ≡ []
 unfolding emergency_finding
-finding_none limits entries state settled last micros code register h =
-    by (not entries.emergencies || is_initialising state) (settled && is_stopped state) (fits_register (may_wait limits entries last) code register) (inhibit_finding limits entries last micros) h
+finding_none limits entries state settled waits last micros code register h =
+    by (not entries.emergencies || is_initialising state) (settled && is_stopped state) (fits_register (waits || may_wait limits entries last) code register) (inhibit_finding limits entries last micros) h
   where
     by : (unknown stopped has : Bool) (f : Option Finding) → f ≡ None → only_inhibit (if unknown then None else (if stopped then Some EmergencyStopped else (if not has then Some (EmergencyRegister code register) else f))) ≡ []
     by true stopped has f h = refl
@@ -401,13 +402,13 @@ emergency_passes : (inhibit micros code register : ℕ) (sent : List Sending) (s
 unfolding emergency_findings found after_emergency
 emergency_passes inhibit micros code register sent subject rows p over h = record {
   none = restarted_none (is_inhibited frame && may_be_restarted subject p micros) frame
-      (finding_none subject.limits p.entries (judged_state p.nmt) (steady_when_free subject p) p.emergency micros code register
+      (finding_none subject.limits p.entries (judged_state p.nmt) (steady_when_free subject p) (may_have_waited subject p micros) p.emergency micros code register
       (inhibit_none subject.limits p.entries p.emergency micros inhibit sent h.known h.since over));
   calm = record { known = h.known; since = (let f : p.free ≤ micros = h.fresh in omega arith, refl); fresh = h.fresh };
 }
   where
     frame : Option Finding
-    frame = emergency_finding subject.limits p.entries (judged_state p.nmt) (steady_when_free subject p) p.emergency micros code register
+    frame = emergency_finding subject.limits p.entries (judged_state p.nmt) (steady_when_free subject p) (may_have_waited subject p micros) p.emergency micros code register
 
 odd_passes : (inhibit micros length : ℕ) (sent : List Sending) (subject : Subject) (rows : List Row) (p : Progress) → Calm inhibit micros sent p → Passes inhibit micros (just_now inhibit ∷ sent) subject rows p (OddEmergency length)
 unfolding after_emergency

@@ -67,12 +67,13 @@ is_stopped Stopped = true
 is_stopped other = false
 
 -- `emcy-state`, once the state is settled, `emcy-register`, `emcy-inhibit`: the first of them. None
--- where the identifier may not be that of its EMCY, and none while the boot-up is awaited.
-unfoldable pub emergency_finding : Limits → Entries → NmtState → Bool → Option ℕ → ℕ → ℕ → ℕ → Option Finding
-emergency_finding limits entries state settled last micros code register =
+-- where the identifier may not be that of its EMCY, and none while the boot-up is awaited. `waits`: it may have
+-- waited for another reason than the inhibit time.
+unfoldable pub emergency_finding : Limits → Entries → NmtState → Bool → Bool → Option ℕ → ℕ → ℕ → ℕ → Option Finding
+emergency_finding limits entries state settled waits last micros code register =
     if not entries.emergencies || is_initialising state then None
     else (if settled && is_stopped state then Some EmergencyStopped
-    else (if not (fits_register (may_wait limits entries last) code register) then Some (EmergencyRegister code register)
+    else (if not (fits_register (waits || may_wait limits entries last) code register) then Some (EmergencyRegister code register)
     else inhibit_finding limits entries last micros))
 
 -- `emcy-length`

@@ -383,10 +383,14 @@ abbrev pub may_be_restarted : Subject → Progress → ℕ → Bool
 may_be_restarted subject progress micros =
     is_overdue subject progress || not (came_just_now progress.emergency micros || came_just_now progress.heartbeats.since micros)
 
+-- A stopped device sends none, and one on a bus that isn't free sends it later: the error may be over by then.
+abbrev pub may_have_waited : Subject → Progress → ℕ → Bool
+may_have_waited subject progress micros = not (steady_when_free subject progress) || nat_lt progress.free micros
+
 abbrev pub emergency_difference : Subject → Progress → ℕ → ℕ → ℕ → Option Finding
 emergency_difference subject progress micros code register =
     unless_restarted (may_be_restarted subject progress micros)
-    (emergency_finding subject.limits progress.entries (judged_state progress.nmt) (steady_when_free subject progress) progress.emergency micros code register)
+    (emergency_finding subject.limits progress.entries (judged_state progress.nmt) (steady_when_free subject progress) (may_have_waited subject progress micros) progress.emergency micros code register)
 
 unfoldable pub emergency_findings : Subject → Progress → ℕ → ℕ → ℕ → Findings
 emergency_findings subject progress micros code register =

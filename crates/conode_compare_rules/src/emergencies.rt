@@ -15,7 +15,12 @@ ghost use Rattle.conode_compare_rules.specs.EmergencyRules.{
   unless_restarted,
   was_in_force,
 };
-ghost use Rattle.conode_compare_rules.specs.Progresses.{came_just_now, emergency_difference, may_be_restarted};
+ghost use Rattle.conode_compare_rules.specs.Progresses.{
+  came_just_now,
+  emergency_difference,
+  may_be_restarted,
+  may_have_waited,
+};
 
 use crate::entries::Entries;
 use crate::finding::{Finding, NmtState};
@@ -116,13 +121,14 @@ fn emergency_finding(
     entries: &Entries,
     state: NmtState,
     settled: bool,
+    waits: bool,
     last: Option<u64>,
     micros: u64,
     code: u16,
     register: u8,
 ) -> Option<Finding>
     ensures { result
-        ≡ emergency_finding limits.now entries.now state settled last micros code register }
+        ≡ emergency_finding limits.now entries.now state settled waits last micros code register }
 {
     if !entries.emergencies || matches!(state, NmtState::Initialising) {
         return None;
@@ -130,7 +136,7 @@ fn emergency_finding(
     if settled && matches!(state, NmtState::Stopped) {
         return Some(Finding::EmergencyStopped);
     }
-    if !fits_register(may_wait(limits, entries, last), code, register) {
+    if !fits_register(waits || may_wait(limits, entries, last), code, register) {
         return Some(Finding::EmergencyRegister(code, register));
     }
     inhibit_finding(limits, entries, last, micros)
@@ -182,6 +188,13 @@ impl Progress {
                 || came_just_now(self.heartbeats.since, micros))
     }
 
+    // whether an EMCY may have waited for the end of stopped, or for the bus
+    fn may_have_waited(&self, subject: &Subject, micros: u64) -> bool
+        ensures { result ≡ may_have_waited subject.now self.now micros }
+    {
+        !self.steady_when_free(subject) || self.free < micros
+    }
+
     /// The difference of an EMCY of eight bytes.
     pub(crate) fn emergency_difference(
         &self,
@@ -197,6 +210,7 @@ impl Progress {
             &self.entries,
             self.nmt.judged_state(),
             self.steady_when_free(subject),
+            self.may_have_waited(subject, micros),
             self.emergency,
             micros,
             code,
