@@ -15,6 +15,9 @@ objects = refl
 errors : map (λ sub. fixed_access (sub_index 0x1003 sub)) (0 ∷ 1 ∷ 254 ∷ []) ≡ Some ReadWrite ∷ Some ReadOnly ∷ Some ReadOnly ∷ []
 errors = refl
 
+beside_errors : map (λ index. fixed_access (sub_index index 1)) (0x1002 ∷ 0x1004 ∷ []) ≡ None ∷ None ∷ []
+beside_errors = refl
+
 parameters : map (λ index. fixed_access (sub_index index 1)) (0x100F ∷ 0x1010 ∷ 0x1011 ∷ 0x1012 ∷ []) ≡ None ∷ Some Readable ∷ Some Readable ∷ None ∷ []
 parameters = refl
 
@@ -23,6 +26,10 @@ counts = refl
 
 records : map (λ index. fixed_access (sub_index index 1)) (0x1000 ∷ 0x1017 ∷ 0x1018 ∷ 0x1019 ∷ 0x11FF ∷ 0x1200 ∷ 0x1201 ∷ []) ≡ None ∷ None ∷ Some ReadOnly ∷ None ∷ None ∷ Some ReadOnly ∷ None ∷ []
 records = refl
+
+-- 1200:03 is the node-ID of the SDO client
+first_server : map (λ sub. fixed_access (sub_index 0x1200 sub)) (0 ∷ 1 ∷ 2 ∷ 3 ∷ []) ≡ Some ReadOnly ∷ Some ReadOnly ∷ Some ReadOnly ∷ None ∷ []
+first_server = refl
 
 passed_over : fixed_access PassedOver ≡ None
 passed_over = refl

@@ -2,8 +2,10 @@
 use Rattle.std.specs.Prelude.{
   ℕ,
   Bool,
+  ◌&&◌,
   ◌||◌,
   ◌==◌,
+  nat_le,
   if◌then◌else◌,
   List,
   [],
@@ -28,9 +30,9 @@ use Rattle.co_sheet_warnings.specs.declared.accesses.FixedAccess.TheVariants.{Re
 abbrev pub is_read_only_object : ℕ → Bool
 is_read_only_object index = is_within 0x1000 0x1002 index || is_within 0x1008 0x100A index
 
--- nor the identity object and the identifiers of the first SDO server
-abbrev pub is_read_only_record : ℕ → Bool
-is_read_only_record index = (index == 0x1018) || (index == 0x1200)
+-- nor the identity object and the identifiers of the first SDO server; 1200:03 is the node-ID of its client
+abbrev pub is_read_only_sub_index : Key → Bool
+is_read_only_sub_index key = (key.index == 0x1018) || ((key.index == 0x1200) && nat_le key.sub 2)
 
 -- 1003:00 counts the errors, and a client writes 0 to empty the list; 1010h and 1011h, storing and
 -- restoring parameters: a client reads what can be stored
@@ -41,7 +43,7 @@ abbrev pub sub_access : Key → Option FixedAccess
 sub_access key =
     if key.index == 0x1003 then Some (if key.sub == 0 then ReadWrite else ReadOnly)
     else if is_parameters key.index then Some (if key.sub == 0 then ReadOnly else Readable)
-    else if is_read_only_record key.index then Some ReadOnly
+    else if is_read_only_sub_index key then Some ReadOnly
     else None
 
 abbrev pub fixed_access : SectionKind → Option FixedAccess

@@ -8,7 +8,7 @@ ghost use Rattle.co_sheet_warnings.specs.Accesses.{
   is_against,
   is_parameters,
   is_read_only_object,
-  is_read_only_record,
+  is_read_only_sub_index,
   is_write_only_word,
   is_written_word,
   sub_access,
@@ -38,11 +38,11 @@ fn is_read_only_object(index: u16) -> bool
     is_within(0x1000, 0x1002, index) || is_within(0x1008, 0x100A, index)
 }
 
-// the identity object and the first SDO server
-fn is_read_only_record(index: u16) -> bool
-    ensures { result ≡ is_read_only_record index }
+// the identity object, and the identifiers of the first SDO server
+fn is_read_only_sub_index(key: Key) -> bool
+    ensures { result ≡ is_read_only_sub_index key }
 {
-    index == 0x1018 || index == 0x1200
+    key.index == 0x1018 || (key.index == 0x1200 && key.sub <= 2)
 }
 
 // storing and restoring parameters
@@ -68,7 +68,7 @@ fn sub_access(key: Key) -> Option<FixedAccess>
     if is_parameters(key.index) {
         return Some(of_sub_index_0(key.sub, FixedAccess::ReadOnly, FixedAccess::Readable));
     }
-    if is_read_only_record(key.index) {
+    if is_read_only_sub_index(key) {
         return Some(FixedAccess::ReadOnly);
     }
     None

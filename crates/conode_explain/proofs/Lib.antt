@@ -1,4 +1,5 @@
 mod AbortExamples
+mod AcceptedExamples
 pub mod AbortLemmas
 pub mod AssumedLemmas
 pub mod Explaining

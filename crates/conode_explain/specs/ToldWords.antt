@@ -18,6 +18,7 @@ use Rattle.conode_explain_transfers.specs.declared.ended.Ended.{Ended}
 use Rattle.conode_explain_transfers.specs.declared.ended.Ending.{Ending}
 use Rattle.conode_explain_transfers.specs.declared.ended.Ending.TheVariants.{Aborted}
 use Rattle.conode_explain_transfers.specs.declared.kinds.Side.{Side}
+use Rattle.conode_explain_transfers.specs.declared.kinds.Side.TheVariants.{Server}
 use Rattle.conode_explain_transfers.specs.declared.kinds.What.{What}
 use Rattle.conode_explain_transfers.specs.declared.kinds.What.TheVariants as whats
 use Rattle.conode_explain_pdo.specs.declared.claim.Claim.{Claim}
@@ -59,15 +60,15 @@ abbrev pub response_key : Content → Option Key
 response_key (Data bytes) = option_and_then key_of_response (response_in bytes)
 response_key other = None
 
--- the next frame of the open transfer
-abbrev pub part_key : What → Content → Option Key
-part_key whats.Part content = response_key content
-part_key other content = None
+-- the server's next frame of the open transfer; a client's request of a segment has the same specifier, 3
+abbrev pub part_key : Side → What → Content → Option Key
+part_key Server whats.Part content = response_key content
+part_key side other content = None
 
 -- the entry of a download that goes on with the frame that is such a response
-abbrev pub accepted_key : What → Option Ended → Content → Option Key
-accepted_key what None content = part_key what content
-accepted_key what (Some ended) content = None
+abbrev pub accepted_key : Side → What → Option Ended → Content → Option Key
+accepted_key side what None content = part_key side what content
+accepted_key side what (Some ended) content = None
 
 unfoldable pub accepted_words : ℕ → Key → List ℕ → List ℕ
 accepted_words node key name =
@@ -79,7 +80,7 @@ accepted_in bus node key = accepted_words node key (name_bytes (names_at bus nod
 abbrev pub words_in : Bus → List Claim → Bool → Last → Identifier → Content → ℕ → Option Ended → Option Part → List ℕ
 words_in bus claims named last id content node ended None = words_of_content bus claims named last id content
 words_in bus claims named last id content node ended (Some part) =
-    unwrap_or (option_map (accepted_in bus node) (accepted_key part.what ended content))
+    unwrap_or (option_map (accepted_in bus node) (accepted_key part.side part.what ended content))
     (part_words bus claims named last id content node part)
 
 -- what a frame says that is read as one with this identifier, by what its SDO channel says about it,

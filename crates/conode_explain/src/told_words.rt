@@ -34,7 +34,7 @@ use conode_explain_entries::{
 use conode_explain_forms::{push_end_value, push_refusal};
 use conode_explain_pdo::{Bus, Claim};
 use conode_explain_services::Nodes;
-use conode_explain_transfers::{Ended, Ending, Part, Told, What};
+use conode_explain_transfers::{Ended, Ending, Part, Side, Told, What};
 use conode_record::{Content, Identifier, Record};
 use std::alloc::AllocError;
 
@@ -103,11 +103,16 @@ fn response_key(content: &Content<'_>) -> Option<Key>
 }
 
 // the entry of a download that goes on with the frame that is such a response
-fn accepted_key(what: What, ended: &Option<Ended>, content: &Content<'_>) -> Option<Key>
-    ensures { result ≡ accepted_key what ended.now content.now }
+fn accepted_key(
+    side: Side,
+    what: What,
+    ended: &Option<Ended>,
+    content: &Content<'_>,
+) -> Option<Key>
+    ensures { result ≡ accepted_key side what ended.now content.now }
 {
-    match (what, ended) {
-        (What::Part, None) => response_key(content),
+    match (side, what, ended) {
+        (Side::Server, What::Part, None) => response_key(content),
         _ => None,
     }
 }
@@ -160,7 +165,7 @@ pub(crate) fn set_told_words(
     let Some(part) = told.part else {
         return set_words(said, bus, claims, named, nodes, id, frame);
     };
-    if let Some(key) = accepted_key(part.what, &told.ended, &frame.content) {
+    if let Some(key) = accepted_key(part.side, part.what, &told.ended, &frame.content) {
         said.clear();
         return push_accepted(
             said,

@@ -2,9 +2,15 @@
 
 ghost use Rattle.std.specs.Prelude.{◌≡◌};
 ghost use Rattle.std.specs.Process.{exit_status};
-ghost use Rattle.conode_sheets.specs.SectionLines.{closes_section, is_of_sheet, is_section_line};
+ghost use Rattle.conode_sheets.specs.SectionLines.{
+  begins_section,
+  closes_section,
+  is_of_sheet,
+  is_section_line,
+  names_section,
+};
 
-use co_sheet_text::{SectionKind, same_name, trim};
+use co_sheet_text::{SectionKind, same_name, trim, without_mark};
 use co_text::split_at_first;
 use conode_io::CmdFault;
 use std::io::Write;
@@ -20,11 +26,21 @@ fn is_of_sheet(name: &[u8]) -> bool
 }
 
 // whether what follows `[` is the name of a section, and `]`
+fn names_section(text: &[u8]) -> bool
+    ensures { result ≡ names_section text.now }
+{
+    match split_at_first(text, b']') {
+        Some((name, _)) => is_of_sheet(trim(name)),
+        None => false,
+    }
+}
+
+// and nothing after it
 fn closes_section(text: &[u8]) -> bool
     ensures { result ≡ closes_section text.now }
 {
     match split_at_first(text, b']') {
-        Some((name, rest)) => rest.is_empty() && is_of_sheet(trim(name)),
+        Some((name, rest)) => is_of_sheet(trim(name)) && rest.is_empty(),
         None => false,
     }
 }
@@ -35,10 +51,31 @@ fn closes_section(text: &[u8]) -> bool
 pub fn is_section_line(line: &[u8]) -> bool
     ensures { result ≡ is_section_line line.now }
 {
-    match trim(line) {
+    match trim(without_mark(line)) {
         [b'[', rest @ ..] => closes_section(rest),
         _ => false,
     }
+}
+
+// whether a line begins a section of a data sheet, whose reader passes over what follows `]`
+#[tactic(auto, unfolding(crate::specs::SectionLines::begins_section))]
+fn begins_section(line: &[u8]) -> bool
+    ensures { result ≡ begins_section line.now }
+{
+    match trim(without_mark(line)) {
+        [b'[', rest @ ..] => names_section(rest),
+        _ => false,
+    }
+}
+
+/// Whether a text has a line that begins a section of a data sheet.
+pub(crate) fn has_section(text: &[u8]) -> bool {
+    for line in text.split(|byte| *byte == b'\n') {
+        if begins_section(line) {
+            return true;
+        }
+    }
+    false
 }
 
 /// Says that the recording is a data sheet, and how one is named. The status is 1.

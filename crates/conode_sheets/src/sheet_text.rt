@@ -6,9 +6,9 @@ ghost use Rattle.std.specs.Str.{is_utf8};
 ghost use Rattle.conode_sheets.specs.SheetTexts.{line_in_utf8};
 ghost use Rattle.conode_json.specs.Characters.{utf8_of};
 
-use crate::section_line::is_section_line;
+use crate::section_line::has_section;
 use crate::sheet_word::{SheetWord, SheetWordFault};
-use co_sheet::{FaultKind, GREATEST_SIZE, SheetFault};
+use co_sheet::{FaultKind, SheetFault};
 use conode_io::{CmdFault, faulty_sheet, file_text, no_text, stopped};
 use conode_json::utf8_of;
 use std::alloc::{AllocError, Global};
@@ -85,24 +85,6 @@ fn in_utf8(alloc: Global, text: Vec<u8>) -> Result<Vec<u8>, AllocError> {
     Ok(made)
 }
 
-// a line without the CR at its end
-fn without_return(line: &[u8]) -> &[u8] {
-    match line {
-        [front @ .., b'\r'] => front,
-        _ => line,
-    }
-}
-
-// whether a line of a text is a section line
-fn has_section(text: &[u8]) -> bool {
-    for line in text.split(|byte| *byte == b'\n') {
-        if is_section_line(without_return(line)) {
-            return true;
-        }
-    }
-    false
-}
-
 // Says that a file is no data sheet. The status is 1.
 fn no_sheet<E: Write>(path: &str, err: &mut E) -> ExitCode
     ensures { exit_status result ≡ 1 }
@@ -131,7 +113,7 @@ pub(crate) fn texts_of<'a, R: Files + AllocGlobal, O: Write, E: Write>(
             Ok(text) => text,
             Err(fault) => return Err(no_text(fault, word.path, out, err)),
         };
-        if text.len() <= GREATEST_SIZE && !has_section(text.as_slice()) {
+        if !has_section(text.as_slice()) {
             return Err(no_sheet(word.path, err));
         }
         let added = match in_utf8(rt.alloc(), text) {
