@@ -38,7 +38,7 @@ use Rattle.conode_compare_rules.specs.declared.limits.Subject.{Subject}
 use Rattle.conode_compare_rules.specs.declared.progress.Progress.{Progress}
 use Rattle.conode_compare_rules.specs.Answers.{breach_finding}
 use Rattle.conode_compare_rules.specs.FrameKinds.{data_kind}
-use Rattle.conode_compare_rules.specs.Progresses.{after_frame, begun, findings_at, findings_in, left_open, may_miss_abort, progress_with}
+use Rattle.conode_compare_rules.specs.Progresses.{after_frame, begun, findings_at, findings_in, left_open, may_miss_end, progress_with}
 use Rattle.conode_compare_laws.specs.AnswerFindings.{of_timeouts, timeout_differences}
 use Rattle.conode_compare_laws.proofs.AnswerFollowed.{reads}
 use Rattle.conode_compare_laws.proofs.AnswerOnly.{client_found_within, is_within, server_found_within}
@@ -261,7 +261,7 @@ server_run subject rows micros p frame later Next after is h next rest =
     (server_none subject rows q micros frame h, rest (after_frame subject q micros (Sdo Server frame)) (sdo_after subject q micros Server frame (λ newest d. Next d) next))
 
 pub client_run : (subject : Subject) (rows : List Row) (micros : ℕ) (p : Progress) (frame : FrameContent) (later : List FrameContent) (Next : Dialogue → Type 0) (after : Progress → Type 0) → data_kind subject.node frame ≡ Sdo Client frame
-    → Next (left_open Client (may_miss_abort (begun subject p micros).nmt micros frame) (dialogue_heard subject.limits.answer (begun subject p micros).started (begun subject p micros).dialogue micros Client frame))
+    → Next (left_open Client (may_miss_end (begun subject p micros).nmt micros frame) (dialogue_heard subject.limits.answer (begun subject p micros).started (begun subject p micros).dialogue micros Client frame))
     → ((q : Progress) → Next q.dialogue → AllRun timeout_differences subject rows micros q later after) → AllRun timeout_differences subject rows micros p (frame ∷ later) after
 unfolding findings_at progress_with
 client_run subject rows micros p frame later Next after is next rest =

@@ -36,7 +36,7 @@ use Rattle.conode_compare_rules.specs.declared.limits.Subject.{Subject}
 use Rattle.conode_compare_rules.specs.declared.progress.Progress.{Progress}
 use Rattle.conode_compare_rules.specs.Answers.{breach_finding}
 use Rattle.conode_compare_rules.specs.FrameKinds.{data_kind}
-use Rattle.conode_compare_rules.specs.Progresses.{after_frame, begun, channel_heard, exchange_noted, findings_at, findings_in, late_noted, left_open, may_miss_abort, progress_with}
+use Rattle.conode_compare_rules.specs.Progresses.{after_frame, begun, channel_heard, exchange_noted, findings_at, findings_in, late_noted, left_open, may_miss_end, progress_with}
 use Rattle.conode_compare_laws.specs.AnswerFindings.{data_differences, of_data}
 use Rattle.conode_compare_laws.proofs.AnswerDialogues.{channel_is}
 use Rattle.conode_compare_laws.proofs.AnswerEnds.{AllWhole, IsWhole, abort_answers, is_partial}
@@ -117,7 +117,7 @@ open_channel Client misses d = refl
 open_channel Server misses d = refl
 
 -- what is known then
-sdo_after : (subject : Subject) (p : Progress) (micros : ℕ) (side : Side) (frame : FrameContent) (After : Option ℕ → Dialogue → Type 0) → After p.newest (left_open side (may_miss_abort p.nmt micros frame) (dialogue_heard subject.limits.answer p.started p.dialogue micros side frame))
+sdo_after : (subject : Subject) (p : Progress) (micros : ℕ) (side : Side) (frame : FrameContent) (After : Option ℕ → Dialogue → Type 0) → After p.newest (left_open side (may_miss_end p.nmt micros frame) (dialogue_heard subject.limits.answer p.started p.dialogue micros side frame))
     → After (after_frame subject p micros (Sdo side frame)).newest (after_frame subject p micros (Sdo side frame)).dialogue
 unfolding channel_heard exchange_noted late_noted
 sdo_after subject p micros Server frame After h = h

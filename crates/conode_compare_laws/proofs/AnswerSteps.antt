@@ -56,7 +56,7 @@ use Rattle.conode_compare_rules.specs.Progresses.{
   late_by_tpdo,
   late_noted,
   left_open,
-  may_miss_abort,
+  may_miss_end,
   process_findings,
   progress_with,
   request_findings,
@@ -412,7 +412,7 @@ client_none subject rows p micros frame = by (exchange_at subject p micros Clien
 
 -- after which this holds of what is known of the channel
 pub client_quiet : (subject : Subject) (rows : List Row) (p : Progress) (micros : ℕ) (frame : FrameContent) (After : Option ℕ → Nmt → Dialogue → Type 0)
-    → After p.newest p.nmt (left_open Client (may_miss_abort p.nmt micros frame) (dialogue_heard subject.limits.answer p.started p.dialogue micros Client frame))
+    → After p.newest p.nmt (left_open Client (may_miss_end p.nmt micros frame) (dialogue_heard subject.limits.answer p.started p.dialogue micros Client frame))
     → Quiet subject rows p micros (Sdo Client frame) (λ q. After q.newest q.nmt q.dialogue)
 unfolding channel_heard exchange_noted
 client_quiet subject rows p micros frame After h = record { none = client_none subject rows p micros frame; next = h }

@@ -84,7 +84,7 @@ use Rattle.conode_compare_rules.specs.declared.progress.Progress.{Progress}
 use Rattle.conode_compare_rules.specs.declared.verdict.Findings.{Findings}
 use Rattle.conode_compare_rules.specs.Answers.{breach_finding}
 use Rattle.conode_compare_rules.specs.FrameKinds.{data_kind}
-use Rattle.conode_compare_rules.specs.Progresses.{after_frame, before_recording, begun, channel_heard, exchange_noted, findings_at, findings_in, late_noted, left_open, may_miss_abort, progress_with}
+use Rattle.conode_compare_rules.specs.Progresses.{after_frame, before_recording, begun, channel_heard, exchange_noted, findings_at, findings_in, late_noted, left_open, may_miss_end, progress_with}
 use Rattle.conode_compare_laws.specs.AnswerFindings.{of_toggles, toggle_differences}
 use Rattle.conode_compare_laws.specs.AnswerSenders.{AllSendOther, AreOther, HaveOtherChannels, IsOther, SendsOther}
 use Rattle.conode_compare_laws.specs.Differences.{differences_from, differences_in}
@@ -205,14 +205,14 @@ newest_gone answer started d micros frame n = none_comes _ (followed d.channel m
 
 -- ---- frames one after another
 
-pub sdo_after : (subject : Subject) (p : Progress) (micros : ℕ) (side : Side) (frame : FrameContent) (After : Option ℕ → Dialogue → Type 0) → After p.newest (left_open side (may_miss_abort p.nmt micros frame) (dialogue_heard subject.limits.answer p.started p.dialogue micros side frame))
+pub sdo_after : (subject : Subject) (p : Progress) (micros : ℕ) (side : Side) (frame : FrameContent) (After : Option ℕ → Dialogue → Type 0) → After p.newest (left_open side (may_miss_end p.nmt micros frame) (dialogue_heard subject.limits.answer p.started p.dialogue micros side frame))
     → After (after_frame subject p micros (Sdo side frame)).newest (after_frame subject p micros (Sdo side frame)).dialogue
 unfolding channel_heard exchange_noted late_noted
 sdo_after subject p micros Server frame After h = h
 sdo_after subject p micros Client frame After h = h
 
 sdo_run : (subject : Subject) (rows : List Row) (micros : ℕ) (p : Progress) (frame : FrameContent) (later : List FrameContent) (side : Side) (Next : Dialogue → Type 0) (after : Progress → Type 0) → data_kind subject.node frame ≡ Sdo side frame
-    → (side ≡ Client) ⊎ IsOnce micros (begun subject p micros).dialogue frame.bytes → Next (left_open side (may_miss_abort (begun subject p micros).nmt micros frame) (dialogue_heard subject.limits.answer (begun subject p micros).started (begun subject p micros).dialogue micros side frame))
+    → (side ≡ Client) ⊎ IsOnce micros (begun subject p micros).dialogue frame.bytes → Next (left_open side (may_miss_end (begun subject p micros).nmt micros frame) (dialogue_heard subject.limits.answer (begun subject p micros).started (begun subject p micros).dialogue micros side frame))
     → ((q : Progress) → q.newest ≡ Some micros → Next q.dialogue → AllRun toggle_differences subject rows micros q later after)
     → AllRun toggle_differences subject rows micros p (frame ∷ later) after
 unfolding findings_at progress_with

@@ -44,7 +44,7 @@ use Rattle.conode_compare_rules.specs.declared.limits.Subject.{Subject}
 use Rattle.conode_compare_rules.specs.declared.progress.Progress.{Progress}
 use Rattle.conode_compare_rules.specs.Answers.{breach_finding}
 use Rattle.conode_compare_rules.specs.FrameKinds.{data_kind}
-use Rattle.conode_compare_rules.specs.Progresses.{after_frame, begun, channel_heard, exchange_noted, findings_at, findings_in, late_noted, left_open, may_miss_abort, progress_with}
+use Rattle.conode_compare_rules.specs.Progresses.{after_frame, begun, channel_heard, exchange_noted, findings_at, findings_in, late_noted, left_open, may_miss_end, progress_with}
 use Rattle.conode_compare_laws.specs.AnswerFindings.{of_transfers, transfer_differences}
 use Rattle.conode_compare_laws.proofs.AnswerTurns.{Sound, asked}
 use Rattle.conode_compare_laws.proofs.AnswerKeys.{kept}
@@ -219,7 +219,7 @@ unfolding channel_heard exchange_noted late_noted
 server_quiet subject rows p micros frame After f h = record { none = server_none subject rows p micros frame f; next = h }
 
 pub client_quiet : (key : Key) (subject : Subject) (rows : List Row) (p : Progress) (micros : ℕ) (frame : FrameContent) (After : Option ℕ → Dialogue → Type 0) → IfSome p.dialogue.channel.transfer (Shape key)
-    → After p.newest (left_open Client (may_miss_abort p.nmt micros frame) (dialogue_heard subject.limits.answer p.started p.dialogue micros Client frame))
+    → After p.newest (left_open Client (may_miss_end p.nmt micros frame) (dialogue_heard subject.limits.answer p.started p.dialogue micros Client frame))
     → Quiet subject rows p micros (Sdo Client frame) (λ q. After q.newest q.dialogue)
 unfolding channel_heard exchange_noted
 client_quiet key subject rows p micros frame After s h = record { none = client_none key subject rows p micros frame s; next = h }

@@ -41,7 +41,7 @@ use Rattle.conode_compare_rules.specs.declared.kind.FrameKind.TheVariants.{Sdo}
 use Rattle.conode_compare_rules.specs.declared.limits.Subject.{Subject}
 use Rattle.conode_compare_rules.specs.declared.progress.Progress.{Progress}
 use Rattle.conode_compare_rules.specs.FrameKinds.{data_kind}
-use Rattle.conode_compare_rules.specs.Progresses.{after_frame, before_recording, begun, channel_heard, exchange_noted, late_noted, left_open, may_miss_abort, progress_with}
+use Rattle.conode_compare_rules.specs.Progresses.{after_frame, before_recording, begun, channel_heard, exchange_noted, late_noted, left_open, may_miss_end, progress_with}
 use Rattle.conode_compare_laws.specs.AnswerSenders.{AllSendOther, AreOther, HasBytes, HaveBytes, HaveOtherChannels, IsOther, SendsOther}
 use Rattle.conode_compare_laws.specs.Identifiers.{AreElsewhere, IsAside, IsElsewhere}
 use Rattle.conode_compare_laws.specs.ShownWords.{AllHaveWord, HasWord, is_expedited_download, number_asked}
@@ -97,7 +97,7 @@ module _ (key : Key) (word : ℕ) where
 
   -- ---- a frame of the channel
 
-  sdo_after : (subject : Subject) (p : Progress) (micros : ℕ) (side : Side) (frame : FrameContent) (After : Dialogue → Type 0) → After (left_open side (may_miss_abort p.nmt micros frame) (dialogue_heard subject.limits.answer p.started p.dialogue micros side frame))
+  sdo_after : (subject : Subject) (p : Progress) (micros : ℕ) (side : Side) (frame : FrameContent) (After : Dialogue → Type 0) → After (left_open side (may_miss_end p.nmt micros frame) (dialogue_heard subject.limits.answer p.started p.dialogue micros side frame))
       → After (after_frame subject p micros (Sdo side frame)).dialogue
   unfolding channel_heard exchange_noted late_noted
   sdo_after subject p micros Server frame After h = h

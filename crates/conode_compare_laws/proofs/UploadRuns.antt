@@ -29,7 +29,7 @@ use Rattle.conode_compare_rules.specs.declared.kind.FrameKind.TheVariants.{Sdo}
 use Rattle.conode_compare_rules.specs.declared.limits.Subject.{Subject}
 use Rattle.conode_compare_rules.specs.declared.progress.Progress.{Progress}
 use Rattle.conode_compare_rules.specs.Answers.{breach_finding}
-use Rattle.conode_compare_rules.specs.Progresses.{begun, channel_heard, exchange_noted, late_noted, left_open, may_miss_abort}
+use Rattle.conode_compare_rules.specs.Progresses.{begun, channel_heard, exchange_noted, late_noted, left_open, may_miss_end}
 use Rattle.conode_compare_laws.specs.AnswerFindings.{of_transfers, transfer_differences}
 use Rattle.conode_compare_laws.proofs.AnswerBreaches.{Fine, FineEnd}
 use Rattle.conode_compare_laws.proofs.AnswerDialogues.{channel_is, client_is, later_heard, server_heard}
@@ -78,7 +78,7 @@ no_request_breach answer started d micros frame (inl none) = request_breach d.ne
 no_request_breach answer started d micros frame (inr h) = request_breach d.newest (followed d.channel micros Client frame.bytes).says frame (inr (subst (FineEnd frame) (sym (ended_is d.channel micros Client frame.bytes)) h))
 
 pub request_quiet : (subject : Subject) (rows : List Row) (p : Progress) (micros : ℕ) (frame : FrameContent) (After : Option ℕ → Dialogue → Type 0) → IsFineRequest micros p.dialogue frame
-    → After p.newest (left_open Client (may_miss_abort p.nmt micros frame) (dialogue_heard subject.limits.answer p.started p.dialogue micros Client frame))
+    → After p.newest (left_open Client (may_miss_end p.nmt micros frame) (dialogue_heard subject.limits.answer p.started p.dialogue micros Client frame))
     → Quiet subject rows p micros (Sdo Client frame) (λ q. After q.newest q.dialogue)
 unfolding channel_heard exchange_noted
 request_quiet subject rows p micros frame After f h = record {

@@ -290,12 +290,12 @@ by_event_without_times = refl
 -- the last command of segments, the first and the last with a multiplexer, an abort; of blocks those
 -- with one, and without
 toggles : map (λ command. shown (command_passed command no_counts)) (0x3F ∷ 0x40 ∷ 0x7F ∷ 0x80 ∷ 0x81 ∷ [])
-    ≡ (AnswerToggle ∷ []) ∷ (AnswerKey ∷ []) ∷ (AnswerKey ∷ []) ∷ (AbortKey ∷ []) ∷ [] ∷ []
+    ≡ (AnswerToggle ∷ []) ∷ (NoAnswer ∷ AnswerKey ∷ []) ∷ (NoAnswer ∷ AnswerKey ∷ []) ∷ (NoAnswer ∷ AbortKey ∷ []) ∷ [] ∷ []
 unfolding command_passed counts_passed
 toggles = refl
 
 keys_of_blocks : map (λ command. shown (command_passed command no_counts)) (0xA0 ∷ 0xA4 ∷ 0xC0 ∷ 0xC2 ∷ 0xC4 ∷ 0xC6 ∷ [])
-    ≡ (AnswerKey ∷ []) ∷ (AnswerKey ∷ []) ∷ (AnswerKey ∷ []) ∷ (AnswerKey ∷ []) ∷ (AnswerKey ∷ []) ∷ (AnswerKey ∷ []) ∷ []
+    ≡ (NoAnswer ∷ AnswerKey ∷ []) ∷ (NoAnswer ∷ AnswerKey ∷ []) ∷ (NoAnswer ∷ AnswerKey ∷ []) ∷ (NoAnswer ∷ AnswerKey ∷ []) ∷ (NoAnswer ∷ AnswerKey ∷ []) ∷ (NoAnswer ∷ AnswerKey ∷ []) ∷ []
 unfolding command_passed counts_passed
 keys_of_blocks = refl
 
@@ -308,7 +308,7 @@ answer : shown (answer_passed false 0x43 no_counts) ≡ SecondSender ∷ NoAnswe
 unfolding answer_passed command_passed counts_passed
 answer = refl
 
-segment_of_block : shown (answer_passed true 0x43 no_counts) ≡ SecondSender ∷ NoAnswer ∷ AnswerForm ∷ []
+segment_of_block : shown (answer_passed true 0x43 no_counts) ≡ SecondSender ∷ AnswerForm ∷ []
 unfolding answer_passed command_passed counts_passed
 segment_of_block = refl
 

@@ -148,17 +148,17 @@ is_abort command = command == 0x80
 abbrev pub command_of : FrameContent → ℕ
 command_of frame = slice_index frame.bytes 0
 
--- an answer with a command
+-- an answer with a command; `no-answer` is of initiate requests
 unfoldable pub command_passed : ℕ → List Counted → List Counted
 command_passed command counts =
-    counts_passed (is_abort command) AbortKey
-    (counts_passed (has_key command) AnswerKey (counts_passed (has_toggle command) AnswerToggle counts))
+    counts_passed (has_key command || is_abort command) NoAnswer
+    (counts_passed (is_abort command) AbortKey
+    (counts_passed (has_key command) AnswerKey (counts_passed (has_toggle command) AnswerToggle counts)))
 
 unfoldable pub answer_passed : Bool → ℕ → List Counted → List Counted
 answer_passed in_sub_block command counts =
     counts_passed true AnswerForm
-    (counts_passed true SecondSender
-    (counts_passed true NoAnswer (if in_sub_block then counts else command_passed command counts)))
+    (counts_passed true SecondSender (if in_sub_block then counts else command_passed command counts))
 
 -- the first byte
 abbrev pub first_byte : List ℕ → ℕ

@@ -254,22 +254,20 @@ fn pass_answer(counts: &mut [Counted], in_sub_block: bool, command: u8)
     ensures { counts.new ≡ answer_passed in_sub_block command counts.old }
 {
     if !in_sub_block {
+        let answers_request = has_key(command) || command == 0x80;
         pass_all(
             counts,
             &[
                 (command < 0x40, Kind::AnswerToggle),
                 (has_key(command), Kind::AnswerKey),
                 (command == 0x80, Kind::AbortKey),
+                (answers_request, Kind::NoAnswer),
             ],
         );
     }
     pass_all(
         counts,
-        &[
-            (true, Kind::NoAnswer),
-            (true, Kind::SecondSender),
-            (true, Kind::AnswerForm),
-        ],
+        &[(true, Kind::SecondSender), (true, Kind::AnswerForm)],
     );
 }
 

@@ -20,7 +20,7 @@ use Rattle.conode_compare_rules.specs.declared.nmt.Nmt.{Nmt}
 use Rattle.conode_compare_rules.specs.declared.progress.Progress.{Progress}
 use Rattle.conode_compare_rules.specs.Heartbeats.{overdue_by}
 use Rattle.conode_compare_rules.specs.OtherClients.{no_clients}
-use Rattle.conode_compare_rules.specs.Progresses.{after_emergency, after_process, before_recording, channel_heard, emergency_noted, exchange_at, may_miss_abort, moment_at, nmt_heard}
+use Rattle.conode_compare_rules.specs.Progresses.{after_emergency, after_process, before_recording, channel_heard, emergency_noted, exchange_at, left_open, may_have_waited, may_miss_end, moment_at, nmt_heard}
 use Rattle.conode_compare_rules.specs.States.{after_boot_up, after_command, after_control, after_other, awaits_boot_up, is_settled, nothing_commanded}
 use Rattle.co_frame.specs.FrameContent.{FrameContent}
 use Rattle.co_frame.specs.SdoRequests.{request_row_in}
@@ -161,7 +161,33 @@ another_pdo : (after_process subject (at 110001) 120000 0x186 4).nmt.leaving ≡
 unfolding after_process is_settled overdue_by sighting moment_at
 another_pdo = refl
 
--- ---- an abort of the client
+-- ---- an EMCY that may have waited
+
+abbrev ready : ℕ → Nmt → Progress
+ready free nmt = record (before_recording subject) { newest = Some free; free = free; nmt = nmt }
+
+-- on a free bus it came when it was sent
+waited_for_bus : map (λ micros. may_have_waited subject (ready 200000 (in_state PreOperational)) micros) (200000 ∷ 200001 ∷ []) ≡ false ∷ true ∷ []
+unfolding is_settled overdue_by
+waited_for_bus = refl
+
+-- within the tolerance after a command, and later
+waited_for_command : map (λ free. may_have_waited subject (ready free (record starting { leaving = Nothing })) free) (110000 ∷ 110001 ∷ []) ≡ true ∷ false ∷ []
+unfolding is_settled overdue_by
+waited_for_command = refl
+
+-- until a frame shows that the device left stopped
+waited_for_leaving : map (λ leaving. may_have_waited subject (ready 200000 (record starting { leaving = leaving })) 200000) (Awaited ∷ Shown 200000 ∷ Shown 199999 ∷ [])
+    ≡ true ∷ true ∷ false ∷ []
+unfolding is_settled overdue_by
+waited_for_leaving = refl
+
+-- within the tolerance after the boot-up, and later
+waited_for_boot_up : map (λ free. may_have_waited subject (ready free (record (in_state PreOperational) { booted = Some 100000 })) free) (110000 ∷ 110001 ∷ []) ≡ true ∷ false ∷ []
+unfolding is_settled overdue_by
+waited_for_boot_up = refl
+
+-- ---- an abort of the client, and its confirmation of a block upload
 
 -- 08000000 of 2003:00
 abbrev abort : FrameContent
@@ -171,17 +197,22 @@ abort = record { id = 0x605; bytes = 0x80 ∷ 0x03 ∷ 0x20 ∷ 0 ∷ 0 ∷ 0 �
 abbrev upload : FrameContent
 upload = record { id = 0x605; bytes = 0x40 ∷ 0x00 ∷ 0x10 ∷ 0 ∷ 0 ∷ 0 ∷ 0 ∷ 0 ∷ [] }
 
-misses_in : map (λ state. may_miss_abort (in_state state) 100000 abort) (Stopped ∷ Unknown ∷ PreOperational ∷ Operational ∷ Initialising ∷ [])
+misses_in : map (λ state. may_miss_end (in_state state) 100000 abort) (Stopped ∷ Unknown ∷ PreOperational ∷ Operational ∷ Initialising ∷ [])
     ≡ true ∷ true ∷ false ∷ false ∷ false ∷ []
 misses_in = refl
 
 -- before a frame shows that it isn't stopped any more, at the same time, and later
-misses_leaving : map (λ leaving. may_miss_abort (record starting { leaving = leaving }) 150000 abort) (Nothing ∷ Awaited ∷ Shown 150000 ∷ Shown 149999 ∷ [])
+misses_leaving : map (λ leaving. may_miss_end (record starting { leaving = leaving }) 150000 abort) (Nothing ∷ Awaited ∷ Shown 150000 ∷ Shown 149999 ∷ [])
     ≡ false ∷ true ∷ true ∷ false ∷ []
 misses_leaving = refl
 
+-- the confirmation, and the next segment, which has another command
+misses_confirmation : map (λ first. may_miss_end (in_state Stopped) 100000 (record abort { bytes = first ∷ 0 ∷ 0 ∷ 0 ∷ 0 ∷ 0 ∷ 0 ∷ 0 ∷ [] })) (0xA1 ∷ 0xA2 ∷ 0xA3 ∷ 0x60 ∷ [])
+    ≡ true ∷ false ∷ false ∷ false ∷ []
+misses_confirmation = refl
+
 -- another frame
-misses_upload : may_miss_abort (in_state Stopped) 100000 upload ≡ false
+misses_upload : may_miss_end (in_state Stopped) 100000 upload ≡ false
 misses_upload = refl
 
 -- then the next request is in doubt, however late it comes; else it isn't
@@ -198,6 +229,10 @@ in_doubt = refl
 in_doubt_leaving : map (λ leaving. doubted_request (record starting { leaving = leaving })) (Awaited ∷ Shown 1999999 ∷ []) ≡ Some 9000000 ∷ Some 2000000 ∷ []
 unfolding channel_heard exchange_at exchange_in dialogue_heard request_row_in
 in_doubt_leaving = refl
+
+-- an abort of the device alone leaves none in doubt
+of_device : (left_open Server true (before_recording subject).dialogue).sub_block ≡ false
+of_device = refl
 
 -- until an answer of the device that is no abort; an abort of the device may be of that transfer
 abbrev answered_by : ℕ → Bool

@@ -35,12 +35,12 @@ use Rattle.conode_compare_rules.specs.declared.kind.FrameKind.TheVariants.{Comma
 use Rattle.conode_compare_rules.specs.declared.verdict.Findings.{Findings}
 use Rattle.conode_compare_rules.specs.Answers.{answer_finding, confirmed_finding, held_finding, is_abort, silence_finding, stopped_finding}
 use Rattle.conode_compare_transfers.specs.Dialogues.{asks_to_write, comes_in_turn, dialogue_heard, given_up, interrupted, is_awaited, is_download, nothing_asked, nothing_left, exchange_in}
-use Rattle.conode_compare_transfers.specs.Breaches.{key_in}
+use Rattle.conode_compare_transfers.specs.Breaches.{byte_at, key_in}
 use Rattle.conode_compare_values.specs.HeldNumbers.{is_kept, nothing_written, unmapped, with_process, written_heard}
 use Rattle.conode_compare_rules.specs.EmergencyRules.{emergency_finding, is_stopped, length_finding, unless_restarted}
 use Rattle.conode_compare_rules.specs.EntriesInForce.{asked_by, asked_to_write, ended_entries, overwritten, reset_entries, shares_id, with_sharing}
 use Rattle.conode_compare_rules.specs.OtherClients.{has_clients, is_channel, may_send}
-use Rattle.conode_compare_rules.specs.Leavings.{may_be_stopped_at}
+use Rattle.conode_compare_rules.specs.Leavings.{may_be_stopped_at, was_stopped}
 use Rattle.conode_compare_rules.specs.Heartbeats.{after_byte, after_transfer, early_remark, follows_closely, former_after, former_asked, late_finding, longest_period, may_be_of_change, newest_asked, no_heartbeat, is_gap, is_late_again, is_missing, overdue_with, period_asked_by, slow_after, with_asked, with_former, with_shown}
 use Rattle.conode_compare_rules.specs.States as states
 use Rattle.conode_compare_rules.specs.States.{at_begin, boot_finding, control_finding, has_followed, is_operational, is_reset, is_same_byte, is_same_length, is_settled, is_steady, judged_state, nothing_commanded, after_turn, odd_after, odd_finding, restart_remark, with_followed, with_left, with_odd}
@@ -383,9 +383,17 @@ abbrev pub may_be_restarted : Subject → Progress → ℕ → Bool
 may_be_restarted subject progress micros =
     is_overdue subject progress || not (came_just_now progress.emergency micros || came_just_now progress.heartbeats.since micros)
 
--- A stopped device sends none, and one on a bus that isn't free sends it later: the error may be over by then.
+-- the tolerance since the boot-up wasn't over when the bus was free last
+abbrev pub has_just_booted : Subject → Progress → Bool
+has_just_booted subject progress =
+    option_map_or (λ b. not (is_past b subject.limits.tolerance progress.free)) progress.nmt.booted false
+
+-- A device sends none while it is stopped or boots up, and on a bus that isn't free it sends one later: the error may be
+-- over by then.
 abbrev pub may_have_waited : Subject → Progress → ℕ → Bool
-may_have_waited subject progress micros = not (steady_when_free subject progress) || nat_lt progress.free micros
+may_have_waited subject progress micros =
+    (not (steady_when_free subject progress) || nat_lt progress.free micros)
+    || (was_stopped progress.nmt.leaving micros || has_just_booted subject progress)
 
 abbrev pub emergency_difference : Subject → Progress → ℕ → ℕ → ℕ → Option Finding
 emergency_difference subject progress micros code register =
@@ -522,10 +530,15 @@ nmt_heard limits started nmt micros Client exchange = nmt
 nmt_heard limits started nmt micros Server exchange =
     with_left (with_followed nmt (follows_by_answer limits started nmt exchange) micros) (shows_by_answer limits started nmt exchange) micros
 
+-- the client's confirmation of a block upload, ccs = 5 and cs = 1
+abbrev pub is_confirmation : FrameContent → Bool
+is_confirmation frame = byte_at frame 0 == 0xA1
+
 -- A stopped device takes no frame of a client (7.3.2.2), and no transfer ends by that. So where it may be stopped
--- a client's abort, cs = 4, may end none: the device may go on with the transfer.
-abbrev pub may_miss_abort : Nmt → ℕ → FrameContent → Bool
-may_miss_abort nmt micros frame = is_abort frame && may_be_stopped_at nmt.state nmt.leaving micros
+-- a client's abort, cs = 4, and its confirmation of a block upload may end none: the device may go on with the transfer.
+abbrev pub may_miss_end : Nmt → ℕ → FrameContent → Bool
+may_miss_end nmt micros frame =
+    (is_abort frame || is_confirmation frame) && may_be_stopped_at nmt.state nmt.leaving micros
 
 -- Then a request is in doubt as one that may be a segment: it may be taken for one, or be answered by an abort of
 -- that transfer.
@@ -546,7 +559,7 @@ channel_heard subject progress micros side frame =
           (with_former (after_transfer progress.heartbeats ended micros) (period_asked_by side frame (period_then progress)) progress.entries.period entries.period micros);
       entries = entries;
       pdos = pdos_by side frame (pdos_heard beside shown next.asked micros) micros;
-      dialogue = left_open side (may_miss_abort progress.nmt micros frame) next;
+      dialogue = left_open side (may_miss_end progress.nmt micros frame) next;
       asked_at = asked_then (asks_for_profile side frame) progress.asked_at micros;
     }
 

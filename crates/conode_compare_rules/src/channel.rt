@@ -14,6 +14,7 @@ ghost use Rattle.conode_compare_rules.specs.Progresses.{
   entries_heard,
   exchange_at,
   exchange_noted,
+  is_confirmation,
   is_judged,
   is_of_parameter,
   answer_noted,
@@ -23,7 +24,7 @@ ghost use Rattle.conode_compare_rules.specs.Progresses.{
   late_by,
   leaves_unknown,
   left_open,
-  may_miss_abort,
+  may_miss_end,
   pdos_beside,
   pdos_by,
   pdos_heard,
@@ -46,7 +47,7 @@ use co_sheet::EntryRow;
 use co_value::Key;
 use conode_compare_pdos::Pdos;
 use conode_compare_transfers::{
-    Asked, Dialogue, Exchange, Newest, asks_to_write, comes_in_turn, is_past, key_in,
+    Asked, Dialogue, Exchange, Newest, asks_to_write, byte_at, comes_in_turn, is_past, key_in,
 };
 use conode_explain_transfers::{Direction, Ended, Side, What};
 
@@ -185,11 +186,18 @@ fn is_judged(newest: Option<Newest>, exchange: &Exchange, frame: &Frame) -> bool
     exchange.certain && (comes_in_turn(newest, &exchange.heard, frame) || answers)
 }
 
-// whether a client's frame is an abort that the device may not take, since it may be stopped
-fn may_miss_abort(nmt: &Nmt, micros: u64, frame: &Frame) -> bool
-    ensures { result ≡ may_miss_abort nmt.now micros frame.now }
+// whether a frame is the client's confirmation of a block upload
+fn is_confirmation(frame: &Frame) -> bool
+    ensures { result ≡ is_confirmation frame.now }
 {
-    is_abort(frame) && nmt.may_be_stopped_at(micros)
+    byte_at(frame, 0) == 0xA1
+}
+
+// whether a client's frame ends a transfer, and the device may not take it, since it may be stopped
+fn may_miss_end(nmt: &Nmt, micros: u64, frame: &Frame) -> bool
+    ensures { result ≡ may_miss_end nmt.now micros frame.now }
+{
+    (is_abort(frame) || is_confirmation(frame)) && nmt.may_be_stopped_at(micros)
 }
 
 // the dialogue after a client's frame that the device may not have taken: the transfer may go on
@@ -211,7 +219,7 @@ impl Progress {
         ensures written { self.new.written ≡ self.old.written }
     {
         let doubtful = is_doubtful(subject.limits.answer, &self.dialogue, micros);
-        let misses = may_miss_abort(&self.nmt, micros, frame);
+        let misses = may_miss_end(&self.nmt, micros, frame);
         let period = self.entries.period;
         let period_then = self.period_then();
         let exchange = self

@@ -18,6 +18,7 @@ ghost use Rattle.conode_compare_rules.specs.EmergencyRules.{
 ghost use Rattle.conode_compare_rules.specs.Progresses.{
   came_just_now,
   emergency_difference,
+  has_just_booted,
   may_be_restarted,
   may_have_waited,
 };
@@ -188,11 +189,24 @@ impl Progress {
                 || came_just_now(self.heartbeats.since, micros))
     }
 
-    // whether an EMCY may have waited for the end of stopped, or for the bus
+    // whether the tolerance since the boot-up wasn't over when the bus was free last
+    fn has_just_booted(&self, subject: &Subject) -> bool
+        ensures { result ≡ has_just_booted subject.now self.now }
+    {
+        match self.nmt.booted {
+            Some(booted) => !is_past(booted, subject.limits.tolerance, self.free),
+            None => false,
+        }
+    }
+
+    // whether an EMCY may have waited for the end of stopped, for the boot-up, or for the bus
     fn may_have_waited(&self, subject: &Subject, micros: u64) -> bool
         ensures { result ≡ may_have_waited subject.now self.now micros }
     {
-        !self.steady_when_free(subject) || self.free < micros
+        !self.steady_when_free(subject)
+            || self.free < micros
+            || self.nmt.leaving.was_stopped(micros)
+            || self.has_just_booted(subject)
     }
 
     /// The difference of an EMCY of eight bytes.
