@@ -38,7 +38,7 @@ SPEED = 16000
 # Of a crate that wasn't measured: the seconds, those for each line of code, and the memory.
 SECONDS, SECONDS_A_LINE, MEGABYTES = 10, 0.08, 1500
 # How much faster a crate is proved by each further job.
-GAIN = 0.8
+GAIN = 0.26
 # How many seconds of proving say as much of this machine's speed as its small loop does: few crates say little.
 TRUSTED = 300
 
