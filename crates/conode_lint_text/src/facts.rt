@@ -68,7 +68,8 @@ use crate::meant_section::meant_section;
 use co_profile::fixed_type;
 use co_sheet::section_at;
 use co_sheet_text::{SectionKind, TextSection, number_in, same_name, trim, unsigned_number};
-use co_sheet_warnings::{KnownKey, fixed_access, has_other_byte, object_count, value_in};
+use co_sheet_text_warnings::{KnownKey, has_other_byte, object_count};
+use co_sheet_warnings::{fixed_access, value_in};
 use co_text::split_at_first;
 use co_value::Key;
 
