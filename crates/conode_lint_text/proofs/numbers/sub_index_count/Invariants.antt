@@ -1,7 +1,7 @@
 use Rattle.std.proofs.Common.{◌≡◌, ◌+◌, ◌≤◌, drop, map}
 use Rattle.co_sheet_text.specs.Views.{section_view}
 use Rattle.conode_lint_text.specs.Facts.{sub_index_count}
-use Rattle.conode_lint_text.proofs.facts.sub_index_count.Given as goal
+use Rattle.conode_lint_text.proofs.numbers.sub_index_count.Given as goal
 
 -- those so far and those of the rest are all
 abbrev pub invariant-loop-section : goal.invariant-loop-section
