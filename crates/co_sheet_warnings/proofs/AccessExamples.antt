@@ -2,9 +2,10 @@
 use Rattle.std.proofs.Common.{◌≡◌, ℕ, List, [], ◌∷◌, Some, None, true, false, refl, codes, map}
 use Rattle.co_sheet_text.specs.declared.section_kind.SectionKind.TheVariants.{Object, PassedOver}
 use Rattle.co_sheet_warnings.specs.declared.accesses.FixedAccess.TheVariants.{ReadOnly, Readable, ReadWrite}
-use Rattle.co_sheet_warnings.specs.declared.warning.WarningKind.TheVariants.{WrongAccess}
+use Rattle.co_sheet_text_warnings.specs.declared.warning.WarningKind.TheVariants.{WrongAccess}
 use Rattle.co_sheet_warnings.specs.Accesses.{fixed_access, is_against}
-use Rattle.co_sheet_warnings.specs.Warnings.{few_places, place_in_text, places_in, places_of}
+use Rattle.co_sheet_warnings.specs.Warnings.{few_places, places_in, places_of}
+use Rattle.co_sheet_text_warnings.specs.InText.{place_in_text}
 use Rattle.co_sheet_warnings.proofs.ExampleTexts.{places, sub_index}
 
 -- 1002h is the last register, 1003h has sub-indices, 1005h is SYNC; 1008h to 100Ah are texts

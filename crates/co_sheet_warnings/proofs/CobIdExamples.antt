@@ -1,9 +1,10 @@
 -- COB-IDs that depend on the node-ID, on both sides of each edge.
 use Rattle.std.proofs.Common.{◌≡◌, ℕ, List, [], ◌∷◌, ◌++◌, true, false, refl, codes, map}
 use Rattle.co_sheet_text.specs.declared.section_kind.SectionKind.TheVariants.{MandatoryObjects, Object}
-use Rattle.co_sheet_warnings.specs.declared.warning.WarningKind.TheVariants.{FixedCobId, NodeIdPlace}
+use Rattle.co_sheet_text_warnings.specs.declared.warning.WarningKind.TheVariants.{FixedCobId, NodeIdPlace}
 use Rattle.co_sheet_warnings.specs.CobIds.{has_default_cob_id, is_enabled, is_node_id_last, is_text_type}
-use Rattle.co_sheet_warnings.specs.Warnings.{few_places, place_in_text, places_in, places_of}
+use Rattle.co_sheet_warnings.specs.Warnings.{few_places, places_in, places_of}
+use Rattle.co_sheet_text_warnings.specs.InText.{place_in_text}
 use Rattle.co_sheet_warnings.proofs.ExampleTexts.{places, sub_index}
 
 emcy : map has_default_cob_id (Object 0x1013 ∷ Object 0x1014 ∷ Object 0x1015 ∷ sub_index 0x1014 1 ∷ Object 0x1400 ∷ MandatoryObjects ∷ [])

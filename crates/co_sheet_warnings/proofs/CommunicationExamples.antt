@@ -1,8 +1,9 @@
 -- Values of the communication profile that don't work together, on both sides of each edge.
 use Rattle.std.proofs.Common.{◌≡◌, ℕ, List, [], ◌∷◌, ◌++◌, None, true, false, refl, codes, map}
-use Rattle.co_sheet_warnings.specs.declared.warning.WarningKind.TheVariants.{InhibitTime, OwnHeartbeat, HeartbeatTwice}
+use Rattle.co_sheet_text_warnings.specs.declared.warning.WarningKind.TheVariants.{InhibitTime, OwnHeartbeat, HeartbeatTwice}
 use Rattle.co_sheet_warnings.specs.Communication.{is_synchronous, node_of_word, is_used_word}
-use Rattle.co_sheet_warnings.specs.Warnings.{few_places, place_in_text, places_in, places_of}
+use Rattle.co_sheet_warnings.specs.Warnings.{few_places, places_in, places_of}
+use Rattle.co_sheet_text_warnings.specs.InText.{place_in_text}
 use Rattle.co_sheet_warnings.proofs.ExampleTexts.{places, places_at}
 
 -- ---- InhibitTime

@@ -1,15 +1,11 @@
 -- Small texts of which examples compute the warnings.
-use Rattle.std.proofs.Common.{ℕ, List, [], ◌∷◌, ◌++◌, Some, None}
+use Rattle.std.proofs.Common.{ℕ, List, Some, None}
 use Rattle.co_sheet_text.specs.declared.section_kind.SectionKind.{SectionKind}
 use Rattle.co_sheet_text.specs.declared.section_kind.SectionKind.TheVariants.{SubIndex}
-use Rattle.co_sheet_warnings.specs.declared.warning.WarningKind.{WarningKind}
-use Rattle.co_sheet_warnings.specs.ReadTexts.{read_text}
+use Rattle.co_sheet_text_warnings.specs.declared.warning.WarningKind.{WarningKind}
+use Rattle.co_sheet_text_warnings.specs.ReadTexts.{read_text}
+use Rattle.co_sheet_text_warnings.proofs.ExampleTexts.{joined}
 use Rattle.co_sheet_warnings.specs.Warnings.{places_of}
-
--- lines as a text, each ended by LF
-abbrev pub joined : List (List ℕ) → List ℕ
-joined [] = []
-joined (line ∷ lines) = line ++ 10 ∷ joined lines
 
 -- where a kind applies, of a device whose node-ID isn't given, and is given
 abbrev pub places : WarningKind → List (List ℕ) → List ℕ

@@ -13,11 +13,6 @@ mod NodeIdSumExamples
 mod ReservedValueExamples
 mod AccessExamples
 mod SectionNameExamples
-mod PieceLemmas
 mod ByLineLemmas
 pub mod NameLemmas
-pub mod KnownLemmas
-mod IndexLemmas
-mod KeyLemmas
-mod LineLemmas
 mod WordLemmas

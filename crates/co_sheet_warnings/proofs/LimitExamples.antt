@@ -2,9 +2,10 @@
 use Rattle.std.proofs.Common.{◌≡◌, ℕ, List, [], ◌∷◌, true, false, refl, codes, map}
 use Rattle.co_value.specs.declared.data_type.DataType.TheVariants.{Integer8, Integer16, Integer24, Integer32, Integer64, Unsigned16}
 use Rattle.co_sheet_text.specs.Numerals.{signed_numeral}
-use Rattle.co_sheet_warnings.specs.declared.warning.WarningKind.TheVariants.{NegativeLimit}
+use Rattle.co_sheet_text_warnings.specs.declared.warning.WarningKind.TheVariants.{NegativeLimit}
 use Rattle.co_sheet_warnings.specs.Limits.{is_all_ones}
-use Rattle.co_sheet_warnings.specs.Warnings.{few_places, place_in_text, places_in, places_of}
+use Rattle.co_sheet_warnings.specs.Warnings.{few_places, places_in, places_of}
+use Rattle.co_sheet_text_warnings.specs.InText.{place_in_text}
 use Rattle.co_sheet_warnings.proofs.ExampleTexts.{places}
 
 -- all bits are 1: one more and one less, with zeros before, a decimal number, another type

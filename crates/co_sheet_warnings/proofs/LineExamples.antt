@@ -1,19 +1,13 @@
 -- Lines that other readers may refuse or garble, on both sides of each edge.
-use Rattle.std.proofs.Common.{◌≡◌, ℕ, List, true, false, [], ◌∷◌, ◌++◌, refl, codes, map}
-use Rattle.std.specs.List.{flat_map}
+use Rattle.std.proofs.Common.{◌≡◌, [], ◌∷◌, ◌++◌, refl, codes, map}
 use Rattle.std.specs.Prelude.{replicate}
 use Rattle.std.specs.Str.{chars, is_utf8}
-use Rattle.co_sheet_text.specs.Text.{Line}
-use Rattle.co_sheet_warnings.specs.declared.warning.WarningKind.TheVariants.{LongLine, Utf8, NotAscii, LineEnds}
-use Rattle.co_sheet_warnings.specs.Lines.{is_long, mixed_line_ends}
-use Rattle.co_sheet_warnings.specs.Warnings.{few_places, place_in_text, places_in, places_of}
+use Rattle.co_sheet_text_warnings.specs.declared.warning.WarningKind.TheVariants.{LongLine, Utf8, NotAscii, LineEnds}
+use Rattle.co_sheet_warnings.specs.Warnings.{few_places, places_in, places_of}
+use Rattle.co_sheet_text_warnings.specs.InText.{place_in_text}
 use Rattle.co_sheet_warnings.proofs.ExampleTexts.{places}
 
 -- ---- LineEnds
-
-line_ends : map mixed_line_ends ((97 ∷ 13 ∷ 10 ∷ 98 ∷ 10 ∷ []) ∷ (10 ∷ 10 ∷ 13 ∷ 10 ∷ 10 ∷ []) ∷ (97 ∷ 13 ∷ 10 ∷ 13 ∷ 10 ∷ 98 ∷ []) ∷ (97 ∷ 13 ∷ 98 ∷ 10 ∷ 10 ∷ []) ∷ (13 ∷ 10 ∷ 13 ∷ 98 ∷ 10 ∷ []) ∷ [])
-    ≡ (2 ∷ []) ∷ (3 ∷ []) ∷ [] ∷ [] ∷ (2 ∷ []) ∷ []
-line_ends = refl
 
 ends_of_text : places LineEnds (codes "a" ∷ (98 ∷ 13 ∷ []) ∷ codes "c" ∷ []) ≡ 2 ∷ []
 unfolding places_of few_places place_in_text places_in
@@ -21,19 +15,9 @@ ends_of_text = refl
 
 -- ---- LongLine, Utf8, NotAscii
 
-abbrev line : List ℕ → Line
-line bytes = record { number = 1; bytes = bytes }
-
 long : places LongLine (replicate 255 97 ∷ replicate 256 98 ∷ replicate 512 99 ∷ replicate 513 100 ∷ []) ≡ 2 ∷ 3 ∷ []
 unfolding places_of few_places place_in_text places_in chars is_utf8 lib.Utf8.encode
 long = refl
-
--- 255 characters, 256, and 255 of two bytes each, in UTF-8; 256 bytes in Windows-1252, and 255
-characters : map is_long (line (0xC3 ∷ 0xA4 ∷ replicate 254 97) ∷ line (0xC3 ∷ 0xA4 ∷ replicate 255 97) ∷ line (flat_map (λ b. 0xC3 ∷ b ∷ []) (replicate 255 0xA4))
-    ∷ line (0xE4 ∷ replicate 255 97) ∷ line (0xE4 ∷ replicate 254 97) ∷ [])
-    ≡ false ∷ true ∷ false ∷ true ∷ false ∷ []
-unfolding chars is_utf8 lib.Utf8.encode
-characters = refl
 
 ascii : places Utf8 (codes "a" ∷ (0x7F ∷ []) ∷ []) ++ places NotAscii (codes "a" ∷ (0x7F ∷ []) ∷ []) ≡ []
 unfolding places_of few_places place_in_text places_in

@@ -1,22 +1,10 @@
 -- Objects and their lists, on both sides of each edge.
-use Rattle.std.proofs.Common.{◌≡◌, ℕ, List, [], ◌∷◌, ◌++◌, true, false, refl, codes, map}
+use Rattle.std.proofs.Common.{◌≡◌, ℕ, List, [], ◌∷◌, ◌++◌, refl, codes, map}
 use Rattle.co_sheet_text.specs.declared.section_kind.SectionKind.TheVariants.{MandatoryObjects, OptionalObjects, ManufacturerObjects}
-use Rattle.co_sheet_warnings.specs.declared.warning.WarningKind.TheVariants.{WrongList, UncountedKey, Unlisted, NoErrorControl, ListOrder}
-use Rattle.co_sheet_warnings.specs.Lists.{is_right_list}
-use Rattle.co_sheet_warnings.specs.Warnings.{few_places, place_in_text, places_in, places_of}
+use Rattle.co_sheet_text_warnings.specs.declared.warning.WarningKind.TheVariants.{WrongList, UncountedKey, Unlisted, NoErrorControl, ListOrder}
+use Rattle.co_sheet_warnings.specs.Warnings.{few_places, places_in, places_of}
+use Rattle.co_sheet_text_warnings.specs.InText.{place_in_text}
 use Rattle.co_sheet_warnings.proofs.ExampleTexts.{places}
-
-mandatory : map (is_right_list MandatoryObjects) (0x0FFF ∷ 0x1000 ∷ 0x1001 ∷ 0x1002 ∷ 0x1017 ∷ 0x1018 ∷ 0x1019 ∷ 0x2000 ∷ [])
-    ≡ false ∷ true ∷ true ∷ false ∷ false ∷ true ∷ false ∷ false ∷ []
-mandatory = refl
-
-of_manufacturer : map (is_right_list ManufacturerObjects) (0x1018 ∷ 0x1FFF ∷ 0x2000 ∷ 0x5FFF ∷ 0x6000 ∷ [])
-    ≡ false ∷ false ∷ true ∷ true ∷ false ∷ []
-of_manufacturer = refl
-
-optional : map (is_right_list OptionalObjects) (0x1001 ∷ 0x1002 ∷ 0x1018 ∷ 0x1FFF ∷ 0x2000 ∷ 0x5FFF ∷ 0x6000 ∷ 0xFFFF ∷ [])
-    ≡ false ∷ true ∷ false ∷ true ∷ false ∷ false ∷ true ∷ true ∷ []
-optional = refl
 
 -- a list's keys from 1 to its count, whose values are indices from 1000h on
 wrong : places WrongList (codes "[OptionalObjects]" ∷ codes "SupportedObjects=5" ∷ codes "1=0x1000" ∷ codes "2=0x1017" ∷ codes "3=0x10000" ∷ codes "4=0x1008" ∷ codes "5=0x2000" ∷ codes "6=0x2001" ∷ codes "05=0x2002" ∷ []) ≡ 3 ∷ 7 ∷ []

@@ -10,9 +10,9 @@ use Rattle.co_sheet_warnings.specs.declared.repeats.Once.{Once}
 use Rattle.co_sheet_warnings.specs.declared.repeats.Once.TheVariants.{Identifiers, Consumed, Names}
 use Rattle.co_sheet_warnings.specs.Repeats.{Placed, as_name, id_name, identifier_in, identifiers_in, repeats, same_scoped}
 use Rattle.co_sheet_warnings.specs.Repeats.{ScopedName as Scoped}
-use Rattle.co_sheet_warnings.specs.declared.warning.Warning.{Warning}
-use Rattle.co_sheet_warnings.specs.declared.warning.WarningKind.{WarningKind}
-use Rattle.co_sheet_warnings.specs.Warnings.{warning_at, warnings_at}
+use Rattle.co_sheet_text_warnings.specs.declared.warning.Warning.{Warning}
+use Rattle.co_sheet_text_warnings.specs.declared.warning.WarningKind.{WarningKind}
+use Rattle.co_sheet_text_warnings.specs.Places.{warning_at, warnings_at}
 use Rattle.co_sheet_warnings.specs.private.Views.{again_at, kept_with, placed_in, repeats_of, scoped_view}
 
 -- a name is among the kept ones

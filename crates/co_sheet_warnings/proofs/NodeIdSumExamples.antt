@@ -4,9 +4,10 @@ use Rattle.co_value.specs.declared.data_type.DataType.{DataType}
 use Rattle.co_value.specs.declared.data_type.DataType.TheVariants.{Boolean, Integer8, Integer16, Integer64, Unsigned8, Unsigned16, Unsigned32, Unsigned64}
 use Rattle.co_sheet_text.specs.declared.section_kind.SectionKind.TheVariants.{Object}
 use Rattle.co_sheet_text.specs.Sections.{Property, TextSection}
-use Rattle.co_sheet_warnings.specs.declared.warning.WarningKind.TheVariants.{NodeIdSum}
+use Rattle.co_sheet_text_warnings.specs.declared.warning.WarningKind.TheVariants.{NodeIdSum}
 use Rattle.co_sheet_warnings.specs.NodeIdSums.{is_never_permitted}
-use Rattle.co_sheet_warnings.specs.Warnings.{few_places, place_in_text, places_in, places_of}
+use Rattle.co_sheet_warnings.specs.Warnings.{few_places, places_in, places_of}
+use Rattle.co_sheet_text_warnings.specs.InText.{place_in_text}
 use Rattle.co_sheet_warnings.proofs.ExampleTexts.{places, places_at}
 
 -- a section with these limits

@@ -2,13 +2,15 @@
 use Rattle.std.proofs.Common.{◌≡◌, ℕ, List, Option, [], ◌∷◌, Some, None, true, false, refl, codes, map}
 use Rattle.std.specs.Prelude.{filter_map, option_and_then}
 use Rattle.co_sheet_text.specs.declared.section_kind.SectionKind.TheVariants.{MandatoryObjects, Object}
-use Rattle.co_sheet_warnings.specs.declared.warning.WarningKind.TheVariants.{SharedCobId, HeartbeatTwice, EqualNames, MissingName}
+use Rattle.co_sheet_text_warnings.specs.declared.warning.WarningKind.TheVariants.{SharedCobId, HeartbeatTwice, EqualNames, MissingName}
 use Rattle.co_sheet_warnings.specs.Repeats.{compared, has_cob_id, enabled_cob_id, first_equal, identifier_with}
-use Rattle.co_sheet_warnings.specs.declared.warning.WarningKind.{WarningKind}
+use Rattle.co_sheet_text_warnings.specs.declared.warning.WarningKind.{WarningKind}
 use Rattle.co_sheet_text.specs.LinesAtFault.{sections_read}
 use Rattle.co_sheet_text.specs.Text.{lines_of}
-use Rattle.co_sheet_warnings.specs.Warnings.{few_places, place_in_text, places_in, places_of}
-use Rattle.co_sheet_warnings.proofs.ExampleTexts.{joined, places, places_at, sub_index}
+use Rattle.co_sheet_warnings.specs.Warnings.{few_places, places_in, places_of}
+use Rattle.co_sheet_text_warnings.specs.InText.{place_in_text}
+use Rattle.co_sheet_text_warnings.proofs.ExampleTexts.{joined}
+use Rattle.co_sheet_warnings.proofs.ExampleTexts.{places, places_at, sub_index}
 
 -- ---- SharedCobId
 

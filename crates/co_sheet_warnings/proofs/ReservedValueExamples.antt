@@ -1,9 +1,10 @@
 -- Values that CiA 301 reserves, on both sides of each edge.
 use Rattle.std.proofs.Common.{◌≡◌, ℕ, List, [], ◌∷◌, true, false, refl, codes, map}
 use Rattle.co_sheet_text.specs.declared.section_kind.SectionKind.TheVariants.{Object}
-use Rattle.co_sheet_warnings.specs.declared.warning.WarningKind.TheVariants.{ReservedValue}
+use Rattle.co_sheet_text_warnings.specs.declared.warning.WarningKind.TheVariants.{ReservedValue}
 use Rattle.co_sheet_warnings.specs.ReservedValues.{has_reserved, is_reserved}
-use Rattle.co_sheet_warnings.specs.Warnings.{few_places, place_in_text, places_in, places_of}
+use Rattle.co_sheet_warnings.specs.Warnings.{few_places, places_in, places_of}
+use Rattle.co_sheet_text_warnings.specs.InText.{place_in_text}
 use Rattle.co_sheet_warnings.proofs.ExampleTexts.{places, sub_index}
 
 overflow_values : map (is_reserved (Object 0x1019)) (0 ∷ 1 ∷ 2 ∷ 240 ∷ 241 ∷ 255 ∷ 256 ∷ []) ≡ false ∷ true ∷ false ∷ false ∷ true ∷ true ∷ false ∷ []

@@ -3,10 +3,12 @@ use Rattle.std.proofs.Common.{◌≡◌, ℕ, List, [], ◌∷◌, ◌++◌, map
 use Rattle.co_sheet_warnings.specs.WarningWords.{is_quiet}
 use Rattle.std.specs.List.{list_any}
 use Rattle.std.specs.Prelude.{not, replicate}
-use Rattle.co_sheet_warnings.specs.declared.warning.Warning.{Warning}
-use Rattle.co_sheet_warnings.specs.declared.warning.WarningKind.TheVariants.{SubNumber, FileInfoKeys, DeviceInfoKeys, Unlisted, FixedCobId, SharedCobId, HeartbeatTwice, NodeId, MissingName}
-use Rattle.co_sheet_warnings.specs.ReadTexts.{read_text}
-use Rattle.co_sheet_warnings.specs.Warnings.{all_warnings, kind_in, warning_at, few_places, place_in_text, places_in, places_of, warnings_of, warnings_of_kinds, first_kinds, last_kinds, quiet_kinds}
+use Rattle.co_sheet_text_warnings.specs.declared.warning.Warning.{Warning}
+use Rattle.co_sheet_text_warnings.specs.declared.warning.WarningKind.TheVariants.{SubNumber, FileInfoKeys, DeviceInfoKeys, Unlisted, FixedCobId, SharedCobId, HeartbeatTwice, NodeId, MissingName}
+use Rattle.co_sheet_text_warnings.specs.ReadTexts.{read_text}
+use Rattle.co_sheet_warnings.specs.Warnings.{all_warnings, few_places, places_in, places_of, warnings_of, warnings_of_kinds, first_kinds, last_kinds, quiet_kinds}
+use Rattle.co_sheet_text_warnings.specs.InText.{kind_in, place_in_text}
+use Rattle.co_sheet_text_warnings.specs.Places.{warning_at}
 
 several : warnings_of_kinds (read_text (codes "[2000]\nSubNumber=1\n[1800sub1]\nParameterName=COB-ID\nDefaultValue=0x185\n") None) (SubNumber ∷ Unlisted ∷ FixedCobId ∷ MissingName ∷ [])
     ≡ warning_at SubNumber 2 ∷ warning_at Unlisted 1 ∷ warning_at Unlisted 3 ∷ warning_at FixedCobId 5 ∷ warning_at MissingName 1 ∷ []

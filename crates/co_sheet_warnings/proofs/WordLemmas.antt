@@ -1,7 +1,7 @@
 -- The tables of words have each kind's words in its row.
 use Rattle.std.proofs.Common.{◌≡◌, ◌<◌, ℕ, List, [], get_or, map, refl, arith}
-use Rattle.co_sheet_warnings.specs.declared.warning.WarningKind.{WarningKind}
-use Rattle.co_sheet_warnings.specs.declared.warning.WarningKind.TheVariants.{SubNumber, SubIndex0, VarSubIndices, FileInfoKeys, DeviceInfoKeys, PdoCount, WrongList, UncountedKey, Unlisted, IdentityNumber, FixedCobId, NodeIdPlace, NodeIdSum, NegativeLimit, ReservedValue, WrongAccess, MisspeltSection, MisspeltKey, SharedCobId, InhibitTime, OwnHeartbeat, HeartbeatTwice, NoErrorControl, LongLine, Utf8, NotAscii, NodeId, ListOrder, EqualNames, MissingName, UnknownKey, DateFormat, LineEnds}
+use Rattle.co_sheet_text_warnings.specs.declared.warning.WarningKind.{WarningKind}
+use Rattle.co_sheet_text_warnings.specs.declared.warning.WarningKind.TheVariants.{SubNumber, SubIndex0, VarSubIndices, FileInfoKeys, DeviceInfoKeys, PdoCount, WrongList, UncountedKey, Unlisted, IdentityNumber, FixedCobId, NodeIdPlace, NodeIdSum, NegativeLimit, ReservedValue, WrongAccess, MisspeltSection, MisspeltKey, SharedCobId, InhibitTime, OwnHeartbeat, HeartbeatTwice, NoErrorControl, LongLine, Utf8, NotAscii, NodeId, ListOrder, EqualNames, MissingName, UnknownKey, DateFormat, LineEnds}
 use Rattle.co_sheet_warnings.specs.declared.words.TheConstants.{NAMES, MEANINGS, FIXES, SUBJECTS}
 use Rattle.co_sheet_warnings.specs.WarningWords.{name_of, meaning_of, fix_of, subject_of}
 use Rattle.co_sheet_warnings.specs.private.Views.{kind_row}

@@ -21,7 +21,8 @@ use Rattle.co_sheet_text.specs.declared.section_kind.SectionKind.{SectionKind}
 use Rattle.co_sheet_text.specs.declared.section_kind.SectionKind.TheVariants.{Object, SubIndex}
 use Rattle.co_sheet_text.specs.Sections.{Property, TextSection, property_at}
 use Rattle.co_sheet_text.specs.Text.{same_name}
-use Rattle.co_sheet_warnings.specs.SubIndices.{is_constant_word, is_within}
+use Rattle.co_sheet_warnings.specs.SubIndices.{is_constant_word}
+use Rattle.co_sheet_text_warnings.specs.Ranges.{is_within}
 use Rattle.co_sheet_warnings.specs.declared.accesses.FixedAccess.{FixedAccess}
 use Rattle.co_sheet_warnings.specs.declared.accesses.FixedAccess.TheVariants.{ReadOnly, Readable, ReadWrite}
 

@@ -32,7 +32,7 @@ use Rattle.co_sheet_text.specs.Numerals.{unsigned_number}
 use Rattle.co_sheet_text.specs.Sections.{Property, TextSection, property_at, section_at}
 use Rattle.co_sheet_text.specs.Properties.{number_at, property_number}
 use Rattle.co_sheet.specs.Limits.{is_plus, is_node_id}
-use Rattle.co_sheet_warnings.specs.SubIndices.{is_within}
+use Rattle.co_sheet_text_warnings.specs.Ranges.{is_within}
 
 -- the COB-IDs that a device has by its node-ID: of EMCY, and of the first four RPDOs and TPDOs
 abbrev pub has_default_cob_id : SectionKind → Bool

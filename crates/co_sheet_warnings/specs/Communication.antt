@@ -35,7 +35,7 @@ use Rattle.co_sheet_text.specs.Sections.{Property, TextSection}
 use Rattle.co_sheet_text.specs.Properties.{property_number}
 use Rattle.co_sheet.specs.Entries.{Entry, sub_indices}
 use Rattle.co_sheet.specs.Limits.{Default, node_id, number, numeric_default, value_property}
-use Rattle.co_sheet_warnings.specs.SubIndices.{is_within}
+use Rattle.co_sheet_text_warnings.specs.Ranges.{is_within}
 
 -- what the entry at a sub-index of an object begins with, and its number
 abbrev pub value_at_sub : ℕ → List Entry → Option Property

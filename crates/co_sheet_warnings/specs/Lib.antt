@@ -1,15 +1,8 @@
-pub mod Keys
-pub mod KnownKeys
-pub mod NodeIds
-pub mod ReadTexts
 pub mod SubIndices
-pub mod Lists
 pub mod Limits
-pub mod SectionNames
 pub mod CobIds
-pub mod Lines
 pub mod Communication
-pub mod Infos
+pub mod Identities
 pub mod Repeats
 pub mod ReservedValues
 pub mod Accesses

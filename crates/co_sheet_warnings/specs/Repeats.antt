@@ -37,10 +37,10 @@ use Rattle.co_sheet_text.specs.declared.section_kind.SectionKind.TheVariants.{Ob
 use Rattle.co_sheet_text.specs.Sections.{Property, TextSection, property_at}
 use Rattle.co_sheet.specs.Limits.{Default, number, node_id, numeric_default}
 use Rattle.co_sheet_warnings.specs.declared.repeats.ComparedNumber.{ComparedNumber}
-use Rattle.co_sheet_warnings.specs.declared.warning.WarningKind.{WarningKind}
-use Rattle.co_sheet_warnings.specs.declared.warning.WarningKind.TheVariants.{SharedCobId, HeartbeatTwice, EqualNames}
+use Rattle.co_sheet_text_warnings.specs.declared.warning.WarningKind.{WarningKind}
+use Rattle.co_sheet_text_warnings.specs.declared.warning.WarningKind.TheVariants.{SharedCobId, HeartbeatTwice, EqualNames}
 use Rattle.co_sheet_warnings.specs.Communication.{is_used_word, node_of_word, word_of}
-use Rattle.co_sheet_warnings.specs.SubIndices.{is_within}
+use Rattle.co_sheet_text_warnings.specs.Ranges.{is_within}
 
 -- a thing, and its line
 pub record Placed (K : Type 0) : Type 0 where

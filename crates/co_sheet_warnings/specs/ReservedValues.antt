@@ -17,7 +17,7 @@ use Rattle.co_sheet_text.specs.declared.section_kind.SectionKind.TheVariants.{Ob
 use Rattle.co_sheet_text.specs.Sections.{TextSection}
 use Rattle.co_sheet_warnings.specs.Communication.{line_if}
 use Rattle.co_sheet_warnings.specs.Repeats.{value_in}
-use Rattle.co_sheet_warnings.specs.SubIndices.{is_within}
+use Rattle.co_sheet_text_warnings.specs.Ranges.{is_within}
 
 -- the entries that have such values: 1019:00, and the transmission types of RPDOs and TPDOs
 abbrev pub has_reserved : SectionKind → Bool

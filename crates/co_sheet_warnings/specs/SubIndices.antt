@@ -9,7 +9,6 @@ use Rattle.std.specs.Prelude.{
   ◌&&◌,
   ◌||◌,
   ◌==◌,
-  nat_le,
   nat_lt,
   max,
   fold,
@@ -31,11 +30,9 @@ use Rattle.co_sheet_text.specs.Properties.{property_number}
 use Rattle.co_sheet.specs.ObjectLists.{is_one_of}
 use Rattle.co_sheet.specs.Entries.{Entry, object_code, single_codes, sub_indices}
 use Rattle.co_sheet.specs.Limits.{value_property}
-use Rattle.co_sheet.specs.Notes.{sub_number_note}
-
--- a range of numbers, with both its ends
-abbrev pub is_within : ℕ → ℕ → ℕ → Bool
-is_within low high n = nat_le low n && nat_le n high
+use Rattle.co_sheet.specs.Notes.{sub_number_note, unlisted_note}
+use Rattle.co_sheet.specs.SectionViews.{object_at}
+use Rattle.co_sheet_text_warnings.specs.Ranges.{is_within}
 
 -- SubNumber isn't the number of the object's sub-index sections
 abbrev pub sub_number : List TextSection → TextSection → SectionKind → List ℕ
@@ -52,6 +49,22 @@ abbrev pub var_sub_indices : List TextSection → TextSection → SectionKind �
 var_sub_indices sections s (Object index) =
     if is_single s && nat_lt 0 (length (sub_indices sections index)) then s.line ∷ [] else []
 var_sub_indices sections s kind = []
+
+-- an object section that no list names; of an object without one its first sub-index section
+abbrev pub is_first : List Entry → ℕ → Bool
+is_first [] line = false
+is_first (e ∷ entries) line = e.section.line == line
+
+abbrev pub stands_for_object : List TextSection → ℕ → ℕ → Bool
+stands_for_object sections index line =
+    is_none (object_at index sections) && is_first (sub_indices sections index) line
+
+abbrev pub unlisted : List TextSection → TextSection → SectionKind → List ℕ
+unlisted sections s (Object index) = map (λ n. n.line) (unlisted_note sections s index)
+unlisted sections s (SubIndex key) =
+    if stands_for_object sections key.index s.line
+    then map (λ n. n.line) (unlisted_note sections s key.index) else []
+unlisted sections s kind = []
 
 -- an object or a sub-index without a name
 abbrev pub is_entry_kind : SectionKind → Bool

@@ -1,8 +1,8 @@
 -- Each warning in words: its name, what it means, how to fix it, and where the standard says so (by
 -- the name of its subject, since the numbers differ by edition).
 use Rattle.std.specs.Prelude.{ℕ, Bool, true, false, List, codes}
-use Rattle.co_sheet_warnings.specs.declared.warning.WarningKind.{WarningKind}
-use Rattle.co_sheet_warnings.specs.declared.warning.WarningKind.TheVariants.{
+use Rattle.co_sheet_text_warnings.specs.declared.warning.WarningKind.{WarningKind}
+use Rattle.co_sheet_text_warnings.specs.declared.warning.WarningKind.TheVariants.{
   SubNumber,
   SubIndex0,
   VarSubIndices,

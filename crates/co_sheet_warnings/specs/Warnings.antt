@@ -13,19 +13,16 @@ use Rattle.std.specs.Prelude.{
   ◌∷◌,
   ◌++◌,
   length,
-  map,
   flat_map,
   filter,
   filter_map,
   replicate,
   Option,
   None,
-  option_map,
-  unwrap_or,
 }
 use Rattle.std.specs.List.Sorted.{IsNonDecreasingBy}
-use Rattle.co_sheet_warnings.specs.declared.warning.WarningKind.{WarningKind}
-use Rattle.co_sheet_warnings.specs.declared.warning.WarningKind.TheVariants.{
+use Rattle.co_sheet_text_warnings.specs.declared.warning.WarningKind.{WarningKind}
+use Rattle.co_sheet_text_warnings.specs.declared.warning.WarningKind.TheVariants.{
   SubNumber,
   SubIndex0,
   VarSubIndices,
@@ -43,7 +40,6 @@ use Rattle.co_sheet_warnings.specs.declared.warning.WarningKind.TheVariants.{
   ReservedValue,
   WrongAccess,
   MisspeltSection,
-  MisspeltKey,
   SharedCobId,
   InhibitTime,
   OwnHeartbeat,
@@ -60,41 +56,33 @@ use Rattle.co_sheet_warnings.specs.declared.warning.WarningKind.TheVariants.{
   DateFormat,
   LineEnds,
 }
-use Rattle.co_sheet_warnings.specs.declared.warning.Warning.{Warning}
+use Rattle.co_sheet_text_warnings.specs.declared.warning.Warning.{Warning}
 use Rattle.co_sheet_text.specs.Sections.{TextSection}
 use Rattle.co_sheet.specs.Entries.{sub_indices}
-use Rattle.co_sheet_warnings.specs.ReadTexts.{ReadText, read_text}
-use Rattle.co_sheet_warnings.specs.SubIndices.{sub_number, sub_index_0, var_sub_indices, missing_name}
-use Rattle.co_sheet_warnings.specs.Lists.{wrong_lists, uncounted_keys, list_orders, unlisted, no_error_control}
+use Rattle.co_sheet_text_warnings.specs.ReadTexts.{ReadText, read_text}
+use Rattle.co_sheet_warnings.specs.SubIndices.{
+  sub_number,
+  sub_index_0,
+  var_sub_indices,
+  unlisted,
+  missing_name,
+}
+use Rattle.co_sheet_text_warnings.specs.Lists.{wrong_lists, uncounted_keys, list_orders}
 use Rattle.co_sheet_warnings.specs.CobIds.{fixed_cob_id, node_id_place}
 use Rattle.co_sheet_warnings.specs.Accesses.{wrong_access}
 use Rattle.co_sheet_warnings.specs.Limits.{negative_limit}
 use Rattle.co_sheet_warnings.specs.ReservedValues.{reserved_value}
-use Rattle.co_sheet_warnings.specs.SectionNames.{misspelt_section}
+use Rattle.co_sheet_text_warnings.specs.SectionNames.{misspelt_section}
 use Rattle.co_sheet_warnings.specs.Communication.{inhibit_time, own_heartbeat, heartbeat_twice}
-use Rattle.co_sheet_warnings.specs.NodeIds.{no_node_id}
+use Rattle.co_sheet_text_warnings.specs.NodeIds.{no_node_id}
 use Rattle.co_sheet_warnings.specs.NodeIdSums.{node_id_sum}
-use Rattle.co_sheet_warnings.specs.Lines.{long_lines, utf8, not_ascii, mixed_line_ends}
-use Rattle.co_sheet_warnings.specs.declared.keys.Topic.TheVariants.{FileInfo, DeviceInfo}
-use Rattle.co_sheet_warnings.specs.Keys.{WrittenKey}
-use Rattle.co_sheet_warnings.specs.KnownKeys.{is_known, meant, unknown_key}
-use Rattle.co_sheet_warnings.specs.Infos.{
-  missing_each,
-  missing_keys,
-  file_keys,
-  device_keys,
-  pdo_counts,
-  identity_number,
-  date_formats,
-}
+use Rattle.co_sheet_text_warnings.specs.Lines.{long_lines}
+use Rattle.co_sheet_text_warnings.specs.InText.{kind_in, place_in_text}
+use Rattle.co_sheet_text_warnings.specs.MisspeltKeys.{misspelt}
+use Rattle.co_sheet_text_warnings.specs.Places.{warnings_at}
+use Rattle.co_sheet_text_warnings.specs.Infos.{pdo_counts, date_formats}
+use Rattle.co_sheet_warnings.specs.Identities.{identity_number}
 use Rattle.co_sheet_warnings.specs.Repeats.{shared_cob_ids, equal_names}
-
--- a warning of a kind at a line, and warnings of a kind at lines
-abbrev pub warning_at : WarningKind → ℕ → Warning
-warning_at kind line = record { kind = kind; line = line }
-
-abbrev pub warnings_at : WarningKind → List ℕ → List Warning
-warnings_at kind lines = map (warning_at kind) lines
 
 -- the lines of a section where a kind applies, of the kinds that are about a section
 unfoldable pub places_in : ReadText → WarningKind → TextSection → List ℕ
@@ -115,17 +103,6 @@ places_in t (HeartbeatTwice given) s = heartbeat_twice t.node t.sections s s.kin
 places_in t NodeId s = no_node_id s s.kind
 places_in t MissingName s = missing_name s
 places_in t kind s = []
-
--- the line of a text where a kind applies, of the kinds that apply at one line at most
-unfoldable pub place_in_text : ReadText → WarningKind → List ℕ
-place_in_text t (FileInfoKeys missing) = missing_keys FileInfo t.keys t.sections file_keys
-place_in_text t (DeviceInfoKeys missing) = missing_keys DeviceInfo t.keys t.sections device_keys
-place_in_text t NoErrorControl = no_error_control t.sections
-place_in_text t Utf8 = utf8 t
-place_in_text t NotAscii = not_ascii t
-place_in_text t UnknownKey = unknown_key t.keys
-place_in_text t LineEnds = mixed_line_ends t.text
-place_in_text t kind = []
 
 -- its lines, of a kind that applies at one line at most or in sections
 abbrev pub other_places : ReadText → WarningKind → List ℕ
@@ -166,28 +143,15 @@ abbrev pub quiet_kinds : List WarningKind
 quiet_kinds =
     ListOrder ∷ EqualNames ∷ MissingName ∷ UnknownKey ∷ DateFormat ∷ LineEnds ∷ []
 
--- the warnings of a kind, of kinds, and of misspelt keys
+-- the warnings of a kind, and of kinds
 abbrev pub warnings_with : ReadText → WarningKind → List Warning
 warnings_with t kind = warnings_at kind (places_of t kind)
-
--- a kind with what it says of a text: of each key whether it is missing, and the node-ID
-unfoldable pub kind_in : ReadText → WarningKind → WarningKind
-kind_in t (FileInfoKeys missing) = FileInfoKeys (missing_each FileInfo t.keys file_keys)
-kind_in t (DeviceInfoKeys missing) = DeviceInfoKeys (missing_each DeviceInfo t.keys device_keys)
-kind_in t (SharedCobId node) = SharedCobId (unwrap_or t.node 0)
-kind_in t (HeartbeatTwice given) = HeartbeatTwice t.node
-kind_in t kind = kind
 
 abbrev pub warnings_in : ReadText → WarningKind → List Warning
 warnings_in t kind = warnings_with t (kind_in t kind)
 
 abbrev pub warnings_of_kinds : ReadText → List WarningKind → List Warning
 warnings_of_kinds t kinds = flat_map (warnings_in t) kinds
-
-abbrev pub misspelt : WrittenKey → Option Warning
-misspelt k =
-    if is_known k then None
-    else option_map (λ known. warning_at (MisspeltKey known) k.line) (meant k)
 
 -- those of taste, on request
 abbrev pub asked_kinds : Bool → List WarningKind

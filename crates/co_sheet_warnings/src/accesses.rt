@@ -16,8 +16,8 @@ ghost use Rattle.co_sheet_warnings.specs.Accesses.{
 };
 ghost use Rattle.co_sheet_warnings.specs.SubIndices.{is_constant_word};
 
-use crate::sub_indices::is_within;
 use co_sheet_text::{SectionKind, TextSection, same_name};
+use co_sheet_text_warnings::is_within;
 use co_value::Key;
 
 /// What access an entry has (CiA 301, objects of the communication profile).

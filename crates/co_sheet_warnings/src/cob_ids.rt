@@ -13,10 +13,9 @@ ghost use Rattle.co_sheet_warnings.specs.CobIds.{
   node_id_place,
 };
 
-use crate::read_text::ReadText;
-use crate::sub_indices::is_within;
 use co_sheet::section_at;
 use co_sheet_text::{SectionKind, TextSection, same_name, trim, unsigned_number};
+use co_sheet_text_warnings::{ReadText, is_within};
 use co_text::split_at_first;
 
 fn has_default_cob_id(kind: SectionKind) -> bool

@@ -23,10 +23,10 @@ ghost use Rattle.co_sheet_warnings.specs.Communication.{
   word_with,
 };
 
-use crate::read_text::ReadText;
-use crate::sub_indices::{is_within, value_in};
+use crate::sub_indices::value_in;
 use co_sheet::{EntrySection, Preset, numeric_default};
 use co_sheet_text::{Property, SectionKind, TextSection};
+use co_sheet_text_warnings::{ReadText, is_within};
 use co_value::DataType;
 
 // what the entry at a sub-index of an object begins with

@@ -8,14 +8,11 @@ use crate::accesses::wrong_access;
 use crate::cob_ids::{fixed_cob_id, node_id_place};
 use crate::communication::{heartbeat_twice, inhibit_time, own_heartbeat};
 use crate::limits::negative_limit;
-use crate::node_id::no_node_id;
 use crate::node_id_sums::node_id_sum;
-use crate::read_text::ReadText;
 use crate::reserved_values::reserved_value;
-use crate::section_names::misspelt_section;
 use crate::sub_indices::{missing_name, sub_index_0, sub_number, unlisted, var_sub_indices};
-use crate::warning::WarningKind;
 use co_sheet_text::TextSection;
+use co_sheet_text_warnings::{ReadText, WarningKind, misspelt_section, no_node_id};
 
 /// The line of a section where a kind applies.
 #[tactic(auto, unfolding(crate::specs::Warnings::places_in))]

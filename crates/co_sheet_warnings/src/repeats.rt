@@ -31,7 +31,7 @@ ghost use Rattle.co_sheet_warnings.specs.Repeats.{
   repeats,
   same_scoped,
 };
-ghost use Rattle.co_sheet_warnings.specs.Warnings.{warnings_at};
+ghost use Rattle.co_sheet_text_warnings.specs.Places.{warnings_at};
 ghost use Rattle.co_sheet_warnings.specs.private.Views.{
   again_at,
   is_sought,
@@ -43,10 +43,10 @@ ghost use Rattle.co_sheet_warnings.specs.private.Views.{
 };
 
 use crate::communication::{is_used_word, node_of_word, word_of};
-use crate::sub_indices::{is_within, value_in};
-use crate::warning::{Warning, WarningKind};
+use crate::sub_indices::value_in;
 use co_sheet::{Preset, numeric_default};
 use co_sheet_text::{SectionKind, TextSection};
+use co_sheet_text_warnings::{Warning, WarningKind, is_within};
 use co_value::DataType;
 use indexmap::IndexSet;
 use std::alloc::{AllocError, Global};

@@ -8,10 +8,11 @@ ghost use Rattle.co_sheet_warnings.specs.ReservedValues.{
   last_reserved,
   reserved_value,
 };
-ghost use Rattle.co_sheet_warnings.specs.SubIndices.{is_within as is_number_within};
+ghost use Rattle.co_sheet_text_warnings.specs.Ranges.{is_within as is_number_within};
 
-use crate::sub_indices::{is_within, value_in};
+use crate::sub_indices::value_in;
 use co_sheet_text::{SectionKind, TextSection};
+use co_sheet_text_warnings::is_within;
 
 // whether an entry has values that are reserved: 1019:00, and the transmission type of a PDO
 fn has_reserved(kind: SectionKind) -> bool

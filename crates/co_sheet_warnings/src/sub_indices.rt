@@ -3,32 +3,25 @@
 ghost use Rattle.std.specs.Prelude.{◌≡◌, map, option_map, option_to_list};
 ghost use Rattle.co_sheet_text.specs.Views.{property_view, section_view};
 ghost use Rattle.co_sheet.specs.SectionViews.{entry_view};
-ghost use Rattle.co_sheet_warnings.specs.Lists.{stands_for_object, unlisted};
 ghost use Rattle.co_sheet_warnings.specs.Repeats.{value_in};
 ghost use Rattle.co_sheet_warnings.specs.SubIndices.{
   highest_of,
   is_highest_by_rule,
   is_single,
-  is_within,
   missing_name,
+  stands_for_object,
   sub_index_0,
   sub_number,
+  unlisted,
   var_sub_indices,
 };
+ghost use Rattle.co_sheet_text_warnings.specs.Ranges.{is_within};
 ghost use Rattle.co_sheet_warnings.specs.private.Views.{is_constant_section};
 
 use crate::accesses::is_constant_word;
-use crate::read_text::ReadText;
 use co_sheet::EntrySection;
 use co_sheet_text::{Property, SectionKind, TextSection};
-
-/// Whether an index is in a range with both its ends. Conditions call it, so that the order of
-/// numbers is proved once.
-pub(crate) fn is_within(low: u16, high: u16, index: u16) -> bool
-    ensures { result ≡ is_within low high index }
-{
-    low <= index && index <= high
-}
+use co_sheet_text_warnings::{ReadText, is_within};
 
 /// The line of an object's SubNumber that isn't the number of its sub-index sections.
 pub(crate) fn sub_number(text: &ReadText, section: &TextSection) -> Option<usize>

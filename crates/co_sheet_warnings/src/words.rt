@@ -9,7 +9,7 @@ ghost use Rattle.co_sheet_warnings.specs.WarningWords.{
 };
 ghost use Rattle.co_sheet_warnings.specs.private.Views.{kind_row};
 
-use crate::warning::WarningKind;
+use co_sheet_text_warnings::WarningKind;
 
 // the row of a kind in the tables of words
 fn row(kind: WarningKind) -> usize

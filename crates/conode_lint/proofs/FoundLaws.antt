@@ -13,7 +13,7 @@ use Rattle.co_sheet_text.specs.LinesAtFault.{sections_read}
 use Rattle.co_sheet_text.specs.Sections.{TextSection}
 use Rattle.co_sheet_text.specs.Text.{lines_of}
 use Rattle.co_sheet_faults.specs.AllFaults.{faults_of}
-use Rattle.co_sheet_warnings.specs.declared.warning.Warning.{Warning}
+use Rattle.co_sheet_text_warnings.specs.declared.warning.Warning.{Warning}
 use Rattle.co_dict_build.specs.Built.{Plan, plan_of}
 use Rattle.co_dict_build.specs.BuildFaults.{build_fault}
 use Rattle.co_dict_build.specs.Capacities.{Limits, limits_view}
@@ -23,7 +23,7 @@ use Rattle.conode_lint_marks.specs.declared.mark.OtherFormat.{OtherFormat}
 use Rattle.conode_lint.specs.declared.marks.Checks.{Checks}
 use Rattle.conode_lint_marks.specs.BuildLines.{built_marks}
 use Rattle.conode_lint.specs.Formats.{other_format}
-use Rattle.co_sheet_warnings.specs.Lines.{text_lines}
+use Rattle.co_sheet_text_warnings.specs.Lines.{text_lines}
 use Rattle.conode_lint.specs.Linted.{first_build_fault, has_error, is_good}
 use Rattle.conode_lint.specs.Marks.{IsAllFound, IsFaultList, IsFound, IsFoundIn, errors_of, fault_mark, left_of, format_of, node_for, sheet_marks, text_marks}
 use Rattle.conode_lint_marks.specs.Beside.{beside_marks, sheet_of}

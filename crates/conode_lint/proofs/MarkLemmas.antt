@@ -9,15 +9,15 @@ use Rattle.co_sheet_text.specs.LinesAtFault.{sections_read}
 use Rattle.co_sheet_text.specs.Sections.{TextSection}
 use Rattle.co_sheet_text.specs.declared.section_kind.SectionKind.{SectionKind}
 use Rattle.co_sheet_text.specs.Text.{lines_of}
-use Rattle.co_sheet_warnings.specs.declared.warning.Warning.{Warning}
+use Rattle.co_sheet_text_warnings.specs.declared.warning.Warning.{Warning}
 use Rattle.co_sheet_mend.specs.ReadableTexts.{mended_in}
-use Rattle.co_sheet_warnings.specs.ReadTexts.{own_node, read_text}
+use Rattle.co_sheet_text_warnings.specs.ReadTexts.{own_node, read_text}
 use Rattle.co_sheet_warnings.specs.Warnings.{IsByLine as IsWarningsByLine, all_warnings, warnings_of}
 use Rattle.co_dict_build.specs.Capacities.{Limits, limits_view}
 use Rattle.conode_lint.specs.declared.linted_text.Linted.{Linted}
 use Rattle.conode_lint_marks.specs.declared.mark.Mark.{Mark}
 use Rattle.conode_lint.specs.declared.marks.Checks.{Checks}
-use Rattle.co_sheet_warnings.specs.Lines.{text_lines}
+use Rattle.co_sheet_text_warnings.specs.Lines.{text_lines}
 use Rattle.conode_lint_marks.specs.AtFault.{kinds_at_fault}
 use Rattle.conode_lint_marks.specs.KnownWarnings.{known_warnings, warning_mark}
 use Rattle.conode_lint.specs.Linted.{IsLinted, IsMadeOf, left}

@@ -10,7 +10,7 @@ use Rattle.co_sheet_text.specs.declared.section_kind.SectionKind.TheVariants.{Su
 use Rattle.co_sheet_text.specs.Numerals.{unsigned_number}
 use Rattle.co_sheet_text.specs.Sections.{TextSection, section_at}
 use Rattle.co_sheet.specs.Limits.{Default, node_id, numeric_default}
-use Rattle.co_sheet_warnings.specs.ReadTexts.{own_node}
+use Rattle.co_sheet_text_warnings.specs.ReadTexts.{own_node}
 use Rattle.co_dict.specs.CobIds.{has_11_bits, identifier_of, is_restricted}
 use Rattle.co_dict_build.specs.declared.build_fault.BuildFault.{BuildFault}
 use Rattle.co_dict_build.specs.declared.build_fault.BuildFault.TheVariants.{BadCobId, PdoPair}

@@ -2,7 +2,7 @@
 use Rattle.std.specs.Prelude.{ℕ, ◌+◌, nat_eq, nat_le, Bool, true, false, not, ◌&&◌, ◌||◌, if◌then◌else◌, List, [], ◌∷◌, length, take, codes, Option, Some, None}
 use Rattle.std.specs.List.{list_any, position_or_len, starts_with}
 use Rattle.co_sheet_text.specs.Text.{same_name, trim}
-use Rattle.co_sheet_warnings.specs.Lines.{text_lines}
+use Rattle.co_sheet_text_warnings.specs.Lines.{text_lines}
 use Rattle.conode_lint_marks.specs.declared.mark.OtherFormat.{OtherFormat}
 use Rattle.conode_lint_marks.specs.declared.mark.OtherFormat.TheVariants.{Xml, EtherNetIp, Utf16}
 

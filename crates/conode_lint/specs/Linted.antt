@@ -12,7 +12,7 @@ use Rattle.conode_lint.specs.declared.linted_text.Linted.{Linted}
 use Rattle.conode_lint_marks.specs.declared.mark.Mark.{Mark}
 use Rattle.conode_lint.specs.declared.marks.Checks.{Checks}
 use Rattle.conode_lint.specs.Allowed.{error_count, error_of, is_error, kept, names_in, passes_by}
-use Rattle.co_sheet_warnings.specs.Lines.{text_lines}
+use Rattle.co_sheet_text_warnings.specs.Lines.{text_lines}
 use Rattle.conode_lint.specs.Found.{finding_of, seen}
 use Rattle.conode_lint.specs.Marks.{IsByLine, IsFound, node_for, text_sections}
 use Rattle.conode_lint_marks.specs.Beside.{sheet_of}

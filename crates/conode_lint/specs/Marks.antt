@@ -12,7 +12,7 @@ use Rattle.co_sheet_text.specs.Sections.{TextSection}
 use Rattle.co_sheet_text.specs.Text.{lines_of}
 use Rattle.co_sheet_faults.specs.AllFaults.{faults_of}
 use Rattle.co_sheet_faults.specs.FaultOrder.{fault_cmp}
-use Rattle.co_sheet_warnings.specs.declared.warning.Warning.{Warning}
+use Rattle.co_sheet_text_warnings.specs.declared.warning.Warning.{Warning}
 use Rattle.co_sheet_warnings.specs.Warnings.{IsByLine as IsWarningsByLine, warnings_of}
 use Rattle.co_dict_build.specs.Built.{plan_of}
 use Rattle.co_dict_build.specs.Capacities.{Limits, limits_view}
@@ -24,7 +24,7 @@ use Rattle.conode_lint_marks.specs.BuildLines.{built_marks}
 use Rattle.conode_lint_marks.specs.Beside.{beside_marks, sheet_of}
 use Rattle.conode_lint_marks.specs.KnownWarnings.{bad_lines, known_warnings, warning_mark}
 use Rattle.conode_lint.specs.Formats.{format_line, other_format}
-use Rattle.co_sheet_warnings.specs.Lines.{text_lines}
+use Rattle.co_sheet_text_warnings.specs.Lines.{text_lines}
 
 -- the mark of a fault
 abbrev pub fault_mark : SheetFault → Mark

@@ -7,8 +7,8 @@ use Rattle.co_sheet_rows.specs.declared.fault.FaultKind.TheVariants as fault
 use Rattle.co_sheet_faults.specs.FaultWords as faults
 use Rattle.co_sheet_text.specs.Sections.{TextSection}
 use Rattle.co_sheet_warnings.specs.WarningWords as warnings
-use Rattle.co_sheet_warnings.specs.declared.warning.WarningKind.{WarningKind}
-use Rattle.co_sheet_warnings.specs.declared.warning.WarningKind.TheVariants as warning
+use Rattle.co_sheet_text_warnings.specs.declared.warning.WarningKind.{WarningKind}
+use Rattle.co_sheet_text_warnings.specs.declared.warning.WarningKind.TheVariants as warning
 use Rattle.co_sheet_warnings.specs.Repeats.{first_equal}
 use Rattle.conode_lint_text.specs.Bounds as bounds
 use Rattle.conode_lint_text.specs.Facts as facts

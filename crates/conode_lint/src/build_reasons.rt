@@ -23,7 +23,7 @@ use co_dict_build::BuildFault;
 use co_profile::IndexRange;
 use co_sheet::{Preset, numeric_default, section_at};
 use co_sheet_text::{SectionKind, TextSection, unsigned_number};
-use co_sheet_warnings::own_node;
+use co_sheet_text_warnings::own_node;
 use co_value::{DataType, Key};
 use conode_lint_text::{is_listed_nowhere, key_value};
 

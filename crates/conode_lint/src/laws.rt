@@ -7,7 +7,7 @@ ghost use Rattle.co_dict_build.specs.Capacities.{limits_view};
 ghost use Rattle.conode_lint_marks.specs.declared.mark.Mark.{Mark};
 ghost use Rattle.conode_lint.specs.declared.marks.Checks.{Checks as Asked};
 ghost use Rattle.conode_lint.specs.Formats.{other_format};
-ghost use Rattle.co_sheet_warnings.specs.Lines.{text_lines};
+ghost use Rattle.co_sheet_text_warnings.specs.Lines.{text_lines};
 ghost use Rattle.conode_lint.specs.Linted.{has_error, is_good};
 ghost use Rattle.conode_lint.specs.Marks.{IsFound, fault_mark};
 

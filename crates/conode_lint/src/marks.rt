@@ -5,7 +5,7 @@ ghost use Rattle.co_sheet_text.specs.LinesAtFault.{sections_read};
 ghost use Rattle.co_sheet_text.specs.Text.{lines_of};
 ghost use Rattle.co_sheet_text.specs.Views.{section_view};
 ghost use Rattle.co_dict_build.specs.Capacities.{limits_view};
-ghost use Rattle.co_sheet_warnings.specs.Lines.{text_lines};
+ghost use Rattle.co_sheet_text_warnings.specs.Lines.{text_lines};
 ghost use Rattle.conode_lint_marks.specs.AtFault.{kinds_at_fault};
 ghost use Rattle.conode_lint_marks.specs.Beside.{sheet_of};
 ghost use Rattle.conode_lint_marks.specs.Doubts.{doubts_of};

@@ -14,7 +14,7 @@ ghost use Rattle.conode_lint.specs.Formats.{
 };
 
 use co_sheet_text::{same_name, trim};
-use co_sheet_warnings::text_lines;
+use co_sheet_text_warnings::text_lines;
 use conode_lint_marks::OtherFormat;
 use std::alloc::{AllocError, Global};
 

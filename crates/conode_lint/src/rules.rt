@@ -3,7 +3,7 @@
 use crate::words::{fix_of, meaning_of, name_of, severity_of, subject_of};
 use co_dict_build::BuildFault;
 use co_sheet_faults::FaultKind;
-use co_sheet_warnings::{KnownKey, WarningKind};
+use co_sheet_text_warnings::{KnownKey, WarningKind};
 use co_value::Key;
 use conode_lint_marks::{Mark, OtherFormat, Subject};
 use conode_lint_text::Rule;

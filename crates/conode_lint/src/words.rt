@@ -23,7 +23,8 @@ use crate::format_words::{format_fix, format_meaning};
 use crate::mapping_words::{mapping_about, mapping_fix, mapping_meaning};
 use co_sheet_faults::{FaultKind, SheetFault};
 use co_sheet_text::TextSection;
-use co_sheet_warnings::{WarningKind, first_equal};
+use co_sheet_text_warnings::WarningKind;
+use co_sheet_warnings::first_equal;
 use conode_lint_marks::{Mark, Subject};
 use conode_lint_text::{
     About, Place, Severity, bad_access, bad_default, bad_limits, bad_list, bad_number, bad_type,

@@ -9,7 +9,7 @@ use Rattle.co_sheet_text.specs.Sections.{TextSection}
 use Rattle.co_sheet_text.specs.declared.section_kind.SectionKind.{SectionKind}
 use Rattle.co_sheet_text.specs.Text.{lines_of}
 use Rattle.co_sheet_mend.specs.ReadableTexts.{mended_in}
-use Rattle.co_sheet_warnings.specs.ReadTexts.{own_node}
+use Rattle.co_sheet_text_warnings.specs.ReadTexts.{own_node}
 use Rattle.co_dict_build.specs.Built.{plan_of}
 use Rattle.co_dict_build.specs.Capacities.{Limits}
 use Rattle.conode_lint_marks.specs.declared.mark.Mark.{Mark}

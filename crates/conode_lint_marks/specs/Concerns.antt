@@ -6,7 +6,7 @@ use Rattle.co_value.specs.Keys.{same_key}
 use Rattle.co_profile.specs.Indices.{is_within, sdo_server}
 use Rattle.co_sheet_text.specs.declared.section_kind.SectionKind.{SectionKind}
 use Rattle.co_sheet_text.specs.declared.section_kind.SectionKind.TheVariants.{DeviceCommissioning, DeviceInfo, Object, PassedOver, SubIndex}
-use Rattle.co_sheet_warnings.specs.SubIndices.{is_within as is_from_to}
+use Rattle.co_sheet_text_warnings.specs.Ranges.{is_within as is_from_to}
 use Rattle.co_dict_build.specs.BuildFaults.{is_channel_key}
 use Rattle.conode_lint_marks.specs.declared.concerns.Concern.{Concern}
 use Rattle.conode_lint_marks.specs.declared.concerns.Concern.TheVariants.{EntryOf, ObjectOf, PdoOf, Channel, Hiding, SectionLine, CompactPdo, Same, SubsOf}

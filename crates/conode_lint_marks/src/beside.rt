@@ -13,7 +13,7 @@ use co_dict_build::Limits;
 use co_sheet::{FaultKind, Sheet, SheetFault, read};
 use co_sheet_mend::mended_text;
 use co_sheet_text::{SectionKind, TextSection};
-use co_sheet_warnings::own_node;
+use co_sheet_text_warnings::own_node;
 use std::alloc::{AllocError, Global};
 
 /// The sheet of a text, if it is one. `Err`: out of memory.

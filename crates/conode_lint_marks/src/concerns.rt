@@ -1,7 +1,7 @@
 //! What a section is about, as far as a finding rests on it.
 
 ghost use Rattle.std.specs.Prelude.{◌≡◌};
-ghost use Rattle.co_sheet_warnings.specs.SubIndices.{is_within};
+ghost use Rattle.co_sheet_text_warnings.specs.Ranges.{is_within};
 ghost use Rattle.conode_lint_marks.specs.Concerns.{
   concerns,
   hides,

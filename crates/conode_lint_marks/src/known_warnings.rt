@@ -40,7 +40,8 @@ use crate::mark::{Mark, Subject};
 use co_dict_build::BuildFault;
 use co_sheet::SheetFault;
 use co_sheet_text::{SectionKind, TextSection};
-use co_sheet_warnings::{Warning, WarningKind, compared};
+use co_sheet_text_warnings::{Warning, WarningKind};
+use co_sheet_warnings::compared;
 use std::alloc::{AllocError, Global};
 
 /// What may be wrong in a text, since sections are at fault.

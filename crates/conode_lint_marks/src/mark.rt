@@ -3,7 +3,7 @@
 use co_dict_build::BuildFault;
 use co_dict_faults::MappingFault;
 use co_sheet::FaultKind;
-use co_sheet_warnings::WarningKind;
+use co_sheet_text_warnings::WarningKind;
 
 /// The format of a text that is no data sheet of CANopen.
 #[derive(Clone, Copy)]

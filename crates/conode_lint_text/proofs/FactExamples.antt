@@ -3,7 +3,7 @@ use Rattle.std.proofs.Common.{◌≡◌, ℕ, true, false, List, Some, None, [],
 use Rattle.std.specs.Prelude.{pos, negsuc, replicate}
 use Rattle.std.specs.Fmt.{digits}
 use Rattle.co_sheet_warnings.specs.declared.accesses.FixedAccess.TheVariants.{ReadOnly, Readable, ReadWrite}
-use Rattle.co_sheet_warnings.specs.declared.known_key.KnownKey.TheVariants.{AccessType, DataType, NrOfRxPdo}
+use Rattle.co_sheet_text_warnings.specs.declared.known_key.KnownKey.TheVariants.{AccessType, DataType, NrOfRxPdo}
 use Rattle.co_text.specs.Printed.{digits_text}
 use Rattle.co_value.specs.declared.data_type.DataType.TheVariants.{Boolean, Integer8, Integer16, Unsigned8, Unsigned16}
 use Rattle.conode_text.specs.Filled.{filled}

@@ -3,9 +3,9 @@ use Rattle.std.specs.Prelude.{ℕ, ℤ, pos, Bool, true, false, List, [], ◌∷
 use Rattle.std.specs.Fmt.{digits, signed_decimal}
 use Rattle.co_value.specs.declared.data_type.DataType.{DataType}
 use Rattle.co_value.specs.Types.{least_of, greatest_of}
-use Rattle.co_sheet_warnings.specs.declared.known_key.KnownKey.{KnownKey}
-use Rattle.co_sheet_warnings.specs.Infos.{device_keys, file_keys}
-use Rattle.co_sheet_warnings.specs.KnownKeys.{key_text}
+use Rattle.co_sheet_text_warnings.specs.declared.known_key.KnownKey.{KnownKey}
+use Rattle.co_sheet_text_warnings.specs.Infos.{device_keys, file_keys}
+use Rattle.co_sheet_text_warnings.specs.KnownKeys.{key_text}
 use Rattle.co_text.specs.Printed.{digits_text}
 use Rattle.conode_text.specs.Filled.{filled}
 use Rattle.conode_lint_text.specs.MeantSections.{meant_text}

@@ -16,11 +16,11 @@ use Rattle.co_sheet_text.specs.Properties.{number_at, property_number}
 use Rattle.co_sheet_text.specs.Sections.{Property, TextSection, is_bracket, is_equals, property_at, section_at}
 use Rattle.co_sheet_text.specs.Text.{same_name, trim}
 use Rattle.co_sheet_warnings.specs.Accesses.{fixed_access}
-use Rattle.co_sheet_warnings.specs.Infos.{object_count}
-use Rattle.co_sheet_warnings.specs.KnownKeys.{key_text}
-use Rattle.co_sheet_warnings.specs.Lines.{has_other_byte}
+use Rattle.co_sheet_text_warnings.specs.Infos.{object_count}
+use Rattle.co_sheet_text_warnings.specs.KnownKeys.{key_text}
+use Rattle.co_sheet_text_warnings.specs.Lines.{has_other_byte}
 use Rattle.co_sheet_warnings.specs.Repeats.{value_in}
-use Rattle.co_sheet_warnings.specs.declared.known_key.KnownKey.{KnownKey}
+use Rattle.co_sheet_text_warnings.specs.declared.known_key.KnownKey.{KnownKey}
 use Rattle.conode_lint_text.specs.MeantSections.{meant_section}
 use Rattle.conode_lint_text.specs.declared.fact.Fact.TheVariants as fact
 use Rattle.conode_lint_text.specs.declared.finding.About.{About}

@@ -2,7 +2,7 @@
 use Rattle.std.specs.Prelude.{ℕ, ◌+◌, ◌==◌, nat_lt, true, false, if◌then◌else◌, List, [], ◌∷◌, length, drop, codes, decimal}
 use Rattle.std.specs.List.{position_or_len}
 use Rattle.co_text.specs.Printed.{digits_text}
-use Rattle.co_sheet_warnings.specs.KnownKeys.{key_text}
+use Rattle.co_sheet_text_warnings.specs.KnownKeys.{key_text}
 use Rattle.co_sheet_warnings.specs.declared.accesses.FixedAccess.{FixedAccess}
 use Rattle.co_sheet_warnings.specs.declared.accesses.FixedAccess.TheVariants.{ReadOnly, Readable, ReadWrite}
 use Rattle.conode_text.specs.Filled.{filled}

@@ -16,7 +16,7 @@ ghost use Rattle.conode_lint_text.specs.FactTexts.{
 };
 
 use crate::meant_section::{MeantSection, meant_text};
-use co_sheet_warnings::{KnownKey, device_keys, file_keys};
+use co_sheet_text_warnings::{KnownKey, device_keys, file_keys};
 use co_text::{push_decimal, push_u16};
 use co_value::DataType;
 use conode_text::{HasText, push_filled};

@@ -1,7 +1,8 @@
 //! What `lint` finds.
 
 use crate::fact::Fact;
-use co_sheet_warnings::{FixedAccess, KnownKey};
+use co_sheet_text_warnings::KnownKey;
+use co_sheet_warnings::FixedAccess;
 
 /// The severity of a finding.
 #[derive(Clone, Copy)]

@@ -21,6 +21,7 @@ mod json_form;
 mod lists;
 mod meant_section;
 mod member;
+mod numbers;
 mod parts;
 mod pieces;
 mod sarif_form;
@@ -33,14 +34,14 @@ pub use characters::push_all_shown;
 pub use fact::Fact;
 pub use facts::{
     bad_access, bad_number, bad_type, device_info, duplicate_key, duplicate_section, file_info,
-    first_at, identity_number, key_value, missing_key, missing_section, misspelt_key,
-    misspelt_section, pdo_count, sub_index_0, sub_number, too_large, utf8, wrong_access,
-    wrong_list,
+    first_at, key_value, missing_key, missing_section, misspelt_key, misspelt_section, too_large,
+    utf8, wrong_access, wrong_list,
 };
 pub use finding::{About, Finding, Place, Rule, Severity};
 pub use json_form::{put_document_end, put_document_head, put_file};
 pub use lists::{bad_list, is_listed_nowhere, listed_twice, missing_mandatory};
 pub use meant_section::MeantSection;
+pub use numbers::{identity_number, pdo_count, sub_index_0, sub_number};
 pub use sarif_form::{put_log_end, put_log_head, put_results};
 pub use sums::value_range;
 pub use text_form::{push_finding, push_more, push_summary};

@@ -1,21 +1,15 @@
 -- What the tables of a text say, without where its bytes lie in memory.
-use Rattle.std.specs.Prelude.{◌≡◌, ◌==◌, ℕ, Bool, false, nat_eq, if◌then◌else◌, List, [], ◌∷◌, ◌++◌, map, filter_map, codes, Option, Some, None}
+use Rattle.std.specs.Prelude.{ℕ, Bool, false, if◌then◌else◌, List, [], ◌∷◌, ◌++◌, filter_map, codes, Option, Some, None}
 use Rattle.std.specs.List.{list_any}
 use Rattle.std.specs.Option.{option_map_or}
-use Rattle.std.specs.HashSet.{HashSet, contains}
-use Rattle.co_sheet_warnings.specs.declared.infos.Format.{Format}
-use Rattle.co_sheet_warnings.specs.declared.infos.Format.TheVariants.{Date, Time}
-use Rattle.co_sheet_warnings.specs.declared.keys.WrittenKey.{WrittenKey as CodeKey}
-use Rattle.co_sheet_warnings.specs.declared.lists.ListCheck.{ListCheck}
-use Rattle.co_sheet_warnings.specs.declared.lists.ListCheck.TheVariants.{Objects, Order, Count}
 use Rattle.co_sheet_warnings.specs.declared.repeats.Once.{Once}
 use Rattle.co_sheet_warnings.specs.declared.repeats.Once.TheVariants.{Identifiers, Consumed, Names}
 use Rattle.co_sheet_warnings.specs.declared.repeats.PlacedName.{PlacedName}
 use Rattle.co_sheet_warnings.specs.declared.repeats.ScopedName.{ScopedName as CodeName}
 use Rattle.co_sheet_warnings.specs.declared.repeats.Sought.{Sought}
 use Rattle.co_sheet_warnings.specs.declared.repeats.Sought.TheVariants.{At, Before}
-use Rattle.co_sheet_warnings.specs.declared.warning.WarningKind.{WarningKind}
-use Rattle.co_sheet_warnings.specs.declared.warning.WarningKind.TheVariants.{
+use Rattle.co_sheet_text_warnings.specs.declared.warning.WarningKind.{WarningKind}
+use Rattle.co_sheet_text_warnings.specs.declared.warning.WarningKind.TheVariants.{
   SubNumber,
   SubIndex0,
   VarSubIndices,
@@ -51,13 +45,6 @@ use Rattle.co_sheet_warnings.specs.declared.warning.WarningKind.TheVariants.{
   LineEnds,
 }
 use Rattle.co_sheet_text.specs.Sections.{TextSection, property_at}
-use Rattle.co_sheet.specs.Listings.{named_by}
-use Rattle.co_sheet.specs.ObjectLists.{Listing, is_listed}
-use Rattle.co_sheet_warnings.specs.Infos.{is_date, is_time}
-use Rattle.co_sheet_warnings.specs.Keys.{WrittenKey}
-use Rattle.co_sheet_warnings.specs.Lines.{first_other, numbered}
-use Rattle.co_sheet_warnings.specs.Lists.{first_fall, uncounted_key, wrong_listings}
-use Rattle.co_sheet_warnings.specs.ReadTexts.{ReadText}
 use Rattle.co_sheet_warnings.specs.Repeats.{Placed, ScopedName, consumed_in, equal_names, identifier_name, is_at, is_before, name_in, repeats, same_scoped, shared_cob_ids}
 use Rattle.co_sheet_warnings.specs.SubIndices.{is_constant_word}
 
@@ -97,29 +84,10 @@ kind_row UnknownKey = 30
 kind_row DateFormat = 31
 kind_row LineEnds = 32
 
--- the lines of a list that fail a check
-abbrev pub list_places : ListCheck → TextSection → List ℕ
-list_places Objects s = wrong_listings s
-list_places Order s = first_fall 0 (named_by s)
-list_places Count s = uncounted_key s
-
 -- an entry that nobody writes, by its section
 abbrev pub is_constant_section : TextSection → Bool
 is_constant_section s =
     option_map_or (λ k. is_constant_word k.value) (property_at (codes "AccessType") s) false
-
--- whether a text is a date, or a time
-abbrev pub is_written : Format → List ℕ → Bool
-is_written Date = is_date
-is_written Time = is_time
-
--- whether listings name an index
-abbrev pub names : ℕ → List Listing → Bool
-names i listings = list_any (λ l. l.index == i) listings
-
--- a key
-abbrev pub key_view : CodeKey → WrittenKey
-key_view k = record { topic = k.topic; name = k.name.now; value = k.value.now; line = k.line }
 
 -- a name among others, with its line
 abbrev pub scoped_view : CodeName → ScopedName
@@ -153,21 +121,3 @@ abbrev pub repeats_of : Once → List TextSection → List ℕ
 repeats_of (Identifiers node) sections = shared_cob_ids (Some node) sections
 repeats_of (Consumed given) sections = repeats same_scoped [] (filter_map (consumed_in given) sections)
 repeats_of Names sections = equal_names sections
-
--- a text, by its lists
-abbrev pub text_view :
-    List ℕ → List (List ℕ) → List TextSection → List CodeKey → Option ℕ → ReadText
-text_view text lines sections keys node = record {
-  text = text;
-  lines = numbered 1 lines;
-  sections = sections;
-  keys = map key_view keys;
-  node = node;
-}
-
--- what is looked up once: a set has the indices that the lists name, and a line is the first with a
--- byte above 7Fh
-pub record IsLookedUp {S : Type 0} (sections : List TextSection) (lines : List (List ℕ))
-    (indices : HashSet ℕ S) (other : Option ℕ) : Type 0 where
-  pub listed : (i : ℕ) → contains nat_eq indices i ≡ is_listed sections i
-  pub is_other : other ≡ first_other (numbered 1 lines)

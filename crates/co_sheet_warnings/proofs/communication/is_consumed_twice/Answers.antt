@@ -2,7 +2,7 @@ use Rattle.std.proofs.Common.{refl, map, ◌||◌, sym, ◌∙◌}
 use Rattle.std.specs.List.{list_any}
 use Rattle.co_sheet.specs.SectionViews.{entry_view}
 use Rattle.co_sheet_warnings.specs.Communication.{consumes_before}
-use Rattle.co_sheet_warnings.proofs.PieceLemmas.{search-turn}
+use Rattle.co_sheet_text_warnings.proofs.PieceLemmas.{search-turn}
 use Rattle.co_sheet_warnings.proofs.communication.is_consumed_twice.Goals as goal
 
 pub loop-part-preserved : goal.loop-part-preserved

@@ -4,7 +4,7 @@ use Rattle.co_sheet.specs.Entries.{Entry}
 use Rattle.co_sheet.specs.SectionViews.{entry_view}
 use Rattle.co_sheet_warnings.specs.Communication.{value_at_sub}
 use Rattle.co_sheet.specs.Limits.{value_property}
-use Rattle.co_sheet_warnings.proofs.PieceLemmas.{apart, made-first, search-end, search-turn}
+use Rattle.co_sheet_text_warnings.proofs.PieceLemmas.{apart, made-first, search-end, search-turn}
 use Rattle.co_sheet_warnings.proofs.communication.value_at_sub.Goals as goal
 
 pub loop-part-preserved : goal.loop-part-preserved

@@ -1,8 +1,8 @@
 use Rattle.std.proofs.Common.{◌≡◌, ◌++◌, refl, subst}
-use Rattle.co_sheet_warnings.specs.declared.warning.WarningKind.{WarningKind}
-use Rattle.co_sheet_warnings.specs.declared.warning.WarningKind.TheVariants.{SubNumber}
+use Rattle.co_sheet_text_warnings.specs.declared.warning.WarningKind.{WarningKind}
+use Rattle.co_sheet_text_warnings.specs.declared.warning.WarningKind.TheVariants.{SubNumber}
 use Rattle.co_sheet_warnings.specs.Warnings.{warnings_in, warnings_of_kinds, warnings_with}
-use Rattle.co_sheet_warnings.proofs.PieceLemmas.{pieces-end, pieces-turn}
+use Rattle.co_sheet_text_warnings.proofs.PieceLemmas.{pieces-end, pieces-turn}
 use Rattle.co_sheet_warnings.proofs.find.add_kinds.Goals as goal
 
 pub loop-kind-preserved : goal.loop-kind-preserved

@@ -4,12 +4,12 @@ use Rattle.co_sheet_text.specs.Text.{Line, lines_of}
 use Rattle.co_sheet_text.specs.Sections.{TextSection}
 use Rattle.co_sheet_text.specs.LinesAtFault.{sections_read}
 use Rattle.co_sheet_text.specs.Views.{section_view}
-use Rattle.co_sheet_warnings.specs.Keys.{WrittenKey}
-use Rattle.co_sheet_warnings.specs.KnownKeys.{telling_keys}
-use Rattle.co_sheet_warnings.specs.Lines.{numbered}
-use Rattle.co_sheet_warnings.specs.ReadTexts.{ReadText, own_node, read_text}
+use Rattle.co_sheet_text_warnings.specs.Keys.{WrittenKey}
+use Rattle.co_sheet_text_warnings.specs.KnownKeys.{telling_keys}
+use Rattle.co_sheet_text_warnings.specs.Lines.{numbered}
+use Rattle.co_sheet_text_warnings.specs.ReadTexts.{ReadText, own_node, read_text}
 use Rattle.co_sheet_warnings.specs.Warnings.{all_warnings}
-use Rattle.co_sheet_warnings.specs.private.Views.{key_view}
+use Rattle.co_sheet_text_warnings.specs.Views.{key_view}
 use Rattle.co_sheet_warnings.proofs.find.add_warnings_of.Goals as goal
 
 pub returns : goal.returns

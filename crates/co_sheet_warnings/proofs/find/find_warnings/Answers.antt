@@ -2,9 +2,9 @@ use Rattle.std.proofs.Common.{◌≡◌, ℕ, List, [], ◌++◌, ◌∙◌, sym
 use Rattle.std.specs.Ordering.{nat_cmp, is_lt}
 use Rattle.std.proofs.lemmas.Fn.{always_returns_same}
 use Rattle.std.proofs.lemmas.List.Sorted.{IsNonDecreasingBy-from_sort_by_key}
-use Rattle.co_sheet_warnings.specs.declared.warning.Warning.{Warning}
-use Rattle.co_sheet_warnings.specs.declared.warning.WarningKind.TheVariants.{SubNumber}
-use Rattle.co_sheet_warnings.specs.ReadTexts.{read_text}
+use Rattle.co_sheet_text_warnings.specs.declared.warning.Warning.{Warning}
+use Rattle.co_sheet_text_warnings.specs.declared.warning.WarningKind.TheVariants.{SubNumber}
+use Rattle.co_sheet_text_warnings.specs.ReadTexts.{read_text}
 use Rattle.co_sheet_warnings.specs.Warnings.{all_warnings, warnings_of, IsByLine}
 use Rattle.co_sheet_warnings.proofs.ByLineLemmas.{ties-same, filter-alike, within}
 use Rattle.co_sheet_warnings.proofs.find.find_warnings.Goals as goal

@@ -2,10 +2,10 @@ use Rattle.std.proofs.Common.{map, refl}
 use Rattle.std.specs.Prelude.{filter_map}
 use Rattle.co_sheet_text.specs.Views.{section_view}
 use Rattle.co_sheet_warnings.specs.Repeats.{repeats, same_scoped}
-use Rattle.co_sheet_warnings.specs.Warnings.{warnings_at}
+use Rattle.co_sheet_text_warnings.specs.Places.{warnings_at}
 use Rattle.co_sheet_warnings.specs.private.Views.{placed_in, scoped_view}
 use Rattle.co_sheet_warnings.proofs.NameLemmas.{repeats-turn}
-use Rattle.co_sheet_warnings.proofs.PieceLemmas.{pieces-end}
+use Rattle.co_sheet_text_warnings.proofs.PieceLemmas.{pieces-end}
 use Rattle.co_sheet_warnings.proofs.repeats.add_repeats.Goals as goal
 
 pub loop-section-preserved : goal.loop-section-preserved

@@ -3,7 +3,7 @@ use Rattle.std.proofs.lemmas.Result.{on_ok_weaker}
 use Rattle.std.specs.Prelude.{filter_map}
 use Rattle.co_sheet_text.specs.Views.{section_view}
 use Rattle.co_sheet_warnings.specs.Repeats.{ScopedName, repeats, same_scoped}
-use Rattle.co_sheet_warnings.specs.Warnings.{warnings_at}
+use Rattle.co_sheet_text_warnings.specs.Places.{warnings_at}
 use Rattle.co_sheet_warnings.specs.private.Views.{placed_in, repeats_of, scoped_view}
 use Rattle.co_sheet_warnings.proofs.NameLemmas.{repeated_names}
 use Rattle.co_sheet_warnings.proofs.repeats.add_repeats_of.Goals as goal

@@ -1,10 +1,12 @@
 use Rattle.std.proofs.Common.{◌≡◌, ℕ, List, ◌++◌, ◌∙◌, OnOk, ap, map, subst, sym}
-use Rattle.co_sheet_warnings.specs.declared.warning.WarningKind.{WarningKind}
+use Rattle.co_sheet_text_warnings.specs.declared.warning.WarningKind.{WarningKind}
 use Rattle.co_sheet.specs.Entries.{Entry, sub_indices}
-use Rattle.co_sheet_warnings.specs.Infos.{date_formats, identity_number}
-use Rattle.co_sheet_warnings.specs.ReadTexts.{ReadText}
-use Rattle.co_sheet_warnings.specs.Warnings.{few_places, warnings_at}
-use Rattle.co_sheet_warnings.specs.private.Views.{key_view}
+use Rattle.co_sheet_text_warnings.specs.Infos.{date_formats}
+use Rattle.co_sheet_warnings.specs.Identities.{identity_number}
+use Rattle.co_sheet_text_warnings.specs.ReadTexts.{ReadText}
+use Rattle.co_sheet_warnings.specs.Warnings.{few_places}
+use Rattle.co_sheet_text_warnings.specs.Places.{warnings_at}
+use Rattle.co_sheet_text_warnings.specs.Views.{key_view}
 use Rattle.co_sheet_warnings.proofs.whole.add_few.Goals as goal
 
 pub returns-in-PdoCount : goal.returns-in-PdoCount

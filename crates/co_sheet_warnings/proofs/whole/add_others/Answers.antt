@@ -3,8 +3,10 @@ use Rattle.std.proofs.lemmas.List.{map-append}
 use Rattle.std.specs.List.{flat_map}
 use Rattle.co_sheet_text.specs.Sections.{TextSection}
 use Rattle.co_sheet_text.specs.Views.{section_view}
-use Rattle.co_sheet_warnings.specs.Warnings.{place_in_text, places_in, warning_at, warnings_at}
-use Rattle.co_sheet_warnings.proofs.PieceLemmas.{marked-turn, pieces-end}
+use Rattle.co_sheet_text_warnings.specs.InText.{place_in_text}
+use Rattle.co_sheet_warnings.specs.Warnings.{places_in}
+use Rattle.co_sheet_text_warnings.specs.Places.{warning_at, warnings_at}
+use Rattle.co_sheet_text_warnings.proofs.PieceLemmas.{marked-turn, pieces-end}
 use Rattle.co_sheet_warnings.proofs.whole.add_others.Goals as goal
 
 pub loop-section-preserved : goal.loop-section-preserved

@@ -3,8 +3,8 @@ use Rattle.std.proofs.lemmas.Result.{on_ok_weaker}
 use Rattle.co_sheet_text.specs.declared.section_kind.SectionKind.{SectionKind}
 use Rattle.co_sheet_text.specs.Sections.{TextSection}
 use Rattle.co_sheet_text.specs.Views.{section_view}
-use Rattle.co_sheet_warnings.specs.declared.warning.Warning.{Warning}
-use Rattle.co_sheet_warnings.specs.Lines.{text_lines}
+use Rattle.co_sheet_text_warnings.specs.declared.warning.Warning.{Warning}
+use Rattle.co_sheet_text_warnings.specs.Lines.{text_lines}
 use Rattle.conode_lint_marks.specs.declared.mark.Mark.{Mark}
 use Rattle.conode_lint_marks.specs.AtFault.{kinds_at_fault}
 use Rattle.conode_lint_marks.specs.KnownWarnings.{bad_lines, known_by, known_warnings, warning_mark}

@@ -1,0 +1,14 @@
+pub mod Ranges
+pub mod Keys
+pub mod KnownKeys
+pub mod NodeIds
+pub mod ReadTexts
+pub mod Lists
+pub mod SectionNames
+pub mod Lines
+pub mod Infos
+pub mod Places
+pub mod MisspeltKeys
+pub mod InText
+pub mod Views
+pub mod private

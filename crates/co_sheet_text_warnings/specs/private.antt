@@ -1,0 +1,2 @@
+-- What the crate's own functions promise one another; no public contract rests on these.
+pub mod Views

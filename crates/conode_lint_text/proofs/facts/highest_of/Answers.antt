@@ -1,5 +1,0 @@
-use Rattle.std.proofs.lemmas.List.{drop_all}
-use Rattle.conode_lint_text.proofs.facts.highest_of.Goals as goal
-
-pub returns : goal.returns
-returns c = rw (drop_all c.loop-section.section-index c.args.sections.now c.loop-section-test.false) at c.loop-section.invariant
