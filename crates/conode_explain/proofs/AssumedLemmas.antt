@@ -11,8 +11,8 @@ use Rattle.co_sheet_changes.specs.Names.{Names}
 use Rattle.conode_decode.specs.Services.{service_at}
 use Rattle.conode_decode.specs.Texts.{of_node, pdo_text, service_text, sync_text, text_of_frame, unknown_text}
 use Rattle.co_frame.specs.FrameContent.{FrameContent}
-use Rattle.conode_explain_pdo.specs.declared.claim.Claim.{Claim}
-use Rattle.conode_explain_pdo.specs.Buses.{Bus, names_at}
+use Rattle.conode_explain_cob_ids.specs.declared.claim.Claim.{Claim}
+use Rattle.conode_explain_cob_ids.specs.Buses.{Bus, names_at}
 use Rattle.conode_explain_services.specs.declared.last.Last.{Last}
 use Rattle.conode_explain_services.specs.Lengths.{fixed_at}
 use Rattle.conode_explain_services.specs.Reserved.{is_reserved}

@@ -15,7 +15,7 @@ use Rattle.co_stream.specs.Lines.{has_line_feed, GivesLine}
 use Rattle.co_stream.specs.Readings.{Gave}
 use Rattle.co_stream.proofs.LineLemmas.{cut_at_feed, lines-feed, lines-last}
 use Rattle.co_stream.proofs.Readers.{gave_nothing, gave_so, gave_then, of_given, of_known}
-use Rattle.conode_explain_pdo.specs.Known.{KnownSheet}
+use Rattle.conode_explain_cob_ids.specs.Known.{KnownSheet}
 use Rattle.conode_io.specs.Written.{WritesLines}
 use Rattle.conode_io.proofs.WriteLemmas.{lines_after}
 use Rattle.conode_io.specs.TraceTexts.{GaveText}

@@ -11,8 +11,8 @@ use Rattle.conode_explain_filter.specs.declared.filter.Filter.{Filter}
 use Rattle.conode_explain_filter.specs.declared.kind.Kind.TheVariants as kinds
 use Rattle.conode_explain_filter.specs.Filters.{passes}
 use Rattle.conode_explain_filter.specs.Subjects.{subject_at, subject_of}
-use Rattle.conode_explain_pdo.specs.declared.claim.Claim.{Claim}
-use Rattle.conode_explain_pdo.specs.declared.service_ids.NamedService.TheVariants.{Emergency}
+use Rattle.conode_explain_cob_ids.specs.declared.claim.Claim.{Claim}
+use Rattle.conode_explain_cob_ids.specs.declared.service_ids.NamedService.TheVariants.{Emergency}
 use Rattle.conode_explain_text.specs.declared.so_far.Times.{Times}
 use Rattle.conode_explain_transfers.specs.declared.kinds.Side.TheVariants.{Server}
 use Rattle.conode_explain.specs.declared.whose.Whose.TheVariants.{Channel, Service, Unnamed}

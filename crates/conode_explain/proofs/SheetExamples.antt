@@ -1,7 +1,7 @@
 -- Which sheet counts, evaluated on both sides of each edge.
 use Rattle.std.proofs.Common.{◌≡◌, ℕ, [], ◌∷◌, List, Some, None, Option, refl}
 use Rattle.std.specs.Prelude.{codes, option_map}
-use Rattle.conode_explain_pdo.specs.Known.{KnownSheet, sheet_for}
+use Rattle.conode_explain_cob_ids.specs.Known.{KnownSheet, sheet_for}
 use Rattle.conode_explain.specs.Sheets.{in_order, node_for}
 
 -- ---- the node of a sheet

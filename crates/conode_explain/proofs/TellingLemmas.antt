@@ -13,7 +13,7 @@ use Rattle.conode_explain_transfers.specs.declared.track.Track.{Track}
 use Rattle.conode_explain_transfers.specs.Tellings.{is_answer_id, is_boot_up, is_error_control_id, is_request_id, telling}
 use Rattle.conode_explain_transfers.specs.Tracks.{Telling}
 use Rattle.conode_explain_entries.specs.declared.further.Place.{Place}
-use Rattle.conode_explain_pdo.specs.Known.{KnownSheet}
+use Rattle.conode_explain_cob_ids.specs.Known.{KnownSheet}
 use Rattle.conode_explain.specs.declared.progress.Layout.{Layout}
 use Rattle.conode_explain.specs.declared.progress.Progress.{Progress}
 use Rattle.conode_explain.specs.Nodes.{packed_of}

@@ -13,11 +13,11 @@ use Rattle.conode_explain_entries.specs.MovedIds.{index_for, moved_in, moved_wor
 use Rattle.conode_explain_filter.specs.declared.kind.Kind.TheVariants as kinds
 use Rattle.conode_explain_filter.specs.declared.subject.Subject.{Subject}
 use Rattle.conode_explain_filter.specs.Subjects.{subject_at, subject_of}
-use Rattle.conode_explain_pdo.specs.declared.claim.Claim.{Claim}
-use Rattle.conode_explain_pdo.specs.declared.service_ids.NamedService.{NamedService}
-use Rattle.conode_explain_pdo.specs.declared.service_ids.NamedService.TheVariants.{Sync, Time, Emergency}
-use Rattle.conode_explain_pdo.specs.Buses.{Bus}
-use Rattle.conode_explain_pdo.specs.ServiceIds.{service_by_shown, service_with}
+use Rattle.conode_explain_cob_ids.specs.declared.claim.Claim.{Claim}
+use Rattle.conode_explain_cob_ids.specs.declared.service_ids.NamedService.{NamedService}
+use Rattle.conode_explain_cob_ids.specs.declared.service_ids.NamedService.TheVariants.{Sync, Time, Emergency}
+use Rattle.conode_explain_cob_ids.specs.Buses.{Bus}
+use Rattle.conode_explain_cob_ids.specs.ServiceIds.{service_by_shown, service_with}
 use Rattle.conode_explain_transfers.specs.declared.kinds.Side.TheVariants.{Server}
 use Rattle.conode_explain.specs.declared.whose.Whose.TheVariants.{Channel, Moved, Service, Unnamed}
 use Rattle.conode_explain.specs.Explained.{words_at}

@@ -8,10 +8,10 @@ use Rattle.conode_record.specs.declared.fields.Identifier.TheVariants.{Base}
 use Rattle.conode_record.specs.declared.line.Record.{Record}
 use Rattle.conode_explain_entries.specs.MovedIds.{moved_in}
 use Rattle.conode_explain_forms.specs.Places.{read_as}
-use Rattle.conode_explain_pdo.specs.declared.claim.Claim.{Claim}
-use Rattle.conode_explain_pdo.specs.Buses.{Bus}
-use Rattle.conode_explain_pdo.specs.Claims.{claims_with}
-use Rattle.conode_explain_pdo.specs.ServiceIds.{service_with}
+use Rattle.conode_explain_cob_ids.specs.declared.claim.Claim.{Claim}
+use Rattle.conode_explain_cob_ids.specs.Buses.{Bus}
+use Rattle.conode_explain_cob_ids.specs.Claims.{claims_with}
+use Rattle.conode_explain_cob_ids.specs.ServiceIds.{service_with}
 use Rattle.conode_explain.specs.declared.whose.Whose.TheVariants.{Unnamed}
 use Rattle.conode_explain.specs.Explained.{claims_at}
 use Rattle.conode_explain.specs.Whose.{whose_in, whose_of}

@@ -28,11 +28,11 @@ use Rattle.conode_explain_entries.specs.declared.further.Place.{Place}
 use Rattle.conode_explain_entries.specs.Further.{FurtherTelling, booted_all, further_telling, is_at}
 use Rattle.conode_explain_entries.specs.MovedIds.{moved_words}
 use Rattle.conode_explain_entries.specs.Tables.{entries_with}
-use Rattle.conode_explain_pdo.specs.Buses.{Bus}
-use Rattle.conode_explain_pdo.specs.declared.claim.Claim.{Claim}
-use Rattle.conode_explain_pdo.specs.Known.{KnownSheet}
-use Rattle.conode_explain_pdo.specs.Claims.{claims_with}
-use Rattle.conode_explain_pdo.specs.Known.{names_for}
+use Rattle.conode_explain_cob_ids.specs.Buses.{Bus}
+use Rattle.conode_explain_cob_ids.specs.declared.claim.Claim.{Claim}
+use Rattle.conode_explain_cob_ids.specs.Known.{KnownSheet}
+use Rattle.conode_explain_cob_ids.specs.Claims.{claims_with}
+use Rattle.conode_explain_cob_ids.specs.Known.{names_for}
 use Rattle.conode_explain_transfers.specs.declared.ended.Ended.{Ended}
 use Rattle.conode_explain_transfers.specs.declared.ended.Ending.TheVariants.{Interrupted, Unfinished}
 use Rattle.conode_explain_transfers.specs.Followed.{closed}

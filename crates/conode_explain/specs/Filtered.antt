@@ -16,9 +16,9 @@ use Rattle.conode_explain_filter.specs.declared.subject.Subject.{Subject}
 use Rattle.conode_explain_filter.specs.Filters.{passes, passes_transfer}
 use Rattle.conode_explain_filter.specs.Subjects.{subject_of}
 use Rattle.conode_explain_forms.specs.Tones.{data_of}
-use Rattle.conode_explain_pdo.specs.declared.claim.Claim.{Claim}
-use Rattle.conode_explain_pdo.specs.declared.service_ids.NamedService.{NamedService}
-use Rattle.conode_explain_pdo.specs.declared.service_ids.NamedService.TheVariants as services
+use Rattle.conode_explain_cob_ids.specs.declared.claim.Claim.{Claim}
+use Rattle.conode_explain_cob_ids.specs.declared.service_ids.NamedService.{NamedService}
+use Rattle.conode_explain_cob_ids.specs.declared.service_ids.NamedService.TheVariants as services
 use Rattle.conode_explain_text.specs.declared.so_far.Times.{Times}
 use Rattle.conode_explain_text.specs.SoFar.{SoFar, times_at}
 use Rattle.conode_explain.specs.declared.progress.Layout.{Layout}

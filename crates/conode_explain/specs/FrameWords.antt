@@ -9,9 +9,9 @@ use Rattle.conode_record.specs.declared.fields.Identifier.TheVariants.{Base, Ext
 use Rattle.co_frame.specs.FrameContent.{FrameContent}
 use Rattle.conode_explain.specs.AbortWords.{abort_words}
 use Rattle.conode_explain.specs.Transfers.{transfer_words}
-use Rattle.conode_explain_pdo.specs.declared.claim.Claim.{Claim}
-use Rattle.conode_explain_pdo.specs.Buses.{Bus, names_at}
-use Rattle.conode_explain_pdo.specs.InForce.{is_drive_at}
+use Rattle.conode_explain_cob_ids.specs.declared.claim.Claim.{Claim}
+use Rattle.conode_explain_cob_ids.specs.Buses.{Bus, names_at}
+use Rattle.conode_explain_cob_ids.specs.Devices.{is_drive_at}
 use Rattle.conode_explain_pdo.specs.Pdos.{pdos_text}
 use Rattle.conode_explain_services.specs.declared.last.Last.{Last}
 use Rattle.conode_explain_services.specs.ErrorFrames.{error_words}

@@ -3,7 +3,7 @@ use Rattle.std.specs.Prelude.{ℕ, Bool, true, false, ◌&&◌, List, ◌++◌, 
 use Rattle.std.specs.Option.{option_copied, option_or}
 use Rattle.co_frame.specs.Segments.{same_bool}
 use Rattle.co_sheet_changes.specs.Names.{originals_in}
-use Rattle.conode_explain_pdo.specs.Known.{KnownSheet, known_sheet, known_view}
+use Rattle.conode_explain_cob_ids.specs.Known.{KnownSheet, known_sheet, known_view}
 use Rattle.conode_explain.specs.declared.sheets.ReadSheet.{ReadSheet}
 use Rattle.conode_explain.specs.declared.settings.Settings.{Settings}
 

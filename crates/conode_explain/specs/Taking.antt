@@ -3,7 +3,7 @@ use Rattle.std.specs.Prelude.{◌≡◌, ℕ, ◌+◌, Bool, if◌then◌else◌
 use Rattle.std.specs.Str.Lines.{lines}
 use Rattle.co_stream.specs.Held.{Held, to_come}
 use Rattle.co_stream.specs.Readings.{Gave}
-use Rattle.conode_explain_pdo.specs.Known.{KnownSheet}
+use Rattle.conode_explain_cob_ids.specs.Known.{KnownSheet}
 use Rattle.conode_io.specs.Written.{WritesLines}
 use Rattle.conode_logs.specs.declared.log.Log.{Log}
 use Rattle.conode_explain.specs.declared.progress.Layout.{Layout}

@@ -21,8 +21,8 @@ use Rattle.conode_explain_transfers.specs.declared.kinds.Side.{Side}
 use Rattle.conode_explain_transfers.specs.declared.kinds.Side.TheVariants.{Server}
 use Rattle.conode_explain_transfers.specs.declared.kinds.What.{What}
 use Rattle.conode_explain_transfers.specs.declared.kinds.What.TheVariants as whats
-use Rattle.conode_explain_pdo.specs.declared.claim.Claim.{Claim}
-use Rattle.conode_explain_pdo.specs.Buses.{Bus, names_at}
+use Rattle.conode_explain_cob_ids.specs.declared.claim.Claim.{Claim}
+use Rattle.conode_explain_cob_ids.specs.Buses.{Bus, names_at}
 use Rattle.conode_explain_entries.specs.Ends.{end_text, quoted, transfer_text}
 use Rattle.conode_explain_entries.specs.Frames.{after_text, segment_number, segment_text}
 use Rattle.conode_explain_forms.specs.EndedValues.{end_value}

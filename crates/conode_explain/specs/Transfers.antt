@@ -14,9 +14,9 @@ use Rattle.co_frame.specs.SdoResponses.{response_in}
 use Rattle.co_sheet.specs.Content.{Row}
 use Rattle.co_sheet_changes.specs.Names.{entry_of}
 use Rattle.conode_explain.specs.declared.transfer.Transfer.{Transfer}
-use Rattle.conode_explain_pdo.specs.Buses.{Bus}
-use Rattle.conode_explain_pdo.specs.InForce.{device_at}
-use Rattle.conode_explain_pdo.specs.KnownEntries.{Device, known_text}
+use Rattle.conode_explain_cob_ids.specs.Buses.{Bus}
+use Rattle.conode_explain_cob_ids.specs.Devices.{Device, device_at}
+use Rattle.conode_explain_pdo.specs.KnownEntries.{known_text}
 
 -- ---- which frame is one
 

@@ -9,11 +9,11 @@ use Rattle.conode_explain_entries.specs.declared.further.Place.{Place}
 use Rattle.conode_explain_entries.specs.declared.moved.MovedId.{MovedId}
 use Rattle.conode_explain_entries.specs.MovedIds.{moved_in}
 use Rattle.conode_explain_forms.specs.Places.{read_as}
-use Rattle.conode_explain_pdo.specs.declared.claim.Claim.{Claim}
-use Rattle.conode_explain_pdo.specs.declared.service_ids.NamedService.{NamedService}
-use Rattle.conode_explain_pdo.specs.declared.service_ids.NamedService.TheVariants.{Sync, Time, Emergency}
-use Rattle.conode_explain_pdo.specs.Buses.{Bus}
-use Rattle.conode_explain_pdo.specs.ServiceIds.{service_with}
+use Rattle.conode_explain_cob_ids.specs.declared.claim.Claim.{Claim}
+use Rattle.conode_explain_cob_ids.specs.declared.service_ids.NamedService.{NamedService}
+use Rattle.conode_explain_cob_ids.specs.declared.service_ids.NamedService.TheVariants.{Sync, Time, Emergency}
+use Rattle.conode_explain_cob_ids.specs.Buses.{Bus}
+use Rattle.conode_explain_cob_ids.specs.ServiceIds.{service_with}
 use Rattle.conode_explain.specs.declared.whose.Whose.{Whose}
 use Rattle.conode_explain.specs.declared.whose.Whose.TheVariants.{Channel, Moved, Service, Unnamed}
 

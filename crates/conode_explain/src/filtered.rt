@@ -30,10 +30,10 @@ ghost use Rattle.conode_explain.specs.Filtered.{
 
 use crate::progress::Layout;
 use crate::whose::Whose;
+use conode_explain_cob_ids::{Claim, NamedService};
 use conode_explain_entries::ChannelIds;
 use conode_explain_filter::{Filter, Kind, Lasts, Subject, Written};
 use conode_explain_forms::data_of;
-use conode_explain_pdo::{Claim, NamedService};
 use conode_explain_text::{Seen, Times};
 use conode_record::{Content, Identifier, Record};
 use std::alloc::AllocError;

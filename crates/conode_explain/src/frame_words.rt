@@ -2,7 +2,7 @@
 
 ghost use Rattle.std.specs.Prelude.{◌≡◌, ◌++◌, ◌<◌, true, OnOk, string_bytes};
 ghost use Rattle.co_sheet_changes.specs.Names.{names_view};
-ghost use Rattle.conode_explain_pdo.specs.Buses.{bus_view};
+ghost use Rattle.conode_explain_cob_ids.specs.Buses.{bus_view};
 ghost use Rattle.conode_explain_services.specs.ErrorFrames.{error_words};
 ghost use Rattle.conode_record.specs.Grammar.{IsIdentifier};
 ghost use Rattle.conode_record.specs.declared.fields.Identifier.TheVariants.{Base};
@@ -31,7 +31,8 @@ use co_frame::Frame;
 use co_sheet_changes::Names;
 use co_value::PackedBytes;
 use conode_decode::push_text;
-use conode_explain_pdo::{Bus, Claim, push_pdos};
+use conode_explain_cob_ids::{Bus, Claim};
+use conode_explain_pdo::push_pdos;
 use conode_explain_services::{
     Last, Nodes, is_emergency, push_error, push_remote, push_service, push_state,
 };

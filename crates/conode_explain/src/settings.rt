@@ -2,11 +2,11 @@
 
 ghost use Rattle.std.specs.Prelude.{◌≡◌, map};
 ghost use Rattle.conode_explain_forms.specs.Places.{channels_of};
-ghost use Rattle.conode_explain_pdo.specs.Known.{known_view};
+ghost use Rattle.conode_explain_cob_ids.specs.Known.{known_view};
 
 use crate::progress::Layout;
+use conode_explain_cob_ids::KnownSheet;
 use conode_explain_forms::SheetChannel;
-use conode_explain_pdo::KnownSheet;
 
 /// How a recording is explained.
 #[derive(Clone, Copy)]

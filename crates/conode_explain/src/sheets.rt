@@ -2,12 +2,12 @@
 
 ghost use Rattle.std.specs.Prelude.{◌≡◌, ◌++◌, IfOk, OnOk, map};
 ghost use Rattle.co_sheet_changes.specs.Names.{names_view};
-ghost use Rattle.conode_explain_pdo.specs.Known.{known_view};
+ghost use Rattle.conode_explain_cob_ids.specs.Known.{known_view};
 ghost use Rattle.conode_explain.specs.Sheets.{in_order, is_kind, of_kind, read_view};
 
 use co_sheet::Sheet;
 use co_sheet_changes::{Names, Originals};
-use conode_explain_pdo::KnownSheet;
+use conode_explain_cob_ids::KnownSheet;
 use conode_sheets::SheetWord;
 use std::alloc::{AllocError, Global};
 

@@ -38,7 +38,7 @@ use crate::settings::Settings;
 use crate::writes::{Room, write_frame};
 use co_stream::{BoundedLines, Found};
 use conode_convert::{TOO_LONG, add_frame, name_bad_line, name_cut, read_fault};
-use conode_explain_pdo::Claim;
+use conode_explain_cob_ids::Claim;
 use conode_io::{CmdFault, flush};
 use conode_logs::{Form, Log};
 use conode_record::{LogLine, RecordLine};

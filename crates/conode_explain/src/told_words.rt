@@ -2,7 +2,7 @@
 
 ghost use Rattle.std.specs.Prelude.{◌≡◌, ◌++◌, OnOk, string_bytes};
 ghost use Rattle.co_sheet_changes.specs.Names.{names_view};
-ghost use Rattle.conode_explain_pdo.specs.Buses.{bus_view};
+ghost use Rattle.conode_explain_cob_ids.specs.Buses.{bus_view};
 ghost use Rattle.conode_record.specs.Grammar.{IsIdentifier};
 ghost use Rattle.co_text.specs.Printed.{digits_text};
 ghost use Rattle.conode_explain.specs.Nodes.{last_at};
@@ -28,11 +28,11 @@ use co_frame::{Frame, SdoResponse};
 use co_sheet_changes::{Names, shown_name};
 use co_text::{push_byte, push_decimal, push_digit};
 use co_value::Key;
+use conode_explain_cob_ids::{Bus, Claim};
 use conode_explain_entries::{
     ChannelIds, push_after, push_end, push_segment, push_transfer, segment_number,
 };
 use conode_explain_forms::{push_end_value, push_refusal};
-use conode_explain_pdo::{Bus, Claim};
 use conode_explain_services::Nodes;
 use conode_explain_transfers::{Ended, Ending, Part, Side, Told, What};
 use conode_record::{Content, Identifier, Record};

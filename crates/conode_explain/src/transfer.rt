@@ -2,7 +2,7 @@
 
 ghost use Rattle.std.specs.Prelude.{◌≡◌, ◌++◌, ◌≤◌, OnOk, length, string_bytes};
 ghost use Rattle.co_sheet.specs.SheetViews.{row_view};
-ghost use Rattle.conode_explain_pdo.specs.KnownEntries.{device_view};
+ghost use Rattle.conode_explain_cob_ids.specs.Devices.{device_view};
 ghost use Rattle.conode_explain.specs.Transfers.{
   download_in,
   front_of,
@@ -19,7 +19,8 @@ use co_frame::{ExpeditedData, Frame, SdoRequest, SdoResponse};
 use co_sheet::EntryRow;
 use co_text::push_decimal;
 use co_value::{DataType, Key};
-use conode_explain_pdo::{Device, push_known};
+use conode_explain_cob_ids::Device;
+use conode_explain_pdo::push_known;
 use std::alloc::AllocError;
 
 /// An expedited transfer, by the frame that has its value.

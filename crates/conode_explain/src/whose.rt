@@ -3,8 +3,8 @@
 ghost use Rattle.std.specs.Prelude.{◌≡◌, ◌<◌};
 ghost use Rattle.conode_record.specs.Grammar.{IsIdentifier};
 ghost use Rattle.conode_explain_entries.specs.MovedIds.{moved_in};
-ghost use Rattle.conode_explain_pdo.specs.Buses.{bus_view};
-ghost use Rattle.conode_explain_pdo.specs.ServiceIds.{service_with};
+ghost use Rattle.conode_explain_cob_ids.specs.Buses.{bus_view};
+ghost use Rattle.conode_explain_cob_ids.specs.ServiceIds.{service_with};
 ghost use Rattle.conode_explain.specs.Whose.{
   by_service,
   default_id,
@@ -15,9 +15,9 @@ ghost use Rattle.conode_explain.specs.Whose.{
   whose_of,
 };
 
+use conode_explain_cob_ids::{Bus, Claim, NamedService, service_with};
 use conode_explain_entries::{MovedId, Place};
 use conode_explain_forms::read_as;
-use conode_explain_pdo::{Bus, Claim, NamedService, service_with};
 use conode_record::{Content, Identifier, Record};
 
 /// Whose a frame is that is no PDO.

@@ -1,7 +1,7 @@
 //! The lines of frames.
 
 ghost use Rattle.std.specs.Prelude.{◌≡◌, ◌++◌, IfOk, OnOk, string_bytes};
-ghost use Rattle.conode_explain_pdo.specs.Buses.{bus_view};
+ghost use Rattle.conode_explain_cob_ids.specs.Buses.{bus_view};
 ghost use Rattle.conode_io.specs.Written.{WritesLines};
 ghost use Rattle.conode_record.specs.Grammar.{IsIdentifier};
 ghost use Rattle.conode_explain.specs.Explained.{
@@ -33,12 +33,12 @@ use crate::progress::{Layout, LineFormat, Progress, may_be_told};
 use crate::settings::Settings;
 use crate::told_words::set_told_words;
 use crate::whose::{Whose, is_named, read_by, whose_of};
+use conode_explain_cob_ids::{Bus, Claim, add_claims, is_unnamed};
 use conode_explain_entries::{Entries, Place, push_moved};
 use conode_explain_filter::Lasts;
 use conode_explain_forms::{
     data_of, frame_tone, header, json_line, place_of, put_tone, read_as, set_signal_line,
 };
-use conode_explain_pdo::{Bus, Claim, add_claims, is_unnamed};
 use conode_explain_services::Nodes;
 use conode_explain_text::{Seen, set_line};
 use conode_explain_transfers::Told;

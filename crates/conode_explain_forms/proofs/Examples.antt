@@ -21,11 +21,11 @@ use Rattle.conode_explain_transfers.specs.declared.ended.Ending.TheVariants.{Don
 use Rattle.conode_explain_transfers.specs.declared.kinds.Direction.TheVariants.{Download, Upload}
 use Rattle.conode_explain_transfers.specs.declared.kinds.Protocol.{Protocol}
 use Rattle.conode_explain_transfers.specs.declared.kinds.Protocol.TheVariants.{Expedited, Segmented}
-use Rattle.conode_explain_pdo.specs.declared.claim.Claim.{Claim}
-use Rattle.conode_explain_pdo.specs.Buses.{Bus}
+use Rattle.conode_explain_cob_ids.specs.declared.claim.Claim.{Claim}
+use Rattle.conode_explain_cob_ids.specs.Buses.{Bus}
 use Rattle.conode_explain_pdo.specs.EntryBits.{bits_in_force, entry_bits, place_from}
 use Rattle.conode_explain_pdo.specs.InForce.{mapping_in_force, words_in_force}
-use Rattle.conode_explain_pdo.specs.Known.{KnownSheet, names_for}
+use Rattle.conode_explain_cob_ids.specs.Known.{KnownSheet, names_for}
 use Rattle.conode_explain_pdo.specs.Mappings.{part_bytes}
 use Rattle.conode_explain_text.specs.declared.stamps.StampForm.TheVariants.{Relative, Absolute, Delta, Date as AsDate}
 use Rattle.conode_explain_text.specs.Dates.{date_in_year, date_of, day_of_year, year_of_cycle}

@@ -4,10 +4,10 @@ use Rattle.std.specs.Prelude.{◌&&◌, filter_map, if◌then◌else◌}
 use Rattle.std.proofs.lemmas.Bool.{or_parts}
 use Rattle.conode_explain_entries.specs.declared.entries.ShownPdo.{ShownPdo}
 use Rattle.conode_explain_forms.specs.declared.places.SheetChannel.{SheetChannel}
-use Rattle.conode_explain_pdo.specs.Buses.{Bus}
-use Rattle.conode_explain_pdo.specs.CobIds.{may_be_pdo}
-use Rattle.conode_explain_pdo.specs.Shown.{is_more, shows_more}
-use Rattle.conode_explain_pdo.proofs.NothingNamed.{if_none, type_index}
+use Rattle.conode_explain_cob_ids.specs.Buses.{Bus}
+use Rattle.conode_explain_cob_ids.specs.CobIds.{may_be_pdo}
+use Rattle.conode_explain_cob_ids.specs.Shown.{is_more, shows_more}
+use Rattle.conode_explain_cob_ids.proofs.NothingNamed.{if_none, type_index}
 use Rattle.conode_explain_forms.specs.Places.{channels_of, is_parameter, place_by_shown, place_in}
 
 none_there : {A : Type 0} (xs : List A) → length xs ≡ 0 → xs ≡ []

@@ -14,10 +14,10 @@ use Rattle.conode_explain_entries.specs.declared.further.Place.{Place}
 use Rattle.conode_explain_entries.specs.declared.state.Value.{Value}
 use Rattle.conode_explain_entries.specs.declared.state.Value.TheVariants.{Assumed, Seen, Saved, Unknown}
 use Rattle.conode_explain_entries.specs.Histories.{assumed_values}
-use Rattle.conode_explain_pdo.specs.Buses.{Bus}
-use Rattle.conode_explain_pdo.specs.ChannelWords.{channel_word, sheet_number}
-use Rattle.conode_explain_pdo.specs.CobIds.{is_of, node_with}
-use Rattle.conode_explain_pdo.specs.Known.{KnownSheet, names_for}
+use Rattle.conode_explain_cob_ids.specs.Buses.{Bus}
+use Rattle.conode_explain_cob_ids.specs.ChannelWords.{channel_word, sheet_number}
+use Rattle.conode_explain_cob_ids.specs.CobIds.{is_of, node_with}
+use Rattle.conode_explain_cob_ids.specs.Known.{KnownSheet, names_for}
 use Rattle.conode_explain_forms.specs.Places.{channel_of, channels_of, identifier_in, ids_at, is_channel_id, is_parameter, key_of, place_at, place_by_sheet, place_by_shown, place_in, read_as}
 
 -- ---- identifiers and keys

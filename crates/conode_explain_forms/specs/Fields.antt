@@ -15,9 +15,9 @@ use Rattle.conode_explain_transfers.specs.declared.kinds.Direction.{Direction}
 use Rattle.conode_explain_transfers.specs.declared.kinds.Direction.TheVariants.{Upload}
 use Rattle.conode_explain_transfers.specs.declared.kinds.Protocol.{Protocol}
 use Rattle.conode_explain_transfers.specs.declared.kinds.Protocol.TheVariants.{Expedited}
-use Rattle.conode_explain_pdo.specs.declared.claim.Claim.{Claim}
+use Rattle.conode_explain_cob_ids.specs.declared.claim.Claim.{Claim}
 use Rattle.conode_explain_pdo.specs.declared.entry_bits.EntryBits.{EntryBits}
-use Rattle.conode_explain_pdo.specs.Buses.{Bus, names_at}
+use Rattle.conode_explain_cob_ids.specs.Buses.{Bus, names_at}
 use Rattle.conode_explain_pdo.specs.EntryBits.{bits_in_force}
 use Rattle.conode_explain_pdo.specs.Types.{type_in}
 use Rattle.conode_explain_values.specs.declared.value_type.ValueType.{ValueType}

@@ -5,7 +5,7 @@ use Rattle.std.specs.Option.{option_map_or}
 use Rattle.co_value.specs.KeyTexts.{key_text}
 use Rattle.co_sheet.specs.Content.{Row}
 use Rattle.co_sheet_changes.specs.Names.{entry_of, shown_name}
-use Rattle.conode_explain_pdo.specs.Known.{KnownSheet, names_for}
+use Rattle.conode_explain_cob_ids.specs.Known.{KnownSheet, names_for}
 use Rattle.conode_explain_text.specs.Said.{is_control, shown}
 use Rattle.conode_explain_text.specs.declared.so_far.Times.{Times}
 use Rattle.conode_explain_text.specs.declared.stamps.StampForm.{StampForm}

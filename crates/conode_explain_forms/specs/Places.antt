@@ -15,10 +15,10 @@ use Rattle.conode_explain_transfers.specs.declared.kinds.Side.TheVariants.{Clien
 use Rattle.conode_explain_entries.specs.declared.entries.ShownPdo.{ShownPdo}
 use Rattle.conode_explain_entries.specs.declared.further.ChannelIds.{ChannelIds}
 use Rattle.conode_explain_entries.specs.declared.further.Place.{Place}
-use Rattle.conode_explain_pdo.specs.Buses.{Bus}
-use Rattle.conode_explain_pdo.specs.ChannelWords.{channel_word}
-use Rattle.conode_explain_pdo.specs.CobIds.{cob_id_of, has_identifier, is_node, may_be_pdo, node_with}
-use Rattle.conode_explain_pdo.specs.Known.{KnownSheet}
+use Rattle.conode_explain_cob_ids.specs.Buses.{Bus}
+use Rattle.conode_explain_cob_ids.specs.ChannelWords.{channel_word}
+use Rattle.conode_explain_cob_ids.specs.CobIds.{cob_id_of, has_identifier, is_node, may_be_pdo, node_with}
+use Rattle.conode_explain_cob_ids.specs.Known.{KnownSheet}
 use Rattle.conode_explain_forms.specs.declared.places.SheetChannel.{SheetChannel}
 
 -- ---- the channel of a parameter of a node

@@ -4,7 +4,7 @@ ghost use Rattle.std.specs.Prelude.{◌≡◌, ◌++◌, IfOk, OnOk, codes, map,
 ghost use Rattle.std.specs.List.{flat_map};
 ghost use Rattle.std.specs.Option.{option_copied};
 ghost use Rattle.co_sheet.specs.SheetViews.{row_view};
-ghost use Rattle.conode_explain_pdo.specs.Known.{known_view};
+ghost use Rattle.conode_explain_cob_ids.specs.Known.{known_view};
 ghost use Rattle.conode_explain_text.specs.Said.{is_control};
 ghost use Rattle.conode_explain_forms.specs.Lines.{
   column,
@@ -25,7 +25,7 @@ ghost use Rattle.conode_explain_forms.specs.Lines.{
 use crate::signal::Signal;
 use co_sheet::EntryRow;
 use co_sheet_changes::shown_name;
-use conode_explain_pdo::{KnownSheet, names_for};
+use conode_explain_cob_ids::{KnownSheet, names_for};
 use conode_explain_text::add_shown;
 use conode_text::{Value, push_filled};
 use std::alloc::{AllocError, Global};

@@ -18,7 +18,7 @@ ghost use Rattle.std.specs.Option.{option_copied};
 ghost use Rattle.co_sheet.specs.SheetViews.{row_view};
 ghost use Rattle.co_value.specs.Types.{is_boolean};
 ghost use Rattle.co_sheet_changes.specs.Names.{names_view};
-ghost use Rattle.conode_explain_pdo.specs.Buses.{bus_view};
+ghost use Rattle.conode_explain_cob_ids.specs.Buses.{bus_view};
 ghost use Rattle.conode_explain_values.specs.Types.{is_boolean_type};
 ghost use Rattle.conode_explain_values.specs.Values.{HasBits};
 ghost use Rattle.conode_explain_forms.specs.Fields.{
@@ -43,7 +43,8 @@ use co_sheet::EntryRow;
 use co_sheet_changes::Names;
 use co_text::push_decimal;
 use co_value::{DataType, unsigned_of};
-use conode_explain_pdo::{Bus, Claim, EntryBits, type_in};
+use conode_explain_cob_ids::{Bus, Claim};
+use conode_explain_pdo::{EntryBits, type_in};
 use conode_explain_transfers::{Direction, Ended, Ending, Protocol, Told};
 use conode_explain_values::{ValueType, push_value};
 use std::alloc::AllocError;
@@ -186,7 +187,7 @@ fn claim_bits<'b>(
     if claim.node != signal.node {
         return None;
     }
-    bus.bits(claim, signal.key, bytes)
+    EntryBits::in_force(bus, claim, signal.key, bytes)
 }
 
 // the bits of a signal in data of PDOs

@@ -2,14 +2,14 @@
 
 ghost use Rattle.std.specs.Prelude.{◌≡◌, ◌++◌, ◌≤◌, OnOk, IfOk, is_some, length, string_bytes};
 ghost use Rattle.std.specs.List.{flat_map};
-ghost use Rattle.conode_explain_pdo.specs.Buses.{bus_view};
+ghost use Rattle.conode_explain_cob_ids.specs.Buses.{bus_view};
 ghost use Rattle.conode_explain_forms.specs.Fields.{field_of};
 ghost use Rattle.conode_explain_forms.specs.Lines.{after_comma, has_one, signal_line};
 
 use crate::fields::push_field;
 use crate::signal::Signal;
 use crate::stamps::push_stamp;
-use conode_explain_pdo::{Bus, Claim};
+use conode_explain_cob_ids::{Bus, Claim};
 use conode_explain_text::{StampForm, Times};
 use conode_explain_transfers::Told;
 use std::alloc::AllocError;

@@ -4,8 +4,8 @@ ghost use Rattle.std.specs.Prelude.{◌≡◌, ◌++◌, ℕ, true, None, IfOk, 
 ghost use Rattle.std.specs.Option.{option_to_list};
 ghost use Rattle.co_sheet.specs.SheetViews.{row_view};
 ghost use Rattle.conode_record.specs.Grammar.{IsIdentifier};
-ghost use Rattle.conode_explain_pdo.specs.Buses.{bus_view};
-ghost use Rattle.conode_explain_pdo.specs.Known.{known_view};
+ghost use Rattle.conode_explain_cob_ids.specs.Buses.{bus_view};
+ghost use Rattle.conode_explain_cob_ids.specs.Known.{known_view};
 ghost use Rattle.conode_explain_forms.specs.Places.{
   channel_of,
   channels_in,
@@ -29,10 +29,10 @@ ghost use Rattle.conode_explain_forms.specs.Places.{
 
 use co_sheet::EntryRow;
 use co_value::Key;
-use conode_explain_entries::{ChannelIds, Place, ShownPdo};
-use conode_explain_pdo::{
+use conode_explain_cob_ids::{
     Bus, KnownSheet, SheetCobId, channel_word, cob_id_of, has_identifier, may_be_pdo, shows_more,
 };
+use conode_explain_entries::{ChannelIds, Place, ShownPdo};
 use conode_explain_transfers::Side;
 use conode_record::{Content, Identifier};
 use std::alloc::{AllocError, Global};

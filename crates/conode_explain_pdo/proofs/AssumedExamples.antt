@@ -14,28 +14,22 @@ use Rattle.co_sheet_changes.specs.Names.{entry_of}
 use Rattle.conode_explain_values.specs.Numbers.{number_text}
 use Rattle.conode_explain_values.specs.Values.{entry_text, value_text}
 use Rattle.conode_explain_services.specs.Drives.{meaning_at}
-use Rattle.conode_explain_pdo.specs.KnownEntries.{known_text}
 use Rattle.conode_text.specs.Filled.{filled}
-use Rattle.conode_explain_pdo.specs.Mappings.{data_text, mapped_text, missing_text, more_parts, more_text, part_bytes, part_text, parts_text, short_text, with_bits}
-use Rattle.conode_explain_pdo.specs.CobIds.{is_of, node_with}
 use Rattle.conode_explain_entries.specs.declared.entries.ShownPdo.{ShownPdo}
 use Rattle.conode_explain_entries.specs.declared.state.Value.{Value}
 use Rattle.conode_explain_entries.specs.declared.state.Value.TheVariants.{Assumed, Seen, Saved, Unknown}
 use Rattle.conode_explain_entries.specs.Histories.{assumed_values}
-use Rattle.conode_explain_pdo.specs.Buses.{Bus}
+use Rattle.conode_explain_cob_ids.specs.Buses.{Bus}
+use Rattle.conode_explain_cob_ids.specs.Claims.{claims_with, sheet_claim, sheets_claims, shown_claim}
+use Rattle.conode_explain_cob_ids.specs.CobIds.{is_of, node_with}
+use Rattle.conode_explain_cob_ids.specs.Known.{KnownSheet, known_sheet, names_for}
+use Rattle.conode_explain_cob_ids.specs.ServiceIds.{service_by_sheet, service_by_shown, service_with}
+use Rattle.conode_explain_cob_ids.specs.SheetServices.{service_in_row, sheet_services}
+use Rattle.conode_explain_cob_ids.specs.Sheets.{mapping_at, number_at, pdo_of, pdos_in, sheet_pdos, words_at}
 use Rattle.conode_explain_pdo.specs.InForce.{data_in_force, mapping_in_force, raw_text, shown_text, words_in_force}
-use Rattle.conode_explain_pdo.specs.Claims.{claims_with, default_index, sheet_claim, sheets_claims, shown_claim}
-use Rattle.conode_explain_pdo.specs.Known.{KnownSheet, known_sheet, names_for}
+use Rattle.conode_explain_pdo.specs.KnownEntries.{known_text}
+use Rattle.conode_explain_pdo.specs.Mappings.{data_text, mapped_text, missing_text, more_parts, more_text, part_bytes, part_text, parts_text, short_text, with_bits}
 use Rattle.conode_explain_pdo.specs.Pdos.{more_pdos, pdo_by, pdo_front, pdo_text, pdos_text}
-use Rattle.conode_explain_pdo.specs.ServiceIds.{service_by_sheet, service_by_shown, service_with}
-use Rattle.conode_explain_pdo.specs.SheetServices.{service_in_row, sheet_services}
-use Rattle.conode_explain_pdo.specs.Sheets.{mapping_at, number_at, pdo_of, pdos_in, sheet_pdos, words_at}
-
--- ---- the PDOs of the pre-defined connection set, by function code
-
-first_and_last : map default_index (2 ∷ 3 ∷ 4 ∷ 5 ∷ 6 ∷ 7 ∷ 8 ∷ 9 ∷ 10 ∷ 11 ∷ [])
-    ≡ None ∷ Some 0x1800 ∷ Some 0x1400 ∷ Some 0x1801 ∷ Some 0x1401 ∷ Some 0x1802 ∷ Some 0x1402 ∷ Some 0x1803 ∷ Some 0x1403 ∷ None ∷ []
-first_and_last = refl
 
 -- ---- sheets, and what is shown
 

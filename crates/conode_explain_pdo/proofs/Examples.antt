@@ -1,6 +1,6 @@
 -- The data of PDOs, evaluated on both sides of each edge.
-use Rattle.std.proofs.Common.{◌≡◌, ℕ, Bool, true, false, [], ◌∷◌, List, Option, Some, None, refl, pos, negsuc}
-use Rattle.std.specs.Prelude.{codes, length, map, not, ◌==◌, if◌then◌else◌}
+use Rattle.std.proofs.Common.{◌≡◌, ℕ, Bool, true, false, [], ◌∷◌, List, Option, Some, None, refl, pos}
+use Rattle.std.specs.Prelude.{codes, map, ◌==◌, if◌then◌else◌}
 use Rattle.std.specs.Fmt.{digits}
 use Rattle.std.specs.Str.{is_utf8, chars}
 use lib.Utf8.{encode}
@@ -14,27 +14,27 @@ use Rattle.co_sheet_changes.specs.Names.{Names, entry_of}
 use Rattle.conode_explain_values.specs.Numbers.{number_text}
 use Rattle.conode_explain_values.specs.Unicode.{characters_text, pair_text, unit_text}
 use Rattle.conode_explain_values.specs.Values.{entry_text, value_text}
-use Rattle.conode_explain_pdo.specs.declared.cob_id.SheetCobId.{SheetCobId}
-use Rattle.conode_explain_pdo.specs.declared.entry_bits.EntryBits.{EntryBits}
-use Rattle.conode_explain_pdo.specs.Content.{SheetMapping}
-use Rattle.conode_explain_pdo.specs.EntryBits.{assumed_bits, entry_bits, place_from, shown_bits}
 use Rattle.conode_explain_services.specs.Drives.{drive_words, meaning_at, mode_words, state_words, statusword_words, word_text}
-use Rattle.conode_explain_pdo.specs.KnownEntries.{Device, is_node_drive, known_text}
 use Rattle.conode_text.specs.Filled.{filled}
-use Rattle.conode_explain_pdo.specs.Mappings.{addressed_text, addressing_word, bits_at, data_text, mapped_text, missing_text, more_parts, more_text, multiplexed_data, multiplexed_text, part_bytes, part_text, parts_text, short_text, with_bits}
 use Rattle.co_value.specs.declared.key.Key.{Key}
-use Rattle.conode_explain_pdo.specs.CobIdWords.{cob_id_words, has_cob_id}
-use Rattle.conode_explain_pdo.specs.CobIds.{has_identifier, is_default_rpdo, is_of, may_be_pdo, node_with}
 use Rattle.conode_explain_entries.specs.declared.entries.ShownPdo.{ShownPdo}
 use Rattle.conode_explain_entries.specs.declared.state.Value.{Value}
 use Rattle.conode_explain_entries.specs.declared.state.Value.TheVariants.{Assumed, Seen, Saved, Unknown}
 use Rattle.conode_explain_entries.specs.Histories.{assumed_values}
-use Rattle.conode_explain_pdo.specs.Buses.{Bus}
-use Rattle.conode_explain_pdo.specs.InForce.{assumed_text, data_in_force, device_at, is_count, mapping_in_force, raw_text, shown_text, words_in_force}
-use Rattle.conode_explain_pdo.specs.Claims.{claims_with, sheet_claim, sheets_claims, shown_claim}
-use Rattle.conode_explain_pdo.specs.Known.{KnownSheet, known_sheet, names_for}
+use Rattle.conode_explain_cob_ids.specs.Buses.{Bus}
+use Rattle.conode_explain_cob_ids.specs.Claims.{claims_with, sheet_claim, sheets_claims, shown_claim}
+use Rattle.conode_explain_cob_ids.specs.CobIds.{is_of, node_with}
+use Rattle.conode_explain_cob_ids.specs.Content.{SheetMapping}
+use Rattle.conode_explain_cob_ids.specs.Devices.{Device, is_node_drive}
+use Rattle.conode_explain_cob_ids.specs.Known.{KnownSheet, known_sheet, names_for}
+use Rattle.conode_explain_cob_ids.specs.Sheets.{mapping_at, number_at, pdo_of, pdos_in, sheet_pdos, words_at}
+use Rattle.conode_explain_pdo.specs.declared.entry_bits.EntryBits.{EntryBits}
+use Rattle.conode_explain_pdo.specs.CobIdWords.{cob_id_words, has_cob_id}
+use Rattle.conode_explain_pdo.specs.EntryBits.{assumed_bits, entry_bits, place_from, shown_bits}
+use Rattle.conode_explain_pdo.specs.InForce.{assumed_text, data_in_force, is_count, mapping_in_force, raw_text, shown_text, words_in_force}
+use Rattle.conode_explain_pdo.specs.KnownEntries.{known_text}
+use Rattle.conode_explain_pdo.specs.Mappings.{addressed_text, addressing_word, bits_at, data_text, mapped_text, missing_text, more_parts, more_text, multiplexed_data, multiplexed_text, part_bytes, part_text, parts_text, short_text, with_bits}
 use Rattle.conode_explain_pdo.specs.Pdos.{more_pdos, pdo_by, pdo_front, pdo_text, pdos_text}
-use Rattle.conode_explain_pdo.specs.Sheets.{mapping_at, number_at, number_of, pdo_of, pdos_in, sheet_pdos, words_at}
 
 -- ---- the bits at an offset
 
@@ -245,63 +245,6 @@ short_multiplexed : counted 0xFF (0x85 ∷ 0x01 ∷ []) ≡ codes ": 2 bytes, ma
 unfolding data_text multiplexed_data short_text filled digits
 short_multiplexed = refl
 
--- ---- whose an identifier is
-
-abbrev sum : ℕ → SheetCobId
-sum word = record { word = word; with_node = true }
-
-abbrev fixed : ℕ → SheetCobId
-fixed word = record { word = word; with_node = false }
-
-of_this_node : node_with (Some 5) (sum 0x40000180) 0x185 ≡ Some 5
-unfolding node_with is_of
-of_this_node = refl
-
-of_another_node : node_with (Some 5) (sum 0x40000180) 0x186 ≡ None
-unfolding node_with is_of
-of_another_node = refl
-
-of_any_node : node_with None (sum 0x180) 0x1FF ≡ Some 127
-unfolding node_with is_of
-of_any_node = refl
-
-above_127 : node_with None (sum 0x180) 0x200 ≡ None
-unfolding node_with is_of
-above_127 = refl
-
-of_no_node : node_with None (sum 0x180) 0x180 ≡ None
-unfolding node_with is_of
-of_no_node = refl
-
-fixed_one : node_with None (fixed 0x185) 0x185 ≡ Some 5
-unfolding node_with is_of
-fixed_one = refl
-
-fixed_for_another : node_with (Some 6) (fixed 0x185) 0x185 ≡ Some 6
-unfolding node_with is_of
-fixed_for_another = refl
-
-not_there_bit : has_identifier 0x80000185 0x185 ≡ false
-not_there_bit = refl
-
-twenty_nine_bits : has_identifier 0x20000185 0x185 ≡ false
-twenty_nine_bits = refl
-
-no_sync : may_be_pdo 0x7F ≡ false
-no_sync = refl
-
-first_free : may_be_pdo 0x181 ≡ true
-first_free = refl
-
-sdo_answer : may_be_pdo 0x581 ≡ false
-sdo_answer = refl
-
-between_sdo : may_be_pdo 0x600 ≡ true
-between_sdo = refl
-
-last_free : may_be_pdo 0x6DF ≡ true
-last_free = refl
-
 -- ---- the PDOs of a sheet
 
 abbrev rows_of_tpdo : List Row
@@ -343,13 +286,6 @@ sent_alone = refl
 two_pdos : said_with (record (names_with rows_of_pdos) { only = Some 5 }) [] 0x185 (1 ∷ []) ≡ codes "TPDO1 node 5: B 2002:00 = true | RPDO1 node 5"
 unfolding claims_with sheets_claims sheet_claim shown_claim names_for pdos_text more_pdos pdo_text pdo_by pdo_front data_in_force shown_text raw_text mapping_in_force words_in_force node_with is_of sheet_pdos pdos_in pdo_of mapping_at words_at number_at data_text mapped_text parts_text more_parts part_text part_bytes short_text more_text filled entry_of known_text meaning_at entry_text value_text number_text digits digits_text is_utf8 chars encode
 two_pdos = refl
-
--- the identifiers that the pre-defined connection set has for RPDOs, and those beside them
-default_rpdos : map is_default_rpdo (0x200 ∷ 0x27F ∷ 0x305 ∷ 0x405 ∷ 0x500 ∷ 0x57F ∷ []) ≡ true ∷ true ∷ true ∷ true ∷ true ∷ true ∷ []
-default_rpdos = refl
-
-no_default_rpdos : map is_default_rpdo (0x105 ∷ 0x1FF ∷ 0x280 ∷ 0x2FF ∷ 0x480 ∷ 0x580 ∷ 0x605 ∷ 0x685 ∷ []) ≡ false ∷ false ∷ false ∷ false ∷ false ∷ false ∷ false ∷ false ∷ []
-no_default_rpdos = refl
 
 -- an RPDO with such a number, and with one beside them, in a sheet for every node; and with the node-ID added
 abbrev received : Default → ℕ → List ℕ
@@ -404,11 +340,6 @@ no_mapping : said_with (names_with (row 0x1800 1 Unsigned32 (node_id 0x180) [] �
 unfolding claims_with sheets_claims sheet_claim shown_claim names_for pdos_text more_pdos pdo_text pdo_by pdo_front data_in_force shown_text raw_text mapping_in_force words_in_force node_with is_of sheet_pdos pdos_in pdo_of mapping_at words_at number_at data_text mapped_text parts_text more_parts part_text part_bytes short_text more_text filled entry_of known_text meaning_at entry_text value_text number_text digits digits_text is_utf8 chars encode
 no_mapping = refl
 
--- the greatest number, one more, one below 0, one with the node-ID, none
-numbers_of : map number_of (number (pos 0) ∷ number (pos 0xFFFFFFFF) ∷ number (pos 0x100000000) ∷ number (negsuc 0) ∷ node_id 5 ∷ absent ∷ [])
-    ≡ Some 0 ∷ Some 0xFFFFFFFF ∷ None ∷ None ∷ None ∷ None ∷ []
-numbers_of = refl
-
 -- ---- what the recording shows
 
 -- of a PDO of node 5 on can0: its COB-ID, the first sub-indices of its mapping, and whether that is being changed
@@ -419,66 +350,6 @@ shown index cob_id mapping changes = record {
   interface = record { items = codes "can0" };
   state = record { now = record { cob_id = cob_id; mapping = mapping }; stored = assumed_values; is_being_changed = changes };
 }
-
-abbrev is_one : Names → List ShownPdo → ℕ → Bool
-is_one names entries id = not (length (claims_with (bus_with (sheet_of names ∷ []) entries) id) == 0)
-
--- the sheet's PDO, and of another identifier none
-is_of_sheet : is_one (names_with rows_of_pdos) [] 0x186 ≡ true
-unfolding claims_with sheets_claims sheet_claim shown_claim node_with is_of sheet_pdos pdos_in pdo_of mapping_at words_at number_at
-is_of_sheet = refl
-
-is_of_none : is_one (names_with rows_of_pdos) [] 0x205 ≡ false
-unfolding claims_with sheets_claims sheet_claim shown_claim node_with is_of sheet_pdos pdos_in pdo_of mapping_at words_at number_at
-is_of_none = refl
-
--- a COB-ID that is shown is in force in place of the sheet's: bit 31 is set, or another identifier, or it is unknown
-disabled : is_one (names_with rows_of_tpdo) (shown 0x1800 (Seen 0x80000185) [] false ∷ []) 0x185 ≡ false
-unfolding claims_with sheets_claims sheet_claim shown_claim node_with is_of sheet_pdos pdos_in pdo_of mapping_at words_at number_at
-disabled = refl
-
-moved_away : is_one (names_with rows_of_tpdo) (shown 0x1800 (Seen 0x40000190) [] false ∷ []) 0x185 ≡ false
-unfolding claims_with sheets_claims sheet_claim shown_claim node_with is_of sheet_pdos pdos_in pdo_of mapping_at words_at number_at
-moved_away = refl
-
-moved_here : is_one (names_with rows_of_tpdo) (shown 0x1800 (Seen 0x40000190) [] false ∷ []) 0x190 ≡ true
-unfolding claims_with sheets_claims sheet_claim shown_claim node_with is_of sheet_pdos pdos_in pdo_of mapping_at words_at number_at
-moved_here = refl
-
-came_back_here : is_one (names_with rows_of_tpdo) (shown 0x1800 (Saved 0x190) [] false ∷ []) 0x190 ≡ true
-unfolding claims_with sheets_claims sheet_claim shown_claim node_with is_of sheet_pdos pdos_in pdo_of mapping_at words_at number_at
-came_back_here = refl
-
-unknown_cob_id : is_one (names_with rows_of_tpdo) (shown 0x1800 Unknown [] false ∷ []) 0x185 ≡ false
-unfolding claims_with sheets_claims sheet_claim shown_claim node_with is_of sheet_pdos pdos_in pdo_of mapping_at words_at number_at
-unknown_cob_id = refl
-
--- that of another node, and of a communication parameter on another bus
-of_another : is_one (names_with rows_of_tpdo) (shown 0x1800 (Seen 0x80000185) [] false ∷ []) 0x186 ≡ true
-unfolding claims_with sheets_claims sheet_claim shown_claim node_with is_of sheet_pdos pdos_in pdo_of mapping_at words_at number_at
-of_another = refl
-
-on_another_bus : is_one (names_with []) (record (shown 0x1800 (Seen 0x190) [] false) { interface = record { items = codes "can1" } } ∷ []) 0x190 ≡ false
-unfolding claims_with sheets_claims sheet_claim shown_claim sheet_pdos pdos_in
-on_another_bus = refl
-
--- the device type of a node, of which the recording shows one
-abbrev type_at : List Value → ℕ → Option ℕ
-type_at values node = (device_at (bus_with [] (shown 0x1000 Assumed values false ∷ [])) node).shown_type
-
-type_of_5 : type_at (Seen 0x00020192 ∷ []) 5 ≡ Some 0x00020192
-type_of_5 = refl
-
-type_of_6 : type_at (Seen 0x00020192 ∷ []) 6 ≡ None
-type_of_6 = refl
-
-no_type_shown : type_at (Unknown ∷ []) 5 ≡ None
-no_type_shown = refl
-
--- a restricted identifier is none of a PDO
-restricted : is_one (names_with []) (shown 0x1800 (Seen 0x585) [] false ∷ []) 0x585 ≡ false
-unfolding claims_with sheets_claims sheet_claim shown_claim sheet_pdos pdos_in
-restricted = refl
 
 -- ---- a mapping is changed: what the PDO with these data says after each acknowledge
 

@@ -1,11 +1,5 @@
 mod AssumedExamples
-pub mod Claims
 mod EntryWordExamples
-pub mod Examples
-pub mod NamedIds
-pub mod NoClaims
-pub mod NothingNamed
+mod Examples
 pub mod Parts
-pub mod Pieces
-mod ServiceExamples
 pub mod Words

@@ -5,7 +5,7 @@ use Rattle.std.proofs.lemmas.Bool.{eqb-true}
 use Rattle.std.proofs.lemmas.Bool.Decides.{nat_tests}
 use Rattle.co_text.proofs.Tests.{by_test}
 use Rattle.conode_explain_entries.specs.declared.state.Value.{Value}
-use Rattle.conode_explain_pdo.specs.Content.{SheetMapping}
+use Rattle.conode_explain_cob_ids.specs.Content.{SheetMapping}
 use Rattle.conode_explain_pdo.specs.InForce.{word_in_force, words_in_force}
 
 with_word : List Value → Option SheetMapping → ℕ → List ℕ → Option (List ℕ)

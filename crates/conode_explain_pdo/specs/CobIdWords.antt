@@ -5,7 +5,7 @@ use Rattle.co_profile.specs.Indices.{is_within, rpdo_communication, tpdo_communi
 use Rattle.co_text.specs.Printed.{digits_text}
 use Rattle.co_value.specs.declared.key.Key.{Key}
 use Rattle.co_value.specs.Numbers.{unsigned_of}
-use Rattle.conode_explain_pdo.specs.SheetServices.{is_service_index}
+use Rattle.conode_explain_cob_ids.specs.SheetServices.{is_service_index}
 
 -- the requests and the answers of an SDO channel, 1200h to 12FFh
 abbrev pub is_channel_id : Key → Bool

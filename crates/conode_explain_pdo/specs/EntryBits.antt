@@ -4,12 +4,14 @@ use Rattle.std.specs.Option.{option_map_or}
 use Rattle.co_value.specs.declared.key.Key.{Key}
 use Rattle.co_value.specs.Keys.{same_key}
 use Rattle.conode_explain_entries.specs.declared.state.PdoState.{PdoState}
-use Rattle.conode_explain_pdo.specs.declared.claim.Claim.{Claim}
+use Rattle.conode_explain_cob_ids.specs.declared.claim.Claim.{Claim}
+use Rattle.conode_explain_cob_ids.specs.Buses.{Bus, state_at}
+use Rattle.conode_explain_cob_ids.specs.Content.{SheetMapping}
+use Rattle.conode_explain_cob_ids.specs.SheetMappings.{sheet_mapping}
 use Rattle.conode_explain_pdo.specs.declared.entry_bits.EntryBits.{EntryBits}
 use Rattle.conode_explain_pdo.specs.declared.entry_bits.Place.{Place}
-use Rattle.conode_explain_pdo.specs.Buses.{Bus}
-use Rattle.conode_explain_pdo.specs.Content.{Mapping, SheetMapping}
-use Rattle.conode_explain_pdo.specs.InForce.{mapping_in_force, sheet_mapping, state_at, word_count}
+use Rattle.conode_explain_pdo.specs.Content.{Mapping}
+use Rattle.conode_explain_pdo.specs.InForce.{mapping_in_force, word_count}
 use Rattle.conode_explain_pdo.specs.Mappings.{bytes_for, part_bytes, total_bits, word_bits, word_key}
 
 -- where the bits of an entry are: those of the first word that names it, from an offset on

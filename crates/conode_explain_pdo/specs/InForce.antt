@@ -1,79 +1,20 @@
 -- The mapping of a PDO that is in force, by the data sheet and by what the recording shows.
-use Rattle.std.specs.Prelude.{ℕ, zero, suc, ◌+◌, ◌%◌, ◌==◌, nat_le, Bool, ◌&&◌, ◌||◌, true, false, if◌then◌else◌, List, [], ◌∷◌, ◌++◌, slice_index, slice_index_or, take, codes, find, Option, Some, None, option_map, option_and_then, is_none}
+use Rattle.std.specs.Prelude.{ℕ, zero, suc, ◌+◌, ◌%◌, nat_le, Bool, ◌||◌, if◌then◌else◌, List, [], ◌∷◌, ◌++◌, take, codes}
+use Rattle.std.specs.Prelude.{Option, Some, None, option_map, option_and_then}
 use Rattle.std.specs.List.{flat_map, list_all}
 use Rattle.std.specs.Option.{option_map_or}
 use Rattle.co_text.specs.Printed.{byte_text}
 use Rattle.conode_explain_entries.specs.declared.state.PdoState.{PdoState}
 use Rattle.conode_explain_entries.specs.declared.state.Value.{Value}
-use Rattle.conode_explain_entries.specs.declared.state.Value.TheVariants.{Assumed, Seen, Saved, Unknown}
-use Rattle.conode_explain_entries.specs.Tables.{state_in}
+use Rattle.conode_explain_entries.specs.declared.state.Value.TheVariants.{Assumed}
 use Rattle.conode_text.specs.Filled.{filled}
-use Rattle.conode_explain_pdo.specs.declared.in_force.Origin.{Origin}
-use Rattle.conode_explain_pdo.specs.declared.in_force.Origin.TheVariants.{Sheet, Transfer, Store}
-use Rattle.conode_explain_pdo.specs.declared.sheet.SheetPdo.{SheetPdo}
-use Rattle.conode_explain_pdo.specs.Buses.{Bus, names_at}
-use Rattle.conode_explain_pdo.specs.Content.{Mapping, SheetMapping}
-use Rattle.conode_explain_pdo.specs.Known.{pdos_for}
-use Rattle.conode_explain_pdo.specs.KnownEntries.{Device, is_node_drive}
+use Rattle.conode_explain_cob_ids.specs.declared.origin.Origin.TheVariants.{Sheet, Transfer, Store}
+use Rattle.conode_explain_cob_ids.specs.Content.{SheetMapping}
+use Rattle.conode_explain_cob_ids.specs.Devices.{Device}
+use Rattle.conode_explain_cob_ids.specs.Origins.{is_from, number_by, value_at}
+use Rattle.conode_explain_cob_ids.specs.SheetMappings.{is_assumed, sheet_count, sheet_word}
+use Rattle.conode_explain_pdo.specs.Content.{Mapping}
 use Rattle.conode_explain_pdo.specs.Mappings.{data_text}
-
--- what the recording shows of the entries of a node's PDO, if it shows one
-abbrev pub state_at : Bus → ℕ → ℕ → Option PdoState
-state_at bus node index = state_in bus.entries bus.interface node index
-
--- ---- what an entry has
-
--- by its origin: what the sheet says where nothing was shown
-abbrev pub number_by : Option ℕ → Value → Option ℕ
-number_by sheet Assumed = sheet
-number_by sheet (Seen number) = Some number
-number_by sheet (Saved number) = Some number
-number_by sheet Unknown = None
-
--- a value is the sheet's, is one that a transfer showed, or came back with a boot-up
-abbrev pub is_from : Origin → Value → Bool
-is_from Sheet Assumed = true
-is_from Transfer (Seen number) = true
-is_from Store (Saved number) = true
-is_from origin value = false
-
--- what a sub-index has
-abbrev pub value_at : List Value → ℕ → Value
-value_at values sub = slice_index_or values sub Assumed
-
--- the device type that is shown
-abbrev pub type_shown : Option PdoState → Option ℕ
-type_shown None = None
-type_shown (Some state) = number_by None (value_at state.now.mapping 0)
-
--- what is known of a node's device
-abbrev pub device_at : Bus → ℕ → Device
-device_at bus node = record { names = names_at bus node; shown_type = type_shown (state_at bus node 0x1000) }
-
--- a node is a drive (CiA 402)
-abbrev pub is_drive_at : Bus → ℕ → Bool
-is_drive_at bus node = is_node_drive (device_at bus node) node
-
--- ---- the mapping of the sheet
-
--- that of the PDO with this communication parameter
-abbrev pub mapping_of : List SheetPdo → ℕ → Option SheetMapping
-mapping_of pdos index = option_map (λ pdo. pdo.mapping) (find (λ pdo. pdo.index == index) pdos)
-
--- of the sheet that is for a node
-abbrev pub sheet_mapping : Bus → ℕ → ℕ → Option SheetMapping
-sheet_mapping bus node index = mapping_of (pdos_for bus.sheets bus.interface node) index
-
--- the number of entries that it maps, where it has one
-abbrev pub sheet_count : Option SheetMapping → Option ℕ
-sheet_count sheet = option_and_then (λ mapping. mapping.count) sheet
-
--- a word that the sheet has; one that it lacks is 0
-abbrev pub if_there : ℕ → Option ℕ
-if_there word = if word == 0 then None else Some word
-
-abbrev pub sheet_word : Option SheetMapping → ℕ → Option ℕ
-sheet_word sheet place = option_and_then (λ mapping. if_there (slice_index mapping.words place)) sheet
 
 -- ---- the mapping in force, by what its sub-indices have and by that of the sheet
 
@@ -123,10 +64,6 @@ abbrev pub origin_text : List Value → ℕ → List ℕ
 origin_text values count = origin_words (take (count + 1) values)
 
 -- ---- what data say
-
--- no COB-ID of a PDO is known: its node's sheet doesn't have the PDO, and the recording doesn't show its COB-ID
-abbrev pub is_assumed : Option SheetMapping → Value → Bool
-is_assumed sheet cob_id = is_none sheet && is_from Sheet cob_id
 
 -- data of which no more is known, and why
 abbrev pub digits_of : List ℕ → List ℕ

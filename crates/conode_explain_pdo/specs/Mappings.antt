@@ -9,8 +9,9 @@ use Rattle.co_value.specs.Numbers.{low_bytes, unsigned_of}
 use Rattle.co_sheet.specs.Content.{Row}
 use Rattle.co_sheet_changes.specs.Names.{entry_of}
 use Rattle.conode_text.specs.Filled.{filled}
+use Rattle.conode_explain_cob_ids.specs.Devices.{Device}
 use Rattle.conode_explain_pdo.specs.Content.{Mapping}
-use Rattle.conode_explain_pdo.specs.KnownEntries.{Device, known_text}
+use Rattle.conode_explain_pdo.specs.KnownEntries.{known_text}
 
 -- ---- a word of a mapping: index, sub-index and length in bits
 

@@ -3,10 +3,12 @@ use Rattle.std.specs.Prelude.{ℕ, ◌-◌, nat_lt, Bool, if◌then◌else◌, L
 use Rattle.conode_explain_entries.specs.declared.state.PdoState.{PdoState}
 use Rattle.conode_explain_entries.specs.declared.state.Value.{Value}
 use Rattle.conode_explain_entries.specs.declared.state.Value.TheVariants.{Assumed}
-use Rattle.conode_explain_pdo.specs.declared.claim.Claim.{Claim}
-use Rattle.conode_explain_pdo.specs.Buses.{Bus}
-use Rattle.conode_explain_pdo.specs.Content.{SheetMapping}
-use Rattle.conode_explain_pdo.specs.InForce.{data_in_force, device_at, is_assumed, sheet_mapping, state_at}
+use Rattle.conode_explain_cob_ids.specs.declared.claim.Claim.{Claim}
+use Rattle.conode_explain_cob_ids.specs.Buses.{Bus, state_at}
+use Rattle.conode_explain_cob_ids.specs.Content.{SheetMapping}
+use Rattle.conode_explain_cob_ids.specs.Devices.{device_at}
+use Rattle.conode_explain_cob_ids.specs.SheetMappings.{is_assumed, sheet_mapping}
+use Rattle.conode_explain_pdo.specs.InForce.{data_in_force}
 
 -- the PDO and its node
 unfoldable pub pdo_front : ℕ → ℕ → List ℕ

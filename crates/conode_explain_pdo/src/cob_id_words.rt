@@ -9,10 +9,10 @@ ghost use Rattle.conode_explain_pdo.specs.CobIdWords.{
   is_pdo_id,
 };
 
-use crate::sheet_services::is_service_index;
 use co_profile::IndexRange;
 use co_text::push_u32;
 use co_value::{Key, read_u32};
+use conode_explain_cob_ids::is_service_index;
 use std::alloc::AllocError;
 
 fn is_channel_id(key: Key) -> bool

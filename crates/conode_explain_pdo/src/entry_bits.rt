@@ -3,7 +3,7 @@
 ghost use Rattle.std.specs.Prelude.{◌≡◌, ◌+◌, ◌≤◌, IfSome, length};
 ghost use Rattle.std.specs.Option.{option_copied};
 ghost use Rattle.conode_explain_values.specs.Values.{HasBits};
-ghost use Rattle.conode_explain_pdo.specs.Buses.{bus_view};
+ghost use Rattle.conode_explain_cob_ids.specs.Buses.{bus_view};
 ghost use Rattle.conode_explain_pdo.specs.EntryBits.{
   assumed_bits,
   bits_by,
@@ -15,12 +15,11 @@ ghost use Rattle.conode_explain_pdo.specs.EntryBits.{
 };
 ghost use Rattle.conode_explain_pdo.specs.Mappings.{total_bits};
 
-use crate::bus::Bus;
-use crate::claim::Claim;
-use crate::in_force::{mapping_in_force, sheet_mapping, word_count};
-use crate::mapping::{Mapping, SheetMapping, part_bytes, total_bits, word_bits, word_key};
+use crate::in_force::{mapping_in_force, word_count};
+use crate::mapping::{Mapping, part_bytes, total_bits, word_bits, word_key};
 use arrayvec::ArrayVec;
 use co_value::Key;
+use conode_explain_cob_ids::{Bus, Claim, SheetMapping, sheet_mapping};
 use conode_explain_entries::PdoState;
 
 /// The bits of an entry: how many there are, and the bits, the lowest first, in as few bytes as
@@ -131,18 +130,23 @@ fn assumed_bits(sheet: Option<&SheetMapping>, key: Key, bytes: &[u8]) -> Option<
     entry_bits(&mapping, key, bytes)
 }
 
-impl Bus<'_, '_, '_, '_, '_> {
+impl EntryBits {
     /// The bits of an entry in data of a PDO, by its mapping in force: the one that the recording
     /// shows, else that of the data sheet. `None` where the PDO doesn't map the entry, the data are
     /// shorter than what is mapped, or the mapping is being changed or isn't known.
     #[tactic(auto, unfolding(crate::specs::EntryBits::bits_in_force))]
-    pub fn bits(self, claim: Claim, key: Key, bytes: &[u8]) -> Option<EntryBits>
+    pub fn in_force(
+        bus: Bus<'_, '_, '_, '_, '_>,
+        claim: Claim,
+        key: Key,
+        bytes: &[u8],
+    ) -> Option<EntryBits>
         requires { length bytes.now ≤ 8 }
-        ensures bits { result ≡ bits_in_force (bus_view self.entry) claim key bytes.now }
+        ensures bits { result ≡ bits_in_force (bus_view bus.entry) claim key bytes.now }
         ensures count { IfSome result (λ found. HasBits found.bits found.bytes.items) }
     {
-        let sheet = sheet_mapping(self, claim.node, claim.index);
-        if let Some(state) = self.state(claim.node, claim.index) {
+        let sheet = sheet_mapping(bus, claim.node, claim.index);
+        if let Some(state) = bus.state(claim.node, claim.index) {
             return shown_bits(sheet, state, key, bytes);
         }
         assumed_bits(sheet, key, bytes)

@@ -1,194 +1,37 @@
 //! The mapping of a PDO that is in force, and what its data say.
 
-ghost use Rattle.std.specs.Prelude.{◌≡◌, ◌+◌, ◌≤◌, ◌++◌, OnOk, length, [], option_map, slice_index, slice_index_or, string_bytes, take};
+ghost use Rattle.std.specs.Prelude.{◌≡◌, ◌≤◌, ◌++◌, OnOk, length, option_map, string_bytes, take};
 ghost use Rattle.std.specs.List.{list_all};
 ghost use Rattle.std.specs.Option.{option_copied};
-ghost use Rattle.conode_explain_pdo.specs.Buses.{bus_view};
-ghost use Rattle.conode_explain_pdo.specs.KnownEntries.{device_view};
+ghost use Rattle.conode_explain_cob_ids.specs.Devices.{device_view};
+ghost use Rattle.conode_explain_cob_ids.specs.Origins.{is_from};
 ghost use Rattle.conode_explain_pdo.specs.InForce.{
   assumed_text,
   count_in_force,
   data_in_force,
-  device_at,
   digits_of,
-  if_there,
-  is_assumed,
   is_count,
-  is_drive_at,
-  is_from,
   known_text,
   mapping_in_force,
-  mapping_of,
   mapping_with,
-  number_by,
-  origin_text,
   origin_words,
   raw_text,
-  sheet_count,
-  sheet_mapping,
-  sheet_word,
   shown_text,
-  state_at,
-  type_shown,
   unknown_text,
-  value_at,
   word_count,
   word_in_force,
   words_in_force,
 };
 
-use crate::bus::Bus;
-use crate::device::Device;
-use crate::known::sheet_for;
-use crate::known_entry::is_node_drive;
-use crate::mapping::{Mapping, SheetMapping, push_data};
-use crate::sheet::SheetPdo;
+use crate::mapping::{Mapping, push_data};
 use arrayvec::ArrayVec;
-use co_profile::DEVICE_TYPE;
 use co_text::push_bytes;
+use conode_explain_cob_ids::{
+    Device, Origin, SheetMapping, is_assumed, is_from, number_by, sheet_count, sheet_word, value_at,
+};
 use conode_explain_entries::{PdoState, Value};
 use conode_text::{Value as Filling, push_filled};
 use std::alloc::AllocError;
-
-fn number_by(sheet: Option<u32>, value: Value) -> Option<u32>
-    ensures { result ≡ number_by sheet value }
-{
-    match value {
-        Value::Assumed => sheet,
-        Value::Seen { number } => Some(number),
-        Value::Saved { number } => Some(number),
-        Value::Unknown => None,
-    }
-}
-
-/// Where the value of an entry is from.
-#[derive(Clone, Copy)]
-pub(crate) enum Origin {
-    /// The data sheet: nothing was shown of it.
-    Sheet,
-    /// A transfer showed it.
-    Transfer,
-    /// It came back with a boot-up.
-    Store,
-}
-
-pub(crate) fn is_from(origin: Origin, value: Value) -> bool
-    ensures { result ≡ is_from origin value }
-{
-    match (origin, value) {
-        (Origin::Sheet, Value::Assumed)
-        | (Origin::Transfer, Value::Seen { number: _ })
-        | (Origin::Store, Value::Saved { number: _ }) => true,
-        _ => false,
-    }
-}
-
-impl<'e> Bus<'_, 'e, '_, '_, '_> {
-    /// What the recording shows of the entries of a node's PDO.
-    pub(crate) fn state(self, node: u8, index: u16) -> Option<&'e PdoState>
-        ensures { option_copied result ≡ state_at (bus_view self.entry) node index }
-    {
-        self.entries.state(self.interface, node, index)
-    }
-}
-
-fn type_shown(state: Option<&PdoState>) -> Option<u32>
-    ensures { result ≡ type_shown (option_copied state.entry) }
-{
-    match state {
-        Some(state) => number_by(None, value_at(&state.now.mapping, 0)),
-        None => None,
-    }
-}
-
-impl<'s, 'a> Bus<'_, '_, '_, 's, 'a> {
-    /// What is known of a node's device.
-    pub fn device(self, node: u8) -> Device<'s, 'a>
-        ensures { device_view result ≡ device_at (bus_view self.entry) node }
-    {
-        Device {
-            names: self.names(node),
-            shown_type: type_shown(self.state(node, DEVICE_TYPE)),
-        }
-    }
-
-    /// Whether a node is a drive (CiA 402), by its device type.
-    pub fn is_drive(self, node: u8) -> bool
-        ensures { result ≡ is_drive_at (bus_view self.entry) node }
-    {
-        is_node_drive(self.device(node), node)
-    }
-}
-
-fn mapping_of(pdos: &[SheetPdo], index: u16) -> Option<&SheetMapping>
-    ensures { option_copied result ≡ mapping_of pdos.now index }
-{
-    for pdo in pdos {
-        if pdo.index == index {
-            return Some(&pdo.mapping);
-        }
-    }
-    None
-}
-
-// what the sheet says of the mapping of a node's PDO
-pub(crate) fn sheet_mapping<'k>(
-    bus: Bus<'k, '_, '_, '_, '_>,
-    node: u8,
-    index: u16,
-) -> Option<&'k SheetMapping>
-    ensures { option_copied result ≡ sheet_mapping (bus_view bus.entry) node index }
-{
-    match sheet_for(bus.sheets, bus.interface, node) {
-        Some(sheet) => mapping_of(sheet.pdos.as_slice(), index),
-        None => None,
-    }
-}
-
-// the number at a place, 0 past the last
-fn word_at(words: &[u32], place: usize) -> u32
-    ensures { result ≡ slice_index words.now place }
-{
-    if place < words.len() { words[place] } else { 0 }
-}
-
-fn sheet_count(sheet: Option<&SheetMapping>) -> Option<u32>
-    ensures { result ≡ sheet_count (option_copied sheet.entry) }
-{
-    match sheet {
-        Some(mapping) => match mapping.count {
-            Some(count) => Some(count as u32),
-            None => None,
-        },
-        None => None,
-    }
-}
-
-fn if_there(word: u32) -> Option<u32>
-    ensures { result ≡ if_there word }
-{
-    if word == 0 { None } else { Some(word) }
-}
-
-fn sheet_word(sheet: Option<&SheetMapping>, place: u8) -> Option<u32>
-    ensures { result ≡ sheet_word (option_copied sheet.entry) place }
-{
-    match sheet {
-        Some(mapping) => if_there(word_at(mapping.words.as_slice(), place as usize)),
-        None => None,
-    }
-}
-
-// the value at a place; past the last nothing was shown
-pub(crate) fn value_at(values: &[Value], place: usize) -> Value
-    ensures { result ≡ value_at values.now place }
-{
-    if place < values.len() {
-        values[place]
-    } else {
-        Value::Assumed
-    }
-}
 
 fn count_in_force(values: &[Value], sheet: Option<&SheetMapping>) -> Option<u8>
     ensures { result ≡ count_in_force values.now (option_copied sheet.entry) }
@@ -321,14 +164,6 @@ fn push_raw(text: &mut String, bytes: &[u8], why: &str) -> Result<(), AllocError
     attempt!(text.push_str(":"));
     attempt!(push_digits(text, bytes));
     push_filled(text, " (%)", &[Filling::Words(why)])
-}
-
-/// Whether no COB-ID of a PDO is known: its node's sheet doesn't have the PDO, and the recording
-/// shows none.
-pub(crate) fn is_assumed(sheet: Option<&SheetMapping>, cob_id: Value) -> bool
-    ensures { result ≡ is_assumed (option_copied sheet.entry) cob_id }
-{
-    sheet.is_none() && is_from(Origin::Sheet, cob_id)
 }
 
 // by a mapping that isn't known

@@ -3,52 +3,20 @@
 
 ghost use Rattle.std.specs.Prelude.{◌≡◌, ◌++◌, OnOk, string_bytes};
 ghost use Rattle.co_sheet.specs.SheetViews.{row_view};
-ghost use Rattle.co_sheet_changes.specs.Names.{names_view};
 ghost use Rattle.conode_explain_values.specs.Values.{HasBits};
-ghost use Rattle.conode_explain_pdo.specs.KnownEntries.{
-  device_view,
-  is_node_drive,
-  known_text,
-  shows_meaning,
-  type_of_device,
-};
+ghost use Rattle.conode_explain_cob_ids.specs.Devices.{device_view};
+ghost use Rattle.conode_explain_pdo.specs.KnownEntries.{known_text, shows_meaning};
 
 use crate::cob_id_words::push_cob_id;
-use crate::device::Device;
 use crate::entry_words::push_entry_words;
-use crate::sheet::number_of;
 use crate::value_type::type_in;
-use co_profile::keys;
 use co_sheet::EntryRow;
-use co_sheet_changes::{Names, shown_name};
+use co_sheet_changes::shown_name;
 use co_value::Key;
-use conode_explain_services::{has_meaning, is_drive, push_drive};
+use conode_explain_cob_ids::{Device, is_node_drive};
+use conode_explain_services::{has_meaning, push_drive};
 use conode_explain_values::push_entry;
 use std::alloc::AllocError;
-
-// the device type that the recording shows, else the one that the sheet begins with
-fn type_of_device(shown: Option<u32>, names: Names<'_, '_>, node: u8) -> Option<u32>
-    ensures { result ≡ type_of_device shown (names_view names.entry) node }
-{
-    if let Some(shown) = shown {
-        return Some(shown);
-    }
-    match names.entry(node, keys::DEVICE_TYPE) {
-        Some(row) => number_of(row.default),
-        None => None,
-    }
-}
-
-/// Whether a node with such a device is a drive.
-#[tactic(auto, unfolding(crate::specs::KnownEntries::is_node_drive))]
-pub(crate) fn is_node_drive(device: Device<'_, '_>, node: u8) -> bool
-    ensures { result ≡ is_node_drive (device_view device.entry) node }
-{
-    match type_of_device(device.shown_type, device.names, node) {
-        Some(device_type) => is_drive(device_type),
-        None => false,
-    }
-}
 
 // The sheet is asked last, since few entries have a meaning.
 fn shows_meaning(device: Device<'_, '_>, node: u8, key: Key, bits: usize) -> bool

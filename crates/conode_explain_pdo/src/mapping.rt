@@ -3,7 +3,7 @@
 
 ghost use Rattle.std.specs.Prelude.{◌≡◌, ◌+◌, ◌*◌, ◌/◌, ◌%◌, ◌^◌, ◌++◌, ◌≤◌, [], OnOk, is_some, length, string_bytes, take};
 ghost use Rattle.co_value.specs.Numbers.{low_bytes, unsigned_of};
-ghost use Rattle.conode_explain_pdo.specs.KnownEntries.{device_view};
+ghost use Rattle.conode_explain_cob_ids.specs.Devices.{device_view};
 ghost use Rattle.conode_explain_values.specs.Values.{HasBits};
 ghost use Rattle.conode_explain_pdo.specs.Mappings.{
   addressed_text,
@@ -29,11 +29,11 @@ ghost use Rattle.conode_explain_pdo.specs.Mappings.{
   word_key,
 };
 
-use crate::device::Device;
 use crate::known_entry::push_known;
 use arrayvec::ArrayVec;
 use co_text::push_bytes;
 use co_value::{Key, read_u16, unsigned_of};
+use conode_explain_cob_ids::Device;
 use conode_text::{Value, push_filled};
 use std::alloc::AllocError;
 use std::marker::Model;
@@ -52,25 +52,6 @@ impl Model for Mapping {
     ghost use Rattle.conode_explain_pdo.specs.Content.{Mapping as MappingContent};
 
     ghost Value = { MappingContent };
-
-    ghost view = { λ mapping. record { count = mapping.count; words = mapping.words.items } };
-}
-
-/// A mapping parameter as a data sheet has it.
-/// Contracts see its sub-index 0, if the sheet has a number there, and its sub-indices from 1 on, 0
-/// where the sheet has none.
-#[derive(Drop)]
-pub struct SheetMapping {
-    // how many entries are mapped
-    pub(crate) count: Option<u8>,
-    // index, sub-index and length in bits of each entry
-    pub(crate) words: ArrayVec<u32, 64>,
-}
-
-impl Model for SheetMapping {
-    ghost use Rattle.conode_explain_pdo.specs.Content.{SheetMapping as SheetMappingContent};
-
-    ghost Value = { SheetMappingContent };
 
     ghost view = { λ mapping. record { count = mapping.count; words = mapping.words.items } };
 }

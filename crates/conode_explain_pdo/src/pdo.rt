@@ -2,7 +2,7 @@
 
 ghost use Rattle.std.specs.Prelude.{◌≡◌, ◌≤◌, ◌++◌, OnOk, decimal, length, string_bytes};
 ghost use Rattle.std.specs.Option.{option_copied};
-ghost use Rattle.conode_explain_pdo.specs.Buses.{bus_view};
+ghost use Rattle.conode_explain_cob_ids.specs.Buses.{bus_view};
 ghost use Rattle.conode_explain_pdo.specs.Pdos.{
   assumed_mark,
   cob_id_at,
@@ -13,11 +13,9 @@ ghost use Rattle.conode_explain_pdo.specs.Pdos.{
   pdos_text,
 };
 
-use crate::bus::Bus;
-use crate::claim::Claim;
-use crate::in_force::{is_assumed, push_data_in_force, sheet_mapping};
-use crate::mapping::SheetMapping;
+use crate::in_force::push_data_in_force;
 use co_text::push_decimal;
+use conode_explain_cob_ids::{Bus, Claim, SheetMapping, is_assumed, sheet_mapping};
 use conode_explain_entries::{PdoState, Value};
 use std::alloc::AllocError;
 

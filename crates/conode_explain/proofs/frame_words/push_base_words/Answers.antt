@@ -1,6 +1,6 @@
 use Rattle.std.proofs.Common.{◌≡◌, [], sym, ◌∙◌, arith}
 use Rattle.conode_record.specs.declared.fields.Identifier.TheVariants.{Base}
-use Rattle.conode_explain_pdo.specs.Buses.{bus_view}
+use Rattle.conode_explain_cob_ids.specs.Buses.{bus_view}
 use Rattle.conode_explain.specs.Nodes.{last_at}
 use Rattle.conode_explain.proofs.AssumedLemmas.{assumed, none_there}
 use Rattle.conode_explain.proofs.frame_words.push_base_words.Goals as goal

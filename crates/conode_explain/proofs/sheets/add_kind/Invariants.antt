@@ -1,5 +1,5 @@
 use Rattle.std.proofs.Common.{◌≡◌, ◌++◌, drop, map}
-use Rattle.conode_explain_pdo.specs.Known.{known_view}
+use Rattle.conode_explain_cob_ids.specs.Known.{known_view}
 use Rattle.conode_explain.specs.Sheets.{of_kind, read_view}
 use Rattle.conode_explain.proofs.sheets.add_kind.Given as goal
 

@@ -1,6 +1,6 @@
 -- A frame of no channel at all.
 use Rattle.std.proofs.Common.{◌≡◌, false, None, sym, ap, ◌∙◌}
-use Rattle.conode_explain_pdo.specs.Buses.{Bus}
+use Rattle.conode_explain_cob_ids.specs.Buses.{Bus}
 use Rattle.conode_explain_forms.specs.Places.{place_of}
 use Rattle.conode_explain.specs.Explained.{may_be_told, place_for}
 use Rattle.conode_explain.specs.Sheets.{sheets_of}

@@ -1,7 +1,7 @@
 use Rattle.std.proofs.Common.{refl}
 use Rattle.std.specs.List.{flat_map}
 use Rattle.conode_explain_forms.specs.Lines.{quoted_byte}
-use Rattle.conode_explain_pdo.proofs.Pieces.{all_made, one_more}
+use Rattle.conode_explain_cob_ids.proofs.Pieces.{all_made, one_more}
 use Rattle.conode_explain_forms.proofs.columns.add_all_quoted.Goals as goal
 
 pub loop-byte-preserved : goal.loop-byte-preserved

@@ -1,8 +1,8 @@
 use Rattle.std.proofs.Common.{refl, map}
 use Rattle.std.specs.List.{flat_map}
-use Rattle.conode_explain_pdo.specs.Known.{known_view}
+use Rattle.conode_explain_cob_ids.specs.Known.{known_view}
 use Rattle.conode_explain_forms.specs.Lines.{column}
-use Rattle.conode_explain_pdo.proofs.Pieces.{all_made, one_more}
+use Rattle.conode_explain_cob_ids.proofs.Pieces.{all_made, one_more}
 use Rattle.conode_explain_forms.proofs.columns.add_columns.Goals as goal
 
 pub loop-signal-preserved : goal.loop-signal-preserved

@@ -1,6 +1,6 @@
 use Rattle.std.proofs.Common.{◌≡◌, ◌++◌, drop, map}
 use Rattle.std.specs.List.{flat_map}
-use Rattle.conode_explain_pdo.specs.Known.{known_view}
+use Rattle.conode_explain_cob_ids.specs.Known.{known_view}
 use Rattle.conode_explain_forms.specs.Lines.{column}
 use Rattle.conode_explain_forms.proofs.columns.add_columns.Given as goal
 

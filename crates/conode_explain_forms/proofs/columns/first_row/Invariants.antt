@@ -1,5 +1,5 @@
 use Rattle.std.proofs.Common.{◌≡◌, drop, map}
-use Rattle.conode_explain_pdo.specs.Known.{known_view}
+use Rattle.conode_explain_cob_ids.specs.Known.{known_view}
 use Rattle.conode_explain_forms.specs.Lines.{first_row}
 use Rattle.conode_explain_forms.proofs.columns.first_row.Given as goal
 

@@ -1,5 +1,5 @@
 use Rattle.std.proofs.Common.{◌≡◌, drop}
-use Rattle.conode_explain_pdo.specs.Buses.{bus_view}
+use Rattle.conode_explain_cob_ids.specs.Buses.{bus_view}
 use Rattle.conode_explain_forms.specs.Fields.{pdo_bits}
 use Rattle.conode_explain_forms.proofs.fields.pdo_bits.Given as goal
 

@@ -1,7 +1,7 @@
 use Rattle.std.proofs.Common.{◌≡◌, ◌++◌, drop, take}
 use Rattle.std.specs.Prelude.{◌||◌, string_bytes}
 use Rattle.std.specs.List.{flat_map}
-use Rattle.conode_explain_pdo.specs.Buses.{bus_view}
+use Rattle.conode_explain_cob_ids.specs.Buses.{bus_view}
 use Rattle.conode_explain_forms.specs.Fields.{field_of}
 use Rattle.conode_explain_forms.specs.Lines.{after_comma, has_one}
 use Rattle.conode_explain_forms.proofs.lines.push_fields.Given as goal

@@ -1,8 +1,8 @@
 use Rattle.std.proofs.Common.{refl, map, rules}
 use Rattle.std.specs.List.{flat_map}
-use Rattle.conode_explain_pdo.specs.Known.{known_view}
+use Rattle.conode_explain_cob_ids.specs.Known.{known_view}
 use Rattle.conode_explain_forms.specs.Places.{channels_in, channels_of}
-use Rattle.conode_explain_pdo.proofs.Pieces.{all_made, one_more}
+use Rattle.conode_explain_cob_ids.proofs.Pieces.{all_made, one_more}
 use Rattle.conode_explain_forms.proofs.places.add_all_channels.Goals as goal
 
 pub loop-sheet-preserved : goal.loop-sheet-preserved

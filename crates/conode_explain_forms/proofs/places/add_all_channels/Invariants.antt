@@ -1,6 +1,6 @@
 use Rattle.std.proofs.Common.{◌≡◌, ◌++◌, drop, map}
 use Rattle.std.specs.List.{flat_map}
-use Rattle.conode_explain_pdo.specs.Known.{known_view}
+use Rattle.conode_explain_cob_ids.specs.Known.{known_view}
 use Rattle.conode_explain_forms.specs.Places.{channels_in}
 use Rattle.conode_explain_forms.proofs.places.add_all_channels.Given as goal
 

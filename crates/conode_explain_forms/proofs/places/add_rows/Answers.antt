@@ -3,7 +3,7 @@ use Rattle.std.specs.List.{filter_map}
 use Rattle.std.specs.Option.{option_to_list}
 use Rattle.co_sheet.specs.SheetViews.{row_view}
 use Rattle.conode_explain_forms.specs.Places.{channel_of}
-use Rattle.conode_explain_pdo.proofs.Pieces.{all_made, found_first, one_more}
+use Rattle.conode_explain_cob_ids.proofs.Pieces.{all_made, found_first, one_more}
 use Rattle.conode_explain_forms.proofs.places.add_rows.Goals as goal
 
 pub loop-row-preserved : goal.loop-row-preserved

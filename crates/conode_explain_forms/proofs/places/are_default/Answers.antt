@@ -1,6 +1,6 @@
 use Rattle.std.proofs.Common.{arith}
-use Rattle.conode_explain_pdo.specs.Buses.{bus_view}
-use Rattle.conode_explain_pdo.proofs.NothingNamed.{was_not}
+use Rattle.conode_explain_cob_ids.specs.Buses.{bus_view}
+use Rattle.conode_explain_cob_ids.proofs.NothingNamed.{was_not}
 use Rattle.conode_explain_forms.proofs.NoPlaces.{no_place}
 use Rattle.conode_explain_forms.proofs.places.are_default.Goals as goal
 

@@ -1,6 +1,6 @@
 use Rattle.std.proofs.Common.{◌≡◌, drop}
 use Rattle.std.specs.List.{filter_map}
-use Rattle.conode_explain_pdo.specs.Buses.{bus_view}
+use Rattle.conode_explain_cob_ids.specs.Buses.{bus_view}
 use Rattle.conode_explain_forms.specs.Places.{first_of, place_by_shown}
 use Rattle.conode_explain_forms.proofs.places.place_in_shown.Given as goal
 

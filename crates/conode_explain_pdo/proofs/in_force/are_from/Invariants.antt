@@ -1,6 +1,6 @@
 use Rattle.std.proofs.Common.{◌≡◌, drop}
 use Rattle.std.specs.List.{list_all}
-use Rattle.conode_explain_pdo.specs.InForce.{is_from}
+use Rattle.conode_explain_cob_ids.specs.Origins.{is_from}
 use Rattle.conode_explain_pdo.proofs.in_force.are_from.Given as goal
 
 -- all of those so far are

@@ -1,6 +1,6 @@
 use Rattle.std.proofs.Common.{◌≡◌, ◌+◌, ◌++◌, drop}
 use Rattle.std.specs.Prelude.{string_bytes}
-use Rattle.conode_explain_pdo.specs.KnownEntries.{device_view}
+use Rattle.conode_explain_cob_ids.specs.Devices.{device_view}
 use Rattle.conode_explain_pdo.specs.Mappings.{more_parts, total_bits}
 use Rattle.conode_explain_pdo.proofs.mapping.push_more_parts.Given as goal
 

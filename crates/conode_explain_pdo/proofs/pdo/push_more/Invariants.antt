@@ -1,6 +1,6 @@
 use Rattle.std.proofs.Common.{◌≡◌, ◌++◌, drop}
 use Rattle.std.specs.Prelude.{string_bytes}
-use Rattle.conode_explain_pdo.specs.Buses.{bus_view}
+use Rattle.conode_explain_cob_ids.specs.Buses.{bus_view}
 use Rattle.conode_explain_pdo.specs.Pdos.{more_pdos}
 use Rattle.conode_explain_pdo.proofs.pdo.push_more.Given as goal
 

@@ -1,0 +1,14 @@
+pub mod Buses
+pub mod ChannelWords
+pub mod Claims
+pub mod CobIds
+pub mod Content
+pub mod Devices
+pub mod Known
+pub mod Named
+pub mod Origins
+pub mod ServiceIds
+pub mod SheetMappings
+pub mod SheetServices
+pub mod Sheets
+pub mod Shown

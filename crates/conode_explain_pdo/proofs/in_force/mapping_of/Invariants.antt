@@ -1,7 +1,0 @@
-use Rattle.std.proofs.Common.{◌≡◌, drop}
-use Rattle.conode_explain_pdo.specs.InForce.{mapping_of}
-use Rattle.conode_explain_pdo.proofs.in_force.mapping_of.Given as goal
-
--- it is none of those so far
-abbrev pub invariant-loop-pdo : goal.invariant-loop-pdo
-invariant-loop-pdo l = mapping_of (drop l.pdo-index l.pdos) l.index ≡ mapping_of l.pdos l.index
