@@ -1,6 +1,6 @@
 //! Whether a device has followed a command, by what it sends.
 
-ghost use Rattle.std.specs.Prelude.{◌≡◌, ◌&&◌, true};
+ghost use Rattle.std.specs.Prelude.{◌≡◌, ◌&&◌};
 ghost use Rattle.conode_compare_nmt.specs.States.{has_followed, is_idle, with_followed, with_left};
 ghost use Rattle.conode_compare_rules.specs.Channels.{follows_asked, nmt_heard, shows_by_answer};
 ghost use Rattle.conode_compare_rules.specs.EmergencyRules.{shows_by_emergency};
