@@ -3,7 +3,7 @@
 use crate::log_form::recorded_form;
 use crate::version::version;
 use conode_compare::{Asked, Format, compare_files};
-use conode_compare_rules::Limits;
+use conode_compare_nmt::Limits;
 use conode_compare_values::Rooms;
 use conode_words::{CompareWords, ReportAs, RoomWords, TimingWords};
 use std::io::Write;

@@ -5,7 +5,7 @@ use Rattle.conode_explain.specs.LogLines.{line_at}
 use Rattle.conode_logs.proofs.OnLines.{logs_on_lines}
 use Rattle.conode_logs.specs.declared.log.Form.TheVariants.{Asc, Candump, Screen}
 use Rattle.conode_logs.specs.Logs.{asc_of_old}
-use Rattle.conode_compare_rules.specs.declared.limits.Subject.{Subject}
+use Rattle.conode_compare_nmt.specs.declared.limits.Subject.{Subject}
 use Rattle.conode_compare.specs.declared.comparing.Comparing.{Comparing}
 use Rattle.conode_compare.specs.BadLines.{has_no_frame, interface_in, is_alone}
 use Rattle.conode_compare.specs.Compared.{bad_counted, bad_noted, begun_anew, may_be_compared, may_have_frame, nothing_compared}

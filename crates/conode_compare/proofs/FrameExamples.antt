@@ -6,10 +6,10 @@ use Rattle.conode_explain.specs.LogLines.{line_at}
 use Rattle.conode_logs.proofs.OnLines.{logs_on_lines}
 use Rattle.conode_logs.specs.declared.log.Form.TheVariants.{Unknown}
 use Rattle.conode_record.specs.declared.line.Record.{Record}
-use Rattle.conode_compare_rules.specs.declared.limits.Limits.{Limits}
-use Rattle.conode_compare_rules.specs.declared.limits.Subject.{Subject}
+use Rattle.conode_compare_nmt.specs.declared.limits.Limits.{Limits}
+use Rattle.conode_compare_nmt.specs.declared.limits.Subject.{Subject}
 use Rattle.conode_compare_rules.specs.declared.progress.Progress.{Progress}
-use Rattle.conode_compare_rules.specs.Progresses.{before_recording, begins_anew, with_bad_line}
+use Rattle.conode_compare_rules.specs.Gaps.{before_recording, begins_anew, with_bad_line}
 use Rattle.conode_compare.specs.BadLines.{has_no_frame, interface_in}
 use Rattle.conode_compare.specs.ComparedFrames.{AreAllOn, BadLine, FrameIn, IsWhole, LineRead, compared_frames, read_of_line, read_of_lines, read_of_text, records_of}
 

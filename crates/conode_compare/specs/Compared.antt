@@ -21,10 +21,10 @@ use Rattle.conode_logs.specs.Logs.{says}
 use Rattle.conode_record.specs.declared.line.Record.{Record}
 use Rattle.conode_record.specs.declared.line.RecordLine.{RecordLine}
 use Rattle.conode_record.specs.declared.line.RecordLine.TheVariants.{Skipped, Frame}
-use Rattle.conode_compare_rules.specs.declared.finding.Finding.{Finding}
-use Rattle.conode_compare_rules.specs.declared.finding.Finding.TheVariants.{Value, Held}
+use Rattle.conode_compare_nmt.specs.declared.finding.Finding.{Finding}
+use Rattle.conode_compare_nmt.specs.declared.finding.Finding.TheVariants.{Value, Held}
 use Rattle.conode_compare_values.specs.declared.mismatch.Mismatch.TheVariants.{ValueConst}
-use Rattle.conode_compare_rules.specs.declared.limits.Subject.{Subject}
+use Rattle.conode_compare_nmt.specs.declared.limits.Subject.{Subject}
 use Rattle.conode_compare_rules.specs.declared.verdict.Findings.{Findings}
 use Rattle.conode_compare_rules.specs.declared.verdict.Verdict.{Verdict}
 use Rattle.conode_compare_notes.specs.declared.warning.Warning.{Warning}
@@ -33,7 +33,8 @@ use Rattle.conode_compare_rules.specs.declared.kind.FrameKind.{FrameKind}
 use Rattle.conode_compare_rules.specs.declared.progress.Progress.{Progress}
 use Rattle.conode_compare_receptions.specs.declared.receptions.Receptions.{Receptions}
 use Rattle.conode_compare_rules.specs.FrameKinds.{kind_of}
-use Rattle.conode_compare_rules.specs.Progresses.{before_recording, findings_at, is_number_kept, progress_with, with_bad_line}
+use Rattle.conode_compare_rules.specs.Gaps.{before_recording, with_bad_line}
+use Rattle.conode_compare_rules.specs.Progresses.{findings_at, is_number_kept, progress_with}
 use Rattle.conode_compare_receptions.specs.Receptions.{no_receptions, receptions_with, with_receptions}
 use Rattle.conode_compare_text.specs.declared.details.Details.{Details}
 use Rattle.conode_compare_text.specs.Beside.{came_at, no_details}

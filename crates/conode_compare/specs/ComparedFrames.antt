@@ -12,12 +12,13 @@ use Rattle.conode_logs.specs.declared.log.Log.{Log}
 use Rattle.conode_record.specs.declared.line.Record.{Record}
 use Rattle.conode_record.specs.declared.line.RecordLine.{RecordLine}
 use Rattle.conode_record.specs.declared.line.RecordLine.TheVariants.{Skipped, Frame}
-use Rattle.conode_compare_rules.specs.declared.finding.Finding.{Finding}
+use Rattle.conode_compare_nmt.specs.declared.finding.Finding.{Finding}
 use Rattle.conode_compare_rules.specs.declared.kind.FrameKind.{FrameKind}
-use Rattle.conode_compare_rules.specs.declared.limits.Subject.{Subject}
+use Rattle.conode_compare_nmt.specs.declared.limits.Subject.{Subject}
 use Rattle.conode_compare_rules.specs.declared.progress.Progress.{Progress}
 use Rattle.conode_compare_rules.specs.declared.verdict.Findings.{Findings}
-use Rattle.conode_compare_rules.specs.Progresses.{before_recording, findings_at, progress_with, with_bad_line}
+use Rattle.conode_compare_rules.specs.Gaps.{before_recording, with_bad_line}
+use Rattle.conode_compare_rules.specs.Progresses.{findings_at, progress_with}
 use Rattle.conode_compare_receptions.specs.declared.receptions.Receptions.{Receptions}
 use Rattle.conode_compare_receptions.specs.AllFrames.{kind_at as what_is, progress_after, receptions_after}
 use Rattle.conode_compare_receptions.specs.Receptions.{no_receptions}

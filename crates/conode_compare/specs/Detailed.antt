@@ -6,8 +6,8 @@ use Rattle.co_sheet_changes.specs.Names.{row_at}
 use Rattle.co_value.specs.declared.data_type.DataType.{DataType}
 use Rattle.co_value.specs.Numbers.{number_of}
 use Rattle.co_value.specs.Types.{width_of}
-use Rattle.conode_compare_rules.specs.declared.finding.Finding.{Finding}
-use Rattle.conode_compare_rules.specs.declared.finding.Finding.TheVariants.{Value}
+use Rattle.conode_compare_nmt.specs.declared.finding.Finding.{Finding}
+use Rattle.conode_compare_nmt.specs.declared.finding.Finding.TheVariants.{Value}
 use Rattle.conode_compare_text.specs.declared.details.Passed.{Passed}
 use Rattle.conode_compare_text.specs.Beside.{nothing_passed}
 use Rattle.conode_compare_transfers.specs.declared.dialogue.Exchange.{Exchange}

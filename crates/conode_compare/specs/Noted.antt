@@ -9,7 +9,7 @@ use Rattle.conode_compare_choices.specs.Choosings.{choosing_with, chosen_at, not
 use Rattle.conode_compare_notes.specs.LearnedValues.{learned_with}
 use Rattle.conode_compare_notes.specs.Warnings.{nothing_watched, stepped_back, warning_at, watched_with}
 use Rattle.conode_compare_rules.specs.declared.kind.FrameKind.{FrameKind}
-use Rattle.conode_compare_rules.specs.declared.limits.Subject.{Subject}
+use Rattle.conode_compare_nmt.specs.declared.limits.Subject.{Subject}
 use Rattle.conode_compare_rules.specs.declared.progress.Progress.{Progress}
 use Rattle.conode_compare_text.specs.ChoiceTexts.{choice_line}
 use Rattle.conode_compare_transfers.specs.declared.dialogue.Exchange.{Exchange}

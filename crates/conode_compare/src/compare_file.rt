@@ -17,8 +17,8 @@ use crate::last_lines::write_last_lines;
 use crate::writes::Settings;
 use co_sheet::{EntryRow, FaultKind, Sheet, SheetFault, read};
 use co_sheet_changes::Originals;
+use conode_compare_nmt::{Limits, Subject, facts_of};
 use conode_compare_report::{SheetNames, is_boot_up_master};
-use conode_compare_rules::{Limits, Subject, facts_of};
 use conode_compare_text::Tally;
 use conode_compare_values::{HeldEntries, HeldFault, Rooms};
 use conode_io::{

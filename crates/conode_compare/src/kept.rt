@@ -3,8 +3,9 @@
 ghost use Rattle.std.specs.Prelude.{◌≡◌, OnOk};
 ghost use Rattle.conode_compare.specs.Compared.{findings_noted, if_noted};
 
+use conode_compare_nmt::Finding;
 use conode_compare_report::Report;
-use conode_compare_rules::{Finding, Findings};
+use conode_compare_rules::Findings;
 use conode_compare_text::Details;
 use std::alloc::AllocError;
 

@@ -19,8 +19,8 @@ use Rattle.conode_explain_transfers.specs.declared.kinds.What.TheVariants.{Part,
 use Rattle.conode_compare_transfers.specs.declared.dialogue.Asked.{Asked}
 use Rattle.conode_compare_transfers.specs.declared.dialogue.Exchange.{Exchange}
 use Rattle.conode_compare_transfers.specs.Breaches.{byte_at, key_in}
-use Rattle.conode_compare_rules.specs.declared.finding.Remark.{Remark}
-use Rattle.conode_compare_rules.specs.declared.finding.Remark.TheVariants.{Restarted, EarlyHeartbeat}
+use Rattle.conode_compare_nmt.specs.declared.finding.Remark.{Remark}
+use Rattle.conode_compare_nmt.specs.declared.finding.Remark.TheVariants.{Restarted, EarlyHeartbeat}
 use Rattle.conode_compare_rules.specs.declared.kind.FrameKind.{FrameKind}
 use Rattle.conode_compare_rules.specs.declared.kind.FrameKind.TheVariants.{Sdo}
 use Rattle.conode_compare_choices.specs.declared.choice.Choice.{Choice}

@@ -5,7 +5,7 @@ use Rattle.conode_compare_transfers.specs.declared.dialogue.Exchange.{Exchange}
 use Rattle.conode_compare_transfers.specs.Timeouts.{is_late, resumed_after, served_key}
 use Rattle.conode_compare_rules.specs.declared.kind.FrameKind.{FrameKind}
 use Rattle.conode_compare_rules.specs.declared.kind.FrameKind.TheVariants.{Sdo}
-use Rattle.conode_compare_rules.specs.declared.limits.Limits.{Limits}
+use Rattle.conode_compare_nmt.specs.declared.limits.Limits.{Limits}
 use Rattle.conode_compare_choices.specs.declared.choice.Choice.{Choice}
 use Rattle.conode_compare_choices.specs.declared.choice.Choice.TheVariants.{NoTimeout}
 

@@ -28,7 +28,8 @@ use crate::request::Request;
 use co_frame::{AbortCode, Frame};
 use co_sheet::EntryRow;
 use co_value::Key;
-use conode_compare_rules::{FrameKind, Remark};
+use conode_compare_nmt::Remark;
+use conode_compare_rules::FrameKind;
 use conode_compare_transfers::{Asked, Exchange, byte_at, key_in};
 use conode_explain_transfers::{Direction, Ended, Ending, Protocol, Side, What};
 

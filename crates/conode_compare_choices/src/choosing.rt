@@ -21,7 +21,8 @@ use crate::phases::Phases;
 use crate::request::Request;
 use crate::timeouts::{resumed_with, timeout_choice};
 use co_sheet::EntryRow;
-use conode_compare_rules::{FrameKind, Progress, Subject};
+use conode_compare_nmt::Subject;
+use conode_compare_rules::{FrameKind, Progress};
 use conode_compare_transfers::Exchange;
 use conode_explain_transfers::{Side, What};
 

@@ -50,8 +50,9 @@ use co_profile::{PDO_COB_ID, TRANSMISSION_TYPE};
 use co_sheet::EntryRow;
 use co_sheet_changes::row_at;
 use co_value::Key;
+use conode_compare_nmt::{Limits, NmtState, Subject};
 use conode_compare_pdos::{identifier_of, is_id, length_of, number_of, preset_at};
-use conode_compare_rules::{FrameKind, Limits, NmtState, Progress, Subject};
+use conode_compare_rules::{FrameKind, Progress};
 use conode_compare_transfers::{Exchange, asks_to_write, is_past, is_timed, key_in};
 use conode_explain_transfers::{Side, What};
 

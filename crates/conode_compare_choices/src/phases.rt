@@ -37,8 +37,9 @@ use co_profile::SYNC_START_VALUE;
 use co_sheet::EntryRow;
 use co_sheet_changes::row_at;
 use co_value::Key;
+use conode_compare_nmt::{NmtState, Subject};
 use conode_compare_pdos::{Pdos, Tpdo, is_id, number_of};
-use conode_compare_rules::{FrameKind, NmtState, Progress, Subject};
+use conode_compare_rules::{FrameKind, Progress};
 use conode_compare_transfers::{Exchange, asks_to_write, is_timed, key_in};
 use conode_explain_transfers::{Side, What};
 

@@ -4,7 +4,8 @@ ghost use Rattle.std.specs.Prelude.{◌≡◌};
 ghost use Rattle.conode_compare_choices.specs.Timeouts.{late_by, resumed_with, timeout_choice};
 
 use crate::choice::Choice;
-use conode_compare_rules::{FrameKind, Limits};
+use conode_compare_nmt::Limits;
+use conode_compare_rules::FrameKind;
 use conode_compare_transfers::{Exchange, is_late, resumed_after, served_key};
 use conode_explain_transfers::Side;
 

@@ -4,7 +4,7 @@ use Rattle.co_profile.specs.declared.access.Access.TheVariants.{Rw}
 use Rattle.co_sheet.specs.Content.{Row}
 use Rattle.co_sheet.specs.Limits.{absent}
 use Rattle.co_value.specs.declared.data_type.DataType.TheVariants.{Unsigned16}
-use Rattle.conode_compare_rules.specs.declared.finding.Finding.TheVariants.{HeartbeatLate}
+use Rattle.conode_compare_nmt.specs.declared.finding.Finding.TheVariants.{HeartbeatLate}
 use Rattle.conode_compare_text.specs.Beside.{no_details}
 use Rattle.conode_compare_report.specs.declared.kind.Counted.{Counted}
 use Rattle.conode_compare_report.specs.declared.kind.Kind.{Kind}

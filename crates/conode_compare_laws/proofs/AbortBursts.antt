@@ -54,9 +54,10 @@ use Rattle.conode_explain_laws.proofs.UploadBlocks.{no_abort}
 use Rattle.conode_explain_laws.proofs.Views.{is_begin, server_no_begin}
 use Rattle.conode_compare_transfers.specs.declared.dialogue.Dialogue.{Dialogue}
 use Rattle.conode_compare_transfers.specs.Dialogues.{dialogue_heard, owes_nothing}
-use Rattle.conode_compare_rules.specs.declared.limits.Subject.{Subject}
+use Rattle.conode_compare_nmt.specs.declared.limits.Subject.{Subject}
 use Rattle.conode_compare_rules.specs.declared.progress.Progress.{Progress}
-use Rattle.conode_compare_rules.specs.Progresses.{begun, left_open}
+use Rattle.conode_compare_rules.specs.Gaps.{begun}
+use Rattle.conode_compare_rules.specs.Channels.{left_open}
 use Rattle.conode_compare_laws.specs.AnswerFindings.{timeout_differences}
 use Rattle.conode_compare_laws.proofs.AbortFrames.{IsAt, IsInTime, at_next, client_owing, client_requested, client_run, server_gone, server_run, while_owing, without_end}
 use Rattle.conode_compare_laws.proofs.AbortOthers.{begun_has}

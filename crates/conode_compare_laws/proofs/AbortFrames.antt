@@ -31,14 +31,16 @@ use Rattle.conode_compare_transfers.specs.Dialogues.{awaited_for, dialogue_heard
 use Rattle.conode_compare_transfers.specs.NewestFrames.{all_after, asks_after, goes_on, newest_after, newest_with}
 use Rattle.conode_compare_transfers.specs.Timeouts.{drift_of, early_abort, early_breach, early_end, is_early, times_out}
 use Rattle.conode_compare_transfers.specs.Times.{micros_of}
-use Rattle.conode_compare_rules.specs.declared.finding.Finding.{Finding}
-use Rattle.conode_compare_rules.specs.declared.finding.Finding.TheVariants.{Transfer as Within}
+use Rattle.conode_compare_nmt.specs.declared.finding.Finding.{Finding}
+use Rattle.conode_compare_nmt.specs.declared.finding.Finding.TheVariants.{Transfer as Within}
 use Rattle.conode_compare_rules.specs.declared.kind.FrameKind.TheVariants.{Sdo}
-use Rattle.conode_compare_rules.specs.declared.limits.Subject.{Subject}
+use Rattle.conode_compare_nmt.specs.declared.limits.Subject.{Subject}
 use Rattle.conode_compare_rules.specs.declared.progress.Progress.{Progress}
 use Rattle.conode_compare_rules.specs.Answers.{breach_finding}
 use Rattle.conode_compare_rules.specs.FrameKinds.{data_kind}
-use Rattle.conode_compare_rules.specs.Progresses.{after_frame, begun, findings_at, findings_in, left_open, may_miss_end, progress_with}
+use Rattle.conode_compare_rules.specs.Gaps.{begun}
+use Rattle.conode_compare_rules.specs.Channels.{left_open, may_miss_end}
+use Rattle.conode_compare_rules.specs.Progresses.{after_frame, findings_at, findings_in, progress_with}
 use Rattle.conode_compare_laws.specs.AnswerFindings.{of_timeouts, timeout_differences}
 use Rattle.conode_compare_laws.proofs.AnswerFollowed.{reads}
 use Rattle.conode_compare_laws.proofs.AnswerOnly.{client_found_within, is_within, server_found_within}

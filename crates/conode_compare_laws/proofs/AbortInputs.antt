@@ -35,10 +35,10 @@ use Rattle.conode_compare_transfers.specs.declared.dialogue.Dialogue.{Dialogue}
 use Rattle.conode_compare_transfers.specs.Dialogues.{owes_nothing}
 use Rattle.conode_compare_rules.specs.declared.kind.FrameKind.{FrameKind}
 use Rattle.conode_compare_rules.specs.declared.kind.FrameKind.TheVariants.{Sdo}
-use Rattle.conode_compare_rules.specs.declared.limits.Subject.{Subject}
+use Rattle.conode_compare_nmt.specs.declared.limits.Subject.{Subject}
 use Rattle.conode_compare_rules.specs.declared.progress.Progress.{Progress}
 use Rattle.conode_compare_rules.specs.declared.verdict.Findings.{Findings}
-use Rattle.conode_compare_rules.specs.Progresses.{before_recording, begun}
+use Rattle.conode_compare_rules.specs.Gaps.{before_recording, begun}
 use Rattle.conode_compare_laws.specs.AnswerFindings.{timeout_differences}
 use Rattle.conode_compare_laws.specs.AnswerSenders.{AllSendOther, HaveOtherChannels, IsOther, SendsOther}
 use Rattle.conode_compare_laws.specs.Differences.{differences_from, differences_in}

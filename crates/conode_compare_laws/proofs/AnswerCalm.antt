@@ -17,10 +17,10 @@ use Rattle.co_node_model.specs.Sdo.{channel_logs}
 use Rattle.co_sheet.specs.Content.{Row}
 use Rattle.conode_explain_transfers.specs.declared.kinds.Side.TheVariants.{Client, Server}
 use Rattle.conode_compare_rules.specs.declared.kind.FrameKind.TheVariants.{Process, Sdo}
-use Rattle.conode_compare_rules.specs.declared.limits.Subject.{Subject}
+use Rattle.conode_compare_nmt.specs.declared.limits.Subject.{Subject}
 use Rattle.conode_compare_rules.specs.declared.progress.Progress.{Progress}
 use Rattle.conode_compare_rules.specs.FrameKinds.{command_kind, control_kind, data_kind, emergency_kind, emergency_with, length_of}
-use Rattle.conode_compare_rules.specs.Progresses.{begun}
+use Rattle.conode_compare_rules.specs.Gaps.{begun}
 use Rattle.conode_compare_laws.specs.AnswerFindings.{answer_differences}
 use Rattle.conode_compare_laws.specs.AnswerSenders.{AreOther, BeginsNoBlocks, IsOther}
 use Rattle.conode_compare_laws.specs.Identifiers.{AreAside, IsAside}

@@ -24,9 +24,9 @@ use Rattle.conode_explain_laws.proofs.UploadStanding.{FollowsIn}
 use Rattle.conode_explain_laws.proofs.UploadSteps.{completes, dropped_whole, ticked_whole}
 use Rattle.conode_explain_laws.proofs.UploadViews.{hears, hears_answers}
 use Rattle.conode_explain_laws.proofs.Views.{View}
-use Rattle.conode_compare_rules.specs.declared.limits.Subject.{Subject}
+use Rattle.conode_compare_nmt.specs.declared.limits.Subject.{Subject}
 use Rattle.conode_compare_rules.specs.declared.progress.Progress.{Progress}
-use Rattle.conode_compare_rules.specs.Progresses.{begun}
+use Rattle.conode_compare_rules.specs.Gaps.{begun}
 use Rattle.conode_compare_laws.specs.AnswerFindings.{data_differences}
 use Rattle.conode_compare_laws.proofs.AnswerDataFrames.{answers_run, mapped, sdo_run}
 use Rattle.conode_compare_laws.proofs.AnswerEnds.{AllWhole, IsWhole}

@@ -35,10 +35,10 @@ use Rattle.conode_explain_laws.proofs.UploadViews.{aborted_closes, hears_answers
 use Rattle.conode_explain_laws.proofs.Views.{View}
 use Rattle.conode_compare_rules.specs.declared.kind.FrameKind.{FrameKind}
 use Rattle.conode_compare_rules.specs.declared.kind.FrameKind.TheVariants.{Sdo}
-use Rattle.conode_compare_rules.specs.declared.limits.Subject.{Subject}
+use Rattle.conode_compare_nmt.specs.declared.limits.Subject.{Subject}
 use Rattle.conode_compare_rules.specs.declared.progress.Progress.{Progress}
 use Rattle.conode_compare_rules.specs.declared.verdict.Findings.{Findings}
-use Rattle.conode_compare_rules.specs.Progresses.{before_recording, begun}
+use Rattle.conode_compare_rules.specs.Gaps.{before_recording, begun}
 use Rattle.conode_compare_laws.specs.AnswerEntries.{AllAreHeld}
 use Rattle.conode_compare_laws.specs.AnswerFindings.{data_differences}
 use Rattle.conode_compare_laws.specs.AnswerSenders.{AllSendOther, AreOther, HasBytes, HaveBytes, HaveOtherChannels, IsOther, SendsOther}

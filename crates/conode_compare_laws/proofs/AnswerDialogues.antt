@@ -17,7 +17,7 @@ use Rattle.conode_explain_laws.proofs.Readings.{Begin, begun_with, follows_by, r
 use Rattle.conode_compare_transfers.specs.declared.dialogue.Asked.{Asked}
 use Rattle.conode_compare_transfers.specs.declared.dialogue.Dialogue.{Dialogue}
 use Rattle.conode_compare_transfers.specs.declared.left.Left.{Left}
-use Rattle.conode_compare_rules.specs.Progresses.{left_open}
+use Rattle.conode_compare_rules.specs.Channels.{left_open}
 use Rattle.conode_compare_transfers.specs.Dialogues.{asked_after, dialogue_heard, doubts_request, exchange_in, is_awaited, is_certain, is_initiate, is_of_earlier, is_in_doubt, leaves_request_open, owes, owes_nothing}
 use Rattle.conode_compare_transfers.specs.Times.{is_past}
 use Rattle.conode_compare_laws.proofs.AnswerTurns.{Sound}

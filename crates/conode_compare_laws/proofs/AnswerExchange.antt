@@ -49,18 +49,20 @@ use Rattle.conode_explain_laws.proofs.Readings.{Begin, request_reading, reading_
 use Rattle.conode_explain_laws.proofs.Views.{is_begin}
 use Rattle.conode_compare_transfers.specs.declared.dialogue.Dialogue.{Dialogue}
 use Rattle.conode_compare_transfers.specs.Dialogues.{dialogue_heard, opens_sub_block}
-use Rattle.conode_compare_rules.specs.declared.finding.NmtState.{NmtState}
-use Rattle.conode_compare_rules.specs.declared.finding.NmtState.TheVariants.{Unknown, Initialising, PreOperational, Operational, Stopped}
+use Rattle.conode_compare_nmt.specs.declared.finding.NmtState.{NmtState}
+use Rattle.conode_compare_nmt.specs.declared.finding.NmtState.TheVariants.{Unknown, Initialising, PreOperational, Operational, Stopped}
 use Rattle.conode_compare_rules.specs.declared.kind.FrameKind.{FrameKind}
 use Rattle.conode_compare_rules.specs.declared.kind.FrameKind.TheVariants.{Sdo}
-use Rattle.conode_compare_rules.specs.declared.limits.Subject.{Subject}
+use Rattle.conode_compare_nmt.specs.declared.limits.Subject.{Subject}
 use Rattle.conode_compare_rules.specs.declared.progress.Progress.{Progress}
-use Rattle.conode_compare_rules.specs.EmergencyRules.{is_stopped}
+use Rattle.conode_compare_nmt.specs.States.{is_stopped, after_other, awaits_boot_up, nothing_commanded}
 use Rattle.conode_compare_rules.specs.FrameKinds.{command_kind, control_kind, data_kind, emergency_kind, length_of}
 use Rattle.conode_compare_rules.specs.declared.kind.FrameKind.TheVariants.{Process}
-use Rattle.conode_compare_rules.specs.Progresses.{answer_nmt, answer_noted, begun as begun_progress, is_overdue, late_noted, left_open, progress_with}
-use Rattle.conode_compare_rules.specs.declared.nmt.Nmt.{Nmt}
-use Rattle.conode_compare_rules.specs.States.{after_other, awaits_boot_up, nothing_commanded}
+use Rattle.conode_compare_rules.specs.Gaps.{begun as begun_progress}
+use Rattle.conode_compare_rules.specs.NmtFrames.{is_overdue}
+use Rattle.conode_compare_rules.specs.Channels.{answer_nmt, answer_noted, late_noted, left_open}
+use Rattle.conode_compare_rules.specs.Progresses.{progress_with}
+use Rattle.conode_compare_nmt.specs.declared.nmt.Nmt.{Nmt}
 use Rattle.conode_compare_laws.specs.AnswerFindings.{answer_differences}
 use Rattle.conode_compare_laws.proofs.AnswerTurns.{in_blocks}
 use Rattle.conode_compare_laws.proofs.AnswerFollowed.{aborted_part, asks_in, block_download, block_upload, expedited_download, expedited_upload, reads, says_of, segmented_download, segmented_upload}

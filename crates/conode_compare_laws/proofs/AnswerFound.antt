@@ -20,15 +20,14 @@ use Rattle.conode_compare_transfers.specs.declared.dialogue.Dialogue.{Dialogue}
 use Rattle.conode_compare_transfers.specs.declared.dialogue.Exchange.{Exchange}
 use Rattle.conode_compare_transfers.specs.Dialogues.{is_certain, is_timed}
 use Rattle.conode_compare_transfers.specs.Times.{is_past}
-use Rattle.conode_compare_rules.specs.declared.finding.Finding.{Finding}
-use Rattle.conode_compare_rules.specs.declared.finding.Finding.TheVariants.{Held, NoAnswer}
-use Rattle.conode_compare_rules.specs.declared.limits.Limits.{Limits}
-use Rattle.conode_compare_rules.specs.declared.limits.Subject.{Subject}
-use Rattle.conode_compare_rules.specs.declared.nmt.Commanded.{Commanded}
-use Rattle.conode_compare_rules.specs.declared.nmt.Nmt.{Nmt}
+use Rattle.conode_compare_nmt.specs.declared.finding.Finding.{Finding}
+use Rattle.conode_compare_nmt.specs.declared.finding.Finding.TheVariants.{Held, NoAnswer}
+use Rattle.conode_compare_nmt.specs.declared.limits.Limits.{Limits}
+use Rattle.conode_compare_nmt.specs.declared.limits.Subject.{Subject}
+use Rattle.conode_compare_nmt.specs.declared.nmt.Commanded.{Commanded}
+use Rattle.conode_compare_nmt.specs.declared.nmt.Nmt.{Nmt}
 use Rattle.conode_compare_rules.specs.Answers.{answer_finding, answers_in, breach_finding, could_answer_since, ended_finding, finding_of, held_finding, is_abort, is_exact, known_answer, late_after, late_answer, overdue_answer, refuses_other, shows_stopped, silence_finding, silence_of, stopped_finding, stopped_with, transfer_breach, value_finding, what_finding}
-use Rattle.conode_compare_rules.specs.EmergencyRules.{is_stopped}
-use Rattle.conode_compare_rules.specs.States.{is_settled, was_running}
+use Rattle.conode_compare_nmt.specs.States.{is_stopped, is_settled, was_running}
 use Rattle.conode_compare_laws.specs.AnswerFindings.{of_answers}
 use Rattle.conode_compare_laws.proofs.AnswerTurns.{is_turned}
 use Rattle.conode_compare_laws.proofs.Shown.{freer_running}

@@ -39,15 +39,16 @@ use Rattle.co_node_model.specs.Sync.{is_sync_id}
 use Rattle.co_node_model.specs.Tpdos.{tpdo_frame}
 use Rattle.co_sheet.specs.Content.{Row}
 use Rattle.conode_compare_transfers.specs.declared.dialogue.Dialogue.{Dialogue}
-use Rattle.conode_compare_rules.specs.declared.finding.Finding.{Finding}
+use Rattle.conode_compare_nmt.specs.declared.finding.Finding.{Finding}
 use Rattle.conode_compare_rules.specs.declared.kind.FrameKind.{FrameKind}
 use Rattle.conode_compare_rules.specs.declared.kind.FrameKind.TheVariants.{Control}
-use Rattle.conode_compare_rules.specs.declared.limits.Subject.{Subject}
-use Rattle.conode_compare_rules.specs.declared.nmt.Commanded.{Commanded}
+use Rattle.conode_compare_nmt.specs.declared.limits.Subject.{Subject}
+use Rattle.conode_compare_nmt.specs.declared.nmt.Commanded.{Commanded}
 use Rattle.conode_compare_rules.specs.declared.progress.Progress.{Progress}
 use Rattle.conode_compare_rules.specs.declared.verdict.Findings.{Findings}
 use Rattle.conode_compare_rules.specs.FrameKinds.{command_kind, data_kind, long_command_in}
-use Rattle.conode_compare_rules.specs.Progresses.{before_recording, begun, progress_with}
+use Rattle.conode_compare_rules.specs.Gaps.{before_recording, begun}
+use Rattle.conode_compare_rules.specs.Progresses.{progress_with}
 use Rattle.conode_compare_laws.specs.AnswerFindings.{answer_differences}
 use Rattle.conode_compare_laws.specs.AnswerSenders.{AllSendOther, HasBytes, HaveBytes, HaveOtherChannels, SendsOther}
 use Rattle.conode_compare_laws.specs.Differences.{differences_from, differences_in, state_differences}

@@ -21,53 +21,28 @@ use Rattle.conode_compare_transfers.specs.declared.dialogue.Exchange.{Exchange}
 use Rattle.conode_compare_transfers.specs.Dialogues.{dialogue_heard, exchange_in, given_up, interrupted, is_awaited, is_certain}
 use Rattle.conode_compare_transfers.specs.declared.left.Left.{Left}
 use Rattle.conode_compare_transfers.specs.Times.{is_past, micros_of}
-use Rattle.conode_compare_rules.specs.declared.finding.Finding.{Finding}
+use Rattle.conode_compare_nmt.specs.declared.finding.Finding.{Finding}
 use Rattle.conode_compare_rules.specs.declared.kind.FrameKind.{FrameKind}
 use Rattle.conode_compare_rules.specs.declared.kind.FrameKind.TheVariants.{Command, CommandToAll, Control, Emergency as Emcy, OddEmergency, Process, Sdo, Other}
-use Rattle.conode_compare_rules.specs.declared.limits.Limits.{Limits}
-use Rattle.conode_compare_rules.specs.declared.limits.Subject.{Subject}
-use Rattle.conode_compare_rules.specs.declared.nmt.Commanded.{Commanded}
-use Rattle.conode_compare_rules.specs.declared.nmt.Nmt.{Nmt}
+use Rattle.conode_compare_nmt.specs.declared.limits.Limits.{Limits}
+use Rattle.conode_compare_nmt.specs.declared.limits.Subject.{Subject}
+use Rattle.conode_compare_nmt.specs.declared.nmt.Commanded.{Commanded}
+use Rattle.conode_compare_nmt.specs.declared.nmt.Nmt.{Nmt}
 use Rattle.conode_compare_rules.specs.declared.progress.Progress.{Progress}
 use Rattle.conode_compare_rules.specs.Answers.{answer_finding, breach_finding, confirmed_finding, ended_finding, held_finding, silence_finding, stopped_finding}
 use Rattle.conode_compare_rules.specs.FrameKinds.{command_to, data_kind}
-use Rattle.conode_compare_rules.specs.Heartbeats.{is_gap}
-use Rattle.conode_compare_rules.specs.Progresses as progresses
-use Rattle.conode_compare_rules.specs.Progresses.{
-  after_command,
-  after_emergency,
-  after_frame,
-  after_process,
-  answer_findings,
-  answer_nmt,
-  anew_after,
-  begins_anew,
-  begun,
-  booted,
-  channel_heard,
-  confirmed_findings,
-  control_findings,
-  emergency_findings,
-  exchange_at,
-  exchange_noted,
-  findings_at,
-  findings_in,
-  heartbeat_findings,
-  late_by_tpdo,
-  late_noted,
-  left_open,
-  may_miss_end,
-  process_findings,
-  progress_with,
-  request_findings,
-  sighting_findings,
-  silence_at,
-  was_quiet,
-  with_gap,
-}
+use Rattle.conode_compare_nmt.specs.Heartbeats.{is_gap}
+use Rattle.conode_compare_rules.specs.NmtFrames as nmt_frames
+use Rattle.conode_compare_rules.specs.Processes as processes
+use Rattle.conode_compare_rules.specs.Gaps.{anew_after, begins_anew, begun, was_quiet, with_gap}
+use Rattle.conode_compare_rules.specs.NmtFrames.{after_command, booted, control_findings, heartbeat_findings, silence_at}
+use Rattle.conode_compare_rules.specs.EmergencyRules.{after_emergency, emergency_findings}
+use Rattle.conode_compare_rules.specs.Channels.{answer_findings, answer_nmt, channel_heard, confirmed_findings, exchange_at, exchange_noted, late_noted, left_open, may_miss_end, request_findings}
+use Rattle.conode_compare_rules.specs.Processes.{after_process, late_by_tpdo, process_findings, sighting_findings}
+use Rattle.conode_compare_rules.specs.Progresses.{after_frame, findings_at, findings_in, progress_with}
 use Rattle.conode_compare_pdos.specs.declared.pdos.Sighting.{Sighting}
-use Rattle.conode_compare_rules.specs.States as states
-use Rattle.conode_compare_rules.specs.States.{after_other, shows_state}
+use Rattle.conode_compare_nmt.specs.States as states
+use Rattle.conode_compare_nmt.specs.States.{after_other, shows_state}
 use Rattle.conode_compare_rules.specs.Verdicts.{found}
 use Rattle.conode_compare_laws.specs.AnswerFindings.{answer_differences, of_answers}
 use Rattle.conode_compare_laws.proofs.LongCommands.{long_such}
@@ -297,7 +272,7 @@ sighted_none late id length (Some sighting) = refl
 
 process_quiet : (Idle Inside : Type 0) (subject : Subject) (rows : List Row) (p : Progress) (micros id length : ℕ) (stage : Stage) → Holds Idle Inside stage p → Quiet subject rows p micros (Process id length) (Holds Idle Inside stage)
 unfolding process_findings after_process
-process_quiet Idle Inside subject rows p micros id length stage h = record { none = sighted_none (late_by_tpdo subject p micros id length) id length (progresses.sighted subject p micros id length); next = record { live = h.live; asked = h.asked; covers = h.covers } }
+process_quiet Idle Inside subject rows p micros id length stage h = record { none = sighted_none (late_by_tpdo subject p micros id length) id length (processes.sighted subject p micros id length); next = record { live = h.live; asked = h.asked; covers = h.covers } }
 
 pub apart_quiet : (Idle Inside : Type 0) (subject : Subject) (rows : List Row) (p : Progress) (micros : ℕ) (kind : FrameKind) (stage : Stage) → is_apart kind ≡ true → Holds Idle Inside stage p → Quiet subject rows p micros kind (Holds Idle Inside stage)
 apart_quiet Idle Inside subject rows p micros (Emcy code register) stage is h = emergency_quiet Idle Inside subject rows p micros code register stage h
@@ -374,8 +349,8 @@ life_none Idle Inside subject rows p micros node.PreOperational h = ap option_to
 life_none Idle Inside subject rows p micros node.Operational h = ap option_to_list (none_silent Idle Inside subject p micros node.Operational h)
 life_none Idle Inside subject rows p micros node.Stopped h = ap option_to_list (none_silent Idle Inside subject p micros node.Stopped h)
 
-life_holds : (Idle Inside : Type 0) (subject : Subject) (p : Progress) (micros : ℕ) (final : NodeState) → Holds Idle Inside (runs final) p → Holds Idle Inside (runs final) (progresses.after_control subject p micros (state_byte (heartbeat_of final)))
-unfolding progresses.after_control
+life_holds : (Idle Inside : Type 0) (subject : Subject) (p : Progress) (micros : ℕ) (final : NodeState) → Holds Idle Inside (runs final) p → Holds Idle Inside (runs final) (nmt_frames.after_control subject p micros (state_byte (heartbeat_of final)))
+unfolding nmt_frames.after_control
 life_holds Idle Inside subject p micros final h =
     subst (λ c. HoldsOf Idle Inside (runs final) p.newest c (if is_some (silence_at subject p micros (state_byte (heartbeat_of final))) then given_up p.dialogue micros else p.dialogue))
     (sym (same_command subject.limits p.started p.nmt p.free micros final))

@@ -75,16 +75,18 @@ use Rattle.conode_compare_transfers.specs.declared.newest.Newest.TheVariants.{Ac
 use Rattle.conode_compare_transfers.specs.Breaches.{breach_at, ending_breach, is_padded, key_in, keyed_breach, may_refuse_next, names_none, server_breach}
 use Rattle.conode_compare_transfers.specs.Dialogues.{dialogue_heard, exchange_in, newest_heard}
 use Rattle.conode_compare_transfers.specs.NewestFrames.{newest_after, newest_with}
-use Rattle.conode_compare_rules.specs.declared.finding.Finding.{Finding}
-use Rattle.conode_compare_rules.specs.declared.finding.Finding.TheVariants.{Transfer as Within}
+use Rattle.conode_compare_nmt.specs.declared.finding.Finding.{Finding}
+use Rattle.conode_compare_nmt.specs.declared.finding.Finding.TheVariants.{Transfer as Within}
 use Rattle.conode_compare_rules.specs.declared.kind.FrameKind.{FrameKind}
 use Rattle.conode_compare_rules.specs.declared.kind.FrameKind.TheVariants.{Sdo}
-use Rattle.conode_compare_rules.specs.declared.limits.Subject.{Subject}
+use Rattle.conode_compare_nmt.specs.declared.limits.Subject.{Subject}
 use Rattle.conode_compare_rules.specs.declared.progress.Progress.{Progress}
 use Rattle.conode_compare_rules.specs.declared.verdict.Findings.{Findings}
 use Rattle.conode_compare_rules.specs.Answers.{breach_finding}
 use Rattle.conode_compare_rules.specs.FrameKinds.{data_kind}
-use Rattle.conode_compare_rules.specs.Progresses.{after_frame, before_recording, begun, channel_heard, exchange_noted, findings_at, findings_in, late_noted, left_open, may_miss_end, progress_with}
+use Rattle.conode_compare_rules.specs.Gaps.{before_recording, begun}
+use Rattle.conode_compare_rules.specs.Channels.{channel_heard, exchange_noted, late_noted, left_open, may_miss_end}
+use Rattle.conode_compare_rules.specs.Progresses.{after_frame, findings_at, findings_in, progress_with}
 use Rattle.conode_compare_laws.specs.AnswerFindings.{of_toggles, toggle_differences}
 use Rattle.conode_compare_laws.specs.AnswerSenders.{AllSendOther, AreOther, HaveOtherChannels, IsOther, SendsOther}
 use Rattle.conode_compare_laws.specs.Differences.{differences_from, differences_in}

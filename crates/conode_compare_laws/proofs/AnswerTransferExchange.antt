@@ -45,9 +45,10 @@ use Rattle.conode_compare_transfers.specs.Dialogues.{dialogue_heard, leaves_requ
 use Rattle.conode_compare_rules.specs.declared.kind.FrameKind.{FrameKind}
 use Rattle.conode_compare_rules.specs.declared.kind.FrameKind.TheVariants.{Sdo}
 use Rattle.conode_compare_rules.specs.FrameKinds.{data_kind}
-use Rattle.conode_compare_rules.specs.declared.limits.Subject.{Subject}
+use Rattle.conode_compare_nmt.specs.declared.limits.Subject.{Subject}
 use Rattle.conode_compare_rules.specs.declared.progress.Progress.{Progress}
-use Rattle.conode_compare_rules.specs.Progresses.{begun as begun_progress, progress_with}
+use Rattle.conode_compare_rules.specs.Gaps.{begun as begun_progress}
+use Rattle.conode_compare_rules.specs.Progresses.{progress_with}
 use Rattle.conode_compare_laws.specs.AnswerFindings.{transfer_differences}
 use Rattle.conode_compare_laws.specs.AnswerSenders.{is_block_upload_begin}
 use Rattle.conode_compare_laws.proofs.AnswerTurns.{Sound}

@@ -26,7 +26,7 @@ use Rattle.conode_explain_transfers.specs.Unanswered.{is_next_segment}
 use Rattle.co_value.specs.Numbers.{AreBytes}
 use Rattle.conode_compare_transfers.specs.declared.dialogue.Dialogue.{Dialogue}
 use Rattle.conode_compare_transfers.specs.Dialogues.{dialogue_heard}
-use Rattle.conode_compare_rules.specs.declared.limits.Subject.{Subject}
+use Rattle.conode_compare_nmt.specs.declared.limits.Subject.{Subject}
 use Rattle.conode_compare_laws.specs.AnswerSenders.{AreOther, IsOther, is_block_upload_begin}
 use Rattle.conode_compare_laws.specs.Identifiers.{IsAside}
 use Rattle.conode_compare_laws.proofs.AnswerTurns.{Sound}

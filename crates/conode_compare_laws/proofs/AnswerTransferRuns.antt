@@ -36,15 +36,17 @@ use Rattle.conode_compare_transfers.specs.declared.newest.Newest.{Newest}
 use Rattle.conode_compare_transfers.specs.declared.breach.Breach.TheVariants.{Early}
 use Rattle.conode_compare_transfers.specs.Breaches.{breach_at, breach_by, ending_breach}
 use Rattle.conode_compare_transfers.specs.Dialogues.{dialogue_heard, doubts_request, exchange_in, is_in_doubt, leaves_request_open, owes, owes_nothing}
-use Rattle.conode_compare_rules.specs.declared.finding.Finding.{Finding}
-use Rattle.conode_compare_rules.specs.declared.finding.Finding.TheVariants.{Transfer as Within}
+use Rattle.conode_compare_nmt.specs.declared.finding.Finding.{Finding}
+use Rattle.conode_compare_nmt.specs.declared.finding.Finding.TheVariants.{Transfer as Within}
 use Rattle.conode_compare_rules.specs.declared.kind.FrameKind.{FrameKind}
 use Rattle.conode_compare_rules.specs.declared.kind.FrameKind.TheVariants.{Sdo}
-use Rattle.conode_compare_rules.specs.declared.limits.Subject.{Subject}
+use Rattle.conode_compare_nmt.specs.declared.limits.Subject.{Subject}
 use Rattle.conode_compare_rules.specs.declared.progress.Progress.{Progress}
 use Rattle.conode_compare_rules.specs.Answers.{breach_finding}
 use Rattle.conode_compare_rules.specs.FrameKinds.{data_kind}
-use Rattle.conode_compare_rules.specs.Progresses.{after_frame, begun, channel_heard, exchange_noted, findings_at, findings_in, late_noted, left_open, may_miss_end, progress_with}
+use Rattle.conode_compare_rules.specs.Gaps.{begun}
+use Rattle.conode_compare_rules.specs.Channels.{channel_heard, exchange_noted, late_noted, left_open, may_miss_end}
+use Rattle.conode_compare_rules.specs.Progresses.{after_frame, findings_at, findings_in, progress_with}
 use Rattle.conode_compare_laws.specs.AnswerFindings.{of_transfers, transfer_differences}
 use Rattle.conode_compare_laws.proofs.AnswerTurns.{Sound, asked}
 use Rattle.conode_compare_laws.proofs.AnswerKeys.{kept}

@@ -21,65 +21,28 @@ use Rattle.conode_explain_transfers.specs.declared.ended.Ended.{Ended}
 use Rattle.conode_explain_transfers.specs.declared.kinds.Side.{Side}
 use Rattle.conode_explain_transfers.specs.declared.kinds.Side.TheVariants.{Client, Server}
 use Rattle.conode_compare_pdos.specs.declared.pdos.Sighting.{Sighting}
-use Rattle.conode_compare_rules.specs.declared.entries.Entries.{Entries}
-use Rattle.conode_compare_rules.specs.declared.finding.Finding.{Finding}
-use Rattle.conode_compare_rules.specs.declared.finding.Finding.TheVariants.{HeartbeatLate}
-use Rattle.conode_compare_rules.specs.declared.heartbeats.Heartbeats.{Heartbeats}
+use Rattle.conode_compare_nmt.specs.declared.entries.Entries.{Entries}
+use Rattle.conode_compare_nmt.specs.declared.finding.Finding.{Finding}
+use Rattle.conode_compare_nmt.specs.declared.finding.Finding.TheVariants.{HeartbeatLate}
+use Rattle.conode_compare_nmt.specs.declared.heartbeats.Heartbeats.{Heartbeats}
 use Rattle.conode_compare_rules.specs.declared.kind.FrameKind.{FrameKind}
 use Rattle.conode_compare_rules.specs.declared.kind.FrameKind.TheVariants.{Command, CommandToAll, LongCommand, Control, Emergency as Emcy, OddEmergency, Other, Process, Sdo}
-use Rattle.conode_compare_rules.specs.declared.limits.Limits.{Limits}
-use Rattle.conode_compare_rules.specs.declared.limits.Subject.{Subject}
+use Rattle.conode_compare_nmt.specs.declared.limits.Limits.{Limits}
+use Rattle.conode_compare_nmt.specs.declared.limits.Subject.{Subject}
 use Rattle.conode_compare_rules.specs.declared.progress.Progress.{Progress}
 use Rattle.conode_compare_rules.specs.FrameKinds.{command_kind, command_to, control_kind, data_kind, emergency_kind, emergency_with, length_of, long_command_in}
 use Rattle.conode_compare_rules.specs.Answers.{confirmed_finding}
-use Rattle.conode_compare_rules.specs.EntriesInForce.{asked_by, asked_to_write, done_word, overwritten, shown_inhibit, shown_period, with_inhibit, with_period}
-use Rattle.conode_compare_rules.specs.OtherClients.{is_channel}
-use Rattle.conode_compare_rules.specs.Heartbeats.{after_transfer, allowance, follows_closely, is_gap, late_finding, overdue_by, overdue_for, overdue_since, overdue_with, runs_still, sent_after}
-use Rattle.conode_compare_rules.specs.Progresses as progresses
-use Rattle.conode_compare_rules.specs.Progresses.{
-  after_command,
-  after_emergency,
-  after_frame,
-  after_process,
-  after_sdo,
-  anew_after,
-  answer_findings,
-  answer_noted,
-  begins_anew,
-  begun,
-  booted,
-  channel_heard,
-  confirmed_findings,
-  control_findings,
-  emergency_findings,
-  entries_asked,
-  entries_ended,
-  entries_heard,
-  exchange_at,
-  exchange_noted,
-  findings_at,
-  findings_in,
-  free_at,
-  is_missing_at,
-  heartbeat_findings,
-  is_of_client,
-  is_again,
-  late_alone,
-  late_at,
-  late_by,
-  late_by_tpdo,
-  late_noted,
-  process_findings,
-  progress_with,
-  request_findings,
-  hides_end,
-  shown_beside,
-  sighted,
-  sighting_findings,
-  with_gap,
-  may_differ,
-}
-use Rattle.conode_compare_rules.specs.Times.{drift_of}
+use Rattle.conode_compare_nmt.specs.EntriesInForce.{asked_by, asked_to_write, done_word, overwritten, shown_inhibit, shown_period, with_inhibit, with_period}
+use Rattle.conode_compare_nmt.specs.OtherClients.{is_channel}
+use Rattle.conode_compare_nmt.specs.Heartbeats.{after_transfer, allowance, follows_closely, is_gap, late_finding, overdue_by, overdue_for, overdue_since, overdue_with, runs_still, sent_after}
+use Rattle.conode_compare_rules.specs.NmtFrames as nmt_frames
+use Rattle.conode_compare_rules.specs.Gaps.{anew_after, begins_anew, begun, free_at, with_gap}
+use Rattle.conode_compare_rules.specs.NmtFrames.{after_command, booted, control_findings, is_missing_at, heartbeat_findings, is_again, late_alone, late_at, late_by, may_differ}
+use Rattle.conode_compare_rules.specs.EmergencyRules.{after_emergency, emergency_findings}
+use Rattle.conode_compare_rules.specs.Channels.{after_sdo, answer_findings, answer_noted, channel_heard, confirmed_findings, entries_asked, entries_ended, entries_heard, exchange_at, exchange_noted, late_noted, request_findings, hides_end, shown_beside}
+use Rattle.conode_compare_rules.specs.Processes.{after_process, is_of_client, late_by_tpdo, process_findings, sighted, sighting_findings}
+use Rattle.conode_compare_rules.specs.Progresses.{after_frame, findings_at, findings_in, progress_with}
+use Rattle.conode_compare_nmt.specs.Times.{drift_of}
 use Rattle.conode_compare_transfers.specs.declared.dialogue.Asked.{Asked}
 use Rattle.conode_compare_transfers.specs.Dialogues.{asks_to_write, dialogue_heard, exchange_in}
 use Rattle.conode_compare_transfers.specs.Breaches.{key_in}
@@ -469,7 +432,7 @@ boot_passes subject rows p micros period next ago after knows h =
 
 heartbeat_passes : (subject : Subject) (rows : List Row) (p : Progress) (micros byte period ago after : ℕ) → (byte == 0) ≡ false → (period ≡ 0) ⊎ (ago ≤ period * 1000) → Begun period micros ago p
     → Passes subject rows p micros (Control byte) period after
-unfolding found control_findings heartbeat_findings progresses.after_control
+unfolding found control_findings heartbeat_findings nmt_frames.after_control
 heartbeat_passes subject rows p micros byte period ago after other few h =
     (let e : Beats period micros ago p = ended period micros ago p h in
     record {

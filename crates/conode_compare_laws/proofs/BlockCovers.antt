@@ -39,7 +39,7 @@ use Rattle.conode_explain_laws.proofs.Readings.{Reading, Segment, Begin, Abort, 
 use Rattle.conode_explain_laws.proofs.Views.{is_abort_reading, is_begin}
 use Rattle.conode_compare_transfers.specs.declared.dialogue.Dialogue.{Dialogue}
 use Rattle.conode_compare_transfers.specs.Breaches.{byte_at}
-use Rattle.conode_compare_rules.specs.Progresses.{left_open}
+use Rattle.conode_compare_rules.specs.Channels.{left_open}
 use Rattle.conode_compare_transfers.specs.Dialogues.{continues, dialogue_heard, interrupted, is_aborted, leaves_block, names_other, opens_sub_block, sub_block_after}
 use Rattle.conode_compare_transfers.specs.Dialogues as dialogues
 use Rattle.conode_compare_laws.proofs.AnswerTurns.{in_blocks}

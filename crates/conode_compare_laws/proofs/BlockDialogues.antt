@@ -15,7 +15,7 @@ use Rattle.conode_explain_laws.proofs.Readings.{Reading, Begin, follows_by, read
 use Rattle.conode_explain_laws.proofs.Views.{is_begin}
 use Rattle.conode_compare_transfers.specs.declared.dialogue.Asked.{Asked}
 use Rattle.conode_compare_transfers.specs.declared.dialogue.Dialogue.{Dialogue}
-use Rattle.conode_compare_rules.specs.Progresses.{left_open}
+use Rattle.conode_compare_rules.specs.Channels.{left_open}
 use Rattle.conode_compare_transfers.specs.Dialogues.{asked_after, dialogue_heard, doubts_request, exchange_in, is_certain, is_in_doubt, leaves_request_open, owes, owes_nothing}
 use Rattle.conode_compare_laws.proofs.AnswerTurns.{is_turned}
 use Rattle.conode_compare_laws.proofs.AnswerFollowed.{Leaves, asks_in, block_ends, not_aborted_left, reads, what_is}

@@ -33,10 +33,11 @@ use Rattle.conode_compare_transfers.specs.declared.dialogue.Asked.{Asked}
 use Rattle.conode_compare_transfers.specs.declared.dialogue.Dialogue.{Dialogue}
 use Rattle.conode_compare_transfers.specs.Dialogues.{dialogue_heard}
 use Rattle.conode_compare_rules.specs.declared.kind.FrameKind.TheVariants.{Sdo}
-use Rattle.conode_compare_rules.specs.declared.limits.Subject.{Subject}
-use Rattle.conode_compare_rules.specs.declared.nmt.Commanded.{Commanded}
+use Rattle.conode_compare_nmt.specs.declared.limits.Subject.{Subject}
+use Rattle.conode_compare_nmt.specs.declared.nmt.Commanded.{Commanded}
 use Rattle.conode_compare_rules.specs.declared.progress.Progress.{Progress}
-use Rattle.conode_compare_rules.specs.Progresses.{begun as begun_progress, left_open}
+use Rattle.conode_compare_rules.specs.Gaps.{begun as begun_progress}
+use Rattle.conode_compare_rules.specs.Channels.{left_open}
 use Rattle.conode_compare_laws.specs.AnswerFindings.{answer_differences}
 use Rattle.conode_compare_laws.proofs.Runs.{AllRun}
 use Rattle.conode_compare_laws.proofs.Shown.{Stage}

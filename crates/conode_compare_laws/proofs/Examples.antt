@@ -17,21 +17,24 @@ use Rattle.co_node_model.proofs.ExampleNode.{device, device_with, frame, reset_n
 use Rattle.conode_record.specs.declared.content.Content.TheVariants.{Data}
 use Rattle.conode_record.specs.declared.fields.Identifier.TheVariants.{Base}
 use Rattle.conode_compare_pdos.specs.Followed.{unknown_pdos}
-use Rattle.conode_compare_rules.specs.declared.entries.Entries.{Entries}
-use Rattle.conode_compare_rules.specs.declared.finding.Finding.{Finding}
-use Rattle.conode_compare_rules.specs.declared.finding.Finding.TheVariants.{EmergencyInhibit, EmergencyLength, HeartbeatLate, HeartbeatLength, SecondBootUp, WrongState}
-use Rattle.conode_compare_rules.specs.declared.finding.NmtState.TheVariants.{Operational, PreOperational}
-use Rattle.conode_compare_rules.specs.declared.limits.Subject.{Subject}
-use Rattle.conode_compare_rules.specs.EmergencyRules.{emergency_finding, inhibit_finding}
-use Rattle.conode_compare_rules.specs.EntriesInForce.{asked_to_write, facts_of, initial_entries, sheet_entries, shown_inhibit, shown_period}
+use Rattle.conode_compare_nmt.specs.declared.entries.Entries.{Entries}
+use Rattle.conode_compare_nmt.specs.declared.finding.Finding.{Finding}
+use Rattle.conode_compare_nmt.specs.declared.finding.Finding.TheVariants.{EmergencyInhibit, EmergencyLength, HeartbeatLate, HeartbeatLength, SecondBootUp, WrongState}
+use Rattle.conode_compare_nmt.specs.declared.finding.NmtState.TheVariants.{Operational, PreOperational}
+use Rattle.conode_compare_nmt.specs.declared.limits.Subject.{Subject}
+use Rattle.conode_compare_rules.specs.EmergencyRules.{emergency_finding, inhibit_finding, after_emergency, emergency_findings}
+use Rattle.conode_compare_nmt.specs.EntriesInForce.{asked_to_write, facts_of, initial_entries, sheet_entries, shown_inhibit, shown_period}
 use Rattle.conode_compare_rules.specs.FrameKinds.{data_kind, kind_of}
-use Rattle.conode_compare_rules.specs.Heartbeats.{is_missing, late_finding, overdue_by}
-use Rattle.conode_compare_rules.specs.Progresses.{after_command, after_emergency, answer_findings, begun, booted, channel_heard, control_findings, emergency_findings, exchange_at, exchange_noted, findings_at, heartbeat_findings, late_noted, progress_with, request_findings}
-use Rattle.conode_compare_rules.specs.States as states
-use Rattle.conode_compare_rules.specs.States.{after_boot_up, after_other, awaits_boot_up, boot_finding, control_finding, is_settled, second_boot_up, state_finding}
+use Rattle.conode_compare_nmt.specs.Heartbeats.{is_missing, late_finding, overdue_by}
+use Rattle.conode_compare_rules.specs.Gaps.{begun}
+use Rattle.conode_compare_rules.specs.NmtFrames.{after_command, booted, control_findings, heartbeat_findings}
+use Rattle.conode_compare_rules.specs.Channels.{answer_findings, channel_heard, exchange_at, exchange_noted, late_noted, request_findings}
+use Rattle.conode_compare_rules.specs.Progresses.{findings_at, progress_with}
+use Rattle.conode_compare_nmt.specs.States as states
+use Rattle.conode_compare_nmt.specs.States.{after_boot_up, after_other, awaits_boot_up, boot_finding, control_finding, is_settled, second_boot_up, state_finding}
 use Rattle.conode_compare_rules.specs.Verdicts.{found}
 use Rattle.conode_compare_rules.specs.Answers.{confirmed_finding}
-use Rattle.conode_compare_rules.specs.OtherClients.{no_clients}
+use Rattle.conode_compare_nmt.specs.OtherClients.{no_clients}
 use Rattle.conode_compare_transfers.specs.Dialogues.{dialogue_heard, exchange_in, is_certain}
 use Rattle.conode_compare_laws.specs.Differences.{differences_in, emergency_differences, inhibit_differences, late_differences, state_differences}
 use Rattle.conode_compare_laws.specs.Identifiers.{IsUnnamed, IsUnnamedAt, JudgesNone}

@@ -39,7 +39,7 @@ use Rattle.conode_explain_laws.proofs.Views.{is_begin, server_no_begin}
 use Rattle.co_frame.specs.BlockSegments.{block_segment_in, is_abort_in_sub_block}
 use Rattle.co_frame.specs.SdoParts.{code_in}
 use Rattle.conode_compare_pdos.specs.SheetNumbers.{first_word}
-use Rattle.conode_compare_rules.specs.EntriesInForce.{done_word}
+use Rattle.conode_compare_nmt.specs.EntriesInForce.{done_word}
 use Rattle.conode_compare_laws.proofs.AnswerFollowed.{reads}
 use Rattle.conode_compare_laws.proofs.AnswerKeys.{kept}
 use Rattle.conode_compare_laws.proofs.Expedited.{Goes, Outcome, Still, client_goes, goes_on, is_expedited, outcome, shows}

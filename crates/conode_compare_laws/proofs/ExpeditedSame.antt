@@ -16,7 +16,7 @@ use Rattle.conode_explain_transfers.specs.Transfers.{Turn, after, overtaken, tak
 use Rattle.conode_explain_laws.proofs.Readings.{Reading, Segment, Begin, Abort, Request, Response, Nothing, follows_by, reading_of, turn_of}
 use Rattle.conode_explain_laws.proofs.Views.{is_begin, server_no_begin}
 use Rattle.conode_compare_pdos.specs.SheetNumbers.{first_word}
-use Rattle.conode_compare_rules.specs.EntriesInForce.{done_word}
+use Rattle.conode_compare_nmt.specs.EntriesInForce.{done_word}
 use Rattle.conode_compare_laws.proofs.AnswerFollowed.{reads}
 use Rattle.conode_compare_laws.proofs.ExpeditedFrames.{After, Fits, Keeps, aborted_after, server_by, stray_after}
 use Rattle.conode_compare_laws.proofs.ExpeditedWrites.{AllSure, Holds, Outcome, Sure, done, outcome, passes, spoils}

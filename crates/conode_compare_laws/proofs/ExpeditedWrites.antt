@@ -36,7 +36,7 @@ use Rattle.conode_explain_laws.proofs.Follows.{BegunBy, begun_by, client_no_resp
 use Rattle.conode_explain_laws.proofs.Readings.{Reading, Segment, Begin, Abort, Request, Response, Nothing, begun_with, beginning, follows_by, plain_reading, reading_of, response_reading, segment_reading, turn_of, begun_after, begun_on}
 use Rattle.conode_explain_laws.proofs.Views.{is_begin, server_no_begin}
 use Rattle.conode_compare_pdos.specs.SheetNumbers.{first_word}
-use Rattle.conode_compare_rules.specs.EntriesInForce.{done_word}
+use Rattle.conode_compare_nmt.specs.EntriesInForce.{done_word}
 use Rattle.conode_compare_laws.specs.ShownWords.{is_expedited_download, number_asked}
 use Rattle.conode_compare_laws.proofs.AnswerFollowed.{reads}
 use Rattle.conode_compare_laws.proofs.ExpeditedFrames.{After, Fits, Keeps, Suits, aborted_after, begins_no_answer, begun_initiates, begun_suits, client_turn, left_after, less, never_answers, segment_no_answer, server_by, stray_after}

@@ -18,45 +18,27 @@ use Rattle.co_node_parts.specs.NmtStates.{heartbeat_of}
 use Rattle.co_node_model.specs.Nmt.{service_for}
 use Rattle.conode_explain_transfers.specs.declared.kinds.Side.TheVariants.{Client, Server}
 use Rattle.conode_compare_pdos.specs.declared.pdos.Sighting.{Sighting}
-use Rattle.conode_compare_rules.specs.declared.finding.Finding.{Finding}
-use Rattle.conode_compare_rules.specs.declared.finding.Finding.TheVariants.{BootMissing, TwoStates}
-use Rattle.conode_compare_rules.specs.declared.finding.NmtState.{NmtState}
-use Rattle.conode_compare_rules.specs.declared.finding.NmtState.TheVariants.{Unknown, PreOperational}
+use Rattle.conode_compare_nmt.specs.declared.finding.Finding.{Finding}
+use Rattle.conode_compare_nmt.specs.declared.finding.Finding.TheVariants.{BootMissing, TwoStates}
+use Rattle.conode_compare_nmt.specs.declared.finding.NmtState.{NmtState}
+use Rattle.conode_compare_nmt.specs.declared.finding.NmtState.TheVariants.{Unknown, PreOperational}
 use Rattle.conode_compare_rules.specs.declared.kind.FrameKind.{FrameKind}
 use Rattle.conode_compare_rules.specs.declared.kind.FrameKind.TheVariants.{Command, CommandToAll, Control, Emergency as Emcy, OddEmergency, Sdo, Process, Other}
-use Rattle.conode_compare_rules.specs.declared.limits.Limits.{Limits}
-use Rattle.conode_compare_rules.specs.declared.limits.Subject.{Subject}
+use Rattle.conode_compare_nmt.specs.declared.limits.Limits.{Limits}
+use Rattle.conode_compare_nmt.specs.declared.limits.Subject.{Subject}
 use Rattle.conode_compare_rules.specs.declared.progress.Progress.{Progress}
 use Rattle.conode_compare_rules.specs.Answers.{confirmed_finding}
 use Rattle.conode_compare_rules.specs.FrameKinds.{command_kind, command_to, control_kind, data_kind, emergency_kind, emergency_with, length_of}
-use Rattle.conode_compare_rules.specs.Progresses as progresses
-use Rattle.conode_compare_rules.specs.Progresses.{
-  after_command,
-  after_emergency,
-  after_frame,
-  after_process,
-  answer_findings,
-  begins_anew,
-  begun,
-  booted,
-  channel_heard,
-  comes_early,
-  confirmed_findings,
-  control_findings,
-  emergency_findings,
-  exchange_at,
-  exchange_noted,
-  findings_in,
-  heartbeat_findings,
-  late_by_tpdo,
-  late_noted,
-  process_findings,
-  request_findings,
-  sighting_findings,
-  with_gap,
-}
-use Rattle.conode_compare_rules.specs.States as states
-use Rattle.conode_compare_rules.specs.States.{after_boot_up, after_other, awaits_boot_up, boot_finding, boots_known, control_finding, is_guarded_state, is_settled, said_of, second_boot_up, shows_state, state_commanded, state_finding, strays_again}
+use Rattle.conode_compare_rules.specs.NmtFrames as nmt_frames
+use Rattle.conode_compare_rules.specs.Processes as processes
+use Rattle.conode_compare_rules.specs.Gaps.{begins_anew, begun, with_gap}
+use Rattle.conode_compare_rules.specs.NmtFrames.{after_command, booted, comes_early, control_findings, heartbeat_findings}
+use Rattle.conode_compare_rules.specs.EmergencyRules.{after_emergency, emergency_findings}
+use Rattle.conode_compare_rules.specs.Channels.{answer_findings, channel_heard, confirmed_findings, exchange_at, exchange_noted, late_noted, request_findings}
+use Rattle.conode_compare_rules.specs.Processes.{after_process, late_by_tpdo, process_findings, sighting_findings}
+use Rattle.conode_compare_rules.specs.Progresses.{after_frame, findings_in}
+use Rattle.conode_compare_nmt.specs.States as states
+use Rattle.conode_compare_nmt.specs.States.{after_boot_up, after_other, awaits_boot_up, boot_finding, boots_known, control_finding, is_guarded_state, is_settled, said_of, second_boot_up, shows_state, state_commanded, state_finding, strays_again}
 use Rattle.conode_compare_rules.specs.Verdicts.{found}
 use Rattle.conode_compare_pdos.specs.Followed as tpdos
 use Rattle.conode_compare_laws.specs.Differences.{state_differences}
@@ -152,7 +134,7 @@ request_passes subject rows p micros frame stage h = record {
 process_passes : (subject : Subject) (rows : List Row) (p : Progress) (micros id length : ℕ) (stage : Stage) → FitsAt micros stage p → Passes subject rows p micros (Process id length) stage
 unfolding process_findings after_process
 process_passes subject rows p micros id length stage h = record {
-  none = sighted_none (late_by_tpdo subject p micros id length) id length (progresses.sighted subject p micros id length);
+  none = sighted_none (late_by_tpdo subject p micros id length) id length (processes.sighted subject p micros id length);
   fits = h;
 }
 
@@ -303,7 +285,7 @@ unless_two false state actual h = h
 
 pub heartbeat_passes : (subject : Subject) (rows : List Row) (p : Progress) (micros : ℕ) (actual : NodeState) → FitsAt micros (runs actual) p
     → Passes subject rows p micros (Control (state_byte (heartbeat_of actual))) (runs actual)
-unfolding found control_findings heartbeat_findings progresses.after_control states.after_control
+unfolding found control_findings heartbeat_findings nmt_frames.after_control states.after_control
 heartbeat_passes subject rows p micros node.PreOperational h = record {
   none = heartbeat_none subject rows p micros node.PreOperational h;
   fits = unless_two (strays_again subject p.started p.heartbeats.guarded (comes_early subject p micros 127) p.nmt p.free 127) _ node.PreOperational (by (shows_state subject.limits p.started p.nmt p.free 127));

@@ -22,13 +22,14 @@ use Rattle.co_node_model.specs.Marks.{marked_command}
 use Rattle.co_node_model.specs.Moments.{Constants, Moment}
 use Rattle.co_node_model.specs.Nmt.{is_reset_by, service_for}
 use Rattle.co_node_model.specs.Tpdos.{tpdo_frame}
-use Rattle.conode_compare_rules.specs.declared.finding.NmtState.{NmtState}
+use Rattle.conode_compare_nmt.specs.declared.finding.NmtState.{NmtState}
 use Rattle.conode_compare_rules.specs.declared.kind.FrameKind.{FrameKind}
 use Rattle.conode_compare_rules.specs.declared.kind.FrameKind.TheVariants.{Control}
-use Rattle.conode_compare_rules.specs.declared.limits.Subject.{Subject}
+use Rattle.conode_compare_nmt.specs.declared.limits.Subject.{Subject}
 use Rattle.conode_compare_rules.specs.declared.progress.Progress.{Progress}
 use Rattle.conode_compare_rules.specs.FrameKinds.{command_kind, data_kind, long_command_in}
-use Rattle.conode_compare_rules.specs.Progresses.{before_recording, begun, findings_at, progress_with}
+use Rattle.conode_compare_rules.specs.Gaps.{before_recording, begun}
+use Rattle.conode_compare_rules.specs.Progresses.{findings_at, progress_with}
 use Rattle.conode_compare_laws.specs.Differences.{differences_from, differences_in, state_differences}
 use Rattle.conode_compare_laws.specs.Identifiers.{AllSendAside, AreAside, AreElsewhere, IsElsewhere, SendsAside}
 use Rattle.conode_compare_laws.specs.Recordings.{Stamped, frame_of, heard_from, recording}

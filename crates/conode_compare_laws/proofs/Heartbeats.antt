@@ -27,9 +27,9 @@ use Rattle.co_node_model.specs.Marks.{marked_key, marked_tick}
 use Rattle.co_node_model.specs.Moments.{Constants, History, Moment}
 use Rattle.co_node_model.specs.Nmt.{is_reset, state_at}
 use Rattle.co_node_model.specs.Tpdos.{tpdo_frame}
-use Rattle.conode_compare_rules.specs.declared.limits.Subject.{Subject}
+use Rattle.conode_compare_nmt.specs.declared.limits.Subject.{Subject}
 use Rattle.conode_compare_rules.specs.declared.progress.Progress.{Progress}
-use Rattle.conode_compare_rules.specs.Progresses.{before_recording}
+use Rattle.conode_compare_rules.specs.Gaps.{before_recording}
 use Rattle.conode_compare_laws.specs.Differences.{differences_from, differences_in, late_differences}
 use Rattle.conode_compare_laws.specs.Identifiers.{AllSendAside, AreAside, AreElsewhere, AreWithout, IsElsewhere, IsUnnamed, SendsAside}
 use Rattle.conode_compare_laws.specs.Periods.{AllKeepPeriod, KnowsPeriod, period_after}

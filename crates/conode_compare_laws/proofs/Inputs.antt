@@ -27,7 +27,7 @@ use Rattle.co_node_model.specs.Nmt.{commanded_event, service_for, state_at, stat
 use Rattle.co_node_model.specs.Rpdos.{rpdo_with}
 use Rattle.co_node_model.specs.Sdo.{channel_logs}
 use Rattle.co_node_model.specs.Sync.{is_sync_id}
-use Rattle.conode_compare_rules.specs.declared.finding.NmtState.{NmtState}
+use Rattle.conode_compare_nmt.specs.declared.finding.NmtState.{NmtState}
 use Rattle.conode_compare_laws.proofs.Shown.{is_shown, lost}
 
 -- ---- the command that an input is for the device

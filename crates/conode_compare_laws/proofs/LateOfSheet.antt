@@ -9,8 +9,8 @@ use Rattle.co_node.specs.Built.{IsBuilt}
 use Rattle.co_node_model.specs.Moments.{Constants}
 use Rattle.co_sheet.specs.Content.{Row}
 use Rattle.co_sheet.specs.SheetLaws.{IsSheetRow}
-use Rattle.conode_compare_rules.specs.declared.limits.Subject.{Subject}
-use Rattle.conode_compare_rules.specs.EntriesInForce.{facts_of, is_constant, with_master}
+use Rattle.conode_compare_nmt.specs.declared.limits.Subject.{Subject}
+use Rattle.conode_compare_nmt.specs.EntriesInForce.{facts_of, is_constant, with_master}
 use Rattle.conode_compare_laws.specs.AnswerSenders.{HaveBytes}
 use Rattle.conode_compare_laws.specs.Differences.{differences_in, late_differences}
 use Rattle.conode_compare_laws.specs.Identifiers.{AreElsewhere}

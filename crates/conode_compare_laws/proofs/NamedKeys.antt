@@ -34,36 +34,20 @@ use Rattle.conode_explain_laws.proofs.Begins.{HasKey, has_key}
 use Rattle.conode_explain_laws.proofs.Readings.{Reading, Segment, Begin, Abort, Request, Response, Nothing, beginning, follows_by, reading_of, request_reading, segment_reading, turn_of, same as same_reading}
 use Rattle.conode_explain_laws.proofs.Views.{is_begin, server_no_begin}
 use Rattle.conode_compare_transfers.specs.Dialogues.{dialogue_heard, exchange_in, given_up, interrupted, is_initiate}
-use Rattle.conode_compare_rules.specs.declared.finding.Finding.{Finding}
+use Rattle.conode_compare_nmt.specs.declared.finding.Finding.{Finding}
 use Rattle.conode_compare_rules.specs.declared.kind.FrameKind.{FrameKind}
 use Rattle.conode_compare_rules.specs.declared.kind.FrameKind.TheVariants.{Command, CommandToAll, LongCommand, Guarding, Control, OddControl, Emergency as Emcy, OddEmergency, Sdo, Process, Polled, Fault, Other}
-use Rattle.conode_compare_rules.specs.declared.limits.Subject.{Subject}
+use Rattle.conode_compare_nmt.specs.declared.limits.Subject.{Subject}
 use Rattle.conode_compare_rules.specs.declared.progress.Progress.{Progress}
 use Rattle.conode_compare_rules.specs.declared.verdict.Findings.{Findings}
 use Rattle.conode_compare_rules.specs.FrameKinds.{command_kind, command_to, control_kind, data_kind, emergency_kind, emergency_with, length_of, long_command_in}
-use Rattle.conode_compare_rules.specs.Progresses as progresses
-use Rattle.conode_compare_rules.specs.Progresses.{
-  shown_beside,
-  after_command,
-  after_emergency,
-  after_fault,
-  after_frame,
-  after_odd_control,
-  after_process,
-  after_sdo,
-  answer_noted,
-  begins_anew,
-  begun,
-  booted,
-  channel_heard,
-  exchange_at,
-  exchange_noted,
-  late_noted,
-  progress_with,
-  silence_at,
-  was_quiet,
-  with_gap,
-}
+use Rattle.conode_compare_rules.specs.NmtFrames as nmt_frames
+use Rattle.conode_compare_rules.specs.Gaps.{after_fault, begins_anew, begun, was_quiet, with_gap}
+use Rattle.conode_compare_rules.specs.NmtFrames.{after_command, after_odd_control, booted, silence_at}
+use Rattle.conode_compare_rules.specs.EmergencyRules.{after_emergency}
+use Rattle.conode_compare_rules.specs.Channels.{shown_beside, after_sdo, answer_noted, channel_heard, exchange_at, exchange_noted, late_noted}
+use Rattle.conode_compare_rules.specs.Processes.{after_process}
+use Rattle.conode_compare_rules.specs.Progresses.{after_frame, progress_with}
 use Rattle.conode_compare_laws.specs.Identifiers.{AreNoSdo, IsUnnamed}
 use Rattle.conode_compare_laws.specs.Recordings.{Recorded, stamped}
 use Rattle.conode_compare_laws.proofs.LongCommands.{long_such}
@@ -327,8 +311,8 @@ command_open P p EnterPreOperational own micros h = h
 command_open P p ResetNode own micros h = tt
 command_open P p ResetCommunication own micros h = tt
 
-control_open : (P : Key → Type 0) (subject : Subject) (p : Progress) (micros byte : ℕ) → IsOpenOn P p → IsOpenOn P (if byte == 0 then booted subject p micros else progresses.after_control subject p micros byte)
-unfolding booted progresses.after_control
+control_open : (P : Key → Type 0) (subject : Subject) (p : Progress) (micros byte : ℕ) → IsOpenOn P p → IsOpenOn P (if byte == 0 then booted subject p micros else nmt_frames.after_control subject p micros byte)
+unfolding booted nmt_frames.after_control
 control_open P subject p micros byte h = by (byte == 0) _ _ tt (given (is_some (silence_at subject p micros byte)))
   where
     by : (b : Bool) (x y : Progress) → IsOpenOn P x → IsOpenOn P y → IsOpenOn P (if b then x else y)

@@ -10,18 +10,21 @@ use Rattle.co_node_model.specs.Inputs.{Applied, InputView, Written}
 use Rattle.co_node_model.specs.Moments.{Constants}
 use Rattle.co_node_model.proofs.ExampleNode.{came, device_with, frame, searches, u16}
 use Rattle.conode_compare_pdos.specs.Followed.{framed, sighting, unknown_pdos}
-use Rattle.conode_compare_rules.specs.declared.clients.OtherClients.{OtherClients}
-use Rattle.conode_compare_rules.specs.declared.entries.Entries.{Entries}
-use Rattle.conode_compare_rules.specs.declared.finding.Finding.{Finding}
-use Rattle.conode_compare_rules.specs.declared.finding.Finding.TheVariants.{HeartbeatLate}
-use Rattle.conode_compare_rules.specs.declared.limits.Subject.{Subject}
-use Rattle.conode_compare_rules.specs.EntriesInForce.{overwritten}
-use Rattle.conode_compare_rules.specs.Heartbeats.{is_missing, late_finding, overdue_by}
-use Rattle.conode_compare_rules.specs.OtherClients.{no_clients}
-use Rattle.conode_compare_rules.specs.Progresses as progresses
-use Rattle.conode_compare_rules.specs.Progresses.{after_process, begun, booted, control_findings, findings_at, heartbeat_findings, moment_at, process_findings, progress_with}
-use Rattle.conode_compare_rules.specs.States as states
-use Rattle.conode_compare_rules.specs.States.{after_boot_up, after_other, awaits_boot_up, boot_finding, is_settled}
+use Rattle.conode_compare_nmt.specs.declared.clients.OtherClients.{OtherClients}
+use Rattle.conode_compare_nmt.specs.declared.entries.Entries.{Entries}
+use Rattle.conode_compare_nmt.specs.declared.finding.Finding.{Finding}
+use Rattle.conode_compare_nmt.specs.declared.finding.Finding.TheVariants.{HeartbeatLate}
+use Rattle.conode_compare_nmt.specs.declared.limits.Subject.{Subject}
+use Rattle.conode_compare_nmt.specs.EntriesInForce.{overwritten}
+use Rattle.conode_compare_nmt.specs.Heartbeats.{is_missing, late_finding, overdue_by}
+use Rattle.conode_compare_nmt.specs.OtherClients.{no_clients}
+use Rattle.conode_compare_rules.specs.NmtFrames as nmt_frames
+use Rattle.conode_compare_rules.specs.Gaps.{begun}
+use Rattle.conode_compare_rules.specs.NmtFrames.{booted, control_findings, heartbeat_findings}
+use Rattle.conode_compare_rules.specs.Processes.{after_process, moment_at, process_findings}
+use Rattle.conode_compare_rules.specs.Progresses.{findings_at, progress_with}
+use Rattle.conode_compare_nmt.specs.States as states
+use Rattle.conode_compare_nmt.specs.States.{after_boot_up, after_other, awaits_boot_up, boot_finding, is_settled}
 use Rattle.conode_compare_rules.specs.Verdicts.{found}
 use Rattle.conode_compare_rules.specs.Answers.{silence_finding}
 use Rattle.conode_compare_laws.specs.Differences.{differences_in, late_differences}
@@ -80,5 +83,5 @@ late_found clients = differences_in late_differences (subject clients) []
     (with_stamp 0 (frame 0x705 1 0) ∷ with_stamp 100000 (frame 0x680 8 0x2B17_1000_DC05_0000) ∷ with_stamp 1600000 (frame 0x705 1 127) ∷ [])
 
 written_beside : map late_found (no_clients ∷ told ∷ []) ≡ (HeartbeatLate 1600000 1000 ∷ []) ∷ [] ∷ []
-unfolding findings_at progress_with begun booted found progresses.after_control states.after_control silence_finding after_boot_up after_other awaits_boot_up boot_finding is_settled control_findings heartbeat_findings late_finding overdue_by process_findings moment_at sighting after_process framed overwritten is_missing
+unfolding findings_at progress_with begun booted found nmt_frames.after_control states.after_control silence_finding after_boot_up after_other awaits_boot_up boot_finding is_settled control_findings heartbeat_findings late_finding overdue_by process_findings moment_at sighting after_process framed overwritten is_missing
 written_beside = refl

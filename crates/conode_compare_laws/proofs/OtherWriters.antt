@@ -26,7 +26,7 @@ use Rattle.co_node_model.specs.Marks.{marked_key}
 use Rattle.co_node_model.specs.Moments.{Constants, History, Moment, channels, contents_at, nothing_of}
 use Rattle.co_node_model.specs.Nmt.{service_for, state_at}
 use Rattle.co_node_model.specs.Sdo.{channel_logs}
-use Rattle.conode_compare_rules.specs.declared.clients.OtherClients.{OtherClients}
+use Rattle.conode_compare_nmt.specs.declared.clients.OtherClients.{OtherClients}
 use Rattle.conode_compare_laws.specs.OtherWriters.{AllToTold, AllWriteNot, IsTold, IsToTold, WritesNot, writes}
 use Rattle.conode_compare_laws.specs.Periods.{AllWriteSeen, WritesSeen}
 use Rattle.conode_compare_laws.specs.Recordings.{Stamped}

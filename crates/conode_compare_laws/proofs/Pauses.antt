@@ -20,54 +20,28 @@ use Rattle.co_sheet.specs.Content.{Row}
 use Rattle.conode_explain_transfers.specs.declared.ended.Ended.{Ended}
 use Rattle.conode_explain_transfers.specs.declared.kinds.Side.{Side}
 use Rattle.conode_explain_transfers.specs.declared.kinds.Side.TheVariants.{Client, Server}
-use Rattle.conode_compare_rules.specs.declared.entries.Entries.{Entries}
-use Rattle.conode_compare_rules.specs.declared.finding.Finding.{Finding}
-use Rattle.conode_compare_rules.specs.declared.finding.Finding.TheVariants.{EmergencyInhibit, EmergencyRegister, EmergencyStopped}
-use Rattle.conode_compare_rules.specs.declared.finding.NmtState.{NmtState}
+use Rattle.conode_compare_nmt.specs.declared.entries.Entries.{Entries}
+use Rattle.conode_compare_nmt.specs.declared.finding.Finding.{Finding}
+use Rattle.conode_compare_nmt.specs.declared.finding.Finding.TheVariants.{EmergencyInhibit, EmergencyRegister, EmergencyStopped}
+use Rattle.conode_compare_nmt.specs.declared.finding.NmtState.{NmtState}
 use Rattle.conode_compare_rules.specs.declared.kind.FrameKind.{FrameKind}
 use Rattle.conode_compare_rules.specs.declared.kind.FrameKind.TheVariants.{Command, CommandToAll, LongCommand, Control, Emergency as Emcy, OddEmergency, Other, Process, Sdo}
-use Rattle.conode_compare_rules.specs.declared.limits.Limits.{Limits}
-use Rattle.conode_compare_rules.specs.declared.limits.Subject.{Subject}
+use Rattle.conode_compare_nmt.specs.declared.limits.Limits.{Limits}
+use Rattle.conode_compare_nmt.specs.declared.limits.Subject.{Subject}
 use Rattle.conode_compare_rules.specs.declared.progress.Progress.{Progress}
-use Rattle.conode_compare_rules.specs.EmergencyRules.{emergency_finding, fits_register, gap_finding, inhibit_finding, inhibit_with, is_in_force, is_inhibited, is_stopped, least_gap, may_wait}
-use Rattle.conode_compare_rules.specs.EntriesInForce.{asked_by, asked_to_write, done_word, overwritten, shown_inhibit, shown_period, with_inhibit, with_period}
-use Rattle.conode_compare_rules.specs.OtherClients.{is_channel}
+use Rattle.conode_compare_nmt.specs.States.{is_stopped, is_initialising, judged_state}
+use Rattle.conode_compare_rules.specs.EmergencyRules.{emergency_finding, fits_register, gap_finding, inhibit_finding, inhibit_with, is_in_force, is_inhibited, least_gap, may_wait, after_emergency, emergency_findings, may_be_restarted, may_have_waited}
+use Rattle.conode_compare_nmt.specs.EntriesInForce.{asked_by, asked_to_write, done_word, overwritten, shown_inhibit, shown_period, with_inhibit, with_period}
+use Rattle.conode_compare_nmt.specs.OtherClients.{is_channel}
 use Rattle.conode_compare_rules.specs.FrameKinds.{command_kind, command_to, control_kind, data_kind, emergency_kind, emergency_with, length_of, long_command_in}
-use Rattle.conode_compare_rules.specs.Heartbeats.{follows_closely}
-use Rattle.conode_compare_rules.specs.Progresses as progresses
-use Rattle.conode_compare_rules.specs.Progresses.{
-  after_command,
-  after_emergency,
-  after_frame,
-  after_process,
-  after_sdo,
-  answer_noted,
-  begins_anew,
-  begun,
-  booted,
-  channel_heard,
-  emergency_findings,
-  entries_asked,
-  entries_ended,
-  entries_heard,
-  hides_end,
-  shown_beside,
-  exchange_at,
-  exchange_noted,
-  findings_at,
-  is_of_client,
-  findings_in,
-  late_noted,
-  may_be_restarted,
-  may_have_waited,
-  progress_with,
-  steady_when_free,
-  with_gap,
-  free_at,
-  may_differ,
-}
-use Rattle.conode_compare_rules.specs.States.{is_initialising, judged_state}
-use Rattle.conode_compare_rules.specs.Times.{drift_of}
+use Rattle.conode_compare_nmt.specs.Heartbeats.{follows_closely}
+use Rattle.conode_compare_rules.specs.NmtFrames as nmt_frames
+use Rattle.conode_compare_rules.specs.Gaps.{begins_anew, begun, with_gap, free_at}
+use Rattle.conode_compare_rules.specs.NmtFrames.{after_command, booted, steady_when_free, may_differ}
+use Rattle.conode_compare_rules.specs.Channels.{after_sdo, answer_noted, channel_heard, entries_asked, entries_ended, entries_heard, hides_end, shown_beside, exchange_at, exchange_noted, late_noted}
+use Rattle.conode_compare_rules.specs.Processes.{after_process, is_of_client}
+use Rattle.conode_compare_rules.specs.Progresses.{after_frame, findings_at, findings_in, progress_with}
+use Rattle.conode_compare_nmt.specs.Times.{drift_of}
 use Rattle.conode_compare_rules.specs.Verdicts.{found}
 use Rattle.conode_compare_transfers.specs.declared.dialogue.Asked.{Asked}
 use Rattle.conode_compare_transfers.specs.Dialogues.{asks_to_write, dialogue_heard, exchange_in}
@@ -320,7 +294,7 @@ boots inhibit micros sent after subject rows p life is knows free =
     (subst (λ byte. Passes inhibit micros after subject rows (begun subject p micros) (Control byte)) (sym is) (boot_passes inhibit micros after subject rows (begun subject p micros) knows (begun_fits subject p micros free)))
 
 control_passes : (inhibit micros byte : ℕ) (sent : List Sending) (subject : Subject) (rows : List Row) (p : Progress) → KnowsInhibit inhibit subject → Calm inhibit micros sent p → Passes inhibit micros sent subject rows p (Control byte)
-unfolding booted progresses.after_control
+unfolding booted nmt_frames.after_control
 control_passes inhibit micros byte sent subject rows p knows h = record { none = refl; calm = by (byte == 0) _ _ (record { known = booted_known inhibit subject (may_differ subject p) knows; since = tt; fresh = h.fresh }) (record { known = h.known; since = h.since; fresh = h.fresh }) }
   where
     by : (b : Bool) (x y : Progress) → Calm inhibit micros sent x → Calm inhibit micros sent y → Calm inhibit micros sent (if b then x else y)

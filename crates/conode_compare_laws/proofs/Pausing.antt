@@ -36,9 +36,9 @@ use Rattle.co_node_model.specs.Moments.{Constants, History, Moment, channels, co
 use Rattle.co_node_model.specs.Nmt.{is_reset, service_for, state_at}
 use Rattle.co_node_model.specs.Sdo.{channel_logs}
 use Rattle.co_node_model.specs.Tpdos.{tpdo_frame}
-use Rattle.conode_compare_rules.specs.declared.limits.Subject.{Subject}
+use Rattle.conode_compare_nmt.specs.declared.limits.Subject.{Subject}
 use Rattle.conode_compare_rules.specs.declared.progress.Progress.{Progress}
-use Rattle.conode_compare_rules.specs.Progresses.{before_recording}
+use Rattle.conode_compare_rules.specs.Gaps.{before_recording}
 use Rattle.conode_compare_laws.specs.Differences.{differences_from, differences_in, inhibit_differences}
 use Rattle.conode_compare_laws.specs.Identifiers.{AllSendAside, AllSendWithout, AreElsewhere, AreWithout, IsElsewhere, IsUnnamed, SendsAside, SendsWithout}
 use Rattle.conode_compare_laws.specs.Periods.{AllHaveInhibit, KnowsInhibit}

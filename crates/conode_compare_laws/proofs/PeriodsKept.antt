@@ -16,7 +16,7 @@ use Rattle.co_node_model.specs.Marks.{marked_key}
 use Rattle.co_node_model.specs.Moments.{Constants}
 use Rattle.co_node_model.specs.Nmt.{is_reset}
 use Rattle.co_node_model.specs.Sync.{is_sync_id}
-use Rattle.conode_compare_rules.specs.declared.clients.OtherClients.{OtherClients}
+use Rattle.conode_compare_nmt.specs.declared.clients.OtherClients.{OtherClients}
 use Rattle.conode_compare_laws.specs.Periods.{AllFollowPeriod, AllHaveInhibit, AllKeepPeriod, AllWriteFirst, AllWriteSeen}
 use Rattle.conode_compare_laws.specs.Recordings.{Stamped}
 use Rattle.conode_compare_laws.specs.ShownWords.{AllAskPeriod, AllKeepWord, KeepsWord}

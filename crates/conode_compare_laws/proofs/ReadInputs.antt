@@ -22,10 +22,10 @@ use Rattle.conode_explain_transfers.specs.declared.transfer.Transfer.{Transfer}
 use Rattle.conode_explain_transfers.specs.Followed.{Following}
 use Rattle.conode_compare_rules.specs.declared.kind.FrameKind.{FrameKind}
 use Rattle.conode_compare_rules.specs.declared.kind.FrameKind.TheVariants.{Sdo}
-use Rattle.conode_compare_rules.specs.declared.limits.Subject.{Subject}
+use Rattle.conode_compare_nmt.specs.declared.limits.Subject.{Subject}
 use Rattle.conode_compare_rules.specs.declared.progress.Progress.{Progress}
 use Rattle.conode_compare_rules.specs.declared.verdict.Findings.{Findings}
-use Rattle.conode_compare_rules.specs.Progresses.{begun}
+use Rattle.conode_compare_rules.specs.Gaps.{begun}
 use Rattle.conode_compare_laws.specs.ValueFindings.{of_refusals, refusal_differences}
 use Rattle.conode_compare_laws.proofs.AnswerExchange.{answer_kind, request_kind}
 use Rattle.conode_compare_laws.proofs.AnswerFollowed.{reads}

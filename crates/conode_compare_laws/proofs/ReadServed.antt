@@ -20,14 +20,15 @@ use Rattle.co_sheet.specs.Content.{Row}
 use Rattle.co_sheet_changes.specs.Names.{row_at}
 use Rattle.conode_compare_values.specs.declared.mismatch.Mismatch.TheVariants.{AboveLimit, BelowLimit, BeyondRoom, ConstText, ReadRefused, ValueConst, ValueLength, Written}
 use Rattle.conode_compare_values.specs.SheetValues.{is_readable}
-use Rattle.conode_compare_rules.specs.declared.finding.Finding.{Finding}
-use Rattle.conode_compare_rules.specs.declared.finding.Finding.TheVariants.{Value}
+use Rattle.conode_compare_nmt.specs.declared.finding.Finding.{Finding}
+use Rattle.conode_compare_nmt.specs.declared.finding.Finding.TheVariants.{Value}
 use Rattle.conode_compare_rules.specs.declared.kind.FrameKind.{FrameKind}
 use Rattle.conode_compare_rules.specs.declared.kind.FrameKind.TheVariants.{Sdo}
-use Rattle.conode_compare_rules.specs.declared.limits.Subject.{Subject}
+use Rattle.conode_compare_nmt.specs.declared.limits.Subject.{Subject}
 use Rattle.conode_compare_rules.specs.declared.progress.Progress.{Progress}
 use Rattle.conode_compare_rules.specs.declared.verdict.Findings.{Findings}
-use Rattle.conode_compare_rules.specs.Progresses.{before_recording, findings_at, progress_with}
+use Rattle.conode_compare_rules.specs.Gaps.{before_recording}
+use Rattle.conode_compare_rules.specs.Progresses.{findings_at, progress_with}
 use Rattle.conode_compare_laws.specs.Differences.{differences_from, differences_in, kind_in}
 use Rattle.conode_compare_laws.specs.Recordings.{Recorded}
 use Rattle.conode_compare_laws.specs.ValueFindings.{of_served, read_differences, refusal_differences, served_differences}

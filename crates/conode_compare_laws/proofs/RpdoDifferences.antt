@@ -14,48 +14,22 @@ use Rattle.conode_record.specs.declared.line.Record.{Record}
 use Rattle.conode_compare_transfers.specs.declared.dialogue.Exchange.{Exchange}
 use Rattle.conode_compare_values.specs.declared.written.HeldMismatch.{HeldMismatch}
 use Rattle.conode_compare_values.specs.HeldNumbers.{held_mismatch, nothing_written}
-use Rattle.conode_compare_rules.specs.declared.finding.Finding.{Finding}
-use Rattle.conode_compare_rules.specs.declared.finding.Finding.TheVariants.{Held}
+use Rattle.conode_compare_nmt.specs.declared.finding.Finding.{Finding}
+use Rattle.conode_compare_nmt.specs.declared.finding.Finding.TheVariants.{Held}
 use Rattle.conode_compare_rules.specs.declared.kind.FrameKind.{FrameKind}
 use Rattle.conode_compare_rules.specs.declared.kind.FrameKind.TheVariants.{Command, CommandToAll, LongCommand, Control, OddControl, Emergency as Emcy, OddEmergency, Process, Sdo, Fault}
-use Rattle.conode_compare_rules.specs.declared.limits.Subject.{Subject}
+use Rattle.conode_compare_nmt.specs.declared.limits.Subject.{Subject}
 use Rattle.conode_compare_rules.specs.declared.progress.Progress.{Progress}
 use Rattle.conode_compare_rules.specs.declared.verdict.Findings.{Findings}
 use Rattle.conode_compare_rules.specs.Answers.{answer_finding, breach_finding, confirmed_finding, ended_finding, held_finding, stopped_finding}
-use Rattle.conode_compare_rules.specs.Progresses as progresses
-use Rattle.conode_compare_rules.specs.Progresses.{
-  after_command,
-  after_emergency,
-  after_fault,
-  after_frame,
-  after_odd_control,
-  after_process,
-  answer_findings,
-  answer_nmt,
-  answer_noted,
-  before_recording,
-  begins_anew,
-  begun,
-  booted,
-  channel_heard,
-  confirmed_findings,
-  control_findings,
-  control_judged,
-  emergency_findings,
-  emergency_noted,
-  exchange_at,
-  exchange_noted,
-  findings_at,
-  findings_in,
-  heartbeat_findings,
-  late_noted,
-  moment_at,
-  process_findings,
-  progress_with,
-  request_findings,
-  with_gap,
-}
-use Rattle.conode_compare_rules.specs.States.{is_reset}
+use Rattle.conode_compare_rules.specs.NmtFrames as nmt_frames
+use Rattle.conode_compare_rules.specs.Gaps.{after_fault, before_recording, begins_anew, begun, with_gap}
+use Rattle.conode_compare_rules.specs.NmtFrames.{after_command, after_odd_control, booted, control_findings, control_judged, heartbeat_findings}
+use Rattle.conode_compare_rules.specs.EmergencyRules.{after_emergency, emergency_findings, emergency_noted}
+use Rattle.conode_compare_rules.specs.Channels.{answer_findings, answer_nmt, answer_noted, channel_heard, confirmed_findings, exchange_at, exchange_noted, late_noted, request_findings}
+use Rattle.conode_compare_rules.specs.Processes.{after_process, moment_at, process_findings}
+use Rattle.conode_compare_rules.specs.Progresses.{after_frame, findings_at, findings_in, progress_with}
+use Rattle.conode_compare_nmt.specs.States.{is_reset}
 use Rattle.conode_compare_rules.specs.Verdicts.{found}
 use Rattle.conode_compare_receptions.specs.declared.receptions.Receptions.{Receptions}
 use Rattle.conode_compare_receptions.specs.AllFrames.{kind_at, program_from, program_over, progress_after, receptions_after}
@@ -98,7 +72,7 @@ unfolding after_command with_gap
 command_same service own micros p = either (is_reset service) _ _ _ _ refl refl
 
 control_same : (subject : Subject) (micros byte : ℕ) (p : Progress) → unwritten (after_frame subject (unwritten p) micros (Control byte)) ≡ unwritten (after_frame subject p micros (Control byte))
-unfolding booted progresses.after_control
+unfolding booted nmt_frames.after_control
 control_same subject micros byte p = either (byte == 0) _ _ _ _ refl refl
 
 odd_control_same : (subject : Subject) (micros length : ℕ) (p : Progress) → unwritten (after_frame subject (unwritten p) micros (OddControl length)) ≡ unwritten (after_frame subject p micros (OddControl length))

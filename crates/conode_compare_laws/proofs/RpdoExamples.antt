@@ -18,21 +18,25 @@ use Rattle.conode_compare_values.specs.SheetValues.{mismatch_at, row_mismatch, v
 use Rattle.conode_compare_transfers.specs.Breaches.{breach_at}
 use Rattle.conode_compare_transfers.specs.Dialogues.{dialogue_heard, exchange_in, is_certain}
 use Rattle.conode_compare_transfers.specs.NewestFrames.{newest_after, newest_with}
-use Rattle.conode_compare_rules.specs.declared.entries.Entries.{Entries}
-use Rattle.conode_compare_rules.specs.declared.finding.Finding.{Finding}
-use Rattle.conode_compare_rules.specs.declared.finding.Finding.TheVariants.{Held, Unasked}
+use Rattle.conode_compare_nmt.specs.declared.entries.Entries.{Entries}
+use Rattle.conode_compare_nmt.specs.declared.finding.Finding.{Finding}
+use Rattle.conode_compare_nmt.specs.declared.finding.Finding.TheVariants.{Held, Unasked}
 use Rattle.conode_compare_rules.specs.declared.kind.FrameKind.{FrameKind}
-use Rattle.conode_compare_rules.specs.declared.limits.Subject.{Subject}
+use Rattle.conode_compare_nmt.specs.declared.limits.Subject.{Subject}
 use Rattle.conode_compare_rules.specs.declared.verdict.Findings.{Findings}
 use Rattle.conode_compare_rules.specs.Answers.{answer_finding, confirmed_finding, held_finding, silence_finding, stopped_finding, what_finding}
-use Rattle.conode_compare_rules.specs.EntriesInForce.{asked_to_write, shown_inhibit, shown_period}
-use Rattle.conode_compare_rules.specs.Heartbeats.{is_missing, late_finding, overdue_by}
-use Rattle.conode_compare_rules.specs.Progresses as progresses
-use Rattle.conode_compare_rules.specs.Progresses.{after_command, after_process, answer_findings, begun, booted, channel_heard, control_findings, exchange_at, exchange_noted, findings_at, heartbeat_findings, late_noted, moment_at, process_findings, progress_with, request_findings}
-use Rattle.conode_compare_rules.specs.States as states
-use Rattle.conode_compare_rules.specs.States.{after_boot_up, after_other, awaits_boot_up, boot_finding, control_finding, is_settled, second_boot_up, state_finding}
+use Rattle.conode_compare_nmt.specs.EntriesInForce.{asked_to_write, shown_inhibit, shown_period}
+use Rattle.conode_compare_nmt.specs.Heartbeats.{is_missing, late_finding, overdue_by}
+use Rattle.conode_compare_rules.specs.NmtFrames as nmt_frames
+use Rattle.conode_compare_rules.specs.Gaps.{begun}
+use Rattle.conode_compare_rules.specs.NmtFrames.{after_command, booted, control_findings, heartbeat_findings}
+use Rattle.conode_compare_rules.specs.Channels.{answer_findings, channel_heard, exchange_at, exchange_noted, late_noted, request_findings}
+use Rattle.conode_compare_rules.specs.Processes.{after_process, moment_at, process_findings}
+use Rattle.conode_compare_rules.specs.Progresses.{findings_at, progress_with}
+use Rattle.conode_compare_nmt.specs.States as states
+use Rattle.conode_compare_nmt.specs.States.{after_boot_up, after_other, awaits_boot_up, boot_finding, control_finding, is_settled, second_boot_up, state_finding}
 use Rattle.conode_compare_rules.specs.Verdicts.{found}
-use Rattle.conode_compare_rules.specs.OtherClients.{no_clients}
+use Rattle.conode_compare_nmt.specs.OtherClients.{no_clients}
 use Rattle.conode_compare_receptions.specs.AllFrames.{program_over}
 use Rattle.conode_compare_receptions.specs.OtherIds.{other_ids_of}
 use Rattle.conode_compare_receptions.specs.Receptions.{booted_receptions, exchanged_by, is_sure, no_receptions, process_received, receptions_with, with_receptions}
@@ -87,7 +91,7 @@ abbrev of_frames : FrameKind → Findings → List Finding
 of_frames kind f = option_to_list f.frame
 
 with_rpdos : program_over of_frames subject rows (map as_read written) ≡ Held (record { key = record { index = 0x2000; sub = 0 }; shown = 5; written = 0x102 }) ∷ Unasked ∷ []
-unfolding findings_at progress_with begun booted found states.after_control after_boot_up after_other awaits_boot_up is_settled progresses.after_control control_findings heartbeat_findings silence_finding channel_heard exchange_at exchange_noted late_noted
+unfolding findings_at progress_with begun booted found states.after_control after_boot_up after_other awaits_boot_up is_settled nmt_frames.after_control control_findings heartbeat_findings silence_finding channel_heard exchange_at exchange_noted late_noted
     request_findings confirmed_finding answer_findings answer_finding stopped_finding held_finding what_finding held_mismatch dialogue_heard exchange_in is_certain newest_with newest_after breach_at shown_period shown_inhibit asked_to_write mismatch_at request_row_in response_row_in
     control_finding second_boot_up state_finding boot_finding row_mismatch value_mismatch late_finding overdue_by after_command states.after_command after_process moment_at process_findings sighting framed written_heard unmapped_from nothing_written
     receptions_with with_receptions no_receptions booted_receptions other_ids_of has_few_rpdos rpdo_of mapped_from fits_from brought_from taken_from settled_from no_writes process_received is_sure exchanged_by is_missing
@@ -95,7 +99,7 @@ with_rpdos = refl
 
 -- without them, and but for `value-held`
 others : (differences_in of_frames subject rows written ≡ Unasked ∷ []) × (program_over all_besides_held subject rows (map as_read written) ≡ Unasked ∷ [])
-unfolding findings_at progress_with begun booted found states.after_control after_boot_up after_other awaits_boot_up is_settled progresses.after_control control_findings heartbeat_findings silence_finding channel_heard exchange_at exchange_noted late_noted
+unfolding findings_at progress_with begun booted found states.after_control after_boot_up after_other awaits_boot_up is_settled nmt_frames.after_control control_findings heartbeat_findings silence_finding channel_heard exchange_at exchange_noted late_noted
     request_findings confirmed_finding answer_findings answer_finding stopped_finding held_finding what_finding held_mismatch dialogue_heard exchange_in is_certain newest_with newest_after breach_at shown_period shown_inhibit asked_to_write mismatch_at request_row_in response_row_in
     control_finding second_boot_up state_finding boot_finding row_mismatch value_mismatch late_finding overdue_by after_command states.after_command after_process moment_at process_findings sighting framed written_heard unmapped_from nothing_written
     receptions_with with_receptions no_receptions booted_receptions other_ids_of has_few_rpdos rpdo_of mapped_from fits_from brought_from taken_from settled_from no_writes process_received is_sure exchanged_by is_missing

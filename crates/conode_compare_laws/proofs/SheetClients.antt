@@ -26,9 +26,9 @@ use Rattle.co_node_model.specs.Inputs.{InputView}
 use Rattle.co_node_model.specs.Moments.{Constants, channels}
 use Rattle.conode_compare_pdos.specs.Identifiers.{may_have}
 use Rattle.conode_compare_pdos.specs.SheetNumbers.{number_of, preset_at}
-use Rattle.conode_compare_rules.specs.declared.clients.OtherClients.{OtherClients}
-use Rattle.conode_compare_rules.specs.OtherClients.{client_id, clients_from, clients_of, clients_with, has_hidden_channel, is_apart, is_hidden, is_of_device, is_open, is_open_channel, may_send, no_clients, told_id}
-use Rattle.conode_compare_rules.specs.OtherClients as others
+use Rattle.conode_compare_nmt.specs.declared.clients.OtherClients.{OtherClients}
+use Rattle.conode_compare_nmt.specs.OtherClients.{client_id, clients_from, clients_of, clients_with, has_hidden_channel, is_apart, is_hidden, is_of_device, is_open, is_open_channel, may_send, no_clients, told_id}
+use Rattle.conode_compare_nmt.specs.OtherClients as others
 use Rattle.conode_compare_laws.specs.Identifiers.{IsElsewhere}
 use Rattle.conode_compare_laws.specs.OtherWriters.{AllGiven, AllToTold, GivesNumber, IsTold}
 use Rattle.conode_compare_laws.specs.Recordings.{Stamped}

@@ -27,11 +27,11 @@ use Rattle.co_node.specs.Built.{IsBuilt}
 use Rattle.co_node_model.specs.Moments.{Constants}
 use Rattle.conode_compare_pdos.specs.Identifiers.{is_constant_access}
 use Rattle.conode_compare_pdos.specs.SheetNumbers.{preset_at, small, time_at}
-use Rattle.conode_compare_rules.specs.declared.entries.Entries.{Entries}
-use Rattle.conode_compare_rules.specs.declared.entries.Facts.{Facts}
-use Rattle.conode_compare_rules.specs.declared.limits.Subject.{Subject}
-use Rattle.conode_compare_rules.specs.EntriesInForce.{facts_of, has_object, initial_entries, is_constant, sheet_entries, with_master}
-use Rattle.conode_compare_rules.specs.OtherClients.{clients_of, has_hidden_channel}
+use Rattle.conode_compare_nmt.specs.declared.entries.Entries.{Entries}
+use Rattle.conode_compare_nmt.specs.declared.entries.Facts.{Facts}
+use Rattle.conode_compare_nmt.specs.declared.limits.Subject.{Subject}
+use Rattle.conode_compare_nmt.specs.EntriesInForce.{facts_of, has_object, initial_entries, is_constant, sheet_entries, with_master}
+use Rattle.conode_compare_nmt.specs.OtherClients.{clients_of, has_hidden_channel}
 use Rattle.conode_compare_laws.specs.Periods.{KnowsInhibit, KnowsPeriod}
 use Rattle.conode_compare_laws.proofs.Begins.{node_ok, to_127}
 use Rattle.conode_compare_laws.proofs.ConstantEntries.{is_held}

@@ -10,11 +10,10 @@ use Rattle.co_node_parts.specs.declared.nmt_state.LossReaction.TheVariants.{Leav
 use Rattle.co_node_parts.specs.declared.nmt_state.NodeState.{NodeState}
 use Rattle.co_node_parts.specs.declared.nmt_state.NodeState.TheVariants as node
 use Rattle.co_node_parts.specs.NmtStates.{after_loss, heartbeat_of}
-use Rattle.conode_compare_rules.specs.declared.finding.NmtState.{NmtState}
-use Rattle.conode_compare_rules.specs.declared.finding.NmtState.TheVariants.{Unknown, Initialising, PreOperational, Operational, Stopped}
-use Rattle.conode_compare_rules.specs.declared.limits.Limits.{Limits}
-use Rattle.conode_compare_rules.specs.EmergencyRules.{is_stopped}
-use Rattle.conode_compare_rules.specs.States.{either_state, freer, is_reset, is_wrong, overdue_in, state_after, state_finding}
+use Rattle.conode_compare_nmt.specs.declared.finding.NmtState.{NmtState}
+use Rattle.conode_compare_nmt.specs.declared.finding.NmtState.TheVariants.{Unknown, Initialising, PreOperational, Operational, Stopped}
+use Rattle.conode_compare_nmt.specs.declared.limits.Limits.{Limits}
+use Rattle.conode_compare_nmt.specs.States.{is_stopped, either_state, freer, is_reset, is_wrong, overdue_in, state_after, state_finding}
 use Rattle.conode_compare_transfers.specs.Times.{is_past}
 
 -- compare may have this state for a device that is in that one: nothing, the same, or one from which it has fallen back without a

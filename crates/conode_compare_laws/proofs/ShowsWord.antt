@@ -9,15 +9,16 @@ use Rattle.co_frame.specs.SdoFields.{key_in}
 use Rattle.co_sheet.specs.Content.{Row}
 use Rattle.conode_explain_transfers.specs.declared.ended.Ended.{Ended}
 use Rattle.conode_explain_transfers.specs.Followed.{followed}
-use Rattle.conode_compare_rules.specs.declared.finding.Finding.{Finding}
+use Rattle.conode_compare_nmt.specs.declared.finding.Finding.{Finding}
 use Rattle.conode_compare_rules.specs.declared.kind.FrameKind.{FrameKind}
 use Rattle.conode_compare_rules.specs.declared.kind.FrameKind.TheVariants.{Sdo}
-use Rattle.conode_compare_rules.specs.declared.limits.Subject.{Subject}
+use Rattle.conode_compare_nmt.specs.declared.limits.Subject.{Subject}
 use Rattle.conode_compare_rules.specs.declared.progress.Progress.{Progress}
 use Rattle.conode_compare_rules.specs.declared.verdict.Findings.{Findings}
-use Rattle.conode_compare_rules.specs.EntriesInForce.{done_word}
+use Rattle.conode_compare_nmt.specs.EntriesInForce.{done_word}
 use Rattle.conode_compare_rules.specs.FrameKinds.{data_kind}
-use Rattle.conode_compare_rules.specs.Progresses.{begun, progress_with}
+use Rattle.conode_compare_rules.specs.Gaps.{begun}
+use Rattle.conode_compare_rules.specs.Progresses.{progress_with}
 use Rattle.conode_compare_laws.specs.Differences.{kind_in}
 use Rattle.conode_compare_laws.specs.Identifiers.{IsUnnamed}
 use Rattle.conode_compare_laws.specs.Recordings.{Recorded, stamped}

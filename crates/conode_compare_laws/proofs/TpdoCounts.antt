@@ -30,7 +30,7 @@ use Rattle.co_node_model.specs.Nmt.{is_reset, is_reset_by, state_at}
 use Rattle.co_node_model.specs.Tpdos.{due_at, numbers_asked, schedule_log, turn_at, turn_with}
 use Rattle.co_node_laws.specs.TpdoDistances.{tpdo_log, turn_log}
 use Rattle.conode_compare_pdos.specs.Cycles.{is_cyclic}
-use Rattle.conode_compare_rules.specs.declared.finding.NmtState.TheVariants.{PreOperational}
+use Rattle.conode_compare_nmt.specs.declared.finding.NmtState.TheVariants.{PreOperational}
 use Rattle.conode_compare_laws.specs.TpdoParameters.{KeepsTpdos}
 use Rattle.conode_compare_laws.proofs.Inputs.{command_in, command_is, end_shown, state_by}
 use Rattle.conode_compare_laws.proofs.Shown.{is_shown}

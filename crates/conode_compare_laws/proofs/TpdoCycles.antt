@@ -23,10 +23,10 @@ use Rattle.conode_compare_pdos.specs.Cycles.{cycle_synced, is_cyclic, is_early, 
 use Rattle.conode_compare_pdos.specs.Deviations.{cycle_deviation, deviation_at, few_syncs_of, is_apart, is_certain}
 use Rattle.conode_compare_pdos.specs.Followed.{framed, synced}
 use Rattle.conode_compare_pdos.specs.Tpdos.{after_frame as after_tpdo, after_sync, anew, is_id}
-use Rattle.conode_compare_rules.specs.declared.limits.Subject.{Subject}
+use Rattle.conode_compare_nmt.specs.declared.limits.Subject.{Subject}
 use Rattle.conode_compare_rules.specs.declared.progress.Progress.{Progress}
 use Rattle.conode_compare_rules.specs.FrameKinds.{length_of}
-use Rattle.conode_compare_rules.specs.Progresses.{moment_at}
+use Rattle.conode_compare_rules.specs.Processes.{moment_at}
 use Rattle.conode_compare_laws.specs.Differences.{differences_in}
 use Rattle.conode_compare_laws.specs.Identifiers.{AllSendAside, AreElsewhere}
 use Rattle.conode_compare_laws.specs.NamedTpdos.{AreNoSdoSyncs, NameNoTpdos, NamesNoTpdo}

@@ -3,14 +3,15 @@ use Rattle.std.proofs.Common.{◌≡◌, Bool, true, false, List, [], ◌∷◌,
 use Rattle.std.specs.Prelude.{if◌then◌else◌}
 use Rattle.co_sheet.specs.Content.{Row}
 use Rattle.conode_compare_pdos.specs.declared.deviation.Deviation.{Deviation}
-use Rattle.conode_compare_rules.specs.declared.finding.Finding.{Finding}
-use Rattle.conode_compare_rules.specs.declared.finding.Finding.TheVariants.{Pdo}
+use Rattle.conode_compare_nmt.specs.declared.finding.Finding.{Finding}
+use Rattle.conode_compare_nmt.specs.declared.finding.Finding.TheVariants.{Pdo}
 use Rattle.conode_compare_rules.specs.declared.kind.FrameKind.{FrameKind}
 use Rattle.conode_compare_rules.specs.declared.kind.FrameKind.TheVariants.{Process}
-use Rattle.conode_compare_rules.specs.declared.limits.Subject.{Subject}
+use Rattle.conode_compare_nmt.specs.declared.limits.Subject.{Subject}
 use Rattle.conode_compare_rules.specs.declared.progress.Progress.{Progress}
 use Rattle.conode_compare_rules.specs.declared.verdict.Findings.{Findings}
-use Rattle.conode_compare_rules.specs.Progresses.{before_recording, findings_at, progress_with}
+use Rattle.conode_compare_rules.specs.Gaps.{before_recording}
+use Rattle.conode_compare_rules.specs.Progresses.{findings_at, progress_with}
 use Rattle.conode_compare_laws.specs.Differences.{differences_from, differences_in, kind_in}
 use Rattle.conode_compare_laws.specs.Recordings.{Recorded}
 use Rattle.conode_compare_laws.specs.TpdoDifferences.{of_kind, tpdo_differences}

@@ -16,10 +16,10 @@ use Rattle.conode_explain_transfers.specs.declared.kinds.What.TheVariants as wha
 use Rattle.conode_explain_transfers.specs.Followed.{followed}
 use Rattle.conode_compare_pdos.specs.declared.pdos.Pdos.{Pdos}
 use Rattle.conode_compare_pdos.specs.Followed.{requested, transferred, unknown_pdos}
-use Rattle.conode_compare_rules.specs.declared.limits.Subject.{Subject}
+use Rattle.conode_compare_nmt.specs.declared.limits.Subject.{Subject}
 use Rattle.conode_compare_rules.specs.declared.progress.Progress.{Progress}
-use Rattle.conode_compare_rules.specs.OtherClients.{is_channel}
-use Rattle.conode_compare_rules.specs.Progresses.{after_sdo, channel_heard, exchange_at, exchange_noted, hides_end, leaves_unknown_at, pdos_asked, pdos_beside, pdos_by, pdos_ended, pdos_heard, shown_beside}
+use Rattle.conode_compare_nmt.specs.OtherClients.{is_channel}
+use Rattle.conode_compare_rules.specs.Channels.{after_sdo, channel_heard, exchange_at, exchange_noted, hides_end, leaves_unknown_at, pdos_asked, pdos_beside, pdos_by, pdos_ended, pdos_heard, shown_beside}
 use Rattle.conode_compare_transfers.specs.declared.dialogue.Asked.{Asked}
 use Rattle.conode_compare_transfers.specs.Breaches as breaches
 use Rattle.conode_compare_transfers.specs.Dialogues.{asked_after, asks_to_write, dialogue_heard, is_initiate}

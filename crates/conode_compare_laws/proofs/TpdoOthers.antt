@@ -29,47 +29,22 @@ use Rattle.conode_compare_pdos.specs.Deviations.{deviation_at, is_certain, is_ju
 use Rattle.conode_compare_pdos.specs.Followed.{commanded, first_seen, framed, interrupted, is_shared, or_else, seen, sighting, unjudged, unknown_pdos}
 use Rattle.conode_compare_pdos.specs.PdoParameters.{nothing_known}
 use Rattle.conode_compare_pdos.specs.Tpdos.{after_frame as after_tpdo, is_id}
-use Rattle.conode_compare_rules.specs.declared.finding.Finding.{Finding}
-use Rattle.conode_compare_rules.specs.declared.finding.Finding.TheVariants.{Pdo}
+use Rattle.conode_compare_nmt.specs.declared.finding.Finding.{Finding}
+use Rattle.conode_compare_nmt.specs.declared.finding.Finding.TheVariants.{Pdo}
 use Rattle.conode_compare_rules.specs.declared.kind.FrameKind.{FrameKind}
 use Rattle.conode_compare_rules.specs.declared.kind.FrameKind.TheVariants.{Command, CommandToAll, LongCommand, Control, Emergency as Emcy, OddEmergency, Other, Process, Sdo}
-use Rattle.conode_compare_rules.specs.declared.limits.Limits.{Limits}
-use Rattle.conode_compare_rules.specs.declared.limits.Subject.{Subject}
+use Rattle.conode_compare_nmt.specs.declared.limits.Limits.{Limits}
+use Rattle.conode_compare_nmt.specs.declared.limits.Subject.{Subject}
 use Rattle.conode_compare_rules.specs.declared.progress.Progress.{Progress}
 use Rattle.conode_compare_rules.specs.FrameKinds.{command_kind, command_to, control_kind, data_kind, emergency_kind, emergency_with, length_of, long_command_in}
-use Rattle.conode_compare_rules.specs.Heartbeats.{follows_closely, is_gap}
-use Rattle.conode_compare_rules.specs.Progresses as progresses
-use Rattle.conode_compare_rules.specs.Progresses.{
-  after_command,
-  after_emergency,
-  after_frame,
-  after_process,
-  after_sdo,
-  answer_noted,
-  anew_after,
-  begins_anew,
-  begun,
-  booted,
-  channel_heard,
-  exchange_noted,
-  findings_at,
-  findings_in,
-  free_at,
-  late_by_tpdo,
-  late_noted,
-  moment_at,
-  process_findings,
-  progress_with,
-  sighting_findings,
-  was_quiet,
-  with_gap,
-  booted_pdos,
-  is_of_client,
-  is_overdue,
-  sighted,
-  unless_overdue,
-  may_differ,
-}
+use Rattle.conode_compare_nmt.specs.Heartbeats.{follows_closely, is_gap}
+use Rattle.conode_compare_rules.specs.NmtFrames as nmt_frames
+use Rattle.conode_compare_rules.specs.Gaps.{anew_after, begins_anew, begun, free_at, was_quiet, with_gap}
+use Rattle.conode_compare_rules.specs.NmtFrames.{after_command, booted, booted_pdos, is_overdue, may_differ}
+use Rattle.conode_compare_rules.specs.EmergencyRules.{after_emergency}
+use Rattle.conode_compare_rules.specs.Channels.{after_sdo, answer_noted, channel_heard, exchange_noted, late_noted}
+use Rattle.conode_compare_rules.specs.Processes.{after_process, late_by_tpdo, moment_at, process_findings, sighting_findings, is_of_client, sighted, unless_overdue}
+use Rattle.conode_compare_rules.specs.Progresses.{after_frame, findings_at, findings_in, progress_with}
 use Rattle.conode_compare_rules.specs.Verdicts.{found}
 use Rattle.conode_compare_laws.specs.TpdoDifferences.{of_kind, tpdo_differences}
 use Rattle.conode_compare_laws.specs.TpdoFrames.{is_followed}
@@ -435,7 +410,7 @@ boots is I subject rows micros p begins h opened =
 
 heartbeat_passes : (is : Deviation → Bool) (I : Pdos → Type 0) (subject : Subject) (rows : List Row) (p : Progress) (micros : ℕ) (actual : NodeState) → IsKept subject.facts.pdos I → IsNewest micros p → I p.pdos
     → Passes is I subject rows p micros (Control (state_byte (heartbeat_of actual)))
-unfolding progresses.after_control
+unfolding nmt_frames.after_control
 heartbeat_passes is I subject rows p micros node.PreOperational kept new h = record { none = refl; after = record { fresh = fresh micros p new; kept = kept.command p.pdos h } }
 heartbeat_passes is I subject rows p micros node.Operational kept new h = record { none = refl; after = record { fresh = fresh micros p new; kept = h } }
 heartbeat_passes is I subject rows p micros node.Stopped kept new h = record { none = refl; after = record { fresh = fresh micros p new; kept = kept.command p.pdos h } }

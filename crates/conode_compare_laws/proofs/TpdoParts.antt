@@ -21,14 +21,18 @@ use Rattle.conode_explain_transfers.specs.declared.kinds.Side.TheVariants.{Clien
 use Rattle.conode_compare_pdos.specs.declared.deviation.Deviation.{Deviation}
 use Rattle.conode_compare_pdos.specs.declared.pdos.Pdos.{Pdos}
 use Rattle.conode_compare_pdos.specs.Followed.{framed, sighting, unknown_pdos}
-use Rattle.conode_compare_rules.specs.declared.finding.Finding.{Finding}
+use Rattle.conode_compare_nmt.specs.declared.finding.Finding.{Finding}
 use Rattle.conode_compare_rules.specs.declared.kind.FrameKind.{FrameKind}
 use Rattle.conode_compare_rules.specs.declared.kind.FrameKind.TheVariants.{Process, Sdo}
-use Rattle.conode_compare_rules.specs.declared.limits.Subject.{Subject}
+use Rattle.conode_compare_nmt.specs.declared.limits.Subject.{Subject}
 use Rattle.conode_compare_rules.specs.declared.progress.Progress.{Progress}
 use Rattle.conode_compare_rules.specs.declared.verdict.Findings.{Findings}
 use Rattle.conode_compare_rules.specs.FrameKinds.{command_kind, control_kind, data_kind, emergency_kind, emergency_with, length_of}
-use Rattle.conode_compare_rules.specs.Progresses.{after_emergency, after_process, begun, is_of_client, is_overdue, late_by_tpdo, moment_at, process_findings, progress_with, sighted}
+use Rattle.conode_compare_rules.specs.Gaps.{begun}
+use Rattle.conode_compare_rules.specs.NmtFrames.{is_overdue}
+use Rattle.conode_compare_rules.specs.EmergencyRules.{after_emergency}
+use Rattle.conode_compare_rules.specs.Processes.{after_process, is_of_client, late_by_tpdo, moment_at, process_findings, sighted}
+use Rattle.conode_compare_rules.specs.Progresses.{progress_with}
 use Rattle.conode_compare_laws.specs.Identifiers.{AreAside, IsElsewhere, SendsAside}
 use Rattle.conode_compare_laws.specs.NamedTpdos.{NamesNoTpdo}
 use Rattle.conode_compare_laws.specs.Recordings.{frame_of}

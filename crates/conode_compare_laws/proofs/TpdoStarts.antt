@@ -27,12 +27,13 @@ use Rattle.co_node_model.specs.Tpdos.{part_started, start_turn, turn_at, turn_by
 use Rattle.conode_compare_pdos.specs.declared.deviation.Deviation.{Deviation}
 use Rattle.conode_compare_pdos.specs.declared.pdos.Pdos.{Pdos}
 use Rattle.conode_compare_pdos.specs.declared.tpdo.Sent.{Sent}
-use Rattle.conode_compare_rules.specs.declared.finding.NmtState.TheVariants.{PreOperational}
+use Rattle.conode_compare_nmt.specs.declared.finding.NmtState.TheVariants.{PreOperational}
 use Rattle.conode_compare_rules.specs.declared.kind.FrameKind.TheVariants.{Command, CommandToAll, Other}
-use Rattle.conode_compare_rules.specs.declared.limits.Subject.{Subject}
+use Rattle.conode_compare_nmt.specs.declared.limits.Subject.{Subject}
 use Rattle.conode_compare_rules.specs.declared.progress.Progress.{Progress}
 use Rattle.conode_compare_rules.specs.FrameKinds.{command_kind, command_to, long_command_in}
-use Rattle.conode_compare_rules.specs.Progresses.{after_command, begun, with_gap}
+use Rattle.conode_compare_rules.specs.Gaps.{begun, with_gap}
+use Rattle.conode_compare_rules.specs.NmtFrames.{after_command}
 use Rattle.conode_compare_laws.specs.NamedTpdos.{NamesNoTpdo}
 use Rattle.conode_compare_laws.specs.Recordings.{elapsed, frame_of}
 use Rattle.conode_compare_laws.specs.TpdoDifferences.{tpdo_differences}

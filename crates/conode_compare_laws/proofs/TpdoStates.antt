@@ -25,15 +25,19 @@ use Rattle.co_node_model.specs.Tpdos.{due_at, schedule_log, tpdo_frame, turn_at,
 use Rattle.conode_compare_pdos.specs.declared.pdos.Pdos.{Pdos}
 use Rattle.conode_compare_pdos.specs.declared.tpdo.Tpdo.{Tpdo}
 use Rattle.conode_compare_pdos.specs.Deviations.{deviation_at, state_deviation}
-use Rattle.conode_compare_rules.specs.declared.finding.Finding.{Finding}
-use Rattle.conode_compare_rules.specs.declared.finding.NmtState.{NmtState}
-use Rattle.conode_compare_rules.specs.declared.finding.NmtState.TheVariants.{Unknown, Initialising, PreOperational, Operational, Stopped}
+use Rattle.conode_compare_nmt.specs.declared.finding.Finding.{Finding}
+use Rattle.conode_compare_nmt.specs.declared.finding.NmtState.{NmtState}
+use Rattle.conode_compare_nmt.specs.declared.finding.NmtState.TheVariants.{Unknown, Initialising, PreOperational, Operational, Stopped}
 use Rattle.conode_compare_rules.specs.declared.kind.FrameKind.{FrameKind}
-use Rattle.conode_compare_rules.specs.declared.limits.Subject.{Subject}
+use Rattle.conode_compare_nmt.specs.declared.limits.Subject.{Subject}
 use Rattle.conode_compare_rules.specs.declared.progress.Progress.{Progress}
 use Rattle.conode_compare_rules.specs.declared.verdict.Findings.{Findings}
 use Rattle.conode_compare_rules.specs.FrameKinds.{data_kind, length_of}
-use Rattle.conode_compare_rules.specs.Progresses.{before_recording, begun, is_idle, moment_at, progress_with, steady_when_free}
+use Rattle.conode_compare_nmt.specs.States.{is_idle, judged_state}
+use Rattle.conode_compare_rules.specs.Gaps.{before_recording, begun}
+use Rattle.conode_compare_rules.specs.NmtFrames.{steady_when_free}
+use Rattle.conode_compare_rules.specs.Processes.{moment_at}
+use Rattle.conode_compare_rules.specs.Progresses.{progress_with}
 use Rattle.conode_compare_laws.specs.Differences.{differences_from, differences_in, state_differences}
 use Rattle.conode_compare_laws.specs.Identifiers.{AllSendAside, AreElsewhere, IsElsewhere, SendsAside}
 use Rattle.conode_compare_laws.specs.NamedTpdos.{NameNoTpdos, NamesNoTpdo}
@@ -47,7 +51,6 @@ use Rattle.conode_compare_laws.proofs.Heard.{Ends, aside_goes, asides, before_se
 use Rattle.conode_compare_laws.proofs.Inputs.{command_in, command_is, end_shown, state_by}
 use Rattle.conode_compare_laws.proofs.NamedKeys.{first_of, last_of}
 use Rattle.conode_compare_laws.proofs.Runs.{AllRun, joined, then_none}
-use Rattle.conode_compare_rules.specs.States.{judged_state}
 use Rattle.conode_compare_laws.proofs.Shown.{Stage, boots, fits_nothing, freer_operational, is_shown, runs, stage_after}
 use Rattle.conode_compare_laws.proofs.TpdoDue.{AreDistinct, due_distinct}
 use Rattle.conode_compare_laws.proofs.TpdoKinds.{deviation_none, few_none, length_none, sync_none, untimed}

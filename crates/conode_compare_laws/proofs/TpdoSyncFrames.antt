@@ -18,10 +18,12 @@ use Rattle.conode_compare_pdos.specs.declared.pdos.Pdos.{Pdos}
 use Rattle.conode_compare_pdos.specs.Followed.{framed, sighting, synced}
 use Rattle.conode_compare_pdos.specs.Tpdos.{is_id}
 use Rattle.conode_compare_rules.specs.declared.kind.FrameKind.TheVariants.{Process}
-use Rattle.conode_compare_rules.specs.declared.limits.Subject.{Subject}
+use Rattle.conode_compare_nmt.specs.declared.limits.Subject.{Subject}
 use Rattle.conode_compare_rules.specs.declared.progress.Progress.{Progress}
 use Rattle.conode_compare_rules.specs.FrameKinds.{data_kind, length_of}
-use Rattle.conode_compare_rules.specs.Progresses.{after_process, begun, is_of_client, is_overdue, late_by_tpdo, moment_at, process_findings, sighted}
+use Rattle.conode_compare_rules.specs.Gaps.{begun}
+use Rattle.conode_compare_rules.specs.NmtFrames.{is_overdue}
+use Rattle.conode_compare_rules.specs.Processes.{after_process, is_of_client, late_by_tpdo, moment_at, process_findings, sighted}
 use Rattle.conode_compare_laws.specs.Identifiers.{AreElsewhere, IsElsewhere}
 use Rattle.conode_compare_laws.specs.NamedTpdos.{AreNoSdoSyncs, IsNoSdoSync, NamesNoTpdo}
 use Rattle.conode_compare_laws.specs.Recordings.{Recorded, Stamped, frame_of, heard_from, recording, stamped}

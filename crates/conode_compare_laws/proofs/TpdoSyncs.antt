@@ -31,10 +31,10 @@ use Rattle.conode_compare_pdos.specs.declared.tpdo.Tpdo.{Tpdo}
 use Rattle.conode_compare_pdos.specs.Deviations.{deviation_at, is_synchronous, sync_deviation}
 use Rattle.conode_compare_pdos.specs.Followed.{framed}
 use Rattle.conode_compare_pdos.specs.Tpdos.{after_frame as after_tpdo, after_sync, is_id, most_syncs}
-use Rattle.conode_compare_rules.specs.declared.limits.Subject.{Subject}
+use Rattle.conode_compare_nmt.specs.declared.limits.Subject.{Subject}
 use Rattle.conode_compare_rules.specs.declared.progress.Progress.{Progress}
 use Rattle.conode_compare_rules.specs.FrameKinds.{length_of}
-use Rattle.conode_compare_rules.specs.Progresses.{moment_at}
+use Rattle.conode_compare_rules.specs.Processes.{moment_at}
 use Rattle.conode_compare_laws.specs.Differences.{differences_in}
 use Rattle.conode_compare_laws.specs.Identifiers.{AllSendAside, AreElsewhere}
 use Rattle.conode_compare_laws.specs.NamedTpdos.{AreNoSdoSyncs, NameNoTpdos, NamesNoTpdo}

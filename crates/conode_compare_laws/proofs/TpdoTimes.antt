@@ -13,10 +13,10 @@ use Rattle.conode_compare_pdos.specs.declared.tpdo.Tpdo.{Tpdo}
 use Rattle.conode_compare_pdos.specs.Deviations.{deviation_at}
 use Rattle.conode_compare_pdos.specs.Followed.{commanded, framed, unknown_pdos}
 use Rattle.conode_compare_pdos.specs.Tpdos.{after_frame as after_tpdo, after_sync, is_id}
-use Rattle.conode_compare_rules.specs.declared.limits.Subject.{Subject}
+use Rattle.conode_compare_nmt.specs.declared.limits.Subject.{Subject}
 use Rattle.conode_compare_rules.specs.declared.progress.Progress.{Progress}
 use Rattle.conode_compare_rules.specs.FrameKinds.{length_of}
-use Rattle.conode_compare_rules.specs.Progresses.{moment_at}
+use Rattle.conode_compare_rules.specs.Processes.{moment_at}
 use Rattle.conode_compare_laws.specs.TpdoFrames.{is_followed}
 use Rattle.conode_compare_laws.specs.TpdoParameters.{AreTpdosOf}
 use Rattle.conode_compare_laws.proofs.TpdoLogs.{and_sent}

@@ -11,40 +11,25 @@ use Rattle.conode_explain_transfers.specs.declared.kinds.Side.TheVariants.{Clien
 use Rattle.conode_compare_transfers.specs.declared.dialogue.Asked.{Asked}
 use Rattle.conode_compare_transfers.specs.Dialogues.{asks_to_write, dialogue_heard}
 use Rattle.conode_compare_transfers.specs.Breaches.{key_in}
-use Rattle.conode_compare_rules.specs.declared.entries.Entries.{Entries}
-use Rattle.conode_compare_rules.specs.declared.finding.Finding.{Finding}
+use Rattle.conode_compare_nmt.specs.declared.entries.Entries.{Entries}
+use Rattle.conode_compare_nmt.specs.declared.finding.Finding.{Finding}
 use Rattle.conode_compare_rules.specs.declared.kind.FrameKind.{FrameKind}
 use Rattle.conode_compare_rules.specs.declared.kind.FrameKind.TheVariants.{Command, CommandToAll, LongCommand, Control, OddControl, Emergency as Emcy, OddEmergency, Process, Sdo, Fault}
-use Rattle.conode_compare_rules.specs.declared.limits.Subject.{Subject}
+use Rattle.conode_compare_nmt.specs.declared.limits.Subject.{Subject}
 use Rattle.conode_compare_rules.specs.declared.progress.Progress.{Progress}
 use Rattle.conode_compare_rules.specs.FrameKinds.{data_kind}
-use Rattle.conode_compare_rules.specs.EmergencyRules.{emergency_finding}
-use Rattle.conode_compare_rules.specs.EntriesInForce.{asked_by, asked_to_write, overwritten, shares_id, shown_inhibit, shown_period, with_inhibit, with_period, with_sharing}
+use Rattle.conode_compare_rules.specs.EmergencyRules.{emergency_finding, after_emergency, emergency_findings}
+use Rattle.conode_compare_nmt.specs.EntriesInForce.{asked_by, asked_to_write, overwritten, shares_id, shown_inhibit, shown_period, with_inhibit, with_period, with_sharing}
+use Rattle.conode_compare_rules.specs.Gaps as gaps
+use Rattle.conode_compare_rules.specs.NmtFrames as nmt_frames
+use Rattle.conode_compare_rules.specs.Channels as channels
 use Rattle.conode_compare_rules.specs.Progresses as progresses
-use Rattle.conode_compare_rules.specs.Progresses.{
-  after_command,
-  after_emergency,
-  after_fault,
-  after_frame,
-  after_odd_control,
-  after_process,
-  begins_anew,
-  begun,
-  booted,
-  channel_heard,
-  emergency_findings,
-  entries_asked,
-  entries_ended,
-  entries_heard,
-  exchange_noted,
-  findings_at,
-  is_of_client,
-  late_noted,
-  progress_with,
-  with_gap,
-  may_differ,
-}
-use Rattle.conode_compare_rules.specs.States.{is_reset}
+use Rattle.conode_compare_rules.specs.Gaps.{after_fault, begins_anew, begun, with_gap}
+use Rattle.conode_compare_rules.specs.NmtFrames.{after_command, after_odd_control, booted, may_differ}
+use Rattle.conode_compare_rules.specs.Channels.{channel_heard, entries_asked, entries_ended, entries_heard, exchange_noted, late_noted}
+use Rattle.conode_compare_rules.specs.Processes.{after_process, is_of_client}
+use Rattle.conode_compare_rules.specs.Progresses.{after_frame, findings_at, progress_with}
+use Rattle.conode_compare_nmt.specs.States.{is_reset}
 use Rattle.conode_compare_rules.specs.Verdicts.{found}
 use Rattle.conode_compare_laws.specs.Differences.{differences_from, differences_in, emergency_differences}
 use Rattle.conode_compare_laws.specs.Identifiers.{JudgesNone}
@@ -123,7 +108,7 @@ booted_off subject true none = none.before
 booted_off subject false none = none.booted
 
 control_off : (subject : Subject) (p : Progress) (micros byte : ℕ) → JudgesNone subject → IsOff p → IsOff (after_frame subject p micros (Control byte))
-unfolding booted progresses.after_control
+unfolding booted nmt_frames.after_control
 control_off subject p micros byte none off = either (byte == 0) _ _ (booted_off subject (may_differ subject p) none) off
 
 odd_control_off : (subject : Subject) (p : Progress) (micros length : ℕ) → IsOff p → IsOff (after_frame subject p micros (OddControl length))
@@ -141,9 +126,9 @@ odd_emergency_off subject p micros length off = off
 server_off : (subject : Subject) (p : Progress) (micros : ℕ) (frame : FrameContent) → IsOff p → IsOff (after_frame subject p micros (Sdo Server frame))
 unfolding channel_heard exchange_noted late_noted
 server_off subject p micros frame off =
-    let noted : Progress = progresses.answer_noted subject p micros in
-    let ended : Option Ended = (progresses.exchange_at subject noted micros Server frame).heard.ended in
-    heard_off p.entries (progresses.shown_beside (progresses.hides_end subject noted micros ended) ended) (dialogue_heard subject.limits.answer noted.started noted.dialogue micros Server frame).asked (shares_id subject.node Server frame) Server frame off
+    let noted : Progress = channels.answer_noted subject p micros in
+    let ended : Option Ended = (channels.exchange_at subject noted micros Server frame).heard.ended in
+    heard_off p.entries (channels.shown_beside (channels.hides_end subject noted micros ended) ended) (dialogue_heard subject.limits.answer noted.started noted.dialogue micros Server frame).asked (shares_id subject.node Server frame) Server frame off
 
 client_off : (subject : Subject) (p : Progress) (micros : ℕ) (frame : FrameContent) → IsOff p → IsOff (after_frame subject p micros (Sdo Client frame))
 unfolding channel_heard exchange_noted
@@ -188,4 +173,4 @@ all_off subject rows (r ∷ later) p none off =
     ∙ all_off subject rows later (progress_with subject p r.micros kind) none (after_off subject q r.micros kind none (begun_off subject p r.micros none off))
 
 pub none_judged : (subject : Subject) (rows : List Row) (recorded : List Recorded) → JudgesNone subject → differences_in emergency_differences subject rows recorded ≡ []
-none_judged subject rows recorded none = all_off subject rows recorded (progresses.before_recording subject) none none.before
+none_judged subject rows recorded none = all_off subject rows recorded (gaps.before_recording subject) none none.before

@@ -23,15 +23,20 @@ use Rattle.conode_explain_transfers.specs.declared.kinds.Side.{Side}
 use Rattle.conode_explain_transfers.specs.declared.kinds.Side.TheVariants.{Client, Server}
 use Rattle.conode_compare_transfers.specs.Breaches as breaches
 use Rattle.conode_compare_transfers.specs.Dialogues.{asks_to_write, exchange_in}
-use Rattle.conode_compare_rules.specs.declared.clients.OtherClients.{OtherClients}
+use Rattle.conode_compare_nmt.specs.declared.clients.OtherClients.{OtherClients}
 use Rattle.conode_compare_rules.specs.declared.kind.FrameKind.{FrameKind}
 use Rattle.conode_compare_rules.specs.declared.kind.FrameKind.TheVariants.{Command, CommandToAll, LongCommand, Control, Emergency as Emcy, OddEmergency, Other, Process, Sdo}
-use Rattle.conode_compare_rules.specs.declared.limits.Subject.{Subject}
+use Rattle.conode_compare_nmt.specs.declared.limits.Subject.{Subject}
 use Rattle.conode_compare_rules.specs.declared.progress.Progress.{Progress}
-use Rattle.conode_compare_rules.specs.EntriesInForce.{asked_to_write, overwritten, shown_period}
+use Rattle.conode_compare_nmt.specs.EntriesInForce.{asked_to_write, overwritten, shown_period}
 use Rattle.conode_compare_rules.specs.FrameKinds.{command_kind, control_kind, data_kind, emergency_kind, length_of}
-use Rattle.conode_compare_rules.specs.Progresses as progresses
-use Rattle.conode_compare_rules.specs.Progresses.{after_command, after_emergency, after_frame, after_process, after_sdo, answer_noted, begins_anew, begun, channel_heard, exchange_at, exchange_noted, hides_end, is_of_client, late_noted, progress_with, with_gap}
+use Rattle.conode_compare_rules.specs.NmtFrames as nmt_frames
+use Rattle.conode_compare_rules.specs.Gaps.{begins_anew, begun, with_gap}
+use Rattle.conode_compare_rules.specs.NmtFrames.{after_command}
+use Rattle.conode_compare_rules.specs.EmergencyRules.{after_emergency}
+use Rattle.conode_compare_rules.specs.Channels.{after_sdo, answer_noted, channel_heard, exchange_at, exchange_noted, hides_end, late_noted}
+use Rattle.conode_compare_rules.specs.Processes.{after_process, is_of_client}
+use Rattle.conode_compare_rules.specs.Progresses.{after_frame, progress_with}
 use Rattle.conode_compare_laws.specs.AnswerSenders.{IsOther}
 use Rattle.conode_compare_laws.specs.Identifiers.{AreWithout}
 use Rattle.conode_compare_laws.specs.OtherWriters.{IsTold}
@@ -221,7 +226,7 @@ module _ (w v : ℕ) (differ : w ≢ v) where
         (a.0, others_unknown later (progress_with subject p micros (data_kind subject.node frame)) x y without.1 (one_unknown p frame without.0 a.0 b.0 h) a.1 b.1)
 
     beat_unknown : (p : Progress) (byte : ℕ) → (byte == 0) ≡ false → IsUnknown p → IsUnknown (after_frame subject p micros (Control byte))
-    unfolding progresses.after_control
+    unfolding nmt_frames.after_control
     beat_unknown p byte other h = rw other h
 
     life_unknown : (p : Progress) (life : Heartbeat) → (state_byte life == 0) ≡ false → IsUnknown p

@@ -36,9 +36,10 @@ use Rattle.conode_explain_laws.proofs.Views.{is_begin}
 use Rattle.conode_compare_transfers.specs.declared.dialogue.Dialogue.{Dialogue}
 use Rattle.conode_compare_transfers.specs.Dialogues.{dialogue_heard}
 use Rattle.conode_compare_rules.specs.declared.kind.FrameKind.TheVariants.{Sdo}
-use Rattle.conode_compare_rules.specs.declared.limits.Subject.{Subject}
+use Rattle.conode_compare_nmt.specs.declared.limits.Subject.{Subject}
 use Rattle.conode_compare_rules.specs.declared.progress.Progress.{Progress}
-use Rattle.conode_compare_rules.specs.Progresses.{after_frame, begun}
+use Rattle.conode_compare_rules.specs.Gaps.{begun}
+use Rattle.conode_compare_rules.specs.Progresses.{after_frame}
 use Rattle.conode_compare_laws.specs.AnswerFindings.{transfer_differences}
 use Rattle.conode_compare_laws.specs.AnswerSenders.{is_block_upload_begin}
 use Rattle.conode_compare_laws.proofs.AnswerBreaches.{FineEnd}

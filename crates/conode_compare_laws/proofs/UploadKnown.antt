@@ -31,13 +31,17 @@ use Rattle.conode_compare_transfers.specs.declared.dialogue.Dialogue.{Dialogue}
 use Rattle.conode_compare_transfers.specs.Dialogues.{given_up, interrupted}
 use Rattle.conode_compare_rules.specs.declared.kind.FrameKind.{FrameKind}
 use Rattle.conode_compare_rules.specs.declared.kind.FrameKind.TheVariants.{Command, CommandToAll, LongCommand, Control, Emergency as Emcy, Fault, Guarding, OddControl, OddEmergency, Other, Polled, Process, Sdo}
-use Rattle.conode_compare_rules.specs.declared.limits.Subject.{Subject}
-use Rattle.conode_compare_rules.specs.declared.finding.Finding.{Finding}
+use Rattle.conode_compare_nmt.specs.declared.limits.Subject.{Subject}
+use Rattle.conode_compare_nmt.specs.declared.finding.Finding.{Finding}
 use Rattle.conode_compare_rules.specs.declared.progress.Progress.{Progress}
 use Rattle.conode_compare_rules.specs.declared.verdict.Findings.{Findings}
 use Rattle.conode_compare_rules.specs.FrameKinds.{data_kind}
-use Rattle.conode_compare_rules.specs.Progresses as progresses
-use Rattle.conode_compare_rules.specs.Progresses.{after_command, after_emergency, after_fault, after_frame, after_odd_control, after_process, begins_anew, begun, booted, emergency_noted, findings_at, findings_in, progress_with, silence_at, was_quiet, with_gap}
+use Rattle.conode_compare_rules.specs.NmtFrames as nmt_frames
+use Rattle.conode_compare_rules.specs.Gaps.{after_fault, begins_anew, begun, was_quiet, with_gap}
+use Rattle.conode_compare_rules.specs.NmtFrames.{after_command, after_odd_control, booted, silence_at}
+use Rattle.conode_compare_rules.specs.EmergencyRules.{after_emergency, emergency_noted}
+use Rattle.conode_compare_rules.specs.Processes.{after_process}
+use Rattle.conode_compare_rules.specs.Progresses.{after_frame, findings_at, findings_in, progress_with}
 use Rattle.conode_compare_laws.specs.AnswerSenders.{AreOther}
 use Rattle.conode_compare_laws.proofs.Frames.{life_kind}
 use Rattle.conode_compare_laws.proofs.AnswerOthers.{is_sdo, other_kind}
@@ -224,8 +228,8 @@ module _ (P : Dialogue → Type 0) (none : (d : Dialogue) → d.channel.transfer
   unfolding booted
   boot_has subject p micros = none _ refl
 
-  control_has : (subject : Subject) (p : Progress) (micros byte : ℕ) → Has p → Has (progresses.after_control subject p micros byte)
-  unfolding progresses.after_control
+  control_has : (subject : Subject) (p : Progress) (micros byte : ℕ) → Has p → Has (nmt_frames.after_control subject p micros byte)
+  unfolding nmt_frames.after_control
   control_has subject p micros byte h = either_dialogue (is_some (silence_at subject p micros byte)) (given_up p.dialogue micros) p.dialogue (gives_up p.dialogue micros h) h
 
   odd_has : (subject : Subject) (p : Progress) (micros : ℕ) → Has p → Has (after_odd_control subject p micros)

@@ -23,13 +23,14 @@ use Rattle.conode_compare_transfers.specs.declared.newest.Newest.{Newest}
 use Rattle.conode_compare_transfers.specs.Breaches.{breach_at, breach_by}
 use Rattle.conode_compare_transfers.specs.Dialogues.{dialogue_heard, exchange_in, is_initiate, newest_heard}
 use Rattle.conode_compare_transfers.specs.NewestFrames.{newest_after, newest_with}
-use Rattle.conode_compare_rules.specs.declared.finding.Finding.{Finding}
-use Rattle.conode_compare_rules.specs.declared.finding.Finding.TheVariants.{Transfer as Within}
+use Rattle.conode_compare_nmt.specs.declared.finding.Finding.{Finding}
+use Rattle.conode_compare_nmt.specs.declared.finding.Finding.TheVariants.{Transfer as Within}
 use Rattle.conode_compare_rules.specs.declared.kind.FrameKind.TheVariants.{Sdo}
-use Rattle.conode_compare_rules.specs.declared.limits.Subject.{Subject}
+use Rattle.conode_compare_nmt.specs.declared.limits.Subject.{Subject}
 use Rattle.conode_compare_rules.specs.declared.progress.Progress.{Progress}
 use Rattle.conode_compare_rules.specs.Answers.{breach_finding}
-use Rattle.conode_compare_rules.specs.Progresses.{begun, channel_heard, exchange_noted, late_noted, left_open, may_miss_end}
+use Rattle.conode_compare_rules.specs.Gaps.{begun}
+use Rattle.conode_compare_rules.specs.Channels.{channel_heard, exchange_noted, late_noted, left_open, may_miss_end}
 use Rattle.conode_compare_laws.specs.AnswerFindings.{of_transfers, transfer_differences}
 use Rattle.conode_compare_laws.proofs.AnswerBreaches.{Fine, FineEnd}
 use Rattle.conode_compare_laws.proofs.AnswerDialogues.{channel_is, client_is, later_heard, server_heard}

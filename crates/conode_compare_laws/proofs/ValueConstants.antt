@@ -42,9 +42,9 @@ use Rattle.conode_compare_pdos.specs.SheetNumbers.{number_of}
 use Rattle.conode_compare_values.specs.declared.mismatch.Mismatch.{Mismatch}
 use Rattle.conode_compare_values.specs.declared.mismatch.Mismatch.TheVariants.{AboveLimit, BelowLimit, BeyondRoom, ConstText, ReadRefused, ReadServed, ValueConst, Written}
 use Rattle.conode_compare_values.specs.SheetValues.{begins_with, byte_of, constant_mismatch, held_number, is_boolean, is_comparable, is_constant, is_held, is_held_text, is_its_own, is_other_boolean, is_other_number, is_other_text, is_other_value, is_version, is_visible, profile_in, shown_number, text_mismatch, text_with, value_by, value_mismatch}
-use Rattle.conode_compare_rules.specs.declared.finding.Finding.{Finding}
-use Rattle.conode_compare_rules.specs.declared.finding.Finding.TheVariants.{Value}
-use Rattle.conode_compare_rules.specs.declared.limits.Subject.{Subject}
+use Rattle.conode_compare_nmt.specs.declared.finding.Finding.{Finding}
+use Rattle.conode_compare_nmt.specs.declared.finding.Finding.TheVariants.{Value}
+use Rattle.conode_compare_nmt.specs.declared.limits.Subject.{Subject}
 use Rattle.conode_compare_rules.specs.Answers.{is_exact, value_finding}
 use Rattle.conode_compare_laws.specs.IdentityEntries.{is_identity}
 use Rattle.conode_compare_laws.specs.ValueFindings.{of_constants}

@@ -38,14 +38,14 @@ use Rattle.conode_explain_laws.proofs.Exchanges.{exchange}
 use Rattle.conode_explain_laws.proofs.Follows.{BegunBy, Ends, Follows, Stays, all_sent, answered_reads, are_sent, aside, asked, begun_by, blocks, client_no_response, gone, in_blocks, in_segments, is_response, segmented}
 use Rattle.conode_explain_laws.proofs.Readings.{Abort, Begin, Nothing, Reading, Request, Response, Segment, begun_after, bytes_by, reading_of, turn_of}
 use Rattle.conode_explain_laws.proofs.Views.{Closes, IsAside, Knows, KnowsAside, View, abort_no_write, aborted_closes, aside_reads, aside_turn, begin_writes, hears, hears_answers, is_begin, no_write, read_as}
-use Rattle.conode_compare_rules.specs.declared.finding.Finding.{Finding}
+use Rattle.conode_compare_nmt.specs.declared.finding.Finding.{Finding}
 use Rattle.conode_compare_rules.specs.declared.kind.FrameKind.{FrameKind}
 use Rattle.conode_compare_rules.specs.declared.kind.FrameKind.TheVariants.{Sdo}
-use Rattle.conode_compare_rules.specs.declared.limits.Subject.{Subject}
+use Rattle.conode_compare_nmt.specs.declared.limits.Subject.{Subject}
 use Rattle.conode_compare_rules.specs.declared.progress.Progress.{Progress}
 use Rattle.conode_compare_rules.specs.declared.verdict.Findings.{Findings}
 use Rattle.conode_compare_rules.specs.Answers.{known_finding}
-use Rattle.conode_compare_rules.specs.Progresses.{begun}
+use Rattle.conode_compare_rules.specs.Gaps.{begun}
 use Rattle.conode_compare_laws.specs.ValueFindings.{on_channel}
 use Rattle.conode_compare_laws.proofs.AnswerExchange.{answer_kind, request_kind}
 use Rattle.conode_compare_laws.proofs.AnswerFollowed.{reads}

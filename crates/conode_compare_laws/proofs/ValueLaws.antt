@@ -12,8 +12,8 @@ use Rattle.co_node_model.specs.Moments.{Constants, channels}
 use Rattle.co_node_model.specs.Sync.{is_sync_id}
 use Rattle.co_sdo.specs.Refused.{reading_refusal}
 use Rattle.co_sheet.specs.SheetLaws.{IsSheetRow}
-use Rattle.conode_compare_rules.specs.declared.finding.Finding.{Finding}
-use Rattle.conode_compare_rules.specs.declared.limits.Subject.{Subject}
+use Rattle.conode_compare_nmt.specs.declared.finding.Finding.{Finding}
+use Rattle.conode_compare_nmt.specs.declared.limits.Subject.{Subject}
 use Rattle.conode_compare_laws.specs.AnswerEntries.{AllAreHeld}
 use Rattle.conode_compare_laws.specs.AnswerSenders.{AllSendOther, HaveBytes, HaveOtherChannels}
 use Rattle.conode_compare_laws.specs.Differences.{differences_in}

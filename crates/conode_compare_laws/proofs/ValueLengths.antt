@@ -20,9 +20,9 @@ use Rattle.conode_explain_transfers.specs.Digests.{counted}
 use Rattle.conode_explain_laws.specs.Uploads.{read_said}
 use Rattle.conode_compare_values.specs.declared.mismatch.Mismatch.TheVariants.{AboveLimit, BelowLimit, BeyondRoom, ConstText, ReadRefused, ReadServed, ValueConst, Written}
 use Rattle.conode_compare_values.specs.SheetValues.{constant_mismatch, held_number, shown_number, text_mismatch, value_by, value_mismatch}
-use Rattle.conode_compare_rules.specs.declared.finding.Finding.{Finding}
-use Rattle.conode_compare_rules.specs.declared.finding.Finding.TheVariants.{Value}
-use Rattle.conode_compare_rules.specs.declared.limits.Subject.{Subject}
+use Rattle.conode_compare_nmt.specs.declared.finding.Finding.{Finding}
+use Rattle.conode_compare_nmt.specs.declared.finding.Finding.TheVariants.{Value}
+use Rattle.conode_compare_nmt.specs.declared.limits.Subject.{Subject}
 use Rattle.conode_compare_rules.specs.Answers.{is_exact, value_finding}
 use Rattle.conode_compare_laws.specs.ValueFindings.{of_lengths}
 use Rattle.conode_compare_laws.proofs.Expedited.{is_expedited}

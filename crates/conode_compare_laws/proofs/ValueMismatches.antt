@@ -24,9 +24,9 @@ use Rattle.conode_compare_values.specs.declared.mismatch.Mismatch.{Mismatch}
 use Rattle.conode_compare_values.specs.declared.mismatch.Mismatch.TheVariants.{AboveLimit, BelowLimit, BeyondRoom, ConstText, ReadRefused, ReadServed, ValueConst, ValueLength, Written}
 use Rattle.conode_compare_values.specs.declared.rooms.Rooms.{Rooms}
 use Rattle.conode_compare_values.specs.SheetValues.{beyond_mismatch, constant_mismatch, denies, download_mismatch, has_limits, has_room, has_width, held_number, is_above, is_below, is_by_modules, is_comparable, is_held_text, is_number, is_other_text, is_other_value, is_read_only, is_readable, least_bytes, limit_mismatch, long_mismatch, mismatch_at, mismatch_by, over_room, read_mismatch, refused_mismatch, room_mismatch, room_of, row_mismatch, served_mismatch, shown_number, text_mismatch, text_with, unless_modules, value_by, value_mismatch, width_mismatch, written_bytes, written_mismatch}
-use Rattle.conode_compare_rules.specs.declared.finding.Finding.{Finding}
-use Rattle.conode_compare_rules.specs.declared.finding.Finding.TheVariants.{Value}
-use Rattle.conode_compare_rules.specs.declared.limits.Subject.{Subject}
+use Rattle.conode_compare_nmt.specs.declared.finding.Finding.{Finding}
+use Rattle.conode_compare_nmt.specs.declared.finding.Finding.TheVariants.{Value}
+use Rattle.conode_compare_nmt.specs.declared.limits.Subject.{Subject}
 use Rattle.conode_compare_rules.specs.Answers.{is_exact, known_finding, refuses_other, value_finding}
 
 -- ---- some of the differences

@@ -20,17 +20,17 @@ use Rattle.conode_compare_transfers.specs.declared.dialogue.Dialogue.{Dialogue}
 use Rattle.conode_compare_transfers.specs.declared.dialogue.Exchange.{Exchange}
 use Rattle.conode_compare_transfers.specs.Dialogues.{exchange_in, is_timed}
 use Rattle.conode_compare_transfers.specs.Times.{is_past}
-use Rattle.conode_compare_rules.specs.declared.finding.Finding.{Finding}
-use Rattle.conode_compare_rules.specs.declared.finding.Finding.TheVariants.{AnswerStopped, Held, NoAnswer, Unasked, Value}
+use Rattle.conode_compare_nmt.specs.declared.finding.Finding.{Finding}
+use Rattle.conode_compare_nmt.specs.declared.finding.Finding.TheVariants.{AnswerStopped, Held, NoAnswer, Unasked, Value}
 use Rattle.conode_compare_rules.specs.declared.kind.FrameKind.TheVariants.{Sdo}
-use Rattle.conode_compare_rules.specs.declared.limits.Limits.{Limits}
-use Rattle.conode_compare_rules.specs.declared.limits.Subject.{Subject}
-use Rattle.conode_compare_rules.specs.declared.nmt.Nmt.{Nmt}
+use Rattle.conode_compare_nmt.specs.declared.limits.Limits.{Limits}
+use Rattle.conode_compare_nmt.specs.declared.limits.Subject.{Subject}
+use Rattle.conode_compare_nmt.specs.declared.nmt.Nmt.{Nmt}
 use Rattle.conode_compare_rules.specs.declared.progress.Progress.{Progress}
 use Rattle.conode_compare_rules.specs.Answers.{answer_finding, breach_finding, confirmed_finding, could_answer_since, ended_finding, finding_of, held_finding, is_abort, known_answer, known_finding, late_answer, overdue_answer, stopped_finding, stopped_with, transfer_breach, what_finding}
-use Rattle.conode_compare_rules.specs.EmergencyRules.{is_stopped}
-use Rattle.conode_compare_rules.specs.Progresses.{answer_findings, answer_nmt, confirmed_findings, exchange_at, findings_in, late_noted, request_findings}
-use Rattle.conode_compare_rules.specs.States.{is_settled, is_steady, judged_state}
+use Rattle.conode_compare_nmt.specs.States.{is_stopped, is_settled, is_steady, judged_state}
+use Rattle.conode_compare_rules.specs.Channels.{answer_findings, answer_nmt, confirmed_findings, exchange_at, late_noted, request_findings}
+use Rattle.conode_compare_rules.specs.Progresses.{findings_in}
 use Rattle.conode_compare_rules.specs.Verdicts.{found}
 use Rattle.conode_compare_laws.proofs.AnswerFollowed.{reads}
 

@@ -24,9 +24,9 @@ use Rattle.conode_explain_laws.specs.Downloads.{entry_bytes}
 use Rattle.conode_compare_values.specs.declared.mismatch.Mismatch.TheVariants.{AboveLimit, BelowLimit, BeyondRoom, ConstText, ReadRefused, ReadServed, ValueConst, ValueLength, Written}
 use Rattle.conode_compare_values.specs.declared.rooms.Rooms.{Rooms}
 use Rattle.conode_compare_values.specs.SheetValues.{beyond_mismatch, default_length, download_mismatch, is_read_only, least_bytes, over_room, room_by, room_mismatch, room_of, written_bytes, written_mismatch}
-use Rattle.conode_compare_rules.specs.declared.finding.Finding.{Finding}
-use Rattle.conode_compare_rules.specs.declared.finding.Finding.TheVariants.{Value}
-use Rattle.conode_compare_rules.specs.declared.limits.Subject.{Subject}
+use Rattle.conode_compare_nmt.specs.declared.finding.Finding.{Finding}
+use Rattle.conode_compare_nmt.specs.declared.finding.Finding.TheVariants.{Value}
+use Rattle.conode_compare_nmt.specs.declared.limits.Subject.{Subject}
 use Rattle.conode_compare_rules.specs.Answers.{value_finding}
 use Rattle.conode_compare_laws.specs.GivenRooms.{AreAmple, AreRoomsOf}
 use Rattle.conode_compare_laws.specs.ValueFindings.{of_rooms}

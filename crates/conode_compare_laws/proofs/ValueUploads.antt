@@ -37,14 +37,14 @@ use Rattle.conode_explain_laws.proofs.UploadStanding.{FollowsIn}
 use Rattle.conode_explain_laws.proofs.UploadSteps.{Completes, answered_next, completes, dropped_whole, ticked_whole}
 use Rattle.conode_explain_laws.proofs.UploadViews.{aborted_closes, hears, hears_answers}
 use Rattle.conode_explain_laws.proofs.Views.{Closes, View}
-use Rattle.conode_compare_rules.specs.declared.finding.Finding.{Finding}
+use Rattle.conode_compare_nmt.specs.declared.finding.Finding.{Finding}
 use Rattle.conode_compare_rules.specs.declared.kind.FrameKind.{FrameKind}
 use Rattle.conode_compare_rules.specs.declared.kind.FrameKind.TheVariants.{Sdo}
-use Rattle.conode_compare_rules.specs.declared.limits.Subject.{Subject}
+use Rattle.conode_compare_nmt.specs.declared.limits.Subject.{Subject}
 use Rattle.conode_compare_rules.specs.declared.progress.Progress.{Progress}
 use Rattle.conode_compare_rules.specs.declared.verdict.Findings.{Findings}
 use Rattle.conode_compare_rules.specs.Answers.{known_finding}
-use Rattle.conode_compare_rules.specs.Progresses.{begun}
+use Rattle.conode_compare_rules.specs.Gaps.{begun}
 use Rattle.conode_compare_laws.specs.ValueFindings.{on_channel}
 use Rattle.conode_compare_laws.proofs.AnswerDataExchange.{Standing, nothing_known, standing_dropped, standing_ticked}
 use Rattle.conode_compare_laws.proofs.AnswerEnds.{IsWhole}

@@ -36,9 +36,9 @@ use Rattle.conode_explain_laws.specs.Downloads.{entry_bytes, write_said}
 use Rattle.conode_compare_values.specs.declared.mismatch.Mismatch.TheVariants.{AboveLimit, BelowLimit, BeyondRoom, ConstText, ReadRefused, ReadServed, ValueConst, ValueLength, Written}
 use Rattle.conode_compare_values.specs.declared.rooms.Rooms.{Rooms}
 use Rattle.conode_compare_values.specs.SheetValues.{beyond_mismatch, download_mismatch, first_bytes, has_limits, is_above, is_below, is_number, is_read_only, limit_mismatch, room_mismatch, written_bytes, written_mismatch}
-use Rattle.conode_compare_rules.specs.declared.finding.Finding.{Finding}
-use Rattle.conode_compare_rules.specs.declared.finding.Finding.TheVariants.{Value}
-use Rattle.conode_compare_rules.specs.declared.limits.Subject.{Subject}
+use Rattle.conode_compare_nmt.specs.declared.finding.Finding.{Finding}
+use Rattle.conode_compare_nmt.specs.declared.finding.Finding.TheVariants.{Value}
+use Rattle.conode_compare_nmt.specs.declared.limits.Subject.{Subject}
 use Rattle.conode_compare_rules.specs.Answers.{value_finding}
 use Rattle.conode_compare_laws.specs.ValueFindings.{of_limits, of_writes}
 use Rattle.conode_compare_laws.proofs.ValueAllowed.{Accepted, IsInside, accepted, can_write, inside, row_built}

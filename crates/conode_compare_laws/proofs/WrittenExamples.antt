@@ -10,19 +10,22 @@ use Rattle.co_node_model.specs.Inputs.{InputView}
 use Rattle.co_node_model.specs.Moments.{Constants}
 use Rattle.co_node_model.proofs.ExampleNode.{came, device_with, frame, reset_node, searches, u16}
 use Rattle.conode_compare_pdos.specs.Followed.{unknown_pdos}
-use Rattle.conode_compare_rules.specs.declared.entries.Entries.{Entries}
-use Rattle.conode_compare_rules.specs.declared.finding.Finding.{Finding}
-use Rattle.conode_compare_rules.specs.declared.finding.Finding.TheVariants.{HeartbeatLate}
-use Rattle.conode_compare_rules.specs.declared.limits.Subject.{Subject}
-use Rattle.conode_compare_rules.specs.EntriesInForce.{asked_to_write, shown_inhibit, shown_period}
-use Rattle.conode_compare_rules.specs.Heartbeats.{is_missing, late_finding, overdue_by}
-use Rattle.conode_compare_rules.specs.Progresses as progresses
-use Rattle.conode_compare_rules.specs.Progresses.{answer_findings, begun, booted, channel_heard, control_findings, exchange_at, exchange_noted, findings_at, heartbeat_findings, late_noted, progress_with, request_findings}
-use Rattle.conode_compare_rules.specs.States as states
-use Rattle.conode_compare_rules.specs.States.{after_boot_up, after_other, awaits_boot_up, boot_finding, is_settled}
+use Rattle.conode_compare_nmt.specs.declared.entries.Entries.{Entries}
+use Rattle.conode_compare_nmt.specs.declared.finding.Finding.{Finding}
+use Rattle.conode_compare_nmt.specs.declared.finding.Finding.TheVariants.{HeartbeatLate}
+use Rattle.conode_compare_nmt.specs.declared.limits.Subject.{Subject}
+use Rattle.conode_compare_nmt.specs.EntriesInForce.{asked_to_write, shown_inhibit, shown_period}
+use Rattle.conode_compare_nmt.specs.Heartbeats.{is_missing, late_finding, overdue_by}
+use Rattle.conode_compare_rules.specs.NmtFrames as nmt_frames
+use Rattle.conode_compare_rules.specs.Gaps.{begun}
+use Rattle.conode_compare_rules.specs.NmtFrames.{booted, control_findings, heartbeat_findings}
+use Rattle.conode_compare_rules.specs.Channels.{answer_findings, channel_heard, exchange_at, exchange_noted, late_noted, request_findings}
+use Rattle.conode_compare_rules.specs.Progresses.{findings_at, progress_with}
+use Rattle.conode_compare_nmt.specs.States as states
+use Rattle.conode_compare_nmt.specs.States.{after_boot_up, after_other, awaits_boot_up, boot_finding, is_settled}
 use Rattle.conode_compare_rules.specs.Verdicts.{found}
 use Rattle.conode_compare_rules.specs.Answers.{confirmed_finding, silence_finding}
-use Rattle.conode_compare_rules.specs.OtherClients.{no_clients}
+use Rattle.conode_compare_nmt.specs.OtherClients.{no_clients}
 use Rattle.conode_compare_transfers.specs.NewestFrames.{newest_after, newest_with}
 use Rattle.conode_compare_transfers.specs.Dialogues.{dialogue_heard, exchange_in, is_certain}
 use Rattle.conode_compare_laws.specs.Differences.{differences_in, late_differences}
@@ -86,6 +89,6 @@ late_found before = differences_in late_differences (subject before) []
     ∷ with_stamp 2400000 (frame 0x705 1 127) ∷ [])
 
 begun_anew : map late_found (Some 1000 ∷ None ∷ []) ≡ (HeartbeatLate 1900000 1000 ∷ []) ∷ [] ∷ []
-unfolding findings_at progress_with begun booted found progresses.after_control states.after_control silence_finding newest_with newest_after after_boot_up after_other awaits_boot_up boot_finding is_settled control_findings heartbeat_findings late_finding overdue_by channel_heard exchange_at exchange_noted late_noted
+unfolding findings_at progress_with begun booted found nmt_frames.after_control states.after_control silence_finding newest_with newest_after after_boot_up after_other awaits_boot_up boot_finding is_settled control_findings heartbeat_findings late_finding overdue_by channel_heard exchange_at exchange_noted late_noted
     request_findings confirmed_finding answer_findings dialogue_heard exchange_in is_certain shown_period shown_inhibit asked_to_write request_row_in response_row_in is_missing
 begun_anew = refl

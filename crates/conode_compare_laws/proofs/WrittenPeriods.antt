@@ -23,9 +23,9 @@ use Rattle.co_node_model.specs.Nmt.{is_reset, state_at, transition_of}
 use Rattle.co_node_model.specs.Sdo.{channel_logs}
 use Rattle.co_node_model.specs.Sync.{is_sync_id}
 use Rattle.co_node_model.specs.Tpdos.{tpdo_frame}
-use Rattle.conode_compare_rules.specs.declared.limits.Subject.{Subject}
+use Rattle.conode_compare_nmt.specs.declared.limits.Subject.{Subject}
 use Rattle.conode_compare_rules.specs.declared.progress.Progress.{Progress}
-use Rattle.conode_compare_rules.specs.Progresses.{before_recording}
+use Rattle.conode_compare_rules.specs.Gaps.{before_recording}
 use Rattle.conode_compare_laws.specs.AnswerSenders.{AllSendOther, HasBytes, HaveBytes, HaveOtherChannels, SendsOther}
 use Rattle.conode_compare_laws.specs.Identifiers.{AllSendAside, AreElsewhere, AreWithout, IsAside, IsElsewhere, SendsAside}
 use Rattle.conode_compare_laws.specs.Periods.{AllFollowPeriod, FollowsPeriod, IsOfClient, IsOfOther, KnowsPeriod, WritesSeen, period_after}

@@ -14,7 +14,7 @@ use Rattle.co_node_model.specs.Moments.{Constants, Moment, channels}
 use Rattle.co_node_model.specs.Device.{moment, moments}
 use Rattle.co_node_model.specs.Emergencies.{emergency_frames}
 use Rattle.co_node_model.specs.Tpdos.{tpdo_frame}
-use Rattle.conode_compare_rules.specs.declared.limits.Subject.{Subject}
+use Rattle.conode_compare_nmt.specs.declared.limits.Subject.{Subject}
 use Rattle.conode_compare_laws.specs.Recordings.{Recorded, Stamped}
 
 -- ---- what comes to a device

@@ -10,8 +10,8 @@ use Rattle.co_sheet.specs.Content.{Row}
 use Rattle.co_node_model.specs.Inputs.{AppView, Applied, Framed, InputView, Ticked, Written}
 use Rattle.co_node_model.specs.Moments.{Constants, channels}
 use Rattle.conode_compare_pdos.specs.SheetNumbers.{number_of}
-use Rattle.conode_compare_rules.specs.declared.clients.OtherClients.{OtherClients}
-use Rattle.conode_compare_rules.specs.OtherClients.{is_channel, is_of_device, may_send}
+use Rattle.conode_compare_nmt.specs.declared.clients.OtherClients.{OtherClients}
+use Rattle.conode_compare_nmt.specs.OtherClients.{is_channel, is_of_device, may_send}
 use Rattle.conode_compare_laws.specs.Identifiers.{IsElsewhere}
 use Rattle.conode_compare_laws.specs.Recordings.{Stamped}
 

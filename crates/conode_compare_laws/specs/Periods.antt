@@ -10,8 +10,8 @@ use Rattle.co_node_model.specs.Marks.{marked_key}
 use Rattle.co_node_model.specs.Moments.{Constants, Moment}
 use Rattle.co_node_model.specs.Device.{contents_of, moment, moments}
 use Rattle.co_node_model.specs.Nmt.{is_reset}
-use Rattle.conode_compare_rules.specs.declared.clients.OtherClients.{OtherClients}
-use Rattle.conode_compare_rules.specs.declared.limits.Subject.{Subject}
+use Rattle.conode_compare_nmt.specs.declared.clients.OtherClients.{OtherClients}
+use Rattle.conode_compare_nmt.specs.declared.limits.Subject.{Subject}
 use Rattle.conode_compare_laws.specs.OtherWriters.{IsTold}
 use Rattle.conode_compare_laws.specs.Recordings.{Stamped}
 

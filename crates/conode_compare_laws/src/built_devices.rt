@@ -5,7 +5,7 @@ ghost use Rattle.co_dict_build.specs.Built.{Plan};
 ghost use Rattle.co_sheet.specs.Content.{Row};
 ghost use Rattle.co_node.specs.Built.{IsBuilt};
 ghost use Rattle.co_node_model.specs.Moments.{Constants};
-ghost use Rattle.conode_compare_rules.specs.declared.limits.Subject.{Subject};
+ghost use Rattle.conode_compare_nmt.specs.declared.limits.Subject.{Subject};
 ghost use Rattle.conode_compare_laws.specs.Differences.{differences_in, state_differences};
 ghost use Rattle.conode_compare_laws.specs.Identifiers.{AreElsewhere, BeginsAside};
 ghost use Rattle.conode_compare_laws.specs.Recordings.{Stamped, recording};

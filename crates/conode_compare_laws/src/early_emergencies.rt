@@ -10,8 +10,8 @@ ghost use Rattle.co_sheet.specs.Content.{Row};
 ghost use Rattle.co_sheet.specs.SheetLaws.{IsSheetRow};
 ghost use Rattle.co_node_laws.specs.Apart.{BeginsApart};
 ghost use Rattle.co_node_model.specs.Moments.{Constants};
-ghost use Rattle.conode_compare_rules.specs.declared.limits.Subject.{Subject};
-ghost use Rattle.conode_compare_rules.specs.EntriesInForce.{facts_of, with_master};
+ghost use Rattle.conode_compare_nmt.specs.declared.limits.Subject.{Subject};
+ghost use Rattle.conode_compare_nmt.specs.EntriesInForce.{facts_of, with_master};
 ghost use Rattle.conode_compare_laws.specs.AnswerSenders.{BeginsOther, HaveBytes};
 ghost use Rattle.conode_compare_laws.specs.Differences.{differences_in, inhibit_differences};
 ghost use Rattle.conode_compare_laws.specs.Identifiers.{

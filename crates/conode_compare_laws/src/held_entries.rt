@@ -3,9 +3,9 @@
 ghost use Rattle.std.specs.Prelude.{◌≡◌, List, map};
 ghost use Rattle.co_sheet.specs.Content.{Row};
 ghost use Rattle.conode_record.specs.declared.line.Record.{Record};
-ghost use Rattle.conode_compare_rules.specs.declared.finding.Finding.{Finding};
+ghost use Rattle.conode_compare_nmt.specs.declared.finding.Finding.{Finding};
 ghost use Rattle.conode_compare_rules.specs.declared.kind.FrameKind.{FrameKind};
-ghost use Rattle.conode_compare_rules.specs.declared.limits.Subject.{Subject};
+ghost use Rattle.conode_compare_nmt.specs.declared.limits.Subject.{Subject};
 ghost use Rattle.conode_compare_rules.specs.declared.verdict.Findings.{Findings};
 ghost use Rattle.conode_compare_receptions.specs.AllFrames.{program_over};
 ghost use Rattle.conode_compare_laws.specs.Differences.{differences_in};

@@ -9,10 +9,10 @@ ghost use Rattle.co_dict_build.specs.Built.{Plan};
 ghost use Rattle.co_node.specs.Built.{IsBuilt};
 ghost use Rattle.co_sheet.specs.SheetLaws.{IsSheetRow};
 ghost use Rattle.co_node_model.specs.Moments.{Constants};
-ghost use Rattle.conode_compare_rules.specs.declared.clients.OtherClients.{OtherClients};
-ghost use Rattle.conode_compare_rules.specs.declared.limits.Subject.{Subject};
-ghost use Rattle.conode_compare_rules.specs.EntriesInForce.{facts_of, is_constant, with_master};
-ghost use Rattle.conode_compare_rules.specs.OtherClients.{clients_of, has_hidden_channel};
+ghost use Rattle.conode_compare_nmt.specs.declared.clients.OtherClients.{OtherClients};
+ghost use Rattle.conode_compare_nmt.specs.declared.limits.Subject.{Subject};
+ghost use Rattle.conode_compare_nmt.specs.EntriesInForce.{facts_of, is_constant, with_master};
+ghost use Rattle.conode_compare_nmt.specs.OtherClients.{clients_of, has_hidden_channel};
 ghost use Rattle.conode_compare_laws.specs.OtherWriters.{AllGiven, AllToTold, AllWriteNot};
 ghost use Rattle.conode_compare_laws.specs.Periods.{
   AllFollowPeriod,

@@ -8,7 +8,7 @@ ghost use Rattle.co_node_model.specs.Moments.{Constants};
 ghost use Rattle.co_sheet.specs.Content.{Row};
 ghost use Rattle.co_sheet.specs.SheetLaws.{IsSheetRow};
 ghost use Rattle.conode_compare_pdos.specs.Followed.{pdos_of, uncounted};
-ghost use Rattle.conode_compare_rules.specs.declared.limits.Subject.{Subject};
+ghost use Rattle.conode_compare_nmt.specs.declared.limits.Subject.{Subject};
 ghost use Rattle.conode_compare_laws.specs.Differences.{differences_in};
 ghost use Rattle.conode_compare_laws.specs.Identifiers.{AreElsewhere};
 ghost use Rattle.conode_compare_laws.specs.NamedTpdos.{AreNoSdoSyncs, NameNoTpdos};

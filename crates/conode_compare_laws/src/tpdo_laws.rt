@@ -3,7 +3,7 @@
 ghost use Rattle.std.specs.Prelude.{◌≡◌, ◌+◌, List, []};
 ghost use Rattle.co_sheet.specs.Content.{Row};
 ghost use Rattle.co_node_model.specs.Moments.{Constants};
-ghost use Rattle.conode_compare_rules.specs.declared.limits.Subject.{Subject};
+ghost use Rattle.conode_compare_nmt.specs.declared.limits.Subject.{Subject};
 ghost use Rattle.conode_compare_laws.specs.Differences.{differences_in};
 ghost use Rattle.conode_compare_laws.specs.Identifiers.{AreElsewhere, BeginsAside};
 ghost use Rattle.conode_compare_laws.specs.NamedTpdos.{AreNoSdoSyncs, NameNoTpdos};

@@ -8,7 +8,7 @@ ghost use Rattle.co_node.specs.Built.{IsBuilt};
 ghost use Rattle.co_node.specs.Nodes.{Stands};
 ghost use Rattle.co_node_model.specs.Moments.{Constants};
 ghost use Rattle.co_sheet.specs.SheetLaws.{IsSheetRow};
-ghost use Rattle.conode_compare_rules.specs.declared.limits.Subject.{Subject};
+ghost use Rattle.conode_compare_nmt.specs.declared.limits.Subject.{Subject};
 ghost use Rattle.conode_compare_laws.specs.AnswerEntries.{AllAreHeld};
 ghost use Rattle.conode_compare_laws.specs.AnswerSenders.{HaveBytes};
 ghost use Rattle.conode_compare_laws.specs.Differences.{differences_in};

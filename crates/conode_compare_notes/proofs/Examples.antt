@@ -21,12 +21,12 @@ use Rattle.conode_explain_transfers.specs.declared.kinds.Side.TheVariants.{Clien
 use Rattle.conode_explain_transfers.specs.declared.kinds.What.{What}
 use Rattle.conode_explain_transfers.specs.declared.kinds.What.TheVariants.{Initiate, Part}
 use Rattle.conode_compare_transfers.specs.declared.dialogue.Exchange.{Exchange}
-use Rattle.conode_compare_rules.specs.declared.entries.Entries.{Entries}
-use Rattle.conode_compare_rules.specs.declared.limits.Subject.{Subject}
+use Rattle.conode_compare_nmt.specs.declared.entries.Entries.{Entries}
+use Rattle.conode_compare_nmt.specs.declared.limits.Subject.{Subject}
 use Rattle.conode_compare_rules.specs.declared.progress.Progress.{Progress}
-use Rattle.conode_compare_rules.specs.Progresses.{before_recording}
-use Rattle.conode_compare_rules.specs.EntriesInForce.{facts_of}
-use Rattle.conode_compare_rules.specs.declared.finding.Remark.TheVariants.{EarlyHeartbeat, Restarted as RestartedRemark}
+use Rattle.conode_compare_rules.specs.Gaps.{before_recording}
+use Rattle.conode_compare_nmt.specs.EntriesInForce.{facts_of}
+use Rattle.conode_compare_nmt.specs.declared.finding.Remark.TheVariants.{EarlyHeartbeat, Restarted as RestartedRemark}
 use Rattle.conode_compare_rules.specs.declared.kind.FrameKind.TheVariants.{Command, Control}
 use Rattle.conode_compare_notes.specs.declared.contents.Content.TheVariants.{Number, Bytes}
 use Rattle.conode_compare_notes.specs.declared.history.ErrorCode.{ErrorCode}

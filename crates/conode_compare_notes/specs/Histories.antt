@@ -16,10 +16,10 @@ use Rattle.conode_compare_transfers.specs.Dialogues.{asks_to_write, is_timed}
 use Rattle.conode_compare_transfers.specs.Times.{is_past}
 use Rattle.conode_compare_values.specs.SheetValues.{shown_number}
 use Rattle.conode_compare_values.specs.HeldNumbers.{is_done}
-use Rattle.conode_compare_rules.specs.declared.entries.Entries.{Entries}
+use Rattle.conode_compare_nmt.specs.declared.entries.Entries.{Entries}
 use Rattle.conode_compare_rules.specs.declared.kind.FrameKind.{FrameKind}
 use Rattle.conode_compare_rules.specs.declared.kind.FrameKind.TheVariants.{Command, CommandToAll, LongCommand, Control, Emergency, OddEmergency, Sdo}
-use Rattle.conode_compare_rules.specs.declared.limits.Limits.{Limits}
+use Rattle.conode_compare_nmt.specs.declared.limits.Limits.{Limits}
 use Rattle.conode_compare_rules.specs.declared.progress.Progress.{Progress}
 use Rattle.conode_compare_notes.specs.declared.history.ErrorCode.{ErrorCode}
 use Rattle.conode_compare_notes.specs.declared.history.Errors.{Errors}

@@ -21,14 +21,15 @@ use Rattle.conode_compare_transfers.specs.Dialogues.{asks_to_write, is_timed}
 use Rattle.conode_compare_values.specs.SheetValues.{is_read_only}
 use Rattle.conode_compare_values.specs.HeldNumbers.{is_done}
 use Rattle.conode_compare_values.specs.HeldWords.{entry_of}
-use Rattle.conode_compare_rules.specs.declared.finding.Remark.{Remark}
-use Rattle.conode_compare_rules.specs.declared.finding.Remark.TheVariants.{Restarted as RestartedRemark, EarlyHeartbeat}
+use Rattle.conode_compare_nmt.specs.declared.finding.Remark.{Remark}
+use Rattle.conode_compare_nmt.specs.declared.finding.Remark.TheVariants.{Restarted as RestartedRemark, EarlyHeartbeat}
 use Rattle.conode_compare_rules.specs.declared.kind.FrameKind.{FrameKind}
 use Rattle.conode_compare_rules.specs.declared.kind.FrameKind.TheVariants.{Command, CommandToAll, LongCommand, Control, Emergency, Sdo}
-use Rattle.conode_compare_rules.specs.declared.limits.Subject.{Subject}
+use Rattle.conode_compare_nmt.specs.declared.limits.Subject.{Subject}
 use Rattle.conode_compare_rules.specs.declared.progress.Progress.{Progress}
-use Rattle.conode_compare_rules.specs.Progresses.{is_begun, was_asked}
-use Rattle.conode_compare_rules.specs.States.{is_reset}
+use Rattle.conode_compare_rules.specs.NmtFrames.{was_asked}
+use Rattle.conode_compare_rules.specs.Progresses.{is_begun}
+use Rattle.conode_compare_nmt.specs.States.{is_reset}
 use Rattle.conode_compare_notes.specs.declared.contents.Content.{Content}
 use Rattle.conode_compare_notes.specs.declared.contents.Content.TheVariants.{Number, Bytes}
 use Rattle.conode_compare_notes.specs.declared.warning.Warning.{Warning}

@@ -21,7 +21,8 @@ ghost use Rattle.conode_compare_notes.specs.Histories.{
 use crate::warning::Warning;
 use co_frame::Frame;
 use co_value::Key;
-use conode_compare_rules::{Entries, FrameKind, Limits, Progress};
+use conode_compare_nmt::{Entries, Limits};
+use conode_compare_rules::{FrameKind, Progress};
 use conode_compare_transfers::{Exchange, asks_to_write, is_past, is_timed, key_in};
 use conode_compare_values::{is_done, shown_number};
 use conode_explain_transfers::{Direction, Ended, Side, What};

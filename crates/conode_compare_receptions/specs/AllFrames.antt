@@ -3,13 +3,14 @@
 use Rattle.std.specs.Prelude.{List, [], ◌∷◌, ◌++◌}
 use Rattle.co_sheet.specs.Content.{Row}
 use Rattle.conode_record.specs.declared.line.Record.{Record}
-use Rattle.conode_compare_rules.specs.declared.finding.Finding.{Finding}
+use Rattle.conode_compare_nmt.specs.declared.finding.Finding.{Finding}
 use Rattle.conode_compare_rules.specs.declared.kind.FrameKind.{FrameKind}
-use Rattle.conode_compare_rules.specs.declared.limits.Subject.{Subject}
+use Rattle.conode_compare_nmt.specs.declared.limits.Subject.{Subject}
 use Rattle.conode_compare_rules.specs.declared.progress.Progress.{Progress}
 use Rattle.conode_compare_rules.specs.declared.verdict.Findings.{Findings}
 use Rattle.conode_compare_rules.specs.FrameKinds.{kind_of}
-use Rattle.conode_compare_rules.specs.Progresses.{before_recording, findings_at, progress_with}
+use Rattle.conode_compare_rules.specs.Gaps.{before_recording}
+use Rattle.conode_compare_rules.specs.Progresses.{findings_at, progress_with}
 use Rattle.conode_compare_receptions.specs.declared.receptions.Receptions.{Receptions}
 use Rattle.conode_compare_receptions.specs.Receptions.{no_receptions, receptions_with, with_receptions}
 

@@ -31,13 +31,14 @@ use Rattle.conode_compare_values.specs.HeldNumbers.{is_restricted, unmapped, unm
 use Rattle.conode_compare_values.specs.RpdoWrites.{all_fit, forgotten, no_writes, received, settled, without_values}
 use Rattle.conode_compare_rules.specs.declared.kind.FrameKind.{FrameKind}
 use Rattle.conode_compare_rules.specs.declared.kind.FrameKind.TheVariants.{Command, CommandToAll, LongCommand, Guarding, Control, OddControl, Emergency, OddEmergency, Sdo, Process, Polled, Fault, Other}
-use Rattle.conode_compare_rules.specs.declared.limits.Subject.{Subject}
+use Rattle.conode_compare_nmt.specs.declared.limits.Subject.{Subject}
 use Rattle.conode_compare_rules.specs.declared.progress.Progress.{Progress}
 use Rattle.conode_compare_receptions.specs.declared.other_ids.OtherIds.{OtherIds}
 use Rattle.conode_compare_receptions.specs.declared.receptions.Receptions.{Receptions}
 use Rattle.conode_compare_receptions.specs.OtherIds.{has_further_ids, ids_asked, ids_ended, may_use, other_ids_of, unknown_ids}
-use Rattle.conode_compare_rules.specs.Progresses.{is_begun, takes_rpdos, was_asked}
-use Rattle.conode_compare_rules.specs.States.{is_reset}
+use Rattle.conode_compare_rules.specs.NmtFrames.{was_asked}
+use Rattle.conode_compare_rules.specs.Progresses.{is_begun, takes_rpdos}
+use Rattle.conode_compare_nmt.specs.States.{is_reset}
 
 -- ---- boot-ups, commands and heartbeats
 

@@ -26,8 +26,9 @@ ghost use Rattle.conode_compare_receptions.specs.Receptions.{
 use crate::receptions::Receptions;
 use co_frame::Frame;
 use co_sheet::EntryRow;
+use conode_compare_nmt::Subject;
 use conode_compare_pdos::{Pdos, Rpdo, Rpdos, is_id};
-use conode_compare_rules::{Progress, Subject};
+use conode_compare_rules::Progress;
 use conode_compare_transfers::is_past;
 use conode_compare_values::{all_fit, is_restricted};
 use conode_record::{Content, Identifier};

@@ -23,8 +23,9 @@ ghost use Rattle.conode_compare_receptions.specs.Receptions.{
 use crate::other_ids::{OtherIds, has_further_ids};
 use co_frame::NmtService;
 use co_sheet::EntryRow;
+use conode_compare_nmt::{Subject, is_reset};
 use conode_compare_pdos::{Rpdos, has_few_rpdos};
-use conode_compare_rules::{FrameKind, Progress, Subject, is_reset};
+use conode_compare_rules::{FrameKind, Progress};
 use conode_compare_values::{RpdoWrites, Written};
 use conode_record::{Content, Identifier};
 

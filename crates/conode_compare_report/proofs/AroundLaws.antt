@@ -16,7 +16,7 @@ use Rattle.conode_compare_report.specs.Histories.{Happening, Came, WasBad, Frame
 use Rattle.conode_compare_report.specs.Reports.{if_listed, line_kept, line_of, listed_in, most_listed, newest_with, noted_at, nothing_kept, with_bad_line, with_finding, with_frame, with_line, with_passed}
 use Rattle.conode_compare_report.specs.Views.{Kept}
 use Rattle.conode_compare_text.specs.declared.details.Details.{Details}
-use Rattle.conode_compare_rules.specs.declared.finding.Finding.{Finding}
+use Rattle.conode_compare_nmt.specs.declared.finding.Finding.{Finding}
 
 -- ---- numbers of lines
 

@@ -3,7 +3,7 @@ use Rattle.std.specs.Prelude.{ℕ, Bool, map, List, Option}
 use Rattle.std.specs.Option.{option_copied}
 use Rattle.co_sheet.specs.Content.{Row}
 use Rattle.co_sheet.specs.SheetViews.{row_view}
-use Rattle.conode_compare_rules.specs.declared.limits.Limits.{Limits}
+use Rattle.conode_compare_nmt.specs.declared.limits.Limits.{Limits}
 use Rattle.conode_compare_text.specs.declared.tally.Tally.{Tally}
 use Rattle.conode_compare_report.specs.declared.about.About.{About}
 

@@ -19,8 +19,8 @@ use Rattle.conode_explain_transfers.specs.declared.kinds.What.{What}
 use Rattle.conode_explain_transfers.specs.declared.kinds.What.TheVariants.{Segment, OutOfSequence}
 use Rattle.conode_compare_pdos.specs.declared.parameters.Parameters.{Parameters}
 use Rattle.conode_compare_values.specs.SheetValues.{has_limits, is_held, is_read_only, is_readable}
-use Rattle.conode_compare_rules.specs.declared.finding.NmtState.{NmtState}
-use Rattle.conode_compare_rules.specs.declared.finding.NmtState.TheVariants.{Initialising, Stopped}
+use Rattle.conode_compare_nmt.specs.declared.finding.NmtState.{NmtState}
+use Rattle.conode_compare_nmt.specs.declared.finding.NmtState.TheVariants.{Initialising, Stopped}
 use Rattle.conode_compare_rules.specs.declared.kind.FrameKind.{FrameKind}
 use Rattle.conode_compare_rules.specs.declared.kind.FrameKind.TheVariants.{Control, Emergency, Process, Sdo}
 use Rattle.conode_compare_rules.specs.declared.verdict.Verdict.{Verdict}

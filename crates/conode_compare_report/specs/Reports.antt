@@ -4,8 +4,8 @@ use Rattle.co_sheet.specs.Content.{Row}
 use Rattle.conode_explain_transfers.specs.declared.channel.Heard.{Heard}
 use Rattle.conode_explain_transfers.specs.Followed.{Following, after_boot, followed, nothing_heard}
 use Rattle.conode_compare_text.specs.declared.details.Details.{Details}
-use Rattle.conode_compare_rules.specs.declared.finding.Finding.{Finding}
-use Rattle.conode_compare_rules.specs.declared.finding.NmtState.{NmtState}
+use Rattle.conode_compare_nmt.specs.declared.finding.Finding.{Finding}
+use Rattle.conode_compare_nmt.specs.declared.finding.NmtState.{NmtState}
 use Rattle.conode_compare_rules.specs.declared.kind.FrameKind.{FrameKind}
 use Rattle.conode_compare_rules.specs.declared.kind.FrameKind.TheVariants.{Control, OddControl, Sdo}
 use Rattle.conode_compare_rules.specs.declared.verdict.Findings.{Findings}

@@ -1,8 +1,8 @@
 -- The bus over time, in spans of equal width: at most 2,000, which are joined two by two where a
 -- frame comes later.
 use Rattle.std.specs.Prelude.{ℕ, zero, suc, ◌+◌, ◌-◌, ◌*◌, ◌/◌, ◌^◌, ◌==◌, min, nat_lt, true, false, ◌||◌, if◌then◌else◌, List, [], ◌∷◌, ◌++◌, length, replicate, Option, Some, None}
-use Rattle.conode_compare_rules.specs.declared.finding.NmtState.{NmtState}
-use Rattle.conode_compare_rules.specs.declared.finding.NmtState.TheVariants.{Unknown, Initialising, PreOperational, Operational, Stopped}
+use Rattle.conode_compare_nmt.specs.declared.finding.NmtState.{NmtState}
+use Rattle.conode_compare_nmt.specs.declared.finding.NmtState.TheVariants.{Unknown, Initialising, PreOperational, Operational, Stopped}
 use Rattle.conode_compare_report.specs.declared.lanes.Bin.{Bin}
 use Rattle.conode_compare_report.specs.declared.lanes.Lane.{Lane}
 use Rattle.conode_compare_report.specs.declared.lanes.Lane.TheVariants.{Heartbeats, Emergencies, Transfers, Tpdos, Rpdos}

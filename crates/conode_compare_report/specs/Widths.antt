@@ -1,6 +1,6 @@
 -- The spans of a whole recording: the law that nothing is lost where spans are joined while it goes on.
 use Rattle.std.specs.Prelude.{ℕ, ◌-◌, ◌^◌, ◌<◌, ⊤, List, [], ◌∷◌, ◌++◌, Option}
-use Rattle.conode_compare_rules.specs.declared.finding.NmtState.{NmtState}
+use Rattle.conode_compare_nmt.specs.declared.finding.NmtState.{NmtState}
 use Rattle.conode_compare_report.specs.declared.lanes.Bin.{Bin}
 use Rattle.conode_compare_report.specs.declared.lanes.Lane.{Lane}
 use Rattle.conode_compare_report.specs.Coverages.{lane_of}

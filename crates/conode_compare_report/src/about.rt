@@ -2,7 +2,7 @@
 
 use crate::names::SheetNames;
 use co_sheet::EntryRow;
-use conode_compare_rules::Limits;
+use conode_compare_nmt::Limits;
 use conode_compare_text::Tally;
 
 /// What was compared, how, and how it ended.

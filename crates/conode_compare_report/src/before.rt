@@ -15,8 +15,9 @@ ghost use Rattle.conode_compare_report.specs.Befores.{
 
 use co_sheet::EntryRow;
 use co_value::Key;
+use conode_compare_nmt::{Entries, NmtState};
 use conode_compare_pdos::{Parameters, Pdos, identifier_of, is_id, preset_at};
-use conode_compare_rules::{Entries, FrameKind, NmtState, Progress};
+use conode_compare_rules::{FrameKind, Progress};
 
 /// What a data frame is that is neither NMT, EMCY, SDO nor error control.
 #[derive(Clone, Copy)]

@@ -4,8 +4,8 @@ ghost use Rattle.std.specs.Prelude.{◌≡◌};
 ghost use Rattle.conode_compare_report.specs.Kinds.{kind_name, kind_number, kind_of, kind_rule};
 ghost use Rattle.conode_compare_report.specs.Kinds.{of_breach, of_deviation, of_mismatch};
 
+use conode_compare_nmt::Finding;
 use conode_compare_pdos::Deviation;
-use conode_compare_rules::Finding;
 use conode_compare_transfers::Breach;
 use conode_compare_values::Mismatch;
 

@@ -20,7 +20,7 @@ ghost use Rattle.conode_compare_report.specs.Spans.{
   widened,
 };
 
-use conode_compare_rules::NmtState;
+use conode_compare_nmt::NmtState;
 use std::alloc::{AllocError, Global};
 use std::marker::Model;
 

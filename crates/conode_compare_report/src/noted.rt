@@ -3,7 +3,7 @@
 ghost use Rattle.std.specs.Prelude.{◌≡◌, ◌<◌, IfSome, length, nat_lt, position};
 ghost use Rattle.conode_compare_report.specs.Contexts.{around, greatest_around};
 
-use conode_compare_rules::Finding;
+use conode_compare_nmt::Finding;
 use conode_compare_text::Details;
 use std::marker::Model;
 

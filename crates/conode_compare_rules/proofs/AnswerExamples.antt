@@ -20,17 +20,17 @@ use Rattle.conode_compare_transfers.specs.NewestFrames.{newest_after, newest_wit
 use Rattle.conode_compare_values.specs.declared.mismatch.Mismatch.TheVariants.{BeyondRoom, ValueConst, ValueLength}
 use Rattle.conode_compare_values.specs.SheetValues.{mismatch_at, row_mismatch, value_mismatch}
 use Rattle.conode_compare_values.specs.HeldNumbers.{held_mismatch, nothing_written}
-use Rattle.conode_compare_rules.specs.declared.finding.Finding.{Finding}
-use Rattle.conode_compare_rules.specs.declared.finding.Finding.TheVariants.{AnswerStopped, Transfer, Value}
-use Rattle.conode_compare_rules.specs.declared.finding.NmtState.TheVariants.{Unknown, PreOperational, Operational, Stopped}
-use Rattle.conode_compare_rules.specs.declared.leaving.Leaving.TheVariants.{Nothing}
-use Rattle.conode_compare_rules.specs.declared.limits.Subject.{Subject}
-use Rattle.conode_compare_rules.specs.declared.nmt.Nmt.{Nmt}
+use Rattle.conode_compare_nmt.specs.declared.finding.Finding.{Finding}
+use Rattle.conode_compare_nmt.specs.declared.finding.Finding.TheVariants.{AnswerStopped, Transfer, Value}
+use Rattle.conode_compare_nmt.specs.declared.finding.NmtState.TheVariants.{Unknown, PreOperational, Operational, Stopped}
+use Rattle.conode_compare_nmt.specs.declared.leaving.Leaving.TheVariants.{Nothing}
+use Rattle.conode_compare_nmt.specs.declared.limits.Subject.{Subject}
+use Rattle.conode_compare_nmt.specs.declared.nmt.Nmt.{Nmt}
 use Rattle.conode_compare_rules.specs.Answers.{answer_finding, confirmed_finding, ended_finding, held_finding, is_exact, stopped_finding, what_finding}
-use Rattle.conode_compare_rules.specs.EntriesInForce.{facts_of}
-use Rattle.conode_compare_rules.specs.Progresses.{follows_by_answer, is_judged}
-use Rattle.conode_compare_rules.specs.States.{is_settled, nothing_commanded}
-use Rattle.conode_compare_rules.proofs.Examples.{limits, key, row}
+use Rattle.conode_compare_nmt.specs.EntriesInForce.{facts_of}
+use Rattle.conode_compare_rules.specs.Channels.{follows_by_answer, is_judged}
+use Rattle.conode_compare_nmt.specs.States.{is_settled, nothing_commanded}
+use Rattle.conode_compare_nmt.proofs.Examples.{limits, key, row}
 
 -- ---- answers while stopped
 

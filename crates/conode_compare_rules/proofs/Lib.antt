@@ -2,11 +2,10 @@ mod AnswerExamples
 mod BeginExamples
 mod ChangedPeriodExamples
 mod ChannelExamples
-mod Examples
+mod EmergencyExamples
 mod LeavingExamples
 mod MissingExamples
 mod RestartExamples
-mod SheetExamples
 mod SilenceExamples
 mod StateExamples
 mod TurnExamples

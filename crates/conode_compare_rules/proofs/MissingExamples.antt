@@ -6,21 +6,26 @@ use Rattle.conode_compare_pdos.specs.declared.parameters.Parameters.{Parameters}
 use Rattle.conode_compare_pdos.specs.declared.pdos.Pdos.{Pdos}
 use Rattle.conode_compare_pdos.specs.Followed.{framed, sighting, unknown_pdos}
 use Rattle.conode_compare_pdos.specs.Tpdos.{booted_tpdo}
-use Rattle.conode_compare_rules.specs.declared.entries.Entries.{Entries}
-use Rattle.conode_compare_rules.specs.declared.entries.Facts.{Facts}
-use Rattle.conode_compare_rules.specs.declared.finding.Finding.{Finding}
-use Rattle.conode_compare_rules.specs.declared.finding.Finding.TheVariants.{HeartbeatLate}
-use Rattle.conode_compare_rules.specs.declared.finding.NmtState.TheVariants.{Operational, Unknown}
+use Rattle.conode_compare_nmt.specs.declared.entries.Entries.{Entries}
+use Rattle.conode_compare_nmt.specs.declared.entries.Facts.{Facts}
+use Rattle.conode_compare_nmt.specs.declared.finding.Finding.{Finding}
+use Rattle.conode_compare_nmt.specs.declared.finding.Finding.TheVariants.{HeartbeatLate}
+use Rattle.conode_compare_nmt.specs.declared.finding.NmtState.TheVariants.{Operational, Unknown}
 use Rattle.conode_compare_rules.specs.declared.kind.FrameKind.{FrameKind}
 use Rattle.conode_compare_rules.specs.declared.kind.FrameKind.TheVariants.{Control, Emergency, OddEmergency, Other, Process, Sdo}
-use Rattle.conode_compare_rules.specs.declared.limits.Subject.{Subject}
+use Rattle.conode_compare_nmt.specs.declared.limits.Subject.{Subject}
 use Rattle.conode_compare_rules.specs.declared.progress.Progress.{Progress}
-use Rattle.conode_compare_rules.specs.Heartbeats.{is_missing, late_finding, overdue_by}
-use Rattle.conode_compare_rules.specs.Progresses.{after_emergency, after_process, answer_findings, answer_nmt, before_recording, begun, control_findings, emergency_findings, findings_at, heartbeat_findings, late_noted, moment_at, process_findings, progress_with, steady_when_free, unless_overdue}
-use Rattle.conode_compare_rules.specs.States.{after_other, awaits_boot_up, is_settled, nothing_commanded}
+use Rattle.conode_compare_nmt.specs.Heartbeats.{is_missing, late_finding, overdue_by}
+use Rattle.conode_compare_rules.specs.Gaps.{before_recording, begun}
+use Rattle.conode_compare_rules.specs.NmtFrames.{control_findings, heartbeat_findings, steady_when_free}
+use Rattle.conode_compare_rules.specs.EmergencyRules.{after_emergency, emergency_findings}
+use Rattle.conode_compare_rules.specs.Channels.{answer_findings, answer_nmt, late_noted}
+use Rattle.conode_compare_rules.specs.Processes.{after_process, moment_at, process_findings, unless_overdue}
+use Rattle.conode_compare_rules.specs.Progresses.{findings_at, progress_with}
+use Rattle.conode_compare_nmt.specs.States.{after_other, awaits_boot_up, is_settled, nothing_commanded}
 use Rattle.conode_compare_rules.specs.Verdicts.{found}
-use Rattle.conode_compare_rules.specs.OtherClients.{no_clients}
-use Rattle.conode_compare_rules.proofs.Examples.{limits}
+use Rattle.conode_compare_nmt.specs.OtherClients.{no_clients}
+use Rattle.conode_compare_nmt.proofs.Examples.{limits}
 
 -- ---- node 5, whose first TPDO is on 185h, of four bytes and event-driven; 1017:00 has 1000 ms
 

@@ -1,14 +1,15 @@
 -- An EMCY within the inhibit time of a device that may have been switched off and on since its last one, on both sides of each
 -- edge.
 use Rattle.std.proofs.Common.{◌≡◌, ℕ, true, false, [], ◌∷◌, map, Option, Some, None, refl}
-use Rattle.conode_compare_rules.specs.declared.finding.Finding.{Finding}
-use Rattle.conode_compare_rules.specs.declared.finding.Finding.TheVariants.{EmergencyInhibit, EmergencyRegister, EmergencyStopped}
+use Rattle.conode_compare_nmt.specs.declared.finding.Finding.{Finding}
+use Rattle.conode_compare_nmt.specs.declared.finding.Finding.TheVariants.{EmergencyInhibit, EmergencyRegister, EmergencyStopped}
 use Rattle.conode_compare_rules.specs.declared.kind.FrameKind.TheVariants.{Emergency}
 use Rattle.conode_compare_rules.specs.declared.progress.Progress.{Progress}
-use Rattle.conode_compare_rules.specs.EmergencyRules.{emergency_finding, inhibit_finding, unless_restarted}
-use Rattle.conode_compare_rules.specs.Heartbeats.{late_finding, overdue_by}
-use Rattle.conode_compare_rules.specs.Progresses.{begun, came_just_now, emergency_findings, findings_at}
-use Rattle.conode_compare_rules.specs.States.{is_settled}
+use Rattle.conode_compare_rules.specs.EmergencyRules.{emergency_finding, inhibit_finding, unless_restarted, came_just_now, emergency_findings}
+use Rattle.conode_compare_nmt.specs.Heartbeats.{late_finding, overdue_by}
+use Rattle.conode_compare_rules.specs.Gaps.{begun}
+use Rattle.conode_compare_rules.specs.Progresses.{findings_at}
+use Rattle.conode_compare_nmt.specs.States.{is_settled}
 use Rattle.conode_compare_rules.specs.Verdicts.{found}
 use Rattle.conode_compare_rules.proofs.MissingExamples.{subject, waiting}
 

@@ -5,14 +5,14 @@ use Rattle.conode_explain_transfers.specs.declared.kinds.What.TheVariants.{Part}
 use Rattle.co_value.specs.declared.key.Key.{Key}
 use Rattle.conode_compare_transfers.specs.declared.dialogue.Dialogue.{Dialogue}
 use Rattle.conode_compare_transfers.specs.Dialogues.{is_certain, nothing_asked}
-use Rattle.conode_compare_rules.specs.declared.finding.Finding.{Finding}
-use Rattle.conode_compare_rules.specs.declared.finding.Finding.TheVariants.{NoAnswer}
-use Rattle.conode_compare_rules.specs.declared.finding.NmtState.TheVariants.{Unknown, Operational, Stopped}
-use Rattle.conode_compare_rules.specs.declared.leaving.Leaving.TheVariants.{Nothing, Awaited, Shown}
-use Rattle.conode_compare_rules.specs.declared.limits.Limits.{Limits}
-use Rattle.conode_compare_rules.specs.declared.nmt.Nmt.{Nmt}
+use Rattle.conode_compare_nmt.specs.declared.finding.Finding.{Finding}
+use Rattle.conode_compare_nmt.specs.declared.finding.Finding.TheVariants.{NoAnswer}
+use Rattle.conode_compare_nmt.specs.declared.finding.NmtState.TheVariants.{Unknown, Operational, Stopped}
+use Rattle.conode_compare_nmt.specs.declared.leaving.Leaving.TheVariants.{Nothing, Awaited, Shown}
+use Rattle.conode_compare_nmt.specs.declared.limits.Limits.{Limits}
+use Rattle.conode_compare_nmt.specs.declared.nmt.Nmt.{Nmt}
 use Rattle.conode_compare_rules.specs.Answers.{could_answer_since, overdue_answer, shows_stopped, silence_finding}
-use Rattle.conode_compare_rules.specs.States.{after_command, is_settled}
+use Rattle.conode_compare_nmt.specs.States.{after_command, is_settled}
 
 abbrev limits : Limits
 limits = record { tolerance = 10; drift = 1; answer = 1000; boot = 10000; time = None }

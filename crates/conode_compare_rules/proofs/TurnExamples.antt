@@ -8,41 +8,29 @@ use Rattle.conode_compare_pdos.specs.declared.pdos.Pdos.{Pdos}
 use Rattle.conode_compare_pdos.specs.Followed.{framed, sighting, unknown_pdos}
 use Rattle.conode_compare_pdos.specs.Deviations.{deviation_at, time_deviation}
 use Rattle.conode_compare_pdos.specs.Tpdos.{booted_tpdo}
-use Rattle.conode_compare_rules.specs.declared.entries.Entries.{Entries}
-use Rattle.conode_compare_rules.specs.declared.finding.Finding.{Finding}
-use Rattle.conode_compare_rules.specs.declared.finding.Finding.TheVariants.{EmergencyStopped, HeartbeatLate, HeartbeatLength, NoState, Pdo as PdoFinding, TwoStates, WrongState}
-use Rattle.conode_compare_rules.specs.declared.finding.NmtState.TheVariants.{PreOperational, Operational, Stopped}
+use Rattle.conode_compare_nmt.specs.declared.entries.Entries.{Entries}
+use Rattle.conode_compare_nmt.specs.declared.finding.Finding.{Finding}
+use Rattle.conode_compare_nmt.specs.declared.finding.Finding.TheVariants.{EmergencyStopped, HeartbeatLate, HeartbeatLength, NoState, Pdo as PdoFinding, TwoStates, WrongState}
+use Rattle.conode_compare_nmt.specs.declared.finding.NmtState.TheVariants.{PreOperational, Operational, Stopped}
 use Rattle.conode_compare_rules.specs.declared.kind.FrameKind.{FrameKind}
 use Rattle.conode_compare_rules.specs.declared.kind.FrameKind.TheVariants.{Command, Control, Emergency, OddControl, Process}
-use Rattle.conode_compare_rules.specs.declared.limits.Subject.{Subject}
+use Rattle.conode_compare_nmt.specs.declared.limits.Subject.{Subject}
 use Rattle.conode_compare_rules.specs.declared.progress.Progress.{Progress}
 use Rattle.conode_compare_rules.specs.declared.verdict.Verdict.{Verdict}
 use Rattle.conode_compare_rules.specs.declared.verdict.Verdict.TheVariants.{Unjudged}
 use Rattle.conode_compare_rules.specs.Answers.{silence_finding}
-use Rattle.conode_compare_rules.specs.EmergencyRules.{emergency_finding, inhibit_finding}
-use Rattle.conode_compare_rules.specs.Heartbeats.{early_remark, late_finding, overdue_by}
-use Rattle.conode_compare_rules.specs.Progresses as progresses
-use Rattle.conode_compare_rules.specs.Progresses.{
-  after_emergency,
-  after_odd_control,
-  after_process,
-  before_recording,
-  begun,
-  booted,
-  control_findings,
-  control_judged,
-  emergency_findings,
-  findings_at,
-  heartbeat_findings,
-  moment_at,
-  process_findings,
-  progress_with,
-}
-use Rattle.conode_compare_rules.specs.States as states
-use Rattle.conode_compare_rules.specs.States.{after_boot_up, after_other, awaits_boot_up, boot_finding, control_finding, is_settled, second_boot_up, state_finding}
+use Rattle.conode_compare_rules.specs.EmergencyRules.{emergency_finding, inhibit_finding, after_emergency, emergency_findings}
+use Rattle.conode_compare_nmt.specs.Heartbeats.{early_remark, late_finding, overdue_by}
+use Rattle.conode_compare_rules.specs.NmtFrames as nmt_frames
+use Rattle.conode_compare_rules.specs.Gaps.{before_recording, begun}
+use Rattle.conode_compare_rules.specs.NmtFrames.{after_odd_control, booted, control_findings, control_judged, heartbeat_findings}
+use Rattle.conode_compare_rules.specs.Processes.{after_process, moment_at, process_findings}
+use Rattle.conode_compare_rules.specs.Progresses.{findings_at, progress_with}
+use Rattle.conode_compare_nmt.specs.States as states
+use Rattle.conode_compare_nmt.specs.States.{after_boot_up, after_other, awaits_boot_up, boot_finding, control_finding, is_settled, second_boot_up, state_finding}
 use Rattle.conode_compare_rules.specs.Verdicts.{found}
-use Rattle.conode_compare_rules.specs.OtherClients.{no_clients}
-use Rattle.conode_compare_rules.proofs.Examples.{limits}
+use Rattle.conode_compare_nmt.specs.OtherClients.{no_clients}
+use Rattle.conode_compare_nmt.proofs.Examples.{limits}
 
 -- ---- node 5, whose first TPDO is on 185h, of four bytes and event-driven; 1017:00 has 1000 ms
 
@@ -88,41 +76,41 @@ ignores = (0, Control 0) ∷ (100000, Command Start) ∷ (500000, Control 127) �
 
 -- it may have followed the command meanwhile
 follows : last_found ((0, Control 0) ∷ (100000, Command Start) ∷ (500000, Control 127) ∷ []) 600000 tpdo ≡ None
-unfolding findings_at progress_with begun booted found progresses.after_control states.after_control after_boot_up after_other awaits_boot_up progresses.after_command states.after_command after_process process_findings moment_at sighting framed deviation_at time_deviation is_settled overdue_by
+unfolding findings_at progress_with begun booted found nmt_frames.after_control states.after_control after_boot_up after_other awaits_boot_up nmt_frames.after_command states.after_command after_process process_findings moment_at sighting framed deviation_at time_deviation is_settled overdue_by
 follows = refl
 
 -- and fall back by itself: from the heartbeat that shows that on it sends none
 falls_back : last_found ignores 610001 (Control 127) ≡ None
-unfolding findings_at progress_with begun booted found progresses.after_control states.after_control after_boot_up after_other awaits_boot_up progresses.after_command states.after_command after_process process_findings moment_at sighting framed deviation_at time_deviation is_settled control_findings heartbeat_findings control_finding state_finding overdue_by
+unfolding findings_at progress_with begun booted found nmt_frames.after_control states.after_control after_boot_up after_other awaits_boot_up nmt_frames.after_command states.after_command after_process process_findings moment_at sighting framed deviation_at time_deviation is_settled control_findings heartbeat_findings control_finding state_finding overdue_by
 falls_back = refl
 
 sends_on : last_found (ignores ++ (610001, Control 127) ∷ []) 620002 tpdo ≡ Some (PdoFinding 1 NotOperational)
-unfolding findings_at progress_with begun booted found progresses.after_control states.after_control after_boot_up after_other awaits_boot_up progresses.after_command states.after_command after_process process_findings moment_at sighting framed deviation_at time_deviation is_settled overdue_by
+unfolding findings_at progress_with begun booted found nmt_frames.after_control states.after_control after_boot_up after_other awaits_boot_up nmt_frames.after_command states.after_command after_process process_findings moment_at sighting framed deviation_at time_deviation is_settled overdue_by
 sends_on = refl
 
 -- one that was on its way
 on_its_way : last_found (ignores ++ (610001, Control 127) ∷ []) 620001 tpdo ≡ None
-unfolding findings_at progress_with begun booted found progresses.after_control states.after_control after_boot_up after_other awaits_boot_up progresses.after_command states.after_command after_process process_findings moment_at sighting framed deviation_at time_deviation is_settled overdue_by
+unfolding findings_at progress_with begun booted found nmt_frames.after_control states.after_control after_boot_up after_other awaits_boot_up nmt_frames.after_command states.after_command after_process process_findings moment_at sighting framed deviation_at time_deviation is_settled overdue_by
 on_its_way = refl
 
 -- a heartbeat within the tolerance after the TPDO may have been on its way
 too_soon : last_found (ignores ++ (610000, Control 127) ∷ []) 700000 tpdo ≡ None
-unfolding findings_at progress_with begun booted found progresses.after_control states.after_control after_boot_up after_other awaits_boot_up progresses.after_command states.after_command after_process process_findings moment_at sighting framed deviation_at time_deviation is_settled overdue_by
+unfolding findings_at progress_with begun booted found nmt_frames.after_control states.after_control after_boot_up after_other awaits_boot_up nmt_frames.after_command states.after_command after_process process_findings moment_at sighting framed deviation_at time_deviation is_settled overdue_by
 too_soon = refl
 
 -- a device that is slow sends no TPDO before it follows the command, however late
 slow : last_found ((0, Control 0) ∷ (100000, Command Start) ∷ (500000, Control 127) ∷ (1500000, Control 127) ∷ (2500000, Control 127) ∷ []) 3500000 (Control 5) ≡ None
-unfolding findings_at progress_with begun booted found progresses.after_control states.after_control after_boot_up after_other awaits_boot_up progresses.after_command states.after_command is_settled control_findings heartbeat_findings control_finding state_finding
+unfolding findings_at progress_with begun booted found nmt_frames.after_control states.after_control after_boot_up after_other awaits_boot_up nmt_frames.after_command states.after_command is_settled control_findings heartbeat_findings control_finding state_finding
 slow = refl
 
 -- TPDOs before the first heartbeat say nothing, since the state before the command isn't shown then
 not_shown : last_found ((0, Control 0) ∷ (100000, Command Start) ∷ (400000, tpdo) ∷ (500000, Control 127) ∷ []) 600000 tpdo ≡ None
-unfolding findings_at progress_with begun booted found progresses.after_control states.after_control after_boot_up after_other awaits_boot_up progresses.after_command states.after_command after_process process_findings moment_at sighting framed deviation_at time_deviation is_settled overdue_by
+unfolding findings_at progress_with begun booted found nmt_frames.after_control states.after_control after_boot_up after_other awaits_boot_up nmt_frames.after_command states.after_command after_process process_findings moment_at sighting framed deviation_at time_deviation is_settled overdue_by
 not_shown = refl
 
 -- the next Start may be followed, too
 commanded_again : last_found (ignores ++ (700000, Control 127) ∷ (800000, Command Start) ∷ (900000, Control 127) ∷ []) 950000 tpdo ≡ None
-unfolding findings_at progress_with begun booted found progresses.after_control states.after_control after_boot_up after_other awaits_boot_up progresses.after_command states.after_command after_process process_findings moment_at sighting framed deviation_at time_deviation is_settled overdue_by
+unfolding findings_at progress_with begun booted found nmt_frames.after_control states.after_control after_boot_up after_other awaits_boot_up nmt_frames.after_command states.after_command after_process process_findings moment_at sighting framed deviation_at time_deviation is_settled overdue_by
 commanded_again = refl
 
 -- from stopped: an EMCY shows that it has left that
@@ -130,11 +118,11 @@ abbrev leaves : List (ℕ × FrameKind)
 leaves = (0, Control 0) ∷ (100000, Command Stop) ∷ (200000, Control 4) ∷ (300000, Command EnterPreOperational) ∷ (400000, Control 4) ∷ []
 
 stops_again : last_found (leaves ++ (500000, Emergency 0x8130 0x11) ∷ (600000, Control 4) ∷ []) 700000 (Emergency 0 0) ≡ Some EmergencyStopped
-unfolding findings_at progress_with begun booted found progresses.after_control states.after_control after_boot_up after_other awaits_boot_up progresses.after_command states.after_command after_emergency emergency_findings emergency_finding inhibit_finding is_settled late_finding overdue_by
+unfolding findings_at progress_with begun booted found nmt_frames.after_control states.after_control after_boot_up after_other awaits_boot_up nmt_frames.after_command states.after_command after_emergency emergency_findings emergency_finding inhibit_finding is_settled late_finding overdue_by
 stops_again = refl
 
 still_slow : last_found (leaves ++ (600000, Control 4) ∷ []) 700000 (Emergency 0 0) ≡ None
-unfolding findings_at progress_with begun booted found progresses.after_control states.after_control after_boot_up after_other awaits_boot_up progresses.after_command states.after_command after_emergency emergency_findings emergency_finding inhibit_finding is_settled late_finding overdue_by
+unfolding findings_at progress_with begun booted found nmt_frames.after_control states.after_control after_boot_up after_other awaits_boot_up nmt_frames.after_command states.after_command after_emergency emergency_findings emergency_finding inhibit_finding is_settled late_finding overdue_by
 still_slow = refl
 
 -- ---- two devices with one node-ID: their heartbeats come in turn
@@ -149,41 +137,41 @@ abbrev in_turn : List (ℕ × FrameKind)
 in_turn = (0, Control 0) ∷ (500000, Control 5) ∷ (1000000, Control 127) ∷ []
 
 second : last_found in_turn 1500000 (Control 5) ≡ Some (TwoStates Operational PreOperational)
-unfolding findings_at progress_with begun booted found progresses.after_control states.after_control after_boot_up after_other awaits_boot_up control_findings heartbeat_findings control_finding state_finding is_settled early_remark
+unfolding findings_at progress_with begun booted found nmt_frames.after_control states.after_control after_boot_up after_other awaits_boot_up control_findings heartbeat_findings control_finding state_finding is_settled early_remark
 second = refl
 
 -- one device that goes twice to a state by itself: its heartbeats come as their period has it
 alone : last_found ((0, Control 0) ∷ (1000000, Control 5) ∷ (2000000, Control 127) ∷ []) 3000000 (Control 5) ≡ Some (WrongState Operational PreOperational)
-unfolding findings_at progress_with begun booted found progresses.after_control states.after_control after_boot_up after_other awaits_boot_up control_findings heartbeat_findings control_finding state_finding is_settled early_remark
+unfolding findings_at progress_with begun booted found nmt_frames.after_control states.after_control after_boot_up after_other awaits_boot_up control_findings heartbeat_findings control_finding state_finding is_settled early_remark
 alone = refl
 
 -- said once, and no state is known any more
 said : last_found (in_turn ++ (1500000, Control 5) ∷ (2000000, Control 127) ∷ []) 2500000 (Control 5) ≡ None
-unfolding findings_at progress_with begun booted found progresses.after_control states.after_control after_boot_up after_other awaits_boot_up control_findings heartbeat_findings control_finding state_finding is_settled early_remark
+unfolding findings_at progress_with begun booted found nmt_frames.after_control states.after_control after_boot_up after_other awaits_boot_up control_findings heartbeat_findings control_finding state_finding is_settled early_remark
 said = refl
 
 unjudged : last_verdict (in_turn ++ (1500000, Control 5) ∷ []) 2000000 (Control 127) ≡ Some Unjudged
-unfolding findings_at progress_with begun booted found progresses.after_control states.after_control after_boot_up after_other awaits_boot_up boot_finding control_findings heartbeat_findings control_finding control_judged state_finding is_settled late_finding overdue_by silence_finding early_remark
+unfolding findings_at progress_with begun booted found nmt_frames.after_control states.after_control after_boot_up after_other awaits_boot_up boot_finding control_findings heartbeat_findings control_finding control_judged state_finding is_settled late_finding overdue_by silence_finding early_remark
 unjudged = refl
 
 -- a command begins anew
 known_again : last_found (in_turn ++ (1500000, Control 5) ∷ (1600000, Command Stop) ∷ (2000000, Control 4) ∷ []) 2500000 (Control 5) ≡ Some (WrongState Operational Stopped)
-unfolding findings_at progress_with begun booted found progresses.after_control states.after_control after_boot_up after_other awaits_boot_up progresses.after_command states.after_command control_findings heartbeat_findings control_finding state_finding is_settled early_remark
+unfolding findings_at progress_with begun booted found nmt_frames.after_control states.after_control after_boot_up after_other awaits_boot_up nmt_frames.after_command states.after_command control_findings heartbeat_findings control_finding state_finding is_settled early_remark
 known_again = refl
 
 -- a device that falls back by itself, and is started again by commands, does as it is prescribed
 started_again : last_found ((0, Control 0) ∷ (100000, Command Start) ∷ (500000, Control 5) ∷ (1000000, Control 127) ∷ (1100000, Command Start) ∷ (1500000, Control 5) ∷ (2000000, Control 127) ∷ (2100000, Command Start) ∷ []) 2500000 (Control 5) ≡ None
-unfolding findings_at progress_with begun booted found progresses.after_control states.after_control after_boot_up after_other awaits_boot_up progresses.after_command states.after_command control_findings heartbeat_findings control_finding state_finding is_settled early_remark
+unfolding findings_at progress_with begun booted found nmt_frames.after_control states.after_control after_boot_up after_other awaits_boot_up nmt_frames.after_command states.after_command control_findings heartbeat_findings control_finding state_finding is_settled early_remark
 started_again = refl
 
 -- a command between the two changes
 commanded_between : last_found (in_turn ++ (1100000, Command EnterPreOperational) ∷ []) 1500000 (Control 5) ≡ Some (WrongState Operational PreOperational)
-unfolding findings_at progress_with begun booted found progresses.after_control states.after_control after_boot_up after_other awaits_boot_up progresses.after_command states.after_command control_findings heartbeat_findings control_finding state_finding is_settled early_remark
+unfolding findings_at progress_with begun booted found nmt_frames.after_control states.after_control after_boot_up after_other awaits_boot_up nmt_frames.after_command states.after_command control_findings heartbeat_findings control_finding state_finding is_settled early_remark
 commanded_between = refl
 
 -- out of stopped, and then out of pre-operational: no return
 without_return : last_found ((0, Control 0) ∷ (100000, Command Stop) ∷ (500000, Control 127) ∷ []) 1000000 (Control 5) ≡ Some (WrongState Operational PreOperational)
-unfolding findings_at progress_with begun booted found progresses.after_control states.after_control after_boot_up after_other awaits_boot_up progresses.after_command states.after_command control_findings heartbeat_findings control_finding state_finding is_settled
+unfolding findings_at progress_with begun booted found nmt_frames.after_control states.after_control after_boot_up after_other awaits_boot_up nmt_frames.after_command states.after_command control_findings heartbeat_findings control_finding state_finding is_settled
 without_return = refl
 
 -- ---- the same mistake again
@@ -194,23 +182,23 @@ unfolding findings_at progress_with begun booted found after_boot_up states.afte
 no_state = refl
 
 same_byte : last_found ((0, Control 0) ∷ (500000, Control 3) ∷ (1000000, Control 3) ∷ []) 1500000 (Control 3) ≡ None
-unfolding findings_at progress_with begun booted found progresses.after_control states.after_control after_boot_up after_other awaits_boot_up control_findings heartbeat_findings control_finding state_finding is_settled
+unfolding findings_at progress_with begun booted found nmt_frames.after_control states.after_control after_boot_up after_other awaits_boot_up control_findings heartbeat_findings control_finding state_finding is_settled
 same_byte = refl
 
 same_byte_unjudged : last_verdict ((0, Control 0) ∷ (500000, Control 3) ∷ []) 1000000 (Control 3) ≡ Some Unjudged
-unfolding findings_at progress_with begun booted found progresses.after_control states.after_control after_boot_up after_other awaits_boot_up boot_finding control_findings heartbeat_findings control_finding control_judged state_finding is_settled late_finding overdue_by silence_finding
+unfolding findings_at progress_with begun booted found nmt_frames.after_control states.after_control after_boot_up after_other awaits_boot_up boot_finding control_findings heartbeat_findings control_finding control_judged state_finding is_settled late_finding overdue_by silence_finding
 same_byte_unjudged = refl
 
 other_byte : last_found ((0, Control 0) ∷ (500000, Control 3) ∷ []) 1000000 (Control 6) ≡ Some (NoState 6)
-unfolding findings_at progress_with begun booted found progresses.after_control states.after_control after_boot_up after_other awaits_boot_up control_findings heartbeat_findings control_finding state_finding is_settled
+unfolding findings_at progress_with begun booted found nmt_frames.after_control states.after_control after_boot_up after_other awaits_boot_up control_findings heartbeat_findings control_finding state_finding is_settled
 other_byte = refl
 
 byte_between : last_found ((0, Control 0) ∷ (500000, Control 3) ∷ (1000000, Control 127) ∷ []) 1500000 (Control 3) ≡ Some (NoState 3)
-unfolding findings_at progress_with begun booted found progresses.after_control states.after_control after_boot_up after_other awaits_boot_up control_findings heartbeat_findings control_finding state_finding is_settled
+unfolding findings_at progress_with begun booted found nmt_frames.after_control states.after_control after_boot_up after_other awaits_boot_up control_findings heartbeat_findings control_finding state_finding is_settled
 byte_between = refl
 
 boot_up_between : last_found ((0, Control 0) ∷ (500000, Control 3) ∷ (1600000, Control 0) ∷ []) 2000000 (Control 3) ≡ Some (NoState 3)
-unfolding findings_at progress_with begun booted found progresses.after_control states.after_control after_boot_up after_other awaits_boot_up control_findings heartbeat_findings control_finding state_finding is_settled second_boot_up
+unfolding findings_at progress_with begun booted found nmt_frames.after_control states.after_control after_boot_up after_other awaits_boot_up control_findings heartbeat_findings control_finding state_finding is_settled second_boot_up
 boot_up_between = refl
 
 -- a number of bytes
@@ -227,7 +215,7 @@ unfolding findings_at progress_with begun booted found after_boot_up states.afte
 other_length = refl
 
 length_between : last_found ((0, Control 0) ∷ (500000, OddControl 2) ∷ (1000000, Control 127) ∷ []) 1500000 (OddControl 2) ≡ Some (HeartbeatLength 2)
-unfolding findings_at progress_with begun booted found progresses.after_control states.after_control after_boot_up control_finding state_finding is_settled after_odd_control after_other awaits_boot_up
+unfolding findings_at progress_with begun booted found nmt_frames.after_control states.after_control after_boot_up control_finding state_finding is_settled after_odd_control after_other awaits_boot_up
 length_between = refl
 
 -- ---- heartbeats that come late one after another: each 1100 ms, and not each 1000 ms
@@ -241,29 +229,29 @@ late_first = refl
 
 -- so is the next one, up to 10 ms and 1 % longer
 late_again : last_late late_once 2220000 (Control 127) ≡ None
-unfolding findings_at progress_with begun booted found control_findings heartbeat_findings progresses.after_control late_finding overdue_by
+unfolding findings_at progress_with begun booted found control_findings heartbeat_findings nmt_frames.after_control late_finding overdue_by
 late_again = refl
 
 late_longer : last_late late_once 2220001 (Control 127) ≡ Some (HeartbeatLate 1120001 1000)
-unfolding findings_at progress_with begun booted found control_findings heartbeat_findings progresses.after_control late_finding overdue_by
+unfolding findings_at progress_with begun booted found control_findings heartbeat_findings nmt_frames.after_control late_finding overdue_by
 late_longer = refl
 
 late_unjudged : last_verdict late_once 2200000 (Control 127) ≡ Some Unjudged
-unfolding findings_at progress_with begun booted found progresses.after_control states.after_control after_boot_up after_other awaits_boot_up boot_finding control_findings heartbeat_findings control_finding control_judged state_finding is_settled late_finding overdue_by silence_finding
+unfolding findings_at progress_with begun booted found nmt_frames.after_control states.after_control after_boot_up after_other awaits_boot_up boot_finding control_findings heartbeat_findings control_finding control_judged state_finding is_settled late_finding overdue_by silence_finding
 late_unjudged = refl
 
 -- after a pause of more than two periods the next one is said
 after_pause : map (λ pause. last_late ((0, Control 0) ∷ (pause, Control 127) ∷ []) (pause + 1100000) (Control 127)) (2000000 ∷ 2000001 ∷ [])
     ≡ None ∷ Some (HeartbeatLate 1100000 1000) ∷ []
-unfolding findings_at progress_with begun booted found control_findings heartbeat_findings progresses.after_control late_finding overdue_by
+unfolding findings_at progress_with begun booted found control_findings heartbeat_findings nmt_frames.after_control late_finding overdue_by
 after_pause = refl
 
 -- one in time ends the row
 in_time : last_late (late_once ++ (2100000, Control 127) ∷ []) 3200000 (Control 127) ≡ Some (HeartbeatLate 1100000 1000)
-unfolding findings_at progress_with begun booted found control_findings heartbeat_findings progresses.after_control late_finding overdue_by
+unfolding findings_at progress_with begun booted found control_findings heartbeat_findings nmt_frames.after_control late_finding overdue_by
 in_time = refl
 
 -- so does a command
 commanded_late : last_late (late_once ++ (1200000, Command Start) ∷ []) 2200000 (Control 5) ≡ Some (HeartbeatLate 1100000 1000)
-unfolding findings_at progress_with begun booted found control_findings heartbeat_findings progresses.after_control progresses.after_command late_finding overdue_by
+unfolding findings_at progress_with begun booted found control_findings heartbeat_findings nmt_frames.after_control nmt_frames.after_command late_finding overdue_by
 commanded_late = refl

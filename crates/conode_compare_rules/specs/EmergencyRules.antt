@@ -1,16 +1,21 @@
 -- EMCY messages (CiA 301, 7.2.7, 7.5.2.2 and 7.5.2.18).
 use Rattle.std.specs.Prelude.{ℕ, ◌-◌, ◌*◌, ◌/◌, ◌%◌, ◌==◌, nat_lt, Bool, true, false, not, ◌&&◌, ◌||◌, if◌then◌else◌, Option, Some, None, is_some}
 use Rattle.std.specs.Option.{option_map_or}
-use Rattle.conode_compare_rules.specs.declared.entries.Entries.{Entries}
-use Rattle.conode_compare_rules.specs.declared.finding.Finding.{Finding}
-use Rattle.conode_compare_rules.specs.declared.finding.Finding.TheVariants.{EmergencyLength, EmergencyStopped, EmergencyRegister, EmergencyInhibit}
-use Rattle.conode_compare_rules.specs.declared.finding.NmtState.{NmtState}
-use Rattle.conode_compare_rules.specs.declared.finding.NmtState.TheVariants.{Stopped}
-use Rattle.conode_compare_rules.specs.declared.limits.Limits.{Limits}
-use Rattle.conode_compare_rules.specs.EntriesInForce.{is_number}
-use Rattle.conode_compare_rules.specs.States.{is_initialising}
+use Rattle.conode_compare_nmt.specs.declared.entries.Entries.{Entries}
+use Rattle.conode_compare_nmt.specs.declared.finding.Finding.{Finding}
+use Rattle.conode_compare_nmt.specs.declared.finding.Finding.TheVariants.{EmergencyLength, EmergencyStopped, EmergencyRegister, EmergencyInhibit}
+use Rattle.conode_compare_nmt.specs.declared.finding.NmtState.{NmtState}
+use Rattle.conode_compare_nmt.specs.declared.limits.Limits.{Limits}
+use Rattle.conode_compare_nmt.specs.EntriesInForce.{is_number}
+use Rattle.conode_compare_nmt.specs.Leavings.{was_stopped}
+use Rattle.conode_compare_nmt.specs.States.{is_initialising, has_followed, judged_state, with_followed, with_left, is_stopped}
 use Rattle.conode_compare_transfers.specs.Times.{micros_of, is_past}
-use Rattle.conode_compare_rules.specs.Times.{drift_of}
+use Rattle.conode_compare_nmt.specs.Times.{drift_of}
+use Rattle.conode_compare_rules.specs.declared.progress.Progress.{Progress}
+use Rattle.conode_compare_nmt.specs.declared.limits.Subject.{Subject}
+use Rattle.conode_compare_rules.specs.declared.verdict.Findings.{Findings}
+use Rattle.conode_compare_rules.specs.Verdicts.{found}
+use Rattle.conode_compare_rules.specs.NmtFrames.{is_overdue, steady_when_free, late_by, heartbeats_by}
 
 -- bit 0 of the error register is set; or no bit is, and the code is one of "error reset or no
 -- error", 00xxh
@@ -62,10 +67,6 @@ is_inhibited finding = false
 abbrev pub unless_restarted : Bool → Option Finding → Option Finding
 unless_restarted restarted finding = if is_inhibited finding && restarted then None else finding
 
-abbrev pub is_stopped : NmtState → Bool
-is_stopped Stopped = true
-is_stopped other = false
-
 -- `emcy-state`, once the state is settled, `emcy-register`, `emcy-inhibit`: the first of them. None
 -- where the identifier may not be that of its EMCY, and none while the boot-up is awaited. `waits`: it may have
 -- waited for another reason than the inhibit time.
@@ -79,3 +80,61 @@ emergency_finding limits entries state settled waits last micros code register =
 -- `emcy-length`
 abbrev pub length_finding : Entries → ℕ → Option Finding
 length_finding entries length = if entries.emergencies then Some (EmergencyLength length) else None
+
+-- ---- by what a recording shows
+
+-- Nobody switches a device off and on within a second (as for `second_boot_up`): it runs since a frame that came so shortly
+-- before.
+abbrev pub came_just_now : Option ℕ → ℕ → Bool
+came_just_now last micros = option_map_or (λ l. not (is_past l 1000 micros)) last false
+
+-- So it runs since its newest EMCY where that, or its newest heartbeat, came so, and the next heartbeat isn't late.
+abbrev pub may_be_restarted : Subject → Progress → ℕ → Bool
+may_be_restarted subject progress micros =
+    is_overdue subject progress || not (came_just_now progress.emergency micros || came_just_now progress.heartbeats.since micros)
+
+-- the tolerance since the boot-up wasn't over when the bus was free last
+abbrev pub has_just_booted : Subject → Progress → Bool
+has_just_booted subject progress =
+    option_map_or (λ b. not (is_past b subject.limits.tolerance progress.free)) progress.nmt.booted false
+
+-- A device sends none while it is stopped or boots up, and on a bus that isn't free it sends one later: the error may be
+-- over by then.
+abbrev pub may_have_waited : Subject → Progress → ℕ → Bool
+may_have_waited subject progress micros =
+    (not (steady_when_free subject progress) || nat_lt progress.free micros)
+    || (was_stopped progress.nmt.leaving micros || has_just_booted subject progress)
+
+abbrev pub emergency_difference : Subject → Progress → ℕ → ℕ → ℕ → Option Finding
+emergency_difference subject progress micros code register =
+    unless_restarted (may_be_restarted subject progress micros)
+    (emergency_finding subject.limits progress.entries (judged_state progress.nmt) (steady_when_free subject progress) (may_have_waited subject progress micros) progress.emergency micros code register)
+
+unfoldable pub emergency_findings : Subject → Progress → ℕ → ℕ → ℕ → Findings
+emergency_findings subject progress micros code register =
+    found None (late_by subject progress progress.entries.emergencies micros) None
+    (emergency_difference subject progress micros code register)
+    progress.entries.emergencies
+
+abbrev pub odd_emergency_findings : Progress → ℕ → Findings
+odd_emergency_findings progress length = found None None None (length_finding progress.entries length) progress.entries.emergencies
+
+-- it may have waited since the bus was free last: its inhibit time counts from then
+unfoldable pub after_emergency : Progress → Progress
+after_emergency progress = record progress { nmt = record progress.nmt { booted = None }; emergency = Some progress.free }
+
+-- a stopped device sends none
+abbrev pub shows_by_emergency : Subject → Progress → Bool
+shows_by_emergency subject progress = progress.entries.emergencies && steady_when_free subject progress
+
+-- that the device has followed a command, where a heartbeat showed stopped
+abbrev pub follows_by_emergency : Subject → Progress → Bool
+follows_by_emergency subject progress = has_followed is_stopped progress.nmt && shows_by_emergency subject progress
+
+-- by an EMCY of eight bytes a heartbeat may be missing
+abbrev pub emergency_noted : Subject → Progress → ℕ → Progress
+emergency_noted subject progress micros =
+    after_emergency (record progress {
+      nmt = with_left (with_followed progress.nmt (follows_by_emergency subject progress) micros) (shows_by_emergency subject progress) micros;
+      heartbeats = heartbeats_by subject progress progress.entries.emergencies micros;
+    })

@@ -1,11 +1,9 @@
 pub mod Answers
-pub mod Progresses
-pub mod EmergencyRules
-pub mod EntriesInForce
-pub mod Heartbeats
-pub mod Leavings
 pub mod FrameKinds
-pub mod States
-pub mod OtherClients
-pub mod Times
+pub mod Gaps
+pub mod NmtFrames
+pub mod EmergencyRules
+pub mod Channels
+pub mod Processes
+pub mod Progresses
 pub mod Verdicts

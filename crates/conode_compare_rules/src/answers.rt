@@ -22,11 +22,9 @@ ghost use Rattle.conode_compare_rules.specs.Answers.{
   what_finding,
 };
 
-use crate::finding::{Finding, NmtState};
-use crate::limits::{Limits, Subject};
-use crate::nmt::Nmt;
 use co_frame::Frame;
 use co_sheet::EntryRow;
+use conode_compare_nmt::{Finding, Limits, Nmt, NmtState, Subject};
 use conode_compare_transfers::{
     Asked, Breach, Dialogue, Exchange, byte_at, early_abort, is_past, is_timed, key_in,
 };

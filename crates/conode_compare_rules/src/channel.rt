@@ -5,8 +5,9 @@ ghost use Rattle.std.specs.List.{AllPairs};
 ghost use Rattle.co_sheet.specs.SheetViews.{row_view};
 ghost use Rattle.co_value.specs.Keys.{is_key_before};
 ghost use Rattle.conode_explain_transfers.specs.declared.kinds.Side.TheVariants.{Client};
-ghost use Rattle.conode_compare_rules.specs.States.{nothing_commanded};
-ghost use Rattle.conode_compare_rules.specs.Progresses.{
+ghost use Rattle.conode_compare_nmt.specs.States.{nothing_commanded};
+ghost use Rattle.conode_compare_rules.specs.NmtFrames.{late_by};
+ghost use Rattle.conode_compare_rules.specs.Channels.{
   after_answer,
   after_sdo,
   answer_findings,
@@ -21,7 +22,6 @@ ghost use Rattle.conode_compare_rules.specs.Progresses.{
   asked_then,
   asks_for_profile,
   is_doubtful,
-  late_by,
   leaves_unknown,
   left_open,
   may_miss_end,
@@ -34,17 +34,15 @@ ghost use Rattle.conode_compare_rules.specs.Progresses.{
 };
 
 use crate::answers::{answer_finding, confirmed_finding, held_finding, is_abort, stopped_finding};
-use crate::changed_period::{newest_asked, period_asked_by};
-use crate::clients::is_channel;
-use crate::entries::{Entries, shares_id};
-use crate::finding::Finding;
-use crate::limits::Subject;
-use crate::nmt::Nmt;
+use crate::followed::note_heard;
 use crate::progress::Progress;
 use crate::verdict::Findings;
 use co_frame::Frame;
 use co_sheet::EntryRow;
 use co_value::Key;
+use conode_compare_nmt::{
+    Entries, Finding, Nmt, Subject, is_channel, newest_asked, period_asked_by, shares_id,
+};
 use conode_compare_pdos::Pdos;
 use conode_compare_transfers::{
     Asked, Dialogue, Exchange, Newest, asks_to_write, byte_at, comes_in_turn, is_past, key_in,
@@ -212,7 +210,7 @@ fn leave_open(dialogue: &mut Dialogue, side: Side, misses: bool)
 
 impl Progress {
     // a frame of the SDO channel is heard
-    #[tactic(auto, unfolding(crate::specs::Progresses::exchange_at, crate::specs::Progresses::channel_heard))]
+    #[tactic(auto, unfolding(crate::specs::Channels::exchange_at, crate::specs::Channels::channel_heard))]
     fn hear(&mut self, subject: &Subject, micros: u64, side: Side, frame: &Frame) -> Exchange
         ensures exchange { result ≡ exchange_at subject.now self.old micros side frame.now }
         ensures progress { self.new ≡ channel_heard subject.now self.old micros side frame.now }
@@ -227,8 +225,14 @@ impl Progress {
             .hear(subject.limits.answer, self.started, micros, side, frame);
         let unknown = leaves_unknown(doubtful, &exchange.heard.ended);
         let other = hides_end(self.other_client, unknown);
-        self.nmt
-            .note_heard(&subject.limits, self.started, micros, side, &exchange);
+        note_heard(
+            &mut self.nmt,
+            &subject.limits,
+            self.started,
+            micros,
+            side,
+            &exchange,
+        );
         let entries = entries_heard(
             self.entries,
             other,
@@ -260,7 +264,7 @@ impl Progress {
     }
 
     // what a frame is that was heard, and what was written to the entries that are held
-    #[tactic(auto, unfolding(crate::specs::Progresses::exchange_noted))]
+    #[tactic(auto, unfolding(crate::specs::Channels::exchange_noted))]
     fn note_exchange(&mut self, subject: &Subject, exchange: Exchange)
         ensures { self.new ≡ exchange_noted subject.now self.old exchange }
     {
@@ -271,7 +275,7 @@ impl Progress {
     }
 
     // an answer comes, by which a heartbeat may be missing: the difference of that
-    #[tactic(auto, unfolding(crate::specs::Progresses::late_noted))]
+    #[tactic(auto, unfolding(crate::specs::Channels::late_noted))]
     fn note_answer(&mut self, subject: &Subject, micros: u64) -> Option<Finding>
         ensures finding { result ≡ late_by subject.now self.old true micros }
         ensures progress { self.new ≡ answer_noted subject.now self.old micros }
@@ -290,7 +294,7 @@ impl Progress {
 
     /// An answer comes. Returns what is found at it; `rows` are the data sheet's entries, in increasing
     /// key.
-    #[tactic(auto, unfolding(crate::specs::Progresses::answer_findings))]
+    #[tactic(auto, unfolding(crate::specs::Channels::answer_findings))]
     pub(crate) fn take_answer(
         &mut self,
         subject: &Subject,
@@ -320,7 +324,7 @@ impl Progress {
     }
 
     /// A request comes, or another frame of the client.
-    #[tactic(auto, unfolding(crate::specs::Progresses::request_findings))]
+    #[tactic(auto, unfolding(crate::specs::Channels::request_findings))]
     pub(crate) fn take_request(
         &mut self,
         subject: &Subject,

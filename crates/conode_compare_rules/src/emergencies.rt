@@ -14,8 +14,6 @@ ghost use Rattle.conode_compare_rules.specs.EmergencyRules.{
   may_wait,
   unless_restarted,
   was_in_force,
-};
-ghost use Rattle.conode_compare_rules.specs.Progresses.{
   came_just_now,
   emergency_difference,
   has_just_booted,
@@ -23,10 +21,8 @@ ghost use Rattle.conode_compare_rules.specs.Progresses.{
   may_have_waited,
 };
 
-use crate::entries::Entries;
-use crate::finding::{Finding, NmtState};
-use crate::limits::{Limits, Subject, drift_of};
 use crate::progress::Progress;
+use conode_compare_nmt::{Entries, Finding, Limits, NmtState, Subject, drift_of};
 use conode_compare_transfers::{is_past, micros_of};
 
 // The error register has bit 0 wherever another bit is set, and while the code isn't one of "error

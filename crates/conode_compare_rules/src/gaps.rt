@@ -1,7 +1,7 @@
 //! The begin of a recording, and gaps in it: where the recorder may have missed frames.
 
 ghost use Rattle.std.specs.Prelude.{◌≡◌};
-ghost use Rattle.conode_compare_rules.specs.Progresses.{
+ghost use Rattle.conode_compare_rules.specs.Gaps.{
   after_fault,
   anew_since,
   asked_since,
@@ -19,11 +19,10 @@ ghost use Rattle.conode_compare_rules.specs.Progresses.{
   with_gap,
 };
 
-use crate::changed_period::former_asked;
-use crate::heartbeats::{LONGEST_PERIOD, follows_closely, is_gap};
-use crate::limits::{Limits, Subject};
-use crate::nmt::Nmt;
 use crate::progress::Progress;
+use conode_compare_nmt::{
+    LONGEST_PERIOD, Limits, Nmt, Subject, follows_closely, former_asked, is_gap,
+};
 use conode_compare_transfers::is_past;
 use conode_compare_values::Written;
 
@@ -158,7 +157,7 @@ impl Progress {
     /// may take long is awaited, and that a sub-block may be open; where it was quiet, no request is
     /// known. After a bad line a client may have asked to write until now. A command that came before
     /// may still be followed.
-    #[tactic(auto, unfolding(crate::specs::Progresses::begun))]
+    #[tactic(auto, unfolding(crate::specs::Gaps::begun))]
     pub(crate) fn begin(&mut self, subject: &Subject, micros: u64)
         ensures { self.new ≡ begun subject.now self.old micros }
     {
@@ -195,7 +194,7 @@ impl Progress {
     }
 
     /// What is open is no longer known.
-    #[tactic(auto, unfolding(crate::specs::Progresses::with_gap))]
+    #[tactic(auto, unfolding(crate::specs::Gaps::with_gap))]
     pub(crate) fn break_off(&mut self, micros: u64)
         ensures { self.new ≡ with_gap self.old micros }
     {
@@ -210,7 +209,7 @@ impl Progress {
     }
 
     /// An error frame: what came with it may be missing in the recording.
-    #[tactic(auto, unfolding(crate::specs::Progresses::after_fault))]
+    #[tactic(auto, unfolding(crate::specs::Gaps::after_fault))]
     pub(crate) fn take_fault(&mut self, micros: u64)
         ensures { self.new ≡ after_fault self.old micros }
     {

@@ -3,10 +3,8 @@
 ghost use Rattle.std.specs.Prelude.{◌≡◌};
 ghost use Rattle.conode_compare_rules.specs.Progresses.{is_begun, takes_rpdos};
 
-use crate::entries::Entries;
-use crate::finding::NmtState;
-use crate::limits::Subject;
 use crate::progress::Progress;
+use conode_compare_nmt::{Entries, NmtState, Subject};
 use conode_compare_pdos::Pdos;
 
 impl Progress {

@@ -3,31 +3,16 @@
 #![tactic(auto)]
 
 mod answers;
-mod changed_period;
 mod channel;
-mod clients;
 mod emergencies;
-mod entries;
-mod finding;
 mod followed;
 mod gaps;
-mod heartbeats;
 mod kind;
 mod known;
-mod leaving;
-mod limits;
-mod nmt;
 mod process;
 mod progress;
-mod repeated;
-mod turns;
 mod verdict;
 
-pub use clients::OtherClients;
-pub use entries::{Entries, Facts, facts_of};
-pub use finding::{Finding, NmtState, Remark};
 pub use kind::{FrameKind, kind_of};
-pub use limits::{Limits, Subject};
-pub use nmt::is_reset;
 pub use progress::Progress;
 pub use verdict::{Findings, Verdict};

@@ -1,7 +1,7 @@
 //! PDOs and SYNCs of a recording.
 
 ghost use Rattle.std.specs.Prelude.{◌≡◌, true};
-ghost use Rattle.conode_compare_rules.specs.Progresses.{
+ghost use Rattle.conode_compare_rules.specs.Processes.{
   after_process,
   moment_at,
   newest_command,
@@ -9,14 +9,12 @@ ghost use Rattle.conode_compare_rules.specs.Progresses.{
   sighting_findings,
   unless_overdue,
 };
-ghost use Rattle.conode_compare_rules.specs.EntriesInForce.{overwritten};
+ghost use Rattle.conode_compare_nmt.specs.EntriesInForce.{overwritten};
 ghost use Rattle.conode_compare_pdos.specs.Followed.{unknown_pdos};
 
-use crate::finding::{Finding, NmtState};
-use crate::followed::is_idle;
-use crate::limits::Subject;
 use crate::progress::Progress;
 use crate::verdict::Findings;
+use conode_compare_nmt::{Finding, NmtState, Subject, is_idle};
 use conode_compare_pdos::{Moment, Pdos, Sighting};
 
 // a TPDO isn't judged while a heartbeat is late
@@ -61,7 +59,7 @@ impl Progress {
     }
 
     // how a PDO is judged that comes now: by whether the tolerance was over when the bus was free
-    #[tactic(auto, unfolding(crate::specs::Progresses::moment_at))]
+    #[tactic(auto, unfolding(crate::specs::Processes::moment_at))]
     fn moment_at(&self, subject: &Subject, micros: u64) -> Moment
         ensures { result ≡ moment_at subject.now self.now micros }
     {
@@ -95,7 +93,7 @@ impl Progress {
     /// A data frame that is none of the others comes: a SYNC, or a PDO. Returns what is found at
     /// it: by a TPDO a heartbeat may be missing. What an RPDO may have written to the entries that
     /// are held is unknown then, and what the client of another SDO channel may have written.
-    #[tactic(auto, unfolding(crate::specs::Progresses::process_findings, crate::specs::Progresses::after_process))]
+    #[tactic(auto, unfolding(crate::specs::Processes::process_findings, crate::specs::Processes::after_process))]
     pub(crate) fn take_process(
         &mut self,
         subject: &Subject,

@@ -4,12 +4,11 @@ ghost use Rattle.std.specs.Prelude.{◌≡◌, true, map};
 ghost use Rattle.std.specs.List.{AllPairs};
 ghost use Rattle.co_sheet.specs.SheetViews.{row_view};
 ghost use Rattle.co_value.specs.Keys.{is_key_before};
-ghost use Rattle.conode_compare_rules.specs.Progresses.{
+ghost use Rattle.conode_compare_rules.specs.Gaps.{before_recording};
+ghost use Rattle.conode_compare_rules.specs.NmtFrames.{
   after_command,
   after_control,
-  after_emergency,
   after_length,
-  before_recording,
   boot_findings,
   booted,
   booted_entries,
@@ -19,15 +18,9 @@ ghost use Rattle.conode_compare_rules.specs.Progresses.{
   comes_early,
   control_findings,
   control_judged,
-  progress_with,
-  emergency_findings,
-  emergency_noted,
-  findings_at,
-  findings_in,
   heartbeat_findings,
   is_again,
   is_overdue,
-  is_number_kept,
   is_repeated,
   late_alone,
   late_at,
@@ -35,25 +28,33 @@ ghost use Rattle.conode_compare_rules.specs.Progresses.{
   may_be_written,
   may_differ,
   odd_control_findings,
-  odd_emergency_findings,
-  after_frame,
   steady_when_free,
   heartbeats_by,
   was_asked,
 };
+ghost use Rattle.conode_compare_rules.specs.EmergencyRules.{
+  after_emergency,
+  emergency_findings,
+  emergency_noted,
+  odd_emergency_findings,
+};
+ghost use Rattle.conode_compare_rules.specs.Progresses.{
+  progress_with,
+  findings_at,
+  findings_in,
+  is_number_kept,
+  after_frame,
+};
 
 use crate::answers::silence_finding;
 use crate::emergencies::length_finding;
-use crate::entries::Entries;
-use crate::finding::{Finding, NmtState, Remark};
-use crate::heartbeats::{Heartbeats, LONGEST_PERIOD};
 use crate::kind::FrameKind;
-use crate::limits::Subject;
-use crate::nmt::{Nmt, is_reset};
-use crate::repeated::Odd;
 use crate::verdict::Findings;
 use co_frame::NmtService;
 use co_sheet::EntryRow;
+use conode_compare_nmt::{
+    Entries, Finding, Heartbeats, LONGEST_PERIOD, Nmt, NmtState, Odd, Remark, Subject, is_reset,
+};
 use conode_compare_pdos::Pdos;
 use conode_compare_transfers::{Dialogue, Exchange, Left, is_past};
 use conode_compare_values::Written;
@@ -120,7 +121,7 @@ impl Progress {
     // A command; `own`: the device needn't follow it, since it may have sent it itself, or it has
     // more than two bytes. After a reset nothing is known of its PDOs until the boot-up, nor of the
     // inhibit time of its EMCY.
-    #[tactic(auto, unfolding(crate::specs::Progresses::after_command, crate::specs::Progresses::with_gap))]
+    #[tactic(auto, unfolding(crate::specs::NmtFrames::after_command, crate::specs::Gaps::with_gap))]
     fn take_command(&mut self, service: NmtService, own: bool, micros: u64)
         ensures { self.new ≡ after_command self.old service own micros }
     {
@@ -196,7 +197,7 @@ impl Progress {
     }
 
     // a boot-up
-    #[tactic(auto, unfolding(crate::specs::Progresses::booted, crate::specs::Progresses::with_gap))]
+    #[tactic(auto, unfolding(crate::specs::NmtFrames::booted, crate::specs::Gaps::with_gap))]
     fn take_boot_up(&mut self, subject: &Subject, micros: u64) -> Findings
         ensures findings { result ≡ boot_findings subject.now self.old micros }
         ensures progress { self.new ≡ booted subject.now self.old micros }
@@ -249,7 +250,7 @@ impl Progress {
     }
 
     // whether a heartbeat is judged: the state is known, and was settled when the bus was free last
-    #[tactic(auto, unfolding(crate::specs::Progresses::control_judged))]
+    #[tactic(auto, unfolding(crate::specs::NmtFrames::control_judged))]
     fn control_judged(&self, subject: &Subject) -> bool
         ensures { result ≡ control_judged subject.now self.now }
     {
@@ -324,7 +325,7 @@ impl Progress {
     }
 
     // what is found at a heartbeat; `frame`: the difference of its byte
-    #[tactic(auto, unfolding(crate::specs::Progresses::heartbeat_findings))]
+    #[tactic(auto, unfolding(crate::specs::NmtFrames::heartbeat_findings))]
     fn heartbeat_findings(
         &self,
         subject: &Subject,
@@ -380,7 +381,7 @@ impl Progress {
     }
 
     // a heartbeat
-    #[tactic(auto, unfolding(crate::specs::Progresses::control_findings, crate::specs::Progresses::after_control))]
+    #[tactic(auto, unfolding(crate::specs::NmtFrames::control_findings, crate::specs::NmtFrames::after_control))]
     fn take_heartbeat(&mut self, subject: &Subject, micros: u64, byte: u8) -> Findings
         ensures findings { result ≡ control_findings subject.now self.old micros byte }
         ensures progress { self.new ≡ after_control subject.now self.old micros byte }
@@ -435,7 +436,7 @@ impl Progress {
     }
 
     // error control of another number of bytes than one
-    #[tactic(auto, unfolding(crate::specs::Progresses::after_odd_control))]
+    #[tactic(auto, unfolding(crate::specs::NmtFrames::after_odd_control))]
     fn take_odd_control(&mut self, subject: &Subject, micros: u64, length: u8) -> Findings
         ensures findings { result ≡ odd_control_findings subject.now self.old micros length }
         ensures progress { self.new ≡ after_length subject.now self.old micros length }
@@ -452,7 +453,7 @@ impl Progress {
         Findings::of(boot, heartbeat, None, frame, !is_repeated)
     }
 
-    #[tactic(auto, unfolding(crate::specs::Progresses::after_emergency))]
+    #[tactic(auto, unfolding(crate::specs::EmergencyRules::after_emergency))]
     fn note_emergency(&mut self)
         ensures { self.new ≡ after_emergency self.old }
     {
@@ -461,7 +462,7 @@ impl Progress {
     }
 
     // an EMCY, by which a heartbeat may be missing
-    #[tactic(auto, unfolding(crate::specs::Progresses::emergency_findings, crate::specs::Progresses::after_emergency))]
+    #[tactic(auto, unfolding(crate::specs::EmergencyRules::emergency_findings, crate::specs::EmergencyRules::after_emergency))]
     fn take_emergency(
         &mut self,
         subject: &Subject,
@@ -485,7 +486,7 @@ impl Progress {
     }
 
     // an EMCY of another number of bytes than eight
-    #[tactic(auto, unfolding(crate::specs::Progresses::after_emergency))]
+    #[tactic(auto, unfolding(crate::specs::EmergencyRules::after_emergency))]
     fn take_odd_emergency(&mut self, length: u8) -> Findings
         ensures findings { result ≡ odd_emergency_findings self.old length }
         ensures progress { self.new ≡ after_emergency self.old }

@@ -3,7 +3,7 @@
 ghost use Rattle.std.specs.Prelude.{◌≡◌};
 ghost use Rattle.conode_compare_rules.specs.Verdicts.{found, is_found, nothing_found, verdict_of};
 
-use crate::finding::Finding;
+use conode_compare_nmt::Finding;
 
 /// What is said of a frame of the device.
 #[derive(Clone, Copy)]

@@ -1,7 +1,7 @@
 use Rattle.std.proofs.Common.{◌≡◌, ◌+◌, ◌⊎◌, inl, inr, List, []}
 use Rattle.co_sheet.specs.Content.{Row}
 use Rattle.co_node_model.specs.Moments.{Constants}
-use Rattle.conode_compare_rules.specs.declared.limits.Subject.{Subject}
+use Rattle.conode_compare_nmt.specs.declared.limits.Subject.{Subject}
 use Rattle.conode_compare_laws.specs.Differences.{differences_in, emergency_differences}
 use Rattle.conode_compare_laws.specs.Identifiers.{AllSendAside, AllSendWithout, AreElsewhere, AreNoEvents, JudgesNone}
 use Rattle.conode_compare_laws.specs.Recordings.{Stamped, recording}

@@ -1,6 +1,6 @@
 -- What is known after a frame of the SDO channel: each part is what its function gives.
 use Rattle.std.proofs.Common.{refl}
-use Rattle.conode_compare_rules.specs.Progresses.{channel_heard, exchange_at}
+use Rattle.conode_compare_rules.specs.Channels.{channel_heard, exchange_at}
 use Rattle.conode_compare_rules.proofs.progress.Progress.hear.Goals as goal
 
 pub returns-clause-progress : goal.returns-clause-progress

@@ -1,6 +1,6 @@
 -- What is found at an answer, and what is known then: each part is what its function gives.
 use Rattle.std.proofs.Common.{refl}
-use Rattle.conode_compare_rules.specs.Progresses.{answer_findings}
+use Rattle.conode_compare_rules.specs.Channels.{answer_findings}
 use Rattle.conode_compare_rules.proofs.progress.Progress.take_answer.Goals as goal
 
 pub returns-clause-findings : goal.returns-clause-findings
