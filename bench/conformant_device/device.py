@@ -33,6 +33,7 @@ class Device(Server):
             "beats on a grid": it.random() < 0.5,
             "register when sent": it.random() < 0.5,
             "keeps EMCYs while stopped": it.random() < 0.5,
+            "keeps EMCYs of errors that are over": it.random() < 0.5,
             "clears mailboxes": it.random() < 0.5,
             "times anew at start": it.random() < 0.5,
             "sends at start": it.random() < 0.5,
@@ -204,7 +205,7 @@ class Device(Server):
             if state == OPERATIONAL:
                 tpdo["last"] = None if self.chosen["times anew at start"] else tpdo["last"]
                 self.begin_tpdo(at, tpdo)
-        if before == STOPPED:
+        if before == STOPPED and not self.chosen["keeps EMCYs of errors that are over"]:
             self.emcies = [each for each in self.emcies if each[2] in self.registers]
         if state == STOPPED:
             self.timers.pop("job", None)
@@ -326,7 +327,7 @@ class Device(Server):
                 return
             self.bus.send(self, 0x80 + self.node, code.to_bytes(2, "little") + bytes([register]) + bytes(5))
         if self.state == STOPPED:
-            # the most recent active one may be sent when it leaves stopped
+            # the most recent one may be sent when it leaves stopped, also where its error is over by then
             self.emcies = [[code, None, bit]] if code else self.emcies
         else:
             self.emcies.append([code, None if self.chosen["register when sent"] else register, bit])

@@ -156,19 +156,16 @@ download_turns : in_turn (sent nothing_asked 2000000 Client (0xC2 ∷ 0 ∷ 0x20
 unfolding comes_in_turn dialogue_heard exchange_in is_certain newest_after newest_with breach_at request_row_in response_row_in
 download_turns = refl
 
+-- an upload in segments that begins within a second after the recording
+abbrev early : Dialogue
+early = sent (sent nothing_asked 900000 Client (0x40 ∷ 0 ∷ 0x20 ∷ 1 ∷ 0 ∷ 0 ∷ 0 ∷ 0 ∷ [])) 1500000 Server (0x41 ∷ 0 ∷ 0x20 ∷ 1 ∷ 9 ∷ 0 ∷ 0 ∷ 0 ∷ [])
+
 -- another number of bytes; a second acknowledge; an abort in place of the acknowledge; of a transfer whose request came within a second
 -- after the recording began; and without a transfer
 not_in_turn : in_turn (end (acknowledged (begun nothing_asked 5))) 2005000 (0xA1 ∷ 0 ∷ 0 ∷ 0 ∷ 0 ∷ 0 ∷ 0 ∷ 0 ∷ [])
     ∷ in_turn (begun nothing_asked 4) 2003000 (0xA2 ∷ 0 ∷ 127 ∷ 0 ∷ 0 ∷ 0 ∷ 0 ∷ 0 ∷ [])
     ∷ in_turn (sent (begun nothing_asked 4) 2002000 Client (0x81 ∷ 1 ∷ 2 ∷ 3 ∷ 4 ∷ 0 ∷ 0 ∷ 0 ∷ [])) 2003000 (0x80 ∷ 0 ∷ 0x20 ∷ 1 ∷ 0 ∷ 0 ∷ 4 ∷ 5 ∷ [])
-    ∷ in_turn
-        (sent
-            (sent (sent nothing_asked 900000 Client (0x40 ∷ 0 ∷ 0x20 ∷ 1 ∷ 0 ∷ 0 ∷ 0 ∷ 0 ∷ [])) 1500000 Server (0x41 ∷ 0 ∷ 0x20 ∷ 1 ∷ 9 ∷ 0 ∷ 0 ∷ 0 ∷ []))
-            1550000
-            Client
-            (0x60 ∷ 0 ∷ 0 ∷ 0 ∷ 0 ∷ 0 ∷ 0 ∷ 0 ∷ []))
-        1600000
-        (0 ∷ 1 ∷ 2 ∷ 3 ∷ 4 ∷ 5 ∷ 6 ∷ 7 ∷ [])
+    ∷ in_turn (sent early 1550000 Client (0x60 ∷ 0 ∷ 0 ∷ 0 ∷ 0 ∷ 0 ∷ 0 ∷ 0 ∷ [])) 1600000 (0 ∷ 1 ∷ 2 ∷ 3 ∷ 4 ∷ 5 ∷ 6 ∷ 7 ∷ [])
     ∷ in_turn nothing_asked 2000000 (0x60 ∷ 0 ∷ 0x20 ∷ 1 ∷ 0 ∷ 0 ∷ 0 ∷ 0 ∷ []) ∷ []
     ≡ false ∷ false ∷ false ∷ false ∷ false ∷ []
 unfolding comes_in_turn dialogue_heard exchange_in is_certain newest_after newest_with breach_at request_row_in response_row_in

@@ -103,12 +103,7 @@ fn response_key(content: &Content<'_>) -> Option<Key>
 }
 
 // the entry of a download that goes on with the frame that is such a response
-fn accepted_key(
-    side: Side,
-    what: What,
-    ended: &Option<Ended>,
-    content: &Content<'_>,
-) -> Option<Key>
+fn accepted_key(side: Side, what: What, ended: &Option<Ended>, content: &Content<'_>) -> Option<Key>
     ensures { result ≡ accepted_key side what ended.now content.now }
 {
     match (side, what, ended) {
