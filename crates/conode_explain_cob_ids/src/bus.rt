@@ -32,9 +32,9 @@ impl<'s, 'a> Bus<'_, '_, '_, 's, 'a> {
 
 impl<'e> Bus<'_, 'e, '_, '_, '_> {
     /// What the recording shows of the entries of a node's PDO, by the index of its communication
-    /// parameter (1400h to 15FFh, 1800h to 19FFh); of an SDO channel by that of its parameter; of the
-    /// device type and of the COB-IDs of SYNC, TIME and emergencies by that of the entry. `None`
-    /// where it shows none.
+    /// parameter (1400h to 15FFh, 1800h to 19FFh; CiA 301, 7.5.2.35 to 7.5.2.38); of an SDO channel
+    /// by that of its parameter; of the device type and of the COB-IDs of SYNC, TIME and emergencies
+    /// by that of the entry. `None` where it shows none.
     pub fn state(self, node: u8, index: u16) -> Option<&'e PdoState>
         ensures { option_copied result ≡ state_at (bus_view self.entry) node index }
     {

@@ -44,7 +44,7 @@ use crate::known_sheet::KnownSheet;
 use crate::origin::{Origin, is_from};
 use crate::service_ids::service_with;
 use crate::sheet::SheetPdo;
-use crate::sheet_mapping::{is_assumed, sheet_mapping};
+use crate::sheet_mappings::{is_assumed, sheet_mapping};
 use co_profile::IndexRange;
 use conode_explain_entries::{ShownPdo, Value};
 use std::alloc::AllocError;

@@ -43,8 +43,8 @@ fn type_of_device(shown: Option<u32>, names: Names<'_, '_>, node: u8) -> Option<
     }
 }
 
-/// Whether a node with such a device is a drive (CiA 402), by its device type (CiA 301, 7.5.2.1): the
-/// one that the recording shows, else the one that its data sheet begins with.
+/// Whether a node with such a device is a drive (CiA 402), by its device type (CiA 301, 7.5.2.1):
+/// the one that the recording shows, else the one that its data sheet begins with.
 #[tactic(auto, unfolding(crate::specs::Devices::is_node_drive))]
 pub fn is_node_drive(device: Device<'_, '_>, node: u8) -> bool
     ensures { result ≡ is_node_drive (device_view device.entry) node }

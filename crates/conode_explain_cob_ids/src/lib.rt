@@ -1,5 +1,5 @@
-//! Whose an identifier is, by data sheets and by what a recording shows of COB-IDs: PDOs, SYNC, TIME
-//! and emergencies; and what is known of a bus and its devices.
+//! Whose an identifier is, by data sheets and by what a recording shows of COB-IDs: PDOs, SYNC,
+//! TIME and emergencies; and what is known of a bus and its devices.
 #![tactic(auto)]
 
 // As `?` of a result without a value, and without a conversion of the error: a `match` is one step
@@ -34,7 +34,7 @@ mod named;
 mod origin;
 mod service_ids;
 mod sheet;
-mod sheet_mapping;
+mod sheet_mappings;
 mod sheet_services;
 mod unnamed;
 
@@ -48,6 +48,6 @@ pub use known_sheet::KnownSheet;
 pub use origin::{Origin, is_from, number_by, value_at};
 pub use service_ids::{NamedService, service_with};
 pub use sheet::{SheetPdo, sheet_pdos};
-pub use sheet_mapping::{SheetMapping, is_assumed, sheet_count, sheet_mapping, sheet_word};
+pub use sheet_mappings::{SheetMapping, is_assumed, sheet_count, sheet_mapping, sheet_word};
 pub use sheet_services::{SheetService, is_service_index};
 pub use unnamed::{is_unnamed, shows_more};

@@ -29,8 +29,8 @@ pub enum Origin {
     Store,
 }
 
-/// Whether the value of an entry is from there; one that was shown, and whose number isn't known, is
-/// from none of them.
+/// Whether the value of an entry is from there; one that was shown, and whose number isn't known,
+/// is from none of them.
 pub fn is_from(origin: Origin, value: Value) -> bool
     ensures { result ≡ is_from origin value }
 {
@@ -42,7 +42,8 @@ pub fn is_from(origin: Origin, value: Value) -> bool
     }
 }
 
-/// What a sub-index has, of the values of the sub-indices from 0 on; past the last nothing was shown.
+/// What a sub-index has, of the values of the sub-indices from 0 on; past the last nothing was
+/// shown.
 pub fn value_at(values: &[Value], place: usize) -> Value
     ensures { result ≡ value_at values.now place }
 {

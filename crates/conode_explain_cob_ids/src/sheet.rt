@@ -21,7 +21,7 @@ ghost use Rattle.conode_explain_cob_ids.specs.Sheets.{
 };
 
 use crate::cob_id::{BOUND, SheetCobId, cob_id_of};
-use crate::sheet_mapping::SheetMapping;
+use crate::sheet_mappings::SheetMapping;
 use arrayvec::ArrayVec;
 use co_profile::IndexRange;
 use co_sheet::{EntryRow, Preset};

@@ -50,9 +50,9 @@ fn mapping_of(pdos: &[SheetPdo], index: u16) -> Option<&SheetMapping>
     None
 }
 
-/// What the data sheet that is for a node says of the mapping of its PDO, by the index of the PDO's
-/// communication parameter (1400h to 15FFh, 1800h to 19FFh); `None` without a sheet, and where the
-/// sheet hasn't the PDO.
+/// What the data sheet that is for a node says of the mapping of its PDO (CiA 301, 7.5.2.36 and
+/// 7.5.2.38), by the index of the PDO's communication parameter (1400h to 15FFh, 1800h to 19FFh);
+/// `None` without a sheet, and where the sheet hasn't the PDO.
 pub fn sheet_mapping<'k>(
     bus: Bus<'k, '_, '_, '_, '_>,
     node: u8,
@@ -73,8 +73,8 @@ fn word_at(words: &[u32], place: usize) -> u32
     if place < words.len() { words[place] } else { 0 }
 }
 
-/// How many entries the sheet's mapping of a PDO has, its sub-index 0; `None` where the sheet has no
-/// number there, and without a mapping (CiA 301, 7.5.2.36 and 7.5.2.38).
+/// How many entries the sheet's mapping of a PDO has, its sub-index 0 (CiA 301, 7.5.2.36 and
+/// 7.5.2.38); `None` where the sheet has no number there, and without a mapping.
 pub fn sheet_count(sheet: Option<&SheetMapping>) -> Option<u32>
     ensures { result ≡ sheet_count (option_copied sheet.entry) }
 {
@@ -93,9 +93,9 @@ fn if_there(word: u32) -> Option<u32>
     if word == 0 { None } else { Some(word) }
 }
 
-/// A word of the sheet's mapping of a PDO, counted from 0: index (bits 31 to 16), sub-index (bits 15
-/// to 8) and length in bits (bits 7 to 0) of a mapped entry; `None` where the sheet has none, or 0
-/// (CiA 301, 7.5.2.36 and 7.5.2.38).
+/// A word of the sheet's mapping of a PDO, counted from 0 (CiA 301, 7.5.2.36 and 7.5.2.38): index
+/// (bits 31 to 16), sub-index (bits 15 to 8) and length in bits (bits 7 to 0) of a mapped entry;
+/// `None` where the sheet has none, or 0.
 pub fn sheet_word(sheet: Option<&SheetMapping>, place: u8) -> Option<u32>
     ensures { result ≡ sheet_word (option_copied sheet.entry) place }
 {
