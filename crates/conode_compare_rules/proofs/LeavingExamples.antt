@@ -21,7 +21,7 @@ use Rattle.conode_compare_rules.specs.Gaps.{before_recording}
 use Rattle.conode_compare_rules.specs.EmergencyRules.{after_emergency, emergency_noted, may_have_waited}
 use Rattle.conode_compare_rules.specs.Channels.{channel_heard, exchange_at, left_open, may_miss_end, nmt_heard}
 use Rattle.conode_compare_rules.specs.Processes.{after_process, moment_at}
-use Rattle.conode_compare_nmt.specs.States.{is_settled, nothing_commanded}
+use Rattle.conode_compare_nmt.specs.States.{is_settled}
 use Rattle.co_frame.specs.FrameContent.{FrameContent}
 use Rattle.co_frame.specs.SdoRequests.{request_row_in}
 use Rattle.conode_compare_transfers.specs.Dialogues.{dialogue_heard, exchange_in}
