@@ -2,6 +2,7 @@
 use Rattle.std.proofs.Common.{◌≡◌, ℕ, List, [], ◌∷◌, Some, None, refl}
 use Rattle.std.specs.Prelude.{map}
 use Rattle.co_value.specs.declared.key.Key.{Key}
+use Rattle.co_frame.specs.SdoResponses.{response_row_in}
 use Rattle.conode_record.specs.declared.content.Content.{Content}
 use Rattle.conode_record.specs.declared.content.Content.TheVariants.{Data, Remote}
 use Rattle.conode_explain_transfers.specs.declared.ended.Ended.{Ended}
@@ -18,6 +19,7 @@ key = record { index = 0x2011; sub = 0 }
 
 -- of the specifiers 2, 3 and 4 it is 3
 by_specifier : map (λ first. accepted_key Server Part None (frame first)) (0x40 ∷ 0x60 ∷ 0x80 ∷ []) ≡ None ∷ Some key ∷ None ∷ []
+unfolding response_row_in
 by_specifier = refl
 
 -- a client's request of a segment has 3, too
