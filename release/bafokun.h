@@ -39,9 +39,9 @@
 extern "C" {
 #endif
 
-#define BAFOKUN_VERSION "0.33.0"
+#define BAFOKUN_VERSION "0.34.0"
 #define BAFOKUN_VERSION_MAJOR 0
-#define BAFOKUN_VERSION_MINOR 33
+#define BAFOKUN_VERSION_MINOR 34
 #define BAFOKUN_VERSION_PATCH 0
 
 /* No input gives more frames: an array of so many has room for all. */
