@@ -1,2 +1,3 @@
 mod WrittenLemmas
 mod LoopLemmas
+mod NoSheetExamples

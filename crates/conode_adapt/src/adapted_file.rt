@@ -1,40 +1,72 @@
 //! Adapting the file of a data sheet.
 
-ghost use Rattle.std.specs.Prelude.{◌≡◌, ◌⊎◌, true, false, Ok, None, IfOk, IfErr, OnOk};
+ghost use Rattle.std.specs.Prelude.{
+  ◌≡◌,
+  ◌⊎◌,
+  true,
+  false,
+  Ok,
+  None,
+  IfOk,
+  IfErr,
+  IfSome,
+  OnOk,
+  string_bytes,
+};
 ghost use Rattle.std.specs.Io.KnownBytes.{Appends, Keeps};
 ghost use Rattle.std.specs.Process.{exit_status};
 ghost use Rattle.co_sheet.specs.Accepted.{first_fault};
+ghost use Rattle.conode_adapt.specs.NoSheet.{IsReason, no_sheet, reason_line};
 ghost use Rattle.conode_adapt.specs.Written.{changes_of, orders_view, sheet_of};
 
 use crate::mappings::mappings_at_fault;
+use crate::no_sheet::{no_sheet, reason_line};
 use crate::orders::Orders;
 use crate::outcome::{Outcome, outcome_of};
 use crate::remaining::push_faults;
 use co_sheet_changes::{AdaptFault, LeadingZeros};
 use co_sheet_faults::{FaultKind, SheetFault};
-use conode_io::{CmdFault, Message, file_text, flushed, hand_over, say};
-use std::alloc::Global;
-use std::io::Write;
+use conode_io::{CmdFault, Message, flushed, hand_over, say};
+use conode_lint::text_of;
+use std::alloc::{AllocError, Global};
+use std::io::{Input, Write};
 use std::process::ExitCode;
 use std::rt::Files;
 
-// says that a text is too large, as `lint` prints it; `Memory` if memory ran out
+// what is said of a text that is too large: why it is no data sheet, or else that, as `lint` prints
+// it
+fn said_of_large(alloc: Global, text: &[u8], name: &str) -> Result<String, AllocError>
+    ensures { IfOk result (λ said. IsReason (no_sheet text.now) (string_bytes said)) }
+{
+    if let Some(why) = attempt!(no_sheet(alloc, text)) {
+        return reason_line(alloc, why);
+    }
+    let mut said = String::new(alloc);
+    let faults = [SheetFault {
+        kind: FaultKind::TooLarge,
+        line: 0,
+    }];
+    attempt!(push_faults(alloc, &mut said, name, b"", &[], &faults));
+    Ok(said)
+}
+
+// says why a text that is too large isn't adapted; `Memory` if memory ran out
 fn write_refused<E: Write>(
     alloc: Global,
+    text: &[u8],
     name: &str,
     refusal: AdaptFault,
     err: &mut E,
 ) -> Result<(), CmdFault>
-    ensures { IfErr result (λ fault. (fault ≡ CmdFault.Write) ⊎ (fault ≡ CmdFault.Memory)) }
+    ensures reason { OnOk result (IfSome (no_sheet text.now) (λ why.
+        Appends (E.contents err.old) (E.contents err.new) (reason_line why))) }
+    ensures fault { IfErr result (λ fault. (fault ≡ CmdFault.Write) ⊎ (fault ≡ CmdFault.Memory)) }
 {
-    let kind = match refusal {
-        AdaptFault::Memory => return Err(CmdFault::Memory),
-        AdaptFault::TooLarge => FaultKind::TooLarge,
-    };
-    let mut report = String::new(alloc);
-    let faults = [SheetFault { kind, line: 0 }];
-    match push_faults(alloc, &mut report, name, b"", &[], &faults) {
-        Ok(()) => hand_over(report.as_bytes(), err),
+    if let AdaptFault::Memory = refusal {
+        return Err(CmdFault::Memory);
+    }
+    match said_of_large(alloc, text, name) {
+        Ok(said) => hand_over(said.as_bytes(), err),
         Err(_) => Err(CmdFault::Memory),
     }
 }
@@ -52,6 +84,8 @@ fn write_outcome<O: Write, E: Write>(
     ensures changes { result ≡ Ok true →
         Appends (E.contents err.old) (E.contents err.new) outcome.now.changes.items }
     ensures none { result ≡ Ok false → Keeps (O.contents out.old) (O.contents out.new) }
+    ensures remaining { result ≡ Ok false → Appends (E.contents err.old) (E.contents err.new)
+        (string_bytes outcome.now.remaining) }
     ensures fault { IfErr result (λ fault. (fault ≡ CmdFault.Write) ⊎ (fault ≡ CmdFault.Memory)) }
 {
     if !outcome.is_accepted {
@@ -64,9 +98,9 @@ fn write_outcome<O: Write, E: Write>(
 }
 
 /// Adapts a text. If the adapted sheet is accepted, writes it to `out` and a line for each change
-/// to `err`. Else writes the faults that remain to `err`, as `lint` prints them, and nothing to
-/// `out`. Returns whether a sheet is written. `Write` if a writer failed, `Memory` if memory ran
-/// out.
+/// to `err`. Else writes to `err` why the text is no data sheet, in a line, or if it is one the
+/// faults that remain, as `lint` prints them, and nothing to `out`. Returns whether a sheet is
+/// written. `Write` if a writer failed, `Memory` if memory ran out.
 pub fn write_adapted<O: Write, E: Write>(
     alloc: Global,
     text: &[u8],
@@ -83,13 +117,15 @@ pub fn write_adapted<O: Write, E: Write>(
         (sheet_of version.now name.now (orders_view orders.entry) text.now) }
     ensures changes { result ≡ Ok true → Appends (E.contents err.old) (E.contents err.new)
         (changes_of name.now (orders_view orders.entry) text.now) }
+    ensures reason { result ≡ Ok false → IfSome (no_sheet text.now) (λ why.
+        Appends (E.contents err.old) (E.contents err.new) (reason_line why)) }
     ensures none { result ≡ Ok false → Keeps (O.contents out.old) (O.contents out.new) }
     ensures err { IfErr result (λ fault. (fault ≡ CmdFault.Write) ⊎ (fault ≡ CmdFault.Memory)) }
 {
     match outcome_of(alloc, text, name, version, orders) {
         Ok(outcome) => write_outcome(&outcome, out, err),
         Err(refusal) => {
-            attempt!(write_refused(alloc, name, refusal, err));
+            attempt!(write_refused(alloc, text, name, refusal, err));
             Ok(false)
         }
     }
@@ -122,7 +158,7 @@ fn write_asked<O: Write, E: Write>(
             write_adapted(alloc, text, name, version, orders, out, err)
         }
         Err(refusal) => {
-            attempt!(write_refused(alloc, name, refusal, err));
+            attempt!(write_refused(alloc, text, name, refusal, err));
             Ok(false)
         }
     }
@@ -145,11 +181,12 @@ pub struct AdaptWords {
     pub force: bool,
 }
 
-/// Adapts the data sheet of a path, as `write_adapted` does. With `force`, the mappings that are
-/// still at fault for the sheet's node-ID, or for 1, are forced too. The status is 0 if a sheet is
-/// written; 1 if something remains that no rule mends; 1 also if memory ran out or `out` can't be
-/// written, which `err` says; 2 if the file can't be read.
-pub fn adapt_file<R: Files + AllocGlobal, O: Write, E: Write>(
+/// Adapts the data sheet of a path, or of standard input for `-`, as `write_adapted` does. With
+/// `force`, the mappings that are still at fault for the sheet's node-ID, or for 1, are forced too.
+/// The status is 0 if a sheet is written; 1 if the text is no data sheet, or if something remains
+/// that no rule mends; 1 also if memory ran out or `out` can't be written, which `err` says; 2 if
+/// the file can't be read.
+pub fn adapt_file<R: Files + AllocGlobal + Input, O: Write, E: Write>(
     rt: &R,
     path: &str,
     version: &str,
@@ -157,7 +194,7 @@ pub fn adapt_file<R: Files + AllocGlobal, O: Write, E: Write>(
     out: &mut O,
     err: &mut E,
 ) -> ExitCode {
-    let text = match file_text(rt, path) {
+    let text = match text_of(rt, path) {
         Ok(text) => text,
         Err(CmdFault::Memory) => return stopped_by(CmdFault::Memory, err),
         Err(_) => {

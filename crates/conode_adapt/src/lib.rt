@@ -16,6 +16,7 @@ mod adapted_file;
 mod line_ends;
 mod listing;
 mod mappings;
+mod no_sheet;
 mod orders;
 mod outcome;
 mod remaining;

@@ -1,9 +1,22 @@
 //! The outcome of adapting a text, before it is written.
 
-ghost use Rattle.std.specs.Prelude.{◌≡◌, ◌++◌, ◌&&◌, not, true, None, is_none, map, IfOk};
+ghost use Rattle.std.specs.Prelude.{
+  ◌≡◌,
+  ◌++◌,
+  ◌&&◌,
+  not,
+  true,
+  false,
+  None,
+  is_none,
+  map,
+  IfOk,
+  string_bytes,
+};
 ghost use Rattle.co_sheet.specs.Accepted.{first_fault};
 ghost use Rattle.co_sheet_adapt.specs.Adapted.{adapted_text, pieces_in};
 ghost use Rattle.co_sheet_changes.specs.Pieces.{piece_view};
+ghost use Rattle.conode_adapt.specs.NoSheet.{IsReason, no_sheet};
 ghost use Rattle.conode_adapt.specs.Written.{
   by_line,
   changes_in,
@@ -14,6 +27,7 @@ ghost use Rattle.conode_adapt.specs.Written.{
 
 use crate::line_ends::{push_last_line, push_line_ends, push_mark};
 use crate::listing::push_changes;
+use crate::no_sheet::{no_sheet, reason_line};
 use crate::orders::Orders;
 use crate::remaining::remaining;
 use co_sheet_adapt::{Adapted, adapt};
@@ -29,7 +43,8 @@ pub(crate) struct Outcome {
     pub(crate) changes: Vec<u8>,
     /// Whether the sheet is accepted.
     pub(crate) is_accepted: bool,
-    /// What no rule mends, as `lint` prints it; empty if the sheet is accepted.
+    /// Why the text is no data sheet, or else what no rule mends, as `lint` prints it; empty if the
+    /// sheet is accepted.
     pub(crate) remaining: String,
 }
 
@@ -75,15 +90,22 @@ fn listed(
     Ok(changes)
 }
 
-// what remains of a text that isn't accepted, as `lint` prints it
+// what is said of a text that isn't accepted: why it is no data sheet, or else what remains, as
+// `lint` prints it
 fn remaining_of(
     alloc: Global,
     text: &[u8],
     name: &str,
     adapted: &Adapted<'_>,
-) -> Result<String, AllocError> {
+) -> Result<String, AllocError>
+    ensures { adapted.now.is_accepted ≡ false →
+        IfOk result (λ said. IsReason (no_sheet text.now) (string_bytes said)) }
+{
     if adapted.is_accepted {
         return Ok(String::new(alloc));
+    }
+    if let Some(why) = attempt!(no_sheet(alloc, text)) {
+        return reason_line(alloc, why);
     }
     let sheet = adapted.text.as_slice();
     remaining(alloc, name, text, sheet, adapted.pieces.as_slice())
@@ -111,6 +133,8 @@ fn outcome_with(
         (map piece_view read.now.pieces.items) (map piece_view forced.now.pieces.items)
         (map piece_view adapted.entry.pieces.items)) }
     ensures accepted { IfOk result (λ made. made.is_accepted ≡ adapted.entry.is_accepted) }
+    ensures reason { IfOk result (λ made. made.is_accepted ≡ false →
+        IsReason (no_sheet text.now) (string_bytes made.remaining)) }
 {
     let steps = Steps {
         read: read.pieces.as_slice(),
@@ -164,6 +188,8 @@ pub(crate) fn outcome_of(
         made.changes.items ≡ changes_of name.now (orders_view orders.entry) text.now) }
     ensures accepted { IfOk result (λ made. made.is_accepted ≡ true →
         first_fault (sheet_of version.now name.now (orders_view orders.entry) text.now) ≡ None) }
+    ensures reason { IfOk result (λ made. made.is_accepted ≡ false →
+        IsReason (no_sheet text.now) (string_bytes made.remaining)) }
 {
     let read = on_request(alloc, text, orders.zeros_request())?;
     let forced = on_request(alloc, read.text.as_slice(), orders.force_request())?;
