@@ -1,5 +1,5 @@
 -- The statistics in JSON, evaluated.
-use Rattle.std.proofs.Common.{ℕ, Option, [], ◌∷◌, ◌++◌, ◌≡◌, Some, None, refl}
+use Rattle.std.proofs.Common.{ℕ, [], ◌∷◌, ◌++◌, ◌≡◌, Some, None, refl}
 use Rattle.std.specs.Prelude.{codes}
 use Rattle.std.specs.Fmt.{digits}
 use Rattle.json.specs.Token.{begin_object, end_object, key, number, string}
@@ -7,6 +7,8 @@ use Rattle.conode_json.specs.Members.{number_member, object_begin, text_member}
 use Rattle.co_text.specs.Printed.{digits_text}
 use Rattle.conode_explain_transfers.specs.declared.ended.Ended.{Ended}
 use Rattle.conode_stats_counts.specs.declared.failure.FailureRow.{FailureRow}
+use Rattle.conode_stats_counts.specs.declared.failure.Reason.{Reason}
+use Rattle.conode_stats_counts.specs.declared.failure.Reason.TheVariants.{Code, NoCode, OtherSize, WrongCrc}
 use Rattle.conode_stats_counts.specs.Buses.{BusCounts}
 use Rattle.conode_stats_text.specs.declared.finding.Kind.TheVariants.{Failures, Emergencies}
 use Rattle.conode_stats_text.specs.declared.pace.Pace.TheVariants.{Written}
@@ -94,22 +96,34 @@ silent_object = refl
 
 -- ---- SDO transfers and EMCY messages
 
-abbrev row : Option ℕ → FailureRow
-row code = record { cause = record { node = 5; code = code }; count = 12; first = 1000250; last = 3001000 }
+abbrev row : Reason → FailureRow
+row reason = record { cause = record { node = 5; reason = reason }; count = 12; first = 1000250; last = 3001000 }
 
-aborted_object : failure_tokens Failures (row (Some 0x06020000))
+aborted_object : failure_tokens Failures (row (Code 0x06020000))
     ≡ begin_object ∷ key (codes "node") ∷ number (codes "5") ∷ key (codes "abortCode") ∷ string (codes "06020000")
     ∷ key (codes "count") ∷ number (codes "12") ∷ key (codes "first") ∷ number (codes "1000250") ∷ key (codes "last") ∷ number (codes "3001000") ∷ end_object ∷ []
 unfolding failure_tokens counted_tokens number_member text_member digits_text digits
 aborted_object = refl
 
-unanswered_object : failure_tokens Failures (row None)
+unanswered_object : failure_tokens Failures (row NoCode)
     ≡ begin_object ∷ key (codes "node") ∷ number (codes "5")
     ∷ key (codes "count") ∷ number (codes "12") ∷ key (codes "first") ∷ number (codes "1000250") ∷ key (codes "last") ∷ number (codes "3001000") ∷ end_object ∷ []
 unfolding failure_tokens counted_tokens number_member digits
 unanswered_object = refl
 
-emergency_object : failure_tokens Emergencies (row (Some 0x8110))
+other_size_object : failure_tokens Failures (row OtherSize)
+    ≡ begin_object ∷ key (codes "node") ∷ number (codes "5") ∷ key (codes "result") ∷ string (codes "sizeDiffers")
+    ∷ key (codes "count") ∷ number (codes "12") ∷ key (codes "first") ∷ number (codes "1000250") ∷ key (codes "last") ∷ number (codes "3001000") ∷ end_object ∷ []
+unfolding failure_tokens counted_tokens number_member text_member digits
+other_size_object = refl
+
+wrong_crc_object : failure_tokens Failures (row WrongCrc)
+    ≡ begin_object ∷ key (codes "node") ∷ number (codes "5") ∷ key (codes "result") ∷ string (codes "crcDiffers")
+    ∷ key (codes "count") ∷ number (codes "12") ∷ key (codes "first") ∷ number (codes "1000250") ∷ key (codes "last") ∷ number (codes "3001000") ∷ end_object ∷ []
+unfolding failure_tokens counted_tokens number_member text_member digits
+wrong_crc_object = refl
+
+emergency_object : failure_tokens Emergencies (row (Code 0x8110))
     ≡ begin_object ∷ key (codes "node") ∷ number (codes "5") ∷ key (codes "errorCode") ∷ string (codes "8110")
     ∷ key (codes "count") ∷ number (codes "12") ∷ key (codes "first") ∷ number (codes "1000250") ∷ key (codes "last") ∷ number (codes "3001000") ∷ end_object ∷ []
 unfolding failure_tokens counted_tokens number_member text_member digits_text digits

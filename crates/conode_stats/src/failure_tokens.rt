@@ -3,29 +3,29 @@
 ghost use Rattle.std.specs.Prelude.{◌≡◌};
 ghost use Rattle.conode_stats_text.specs.Papers.{IsAppended};
 ghost use Rattle.conode_stats.specs.FailureTokens.{
-  code_members,
   counted_tokens,
   failure_tokens,
   open_tokens_in,
+  reason_members,
 };
 ghost use Rattle.conode_stats.specs.Parts.{part_tokens};
 
 use crate::document::Document;
 use crate::parts::{Part, Word};
 use conode_explain_transfers::Ended;
-use conode_stats_counts::{Bus, FailureRow, Tally};
+use conode_stats_counts::{Bus, FailureRow, Reason, Tally};
 use conode_stats_text::{Kind, is_waiting};
 
 // how often something of a node came, and when
 #[tactic(auto, unfolding(crate::specs::FailureTokens::counted_tokens))]
-fn put_counted(document: &mut Document, row: &FailureRow, code: Part<'_>)
+fn put_counted(document: &mut Document, row: &FailureRow, reason: Part<'_>)
     ensures { IsAppended document.old
-        (counted_tokens row.now (part_tokens code.entry)) document.new }
+        (counted_tokens row.now (part_tokens reason.entry)) document.new }
 {
     document.put(&[
         Part::BeginObject,
         Part::Number("node", row.cause.node as u64),
-        code,
+        reason,
         Part::Number("count", row.count),
         Part::Number("first", row.first),
         Part::Number("last", row.last),
@@ -33,16 +33,18 @@ fn put_counted(document: &mut Document, row: &FailureRow, code: Part<'_>)
     ])
 }
 
-// the code of an abort, or of an EMCY message
-fn code_part(kind: Kind, code: Option<u32>) -> Part<'static>
-    ensures { part_tokens result ≡ code_members kind code }
+// the code of an abort, or of an EMCY message; of a confirmed transfer the result
+fn reason_part(kind: Kind, reason: Reason) -> Part<'static>
+    ensures { part_tokens result ≡ reason_members kind reason }
 {
-    match (kind, code) {
-        (_, None) => Part::Nothing,
-        (Kind::Emergencies, Some(code)) => {
+    match (kind, reason) {
+        (Kind::Emergencies, Reason::Code(code)) => {
             Part::Word("errorCode", Word::Short((code % 65536) as u16))
         }
-        (_, Some(code)) => Part::Word("abortCode", Word::Long(code)),
+        (_, Reason::Code(code)) => Part::Word("abortCode", Word::Long(code)),
+        (_, Reason::NoCode) => Part::Nothing,
+        (_, Reason::OtherSize) => Part::Text("result", "sizeDiffers"),
+        (_, Reason::WrongCrc) => Part::Text("result", "crcDiffers"),
     }
 }
 
@@ -51,7 +53,7 @@ fn code_part(kind: Kind, code: Option<u32>) -> Part<'static>
 fn put_row(document: &mut Document, kind: Kind, row: &FailureRow)
     ensures { IsAppended document.old (failure_tokens kind row.now) document.new }
 {
-    put_counted(document, row, code_part(kind, row.cause.code));
+    put_counted(document, row, reason_part(kind, row.cause.reason));
 }
 
 // those of a node

@@ -8,7 +8,9 @@ use Rattle.conode_record.specs.declared.line.Record.{Record}
 use Rattle.conode_stats_counts.specs.declared.failure.Cause.{Cause}
 use Rattle.conode_stats_counts.specs.declared.failure.Failure.{Failure}
 use Rattle.conode_stats_counts.specs.declared.failure.FailureRow.{FailureRow}
-use Rattle.conode_stats_counts.specs.Failures.{Transferred, cause_of, channels_of, failure_added, failure_of, failure_row, failure_rows, failures_left_out, failures_of, failures_with, first_failure, is_failure, more_left_out, most_failures, rows_with, same_cause, same_code, telling_of, transfers_of, transfers_with}
+use Rattle.conode_stats_counts.specs.declared.failure.Reason.{Reason}
+use Rattle.conode_stats_counts.specs.declared.failure.Reason.TheVariants.{Code, NoCode, OtherSize, WrongCrc}
+use Rattle.conode_stats_counts.specs.Failures.{Transferred, cause_of, channels_of, failure_added, failure_of, failure_row, failure_rows, failures_left_out, failures_of, failures_with, first_failure, is_failure, more_left_out, most_failures, rows_with, same_cause, same_reason, telling_of, transfers_of, transfers_with}
 use Rattle.conode_stats_counts.specs.Gaps.{counted}
 use Rattle.conode_stats_counts.specs.Groups.{grouped, keys_of, left_out, left_out_by}
 use Rattle.conode_stats_counts.proofs.Grouped as group
@@ -20,19 +22,31 @@ none = refl
 
 -- ---- a test of causes
 
-code_decides : (a b : Option ℕ) → Decides (same_code a b) (a ≡ b)
-code_decides None None = (λ _. refl, λ _. refl)
-code_decides None (Some b) = (λ e. cc, λ e. cc)
-code_decides (Some a) None = (λ e. cc, λ e. cc)
-code_decides (Some a) (Some b) = Decides-like (a == b) (λ e. ap (λ (x : ℕ). Some x) e) (λ e. cc) (Decides-eqb a b)
+reason_decides : (a b : Reason) → Decides (same_reason a b) (a ≡ b)
+reason_decides (Code a) (Code b) = Decides-like (a == b) (λ e. ap (λ (x : ℕ). Code x) e) (λ e. cc) (Decides-eqb a b)
+reason_decides NoCode NoCode = (λ _. refl, λ _. refl)
+reason_decides OtherSize OtherSize = (λ _. refl, λ _. refl)
+reason_decides WrongCrc WrongCrc = (λ _. refl, λ _. refl)
+reason_decides (Code a) NoCode = (λ e. cc, λ e. cc)
+reason_decides (Code a) OtherSize = (λ e. cc, λ e. cc)
+reason_decides (Code a) WrongCrc = (λ e. cc, λ e. cc)
+reason_decides NoCode (Code b) = (λ e. cc, λ e. cc)
+reason_decides NoCode OtherSize = (λ e. cc, λ e. cc)
+reason_decides NoCode WrongCrc = (λ e. cc, λ e. cc)
+reason_decides OtherSize (Code b) = (λ e. cc, λ e. cc)
+reason_decides OtherSize NoCode = (λ e. cc, λ e. cc)
+reason_decides OtherSize WrongCrc = (λ e. cc, λ e. cc)
+reason_decides WrongCrc (Code b) = (λ e. cc, λ e. cc)
+reason_decides WrongCrc NoCode = (λ e. cc, λ e. cc)
+reason_decides WrongCrc OtherSize = (λ e. cc, λ e. cc)
 
-same_parts : (n m : ℕ) (c d : Option ℕ) → n ≡ m → c ≡ d → ◌≡◌ {A = Cause} (record { node = n; code = c }) (record { node = m; code = d })
+same_parts : (n m : ℕ) (c d : Reason) → n ≡ m → c ≡ d → ◌≡◌ {A = Cause} (record { node = n; reason = c }) (record { node = m; reason = d })
 same_parts n m c d e f = cc
 
 cause_decides : (a b : Cause) → Decides (same_cause a b) (a ≡ b)
 cause_decides a b =
-    Decides-like (same_cause a b) (λ h. same_parts a.node b.node a.code b.code h.0 h.1) (λ e. (ap (λ (c : Cause). c.node) e, ap (λ (c : Cause). c.code) e))
-    (Decides-and (a.node == b.node) (same_code a.code b.code) (Decides-eqb a.node b.node) (code_decides a.code b.code))
+    Decides-like (same_cause a b) (λ h. same_parts a.node b.node a.reason b.reason h.0 h.1) (λ e. (ap (λ (c : Cause). c.node) e, ap (λ (c : Cause). c.reason) e))
+    (Decides-and (a.node == b.node) (same_reason a.reason b.reason) (Decides-eqb a.node b.node) (reason_decides a.reason b.reason))
 
 -- ---- rows
 

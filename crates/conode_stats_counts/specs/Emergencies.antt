@@ -1,5 +1,5 @@
 -- EMCY messages of a bus (CiA 301, 7.2.7), by the pre-defined connection set (7.3.3). They are
--- counted by node and error code, as SDO transfers that failed are by node and abort code.
+-- counted by node and error code, as SDO transfers that failed are by node and reason.
 use Rattle.std.specs.Prelude.{ℕ, ◌+◌, ◌-◌, nat_lt, ◌&&◌, if◌then◌else◌, List, [], ◌∷◌, Option, Some, None}
 use Rattle.conode_record.specs.declared.content.Content.{Content}
 use Rattle.conode_record.specs.declared.content.Content.TheVariants.{Data}
@@ -8,16 +8,22 @@ use Rattle.conode_record.specs.declared.fields.Identifier.TheVariants.{Base}
 use Rattle.conode_record.specs.declared.line.Record.{Record}
 use Rattle.conode_stats_counts.specs.declared.failure.Failure.{Failure}
 use Rattle.conode_stats_counts.specs.declared.failure.FailureRow.{FailureRow}
-use Rattle.conode_stats_counts.specs.Failures.{cause_of, failure_row, failures_with, more_left_out, most_failures, rows_with, same_cause}
+use Rattle.conode_stats_counts.specs.declared.failure.Reason.{Reason}
+use Rattle.conode_stats_counts.specs.declared.failure.Reason.TheVariants.{Code, NoCode}
+use Rattle.conode_stats_counts.specs.Failures.{cause_of, failure_as, failure_row, failures_with, more_left_out, most_failures, rows_with, same_cause}
 use Rattle.conode_stats_counts.specs.Gaps.{counted}
 use Rattle.conode_stats_counts.specs.Groups.{grouped, left_out}
 use Rattle.conode_stats_counts.specs.ShownTimes.{first_word}
+
+abbrev pub coded : Option ℕ → Reason
+coded None = NoCode
+coded (Some code) = Code code
 
 -- the error code is the first two bytes
 abbrev pub emergency_in : ℕ → List ℕ → ℕ → Option Failure
 emergency_in id bytes micros =
     if nat_lt 0x80 id && nat_lt id 0x100
-    then Some (record { cause = record { node = id - 0x80; code = first_word bytes }; micros = micros })
+    then Some (failure_as (id - 0x80) micros (coded (first_word bytes)))
     else None
 
 abbrev pub emergency_as : Identifier → Content → ℕ → Option Failure

@@ -7,7 +7,7 @@ use Rattle.conode_explain_transfers.specs.Tellings.{telling}
 use Rattle.conode_explain_transfers.specs.Tracks.{Telling}
 use Rattle.conode_explain_transfers.specs.declared.ended.Ended.{Ended}
 use Rattle.conode_explain_transfers.specs.declared.ended.Ending.{Ending}
-use Rattle.conode_explain_transfers.specs.declared.ended.Ending.TheVariants.{Aborted, Unanswered, Repeated}
+use Rattle.conode_explain_transfers.specs.declared.ended.Ending.TheVariants.{Aborted, Unanswered, Repeated, SizeDiffers, CrcDiffers}
 use Rattle.conode_record.specs.declared.content.Content.{Content}
 use Rattle.conode_record.specs.declared.content.Content.TheVariants.{Data}
 use Rattle.conode_record.specs.declared.fields.Identifier.{Identifier}
@@ -16,6 +16,8 @@ use Rattle.conode_record.specs.declared.line.Record.{Record}
 use Rattle.conode_stats_counts.specs.declared.failure.Cause.{Cause}
 use Rattle.conode_stats_counts.specs.declared.failure.Failure.{Failure}
 use Rattle.conode_stats_counts.specs.declared.failure.FailureRow.{FailureRow}
+use Rattle.conode_stats_counts.specs.declared.failure.Reason.{Reason}
+use Rattle.conode_stats_counts.specs.declared.failure.Reason.TheVariants.{Code, NoCode, OtherSize, WrongCrc}
 use Rattle.conode_stats_counts.specs.Gaps.{counted}
 use Rattle.conode_stats_counts.specs.Groups.{grouped, group_with, left_out, no_room}
 
@@ -41,13 +43,19 @@ channels_of (frame ∷ older) = (telling_of (channels_of older) frame).tracks
 
 -- ---- failures
 
--- a transfer with a node that ended at a stamp: one that was aborted failed, and one whose client
--- began another while it awaited an answer
+-- of a node, at a stamp
+abbrev pub failure_as : ℕ → ℕ → Reason → Failure
+failure_as node micros reason = record { cause = record { node = node; reason = reason }; micros = micros }
+
+-- a transfer with a node that ended at a stamp: one that was aborted failed, one whose client began
+-- another while it awaited an answer, and one that was confirmed, but with another number of bytes
+-- than indicated, or with a CRC that isn't that of its bytes
 abbrev pub failure_by : ℕ → ℕ → Ending → Option Failure
-failure_by node micros (Aborted side code) =
-    Some (record { cause = record { node = node; code = Some code.0 }; micros = micros })
-failure_by node micros Unanswered = Some (record { cause = record { node = node; code = None }; micros = micros })
-failure_by node micros Repeated = Some (record { cause = record { node = node; code = None }; micros = micros })
+failure_by node micros (Aborted side code) = Some (failure_as node micros (Code code.0))
+failure_by node micros Unanswered = Some (failure_as node micros NoCode)
+failure_by node micros Repeated = Some (failure_as node micros NoCode)
+failure_by node micros (SizeDiffers indicated) = Some (failure_as node micros OtherSize)
+failure_by node micros (CrcDiffers came computed) = Some (failure_as node micros WrongCrc)
 failure_by node micros _ = None
 
 abbrev pub failure_in : ℕ → Option Ended → Option Failure
@@ -67,15 +75,17 @@ unfoldable pub failures_of : List Record → List Failure
 failures_of [] = []
 failures_of (frame ∷ older) = failures_with (failure_of (telling_of (channels_of older) frame).told) (failures_of older)
 
--- ---- by node and code
+-- ---- by node and reason
 
-abbrev pub same_code : Option ℕ → Option ℕ → Bool
-same_code None None = true
-same_code (Some a) (Some b) = a == b
-same_code _ _ = false
+abbrev pub same_reason : Reason → Reason → Bool
+same_reason (Code a) (Code b) = a == b
+same_reason NoCode NoCode = true
+same_reason OtherSize OtherSize = true
+same_reason WrongCrc WrongCrc = true
+same_reason _ _ = false
 
 abbrev pub same_cause : Cause → Cause → Bool
-same_cause a b = (a.node == b.node) && same_code a.code b.code
+same_cause a b = (a.node == b.node) && same_reason a.reason b.reason
 
 abbrev pub cause_of : Failure → Cause
 cause_of failure = failure.cause
@@ -100,11 +110,11 @@ failure_row cause failures = record {
   last = newest_failure failures;
 }
 
--- how many nodes and codes of a bus have a row
+-- how many nodes and reasons of a bus have a row
 abbrev pub most_failures : ℕ
 most_failures = 256
 
--- the rows, in the order in which their nodes and codes came first
+-- the rows, in the order in which their nodes and reasons came first
 unfoldable pub failure_rows : List Record → List FailureRow
 failure_rows frames = grouped same_cause cause_of most_failures failure_row (failures_of frames)
 

@@ -3,6 +3,7 @@
 ghost use Rattle.std.specs.Prelude.{◌≡◌, [], OnOk};
 ghost use Rattle.conode_record.specs.Grammar.{IsIdentifier};
 ghost use Rattle.conode_stats_counts.specs.Emergencies.{
+  coded,
   emergency_as,
   emergency_in,
   emergent_of,
@@ -10,7 +11,7 @@ ghost use Rattle.conode_stats_counts.specs.Emergencies.{
 };
 ghost use Rattle.conode_stats_counts.specs.ShownTimes.{first_word};
 
-use crate::failure::{Cause, Failure, FailureRow, add_failure};
+use crate::failure::{Cause, Failure, FailureRow, Reason, add_failure};
 use crate::shown_time::first_word;
 use crate::tally::counted;
 use co_value::PackedBytes;
@@ -38,12 +39,12 @@ impl Model for Emergencies {
 }
 
 // the error code
-fn error_code(bytes: &[u8]) -> Option<u32>
-    ensures { result ≡ first_word bytes.now }
+fn error_code(bytes: &[u8]) -> Reason
+    ensures { result ≡ coded (first_word bytes.now) }
 {
     match first_word(bytes) {
-        Some(code) => Some(code as u32),
-        None => None,
+        Some(code) => Reason::Code(code as u32),
+        None => Reason::NoCode,
     }
 }
 
@@ -53,9 +54,9 @@ fn emergency_in(id: u16, bytes: &PackedBytes, micros: u64) -> Option<Failure>
 {
     if 0x80 < id && id < 0x100 {
         let node = (id - 0x80) as u8;
-        let code = error_code(bytes.to_list().as_slice());
+        let reason = error_code(bytes.to_list().as_slice());
         return Some(Failure {
-            cause: Cause { node, code },
+            cause: Cause { node, reason },
             micros,
         });
     }

@@ -1,4 +1,4 @@
-//! SDO transfers that failed, by node and abort code, and EMCY messages, by node and error code.
+//! SDO transfers that failed, by node and reason, and EMCY messages, by node and error code.
 
 ghost use Rattle.std.specs.Prelude.{◌≡◌, ◌<◌, ◌+◌, length, position, OnOk, IfOk, IfSome};
 ghost use Rattle.conode_stats_counts.specs.Failures.{
@@ -10,24 +10,37 @@ ghost use Rattle.conode_stats_counts.specs.Failures.{
   new_failure,
   rows_with,
   same_cause,
-  same_code,
+  same_reason,
 };
 
 use crate::tally::counted;
 use conode_explain_transfers::{Ending, Told};
 use std::alloc::AllocError;
 
-/// The most nodes and codes counted on a bus.
+/// The most nodes and reasons counted on a bus.
 const MOST_FAILURES: usize = 256;
+
+/// Why transfers failed, or EMCY messages came.
+#[derive(Clone, Copy)]
+pub enum Reason {
+    /// The code of the abort; of an EMCY message its error code.
+    Code(u32),
+    /// The client awaited an answer, and began another transfer; or an EMCY message is too short for
+    /// a code.
+    NoCode,
+    /// The transfer was confirmed, but the number of bytes isn't the indicated one.
+    OtherSize,
+    /// The transfer was confirmed, but the CRC that came isn't that of the bytes.
+    WrongCrc,
+}
 
 /// Whose transfers failed, and why; or who sent EMCY messages, and why.
 #[derive(Clone, Copy)]
 pub struct Cause {
     /// The node-ID of the server, or of the sender.
     pub node: u8,
-    /// The code of the abort; `None`: the client awaited an answer, and began another transfer. Of
-    /// an EMCY message its error code; `None`: it is too short for one.
-    pub code: Option<u32>,
+    /// Why.
+    pub reason: Reason,
 }
 
 /// A transfer that failed, or an EMCY message.
@@ -53,12 +66,14 @@ pub struct FailureRow {
     pub last: u64,
 }
 
-fn same_code(a: Option<u32>, b: Option<u32>) -> bool
-    ensures { result ≡ same_code a b }
+fn same_reason(a: Reason, b: Reason) -> bool
+    ensures { result ≡ same_reason a b }
 {
     match (a, b) {
-        (None, None) => true,
-        (Some(a), Some(b)) => a == b,
+        (Reason::Code(a), Reason::Code(b)) => a == b,
+        (Reason::NoCode, Reason::NoCode)
+        | (Reason::OtherSize, Reason::OtherSize)
+        | (Reason::WrongCrc, Reason::WrongCrc) => true,
         _ => false,
     }
 }
@@ -68,13 +83,18 @@ impl Failure {
     fn by(node: u8, micros: u64, ending: Ending) -> Option<Failure>
         ensures { result ≡ failure_by node micros ending }
     {
-        let code = match ending {
-            Ending::Aborted { by: _by, code } => Some(code.0),
-            Ending::Unanswered | Ending::Repeated => None,
+        let reason = match ending {
+            Ending::Aborted { by: _by, code } => Reason::Code(code.0),
+            Ending::Unanswered | Ending::Repeated => Reason::NoCode,
+            Ending::SizeDiffers { indicated: _ } => Reason::OtherSize,
+            Ending::CrcDiffers {
+                came: _,
+                computed: _,
+            } => Reason::WrongCrc,
             _ => return None,
         };
         Some(Failure {
-            cause: Cause { node, code },
+            cause: Cause { node, reason },
             micros,
         })
     }
@@ -109,7 +129,7 @@ impl FailureRow {
     fn is_of(&self, cause: Cause) -> bool
         ensures { result ≡ is_failure cause self.now }
     {
-        self.cause.node == cause.node && same_code(self.cause.code, cause.code)
+        self.cause.node == cause.node && same_reason(self.cause.reason, cause.reason)
     }
 
     fn add(&mut self, micros: u64)

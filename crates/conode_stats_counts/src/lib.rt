@@ -37,7 +37,7 @@ mod wire;
 pub use bus::Bus;
 pub use counts::Counts;
 pub use emergencies::Emergencies;
-pub use failure::{Cause, FailureRow};
+pub use failure::{Cause, FailureRow, Reason};
 pub use first_gaps::FirstGaps;
 pub use heartbeats::{Heartbeats, is_late};
 pub use load::{Load, Second};

@@ -14,8 +14,8 @@ use conode_record::{Content, Identifier, Record};
 use std::alloc::{AllocError, Global};
 use std::marker::Model;
 
-/// The SDO transfers on the default channels of a bus: those that failed, by node and abort code,
-/// and those that are open. At most 256 nodes and codes have a row; further ones are only counted
+/// The SDO transfers on the default channels of a bus: those that failed, by node and reason, and
+/// those that are open. At most 256 nodes and reasons have a row; further ones are only counted
 /// together.
 #[derive(Drop)]
 pub struct Transfers {
@@ -95,7 +95,7 @@ impl Transfers {
         self.channels.tracks()
     }
 
-    /// The failed transfers of each node and code, in the order in which they came first.
+    /// The failed transfers of each node and reason, in the order in which they came first.
     pub fn rows(&self) -> &[FailureRow]
         ensures { result.now ≡ self.now.rows }
     {

@@ -176,7 +176,13 @@ fn push_all_wrong(paper: &mut Paper, page: &Page<'_>, most: u64) {
     push_count(paper, "bad lines", page.bad);
     push_count(paper, MORE_INTERFACES, page.counts.left_out());
     if paper.len() == before {
-        paper.put(&[Piece::Words("  nothing\n")]);
+        let is_empty = page.counts.buses().is_empty();
+        let words = if is_empty {
+            "  no frames\n"
+        } else {
+            "  nothing\n"
+        };
+        paper.put(&[Piece::Words(words)]);
     }
 }
 

@@ -12,7 +12,7 @@ use crate::finding::Finding;
 use crate::pace::Pace;
 use crate::paper::Paper;
 use crate::pieces::Piece;
-use conode_stats_counts::FailureRow;
+use conode_stats_counts::{FailureRow, Reason};
 
 // a node whose longest wait is too long
 #[tactic(auto, unfolding(crate::specs::Paces::lost_line))]
@@ -74,14 +74,22 @@ fn push_counted<'p>(
 fn push_failure(paper: &mut Paper, interface: &[u8], row: &FailureRow)
     ensures { IsAppended paper.old (failure_line interface.now row.now) paper.new }
 {
-    match row.cause.code {
-        None => {
+    match row.cause.reason {
+        Reason::Code(code) => {
+            let front = " SDO transfers aborted with ";
+            push_counted(paper, interface, row, front, Piece::Long(code), "h: ")
+        }
+        Reason::NoCode => {
             let front = " SDO transfers without an answer";
             push_counted(paper, interface, row, front, Piece::Words(""), ": ")
         }
-        Some(code) => {
-            let front = " SDO transfers aborted with ";
-            push_counted(paper, interface, row, front, Piece::Long(code), "h: ")
+        Reason::OtherSize => {
+            let front = " SDO transfers confirmed, but with another size than indicated";
+            push_counted(paper, interface, row, front, Piece::Words(""), ": ")
+        }
+        Reason::WrongCrc => {
+            let front = " SDO transfers confirmed, but with a wrong CRC";
+            push_counted(paper, interface, row, front, Piece::Words(""), ": ")
         }
     }
 }
@@ -90,14 +98,14 @@ fn push_failure(paper: &mut Paper, interface: &[u8], row: &FailureRow)
 fn push_emergency(paper: &mut Paper, interface: &[u8], row: &FailureRow)
     ensures { IsAppended paper.old (emergency_line interface.now row.now) paper.new }
 {
-    match row.cause.code {
-        None => {
-            let front = " EMCY messages without a code";
-            push_counted(paper, interface, row, front, Piece::Words(""), ": ")
-        }
-        Some(code) => {
+    match row.cause.reason {
+        Reason::Code(code) => {
             let code = Piece::Short((code % 65536) as u16);
             push_counted(paper, interface, row, " EMCY ", code, "h: ")
+        }
+        _ => {
+            let front = " EMCY messages without a code";
+            push_counted(paper, interface, row, front, Piece::Words(""), ": ")
         }
     }
 }
