@@ -47,7 +47,7 @@ a_sub_index = refl
 the_second : reason_of None (section PassedOver ∷ section DeviceInfo ∷ []) ≡ None
 the_second = refl
 
--- a format is told whatever the sections are, as lint does
+-- another format is the reason whatever the sections are, as in lint
 of_xml : reason_of (Some Xml) [] ≡ Some (codes "this is XML, as an XDD (CiA 311) is, and no EDS")
 of_xml = refl
 
