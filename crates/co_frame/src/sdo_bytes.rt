@@ -23,7 +23,7 @@ ghost use Rattle.co_frame.specs.SdoParts.{
   acknowledge_bytes,
 };
 
-use crate::abort_code::AbortCode;
+use co_frame_aborts::AbortCode;
 use crate::sdo_request::ExpeditedData;
 use crate::{ccs, subcommands};
 use arrayvec::ArrayVec;

@@ -15,7 +15,7 @@ ghost use Rattle.co_frame.specs.SdoRequests.{
 };
 ghost use Rattle.co_frame.specs.SdoParts.{IsExpeditedData};
 
-use crate::abort_code::AbortCode;
+use co_frame_aborts::AbortCode;
 use crate::frame::Frame;
 use crate::sdo_bytes::{
     abort, acknowledge, bare, block_end, block_initiate, command, expedited, initiate, keyed,
