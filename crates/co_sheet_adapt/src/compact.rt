@@ -23,6 +23,7 @@ ghost use Rattle.co_sheet_adapt.specs.Compact.{
   is_changed_word,
   is_count_written,
   is_mapping,
+  last_keys,
   own_name,
   type_line,
   sub_section,
@@ -162,8 +163,15 @@ fn first_keys(is_written: bool) -> &'static [u8]
     }
 }
 
+#[tactic(auto, unfolding(crate::specs::Compact::last_keys))]
+fn last_keys() -> &'static [u8]
+    ensures { result.now ≡ last_keys }
+{
+    b"\nPDOMapping=0\n\n"
+}
+
 /// Appends the section of sub-index 0, which is written or read-only.
-#[tactic(auto, unfolding(crate::specs::Compact::first_section, crate::specs::Compact::last_keys))]
+#[tactic(auto, unfolding(crate::specs::Compact::first_section))]
 pub(crate) fn push_first_section(
     alloc: Global,
     text: &mut Vec<u8>,
@@ -177,7 +185,7 @@ pub(crate) fn push_first_section(
     attempt!(push_head(alloc, text, Key { index, sub: 0 }));
     attempt!(text.extend_from_slice(first_keys(is_written)));
     attempt!(push_number(alloc, text, u64::from(number)));
-    text.extend_from_slice(b"\nPDOMapping=0\n\n")
+    text.extend_from_slice(last_keys())
 }
 
 /// Whether an object is the mapping of a PDO.
@@ -232,7 +240,13 @@ impl Compact<'_, '_, '_> {
             ++ compact_first (group_view self.now.group.now) self.now.index count) }
     {
         let is_written = is_count_written(self.index, self.group.value(b"AccessType"));
-        push_first_section(alloc, text, self.index, is_written, count_at(self.index, count))
+        push_first_section(
+            alloc,
+            text,
+            self.index,
+            is_written,
+            count_at(self.index, count),
+        )
     }
 
     // appends the name of a sub-index that no section gives one

@@ -156,11 +156,7 @@ impl Texts<'_, '_, '_> {
     }
 
     // the faults at the lines of the source
-    fn moved(
-        &self,
-        alloc: Global,
-        faults: &[SheetFault],
-    ) -> Result<Vec<SheetFault>, AllocError> {
+    fn moved(&self, alloc: Global, faults: &[SheetFault]) -> Result<Vec<SheetFault>, AllocError> {
         let mut moved = Vec::new(alloc);
         for fault in faults {
             moved.push(SheetFault {
