@@ -1,5 +1,5 @@
 -- What becomes of an object in compact form: its line, and the sections that it gets.
-use Rattle.std.proofs.Common.{◌≡◌, ℕ, List, [], ◌∷◌, ◌++◌, refl, codes}
+use Rattle.std.proofs.Common.{◌≡◌, ℕ, List, [], ◌∷◌, ◌++◌, Some, None, true, false, refl, codes, map}
 use Rattle.std.specs.Float.{float_is_finite}
 use Rattle.std.specs.Float.Ieee.{to_bits}
 use Rattle.std.specs.Fmt.{digits}
@@ -10,7 +10,7 @@ use Rattle.co_sheet_changes.specs.declared.change.ChangeKind.TheVariants.{Compac
 use Rattle.co_sheet_changes.specs.Pieces.{Piece, kept, changed, added_lines}
 use Rattle.co_sheet_adapt.specs.Pieces.{all_pieces}
 use Rattle.co_sheet_changes.specs.Pieces.{assigned}
-use Rattle.co_sheet_adapt.specs.Compact.{sub_head, written_as, name_line, value_line, type_line, sub_section, first_keys, last_keys, first_section}
+use Rattle.co_sheet_adapt.specs.Compact.{sub_head, written_as, name_line, value_line, type_line, sub_section, compact_first, count_at, first_keys, last_keys, first_section, is_count_written}
 
 abbrev pieces : List ℕ → List Piece
 pieces text = all_pieces (lines_of text)
@@ -28,7 +28,7 @@ array : pieces (codes "[2300]\nParameterName=Gain\nObjectType=8\nDataType=5\nAcc
     ++ codes "[2300sub1]\nParameterName=Gain 1\nObjectType=0x7\nDataType=5\nAccessType=rw\nParameterValue=3\n\n"
     ++ codes "[2300sub2]\nParameterName=Fast\nObjectType=0x7\nDataType=5\nAccessType=rw\n\n")
     ∷ kept (codes "[2300Name]") ∷ kept (codes "2=Fast") ∷ kept (codes "[2300Value]") ∷ kept (codes "1=3") ∷ []
-unfolding assigned digits digits_text sub_head written_as name_line value_line type_line sub_section first_keys last_keys first_section
+unfolding assigned digits digits_text sub_head written_as name_line value_line type_line sub_section compact_first first_keys last_keys first_section
 array = refl
 
 -- a RECORD too, and each sub-index has the type that stands for a REAL32; a value that is no number isn't guessed
@@ -39,8 +39,41 @@ record_of_reals : pieces (codes "[2301]\nObjectType=9\nDataType=8\nHighLimit=2.0
     ∷ added_lines 1 (codes "[2301sub0]\nParameterName=Number of entries\nObjectType=0x7\nDataType=0x0005\nAccessType=ro\nDefaultValue=1\nPDOMapping=0\n\n"
     ++ codes "[2301sub1]\nParameterName= 1\nObjectType=0x7\nDataType=0x0007\nOriginalDataType=0x0008\nDefaultValue=0x3FC00000\nParameterValue=?1,5\n\n")
     ∷ kept (codes "[2301Value]") ∷ kept (codes "1=1,5") ∷ []
-unfolding fast_float_on_literals float_is_finite to_bits assigned digits digits_text sub_head written_as name_line value_line type_line sub_section first_keys last_keys first_section
+unfolding fast_float_on_literals float_is_finite to_bits assigned digits digits_text sub_head written_as name_line value_line type_line sub_section compact_first first_keys last_keys first_section
 record_of_reals = refl
+
+-- 1003:00 counts no errors at first, and a client writes it
+errors : pieces (codes "[1003]\nObjectType=8\nDataType=7\nAccessType=ro\nCompactSubObj=1\n")
+    ≡ kept (codes "[1003]") ∷ kept (codes "ObjectType=8") ∷ kept (codes "DataType=7") ∷ kept (codes "AccessType=ro")
+    ∷ compact_at 5 0x1003 1 (codes "CompactSubObj=1") (codes "CompactSubObj=0\n")
+    ∷ added_lines 1 (codes "[1003sub0]\nParameterName=Number of entries\nObjectType=0x7\nDataType=0x0005\nAccessType=rw\nDefaultValue=0\nPDOMapping=0\n\n"
+    ++ codes "[1003sub1]\nParameterName= 1\nObjectType=0x7\nDataType=7\nAccessType=ro\n\n") ∷ []
+unfolding assigned digits digits_text sub_head written_as name_line value_line type_line sub_section compact_first first_keys last_keys first_section
+errors = refl
+
+-- a mapping that may be changed
+mapping : pieces (codes "[1A00]\nObjectType=9\nDataType=7\nAccessType=RW\nCompactSubObj=1\n")
+    ≡ kept (codes "[1A00]") ∷ kept (codes "ObjectType=9") ∷ kept (codes "DataType=7") ∷ kept (codes "AccessType=RW")
+    ∷ compact_at 5 0x1A00 1 (codes "CompactSubObj=1") (codes "CompactSubObj=0\n")
+    ∷ added_lines 1 (codes "[1A00sub0]\nParameterName=Number of entries\nObjectType=0x7\nDataType=0x0005\nAccessType=rw\nDefaultValue=1\nPDOMapping=0\n\n"
+    ++ codes "[1A00sub1]\nParameterName= 1\nObjectType=0x7\nDataType=7\nAccessType=RW\n\n") ∷ []
+unfolding assigned digits digits_text sub_head written_as name_line value_line type_line sub_section compact_first first_keys last_keys first_section
+mapping = refl
+
+-- the objects whose sub-index 0 is written, and the words by which a mapping is
+written_at : map (λ index. is_count_written index (Some (codes "rw"))) (0x1002 ∷ 0x1003 ∷ 0x1004 ∷ 0x15FF ∷ 0x1600 ∷ 0x17FF ∷ 0x1800 ∷ 0x19FF ∷ 0x1A00 ∷ 0x1BFF ∷ 0x1C00 ∷ [])
+    ≡ false ∷ true ∷ false ∷ false ∷ true ∷ true ∷ false ∷ false ∷ true ∷ true ∷ false ∷ []
+written_at = refl
+
+written_by : map (is_count_written 0x1600) (None ∷ Some (codes "ro") ∷ Some (codes "wo") ∷ Some (codes "rw") ∷ Some (codes "rwr") ∷ Some (codes "rww") ∷ Some (codes "const") ∷ [])
+    ≡ false ∷ false ∷ false ∷ true ∷ true ∷ true ∷ false ∷ []
+written_by = refl
+
+errors_without_access : is_count_written 0x1003 None ≡ true
+errors_without_access = refl
+
+counted : map (λ index. count_at index 8) (0x1002 ∷ 0x1003 ∷ 0x1004 ∷ 0x1600 ∷ []) ≡ 8 ∷ 0 ∷ 8 ∷ 8 ∷ []
+counted = refl
 
 -- an object of another type has no compact form
 other_object : pieces (codes "[2302]\nObjectType=0xA\nCompactSubObj=2\n")

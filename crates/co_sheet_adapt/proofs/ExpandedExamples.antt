@@ -5,7 +5,7 @@ use Rattle.co_sheet_text.specs.Text.{Line}
 use Rattle.std.specs.Fmt.{digits}
 use Rattle.co_text.specs.Printed.{digits_text}
 use Rattle.co_sheet_changes.specs.Pieces.{assigned}
-use Rattle.co_sheet_adapt.specs.Compact.{sub_head, written_as, name_line, value_line, type_line, sub_section, first_keys, last_keys, first_section}
+use Rattle.co_sheet_adapt.specs.Compact.{sub_head, written_as, name_line, value_line, type_line, sub_section, compact_first, first_keys, last_keys, first_section}
 use Rattle.co_sheet_adapt.specs.CompactPdo.{communication_text, keys_of, object_head}
 use Rattle.co_sheet_adapt.specs.Expanded.{as_read, expanded}
 
@@ -32,7 +32,7 @@ reals : expanded (codes "[2301]\nObjectType=8\nDataType=8\nHighLimit=2.0\nDefaul
     ++ codes "[2301sub0]\nParameterName=Number of entries\nObjectType=0x7\nDataType=0x0005\nAccessType=ro\nDefaultValue=2\nPDOMapping=0\n\n"
     ++ codes "[2301sub1]\nParameterName= 1\nObjectType=0x7\nDataType=8\nHighLimit=2.0\nDefaultValue=1.5\nParameterValue=1,5\n\n"
     ++ codes "[2301sub2]\nParameterName=Fast\nObjectType=0x7\nDataType=8\nHighLimit=2.0\nDefaultValue=1.5\n\n")
-unfolding expanded assigned digits digits_text sub_head written_as name_line value_line type_line sub_section first_keys last_keys first_section
+unfolding expanded assigned digits digits_text sub_head written_as name_line value_line type_line sub_section compact_first first_keys last_keys first_section
 reals = refl
 
 -- the objects of PDOs that have no section, and no places in the list

@@ -1,7 +1,7 @@
 -- The sub-indices of an object in compact form, each with a section of its own (CiA 306, compact
--- storage): sub-index 0 is an UNSIGNED8 that is read, with their number; the others are as the
--- object's own keys say.
-use Rattle.std.specs.Prelude.{ℕ, zero, suc, Bool, ◌||◌, nat_lt, if◌then◌else◌, List, [], ◌∷◌, ◌++◌, flat_map, codes, decimal, Option, Some, None, is_some, unwrap_or}
+-- storage): sub-index 0 is an UNSIGNED8 with their number, but for what CiA 301 says of 1003h and of
+-- mappings; the others are as the object's own keys say.
+use Rattle.std.specs.Prelude.{ℕ, zero, suc, Bool, false, ◌&&◌, ◌||◌, ◌==◌, nat_le, nat_lt, if◌then◌else◌, List, [], ◌∷◌, ◌++◌, flat_map, codes, decimal, Option, Some, None, is_some, unwrap_or}
 use Rattle.std.specs.Option.{option_map_or}
 use Rattle.co_text.specs.Printed.{digits_text, byte_text, printed_digit}
 use Rattle.co_value.specs.declared.key.Key.{Key}
@@ -75,16 +75,51 @@ sub_section names values facts g copied key =
     sub_head key ++ name_line names g key ++ type_line ++ copied
     ++ value_line values facts key ++ 10 ∷ []
 
-unfoldable pub first_keys : List ℕ
-first_keys =
-    codes "ParameterName=Number of entries\nObjectType=0x7\nDataType=0x0005\nAccessType=ro\nDefaultValue="
+-- ---- sub-index 0
+
+unfoldable pub first_keys : Bool → List ℕ
+first_keys is_written =
+    if is_written
+    then codes "ParameterName=Number of entries\nObjectType=0x7\nDataType=0x0005\nAccessType=rw\nDefaultValue="
+    else codes "ParameterName=Number of entries\nObjectType=0x7\nDataType=0x0005\nAccessType=ro\nDefaultValue="
 
 unfoldable pub last_keys : List ℕ
 last_keys = codes "\nPDOMapping=0\n\n"
 
-unfoldable pub first_section : ℕ → ℕ → List ℕ
-first_section index count =
-    sub_head (record { index = index; sub = 0 }) ++ first_keys ++ decimal count ++ last_keys
+unfoldable pub first_section : ℕ → Bool → ℕ → List ℕ
+first_section index is_written number =
+    sub_head (record { index = index; sub = 0 }) ++ first_keys is_written ++ decimal number ++ last_keys
+
+-- the mapping of an RPDO or a TPDO
+abbrev pub is_within : ℕ → ℕ → ℕ → Bool
+is_within low high n = nat_le low n && nat_le n high
+
+abbrev pub is_mapping : ℕ → Bool
+is_mapping index = is_within 0x1600 0x17FF index || is_within 0x1A00 0x1BFF index
+
+-- a client writes the sub-indices of the object
+abbrev pub is_changed_word : List ℕ → Bool
+is_changed_word word =
+    same_name word (codes "rw") || same_name word (codes "rwr") || same_name word (codes "rww")
+
+abbrev pub is_changed : Option (List ℕ) → Bool
+is_changed access = option_map_or is_changed_word access false
+
+-- 1003:00 is written, by 0 alone, to delete the errors, which are read-only themselves (CiA 301,
+-- 7.5.2.4); sub-index 0 of a mapping is written where the mapping may be changed (7.5.2.36, 7.5.2.38)
+abbrev pub is_count_written : ℕ → Option (List ℕ) → Bool
+is_count_written index access = (index == 0x1003) || (is_mapping index && is_changed access)
+
+-- 1003:00 counts the errors, of which there are none at first
+abbrev pub count_at : ℕ → ℕ → ℕ
+count_at index count = if index == 0x1003 then 0 else count
+
+unfoldable pub compact_first : Group → ℕ → ℕ → List ℕ
+compact_first g index count =
+    first_section index (is_count_written index (value_in (codes "AccessType") g.body))
+    (count_at index count)
+
+-- ---- the sub-indices after it
 
 -- the sections of sub-index 1 to a number
 abbrev pub sub_sections : (Key → List ℕ) → ℕ → ℕ → List ℕ
@@ -95,5 +130,5 @@ sub_sections section index (suc sub) =
 abbrev pub compact_text : (Key → Option (List ℕ)) → (Key → Option (List ℕ)) → Facts → Group
     → ℕ → ℕ → List ℕ
 compact_text names values facts g index count =
-    first_section index count
+    compact_first g index count
     ++ sub_sections (sub_section names values facts g (copied_lines facts g)) index count

@@ -2,7 +2,7 @@
 -- section describes. By its bits CompactPDO says which sub-indices a communication object has; the
 -- sheet says no more, so the PDOs aren't valid, their timers are 0, and their mappings have no
 -- entries.
-use Rattle.std.specs.Prelude.{ℕ, ◌+◌, ◌%◌, ◌/◌, Bool, ◌&&◌, ◌||◌, not, ◌==◌, nat_le, nat_lt, if◌then◌else◌, List, [], ◌∷◌, ◌++◌, length, filter, find, flat_map, codes, decimal, Option, Some, None, option_and_then, option_map}
+use Rattle.std.specs.Prelude.{ℕ, ◌+◌, ◌%◌, ◌/◌, Bool, false, ◌&&◌, ◌||◌, not, ◌==◌, nat_le, nat_lt, if◌then◌else◌, List, [], ◌∷◌, ◌++◌, length, filter, find, flat_map, codes, decimal, Option, Some, None, option_and_then, option_map}
 use Rattle.std.specs.List.{list_any, range_with_len}
 use Rattle.co_text.specs.Printed.{digits_text}
 use Rattle.co_value.specs.declared.key.Key.{Key}
@@ -139,7 +139,7 @@ key_at index sub = record { index = index; sub = sub }
 
 unfoldable pub communication_text : ℕ → ℕ → List ℕ
 communication_text subs index =
-    object_head index ++ keys_of Communication ++ first_section index (highest_of subs)
+    object_head index ++ keys_of Communication ++ first_section index false (highest_of subs)
     ++ sub_head (key_at index 1) ++ keys_of CobId
     ++ sub_head (key_at index 2) ++ keys_of TransmissionType
     ++ sub_if (subs / 4 % 2 == 1) (key_at index 3) (keys_of InhibitTime)

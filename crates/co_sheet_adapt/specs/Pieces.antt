@@ -1,6 +1,6 @@
 -- A text in pieces: what each line becomes, and what is added (CiA 306, structure of an EDS, object
 -- lists, object description, compact storage). A line that isn't changed stays as it is.
-use Rattle.std.specs.Prelude.{ℕ, Bool, ◌&&◌, ◌||◌, not, ◌==◌, nat_le, nat_lt, if◌then◌else◌, List, [], ◌∷◌, ◌++◌, length, map, flat_map, codes, Option, Some, None, is_none, option_and_then}
+use Rattle.std.specs.Prelude.{ℕ, Bool, ◌&&◌, ◌||◌, not, ◌==◌, nat_lt, if◌then◌else◌, List, [], ◌∷◌, ◌++◌, length, map, flat_map, codes, Option, Some, None, is_none, option_and_then}
 use Rattle.std.specs.List.{list_all}
 use Rattle.std.specs.Option.{option_map_or, option_or}
 use Rattle.std.specs.Char.{is_digit}
@@ -18,7 +18,7 @@ use Rattle.co_sheet_changes.specs.Groups.{Group, property_in, value_in, number_i
 use Rattle.co_sheet_adapt.specs.Facts.{facts_of}
 use Rattle.co_sheet_adapt.specs.Entries.{entry_change}
 use Rattle.co_sheet_adapt.specs.Named.{text_in_groups}
-use Rattle.co_sheet_adapt.specs.Compact.{compact_text}
+use Rattle.co_sheet_adapt.specs.Compact.{compact_text, is_mapping}
 use Rattle.co_sheet_adapt.specs.CompactPdo.{PdoForm, pdo_form, pdo_change, pdo_added}
 
 -- ---- object lists
@@ -49,12 +49,8 @@ head_text g =
     (if is_renamed g then codes "[" ++ without_blanks g.name ++ codes "]" else g.head.bytes) ++ 10 ∷ []
 
 -- sub-index 0 of 1003h and of the mappings of PDOs is written, of other objects it is read
-abbrev pub is_within : ℕ → ℕ → ℕ → Bool
-is_within low high n = nat_le low n && nat_le n high
-
 abbrev pub is_written_first : ℕ → Bool
-is_written_first index =
-    (index == 0x1003) || is_within 0x1600 0x17FF index || is_within 0x1A00 0x1BFF index
+is_written_first index = (index == 0x1003) || is_mapping index
 
 abbrev pub access_line : ℕ → List ℕ
 access_line index =

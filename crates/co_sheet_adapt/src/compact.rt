@@ -15,7 +15,15 @@ ghost use Rattle.co_sheet_adapt.specs.Compact.{
   kept_value,
   name_line,
   value_line,
+  compact_first,
+  count_at,
+  first_keys,
   first_section,
+  is_changed,
+  is_changed_word,
+  is_count_written,
+  is_mapping,
+  last_keys,
   own_name,
   type_line,
   sub_section,
@@ -143,22 +151,75 @@ fn type_line() -> &'static [u8]
     b"ObjectType=0x7\n"
 }
 
-/// Appends the section of sub-index 0.
-#[tactic(auto, unfolding(crate::specs::Compact::first_section, crate::specs::Compact::first_keys, crate::specs::Compact::last_keys))]
+// the keys of sub-index 0 up to its number
+#[tactic(auto, unfolding(crate::specs::Compact::first_keys))]
+fn first_keys(is_written: bool) -> &'static [u8]
+    ensures { result.now ≡ first_keys is_written }
+{
+    if is_written {
+        b"ParameterName=Number of entries\nObjectType=0x7\nDataType=0x0005\nAccessType=rw\nDefaultValue="
+    } else {
+        b"ParameterName=Number of entries\nObjectType=0x7\nDataType=0x0005\nAccessType=ro\nDefaultValue="
+    }
+}
+
+#[tactic(auto, unfolding(crate::specs::Compact::last_keys))]
+fn last_keys() -> &'static [u8]
+    ensures { result.now ≡ last_keys }
+{
+    b"\nPDOMapping=0\n\n"
+}
+
+/// Appends the section of sub-index 0, which is written or read-only.
+#[tactic(auto, unfolding(crate::specs::Compact::first_section))]
 pub(crate) fn push_first_section(
     alloc: Global,
     text: &mut Vec<u8>,
     index: u16,
-    count: u8,
+    is_written: bool,
+    number: u8,
 ) -> Result<(), AllocError>
-    ensures { OnOk result (text.new.items ≡ text.old.items ++ first_section index count) }
+    ensures { OnOk result
+        (text.new.items ≡ text.old.items ++ first_section index is_written number) }
 {
     attempt!(push_head(alloc, text, Key { index, sub: 0 }));
-    attempt!(text.extend_from_slice(
-        b"ParameterName=Number of entries\nObjectType=0x7\nDataType=0x0005\nAccessType=ro\nDefaultValue=",
-    ));
-    attempt!(push_number(alloc, text, u64::from(count)));
-    text.extend_from_slice(b"\nPDOMapping=0\n\n")
+    attempt!(text.extend_from_slice(first_keys(is_written)));
+    attempt!(push_number(alloc, text, u64::from(number)));
+    text.extend_from_slice(last_keys())
+}
+
+/// Whether an object is the mapping of a PDO.
+pub(crate) fn is_mapping(index: u16) -> bool
+    ensures { result ≡ is_mapping index }
+{
+    matches!(index, 0x1600..=0x17FF | 0x1A00..=0x1BFF)
+}
+
+// whether a client writes the sub-indices of an object with this AccessType
+fn is_changed(access: Option<&[u8]>) -> bool
+    ensures { result ≡ is_changed (option_copied access.entry) }
+{
+    match access {
+        Some(word) => {
+            same_name(word, b"rw") || same_name(word, b"rwr") || same_name(word, b"rww")
+        }
+        None => false,
+    }
+}
+
+// whether a client writes sub-index 0: of 1003h, to delete the errors, and of a mapping that may be
+// changed
+fn is_count_written(index: u16, access: Option<&[u8]>) -> bool
+    ensures { result ≡ is_count_written index (option_copied access.entry) }
+{
+    index == 0x1003 || (is_mapping(index) && is_changed(access))
+}
+
+// the number in sub-index 0: 1003:00 counts errors, of which there are none at first
+fn count_at(index: u16, count: u8) -> u8
+    ensures { result ≡ count_at index count }
+{
+    if index == 0x1003 { 0 } else { count }
 }
 
 /// What an object in compact form says of its sub-indices.
@@ -172,6 +233,22 @@ pub(crate) struct Compact<'r, 's, 'a> {
 }
 
 impl Compact<'_, '_, '_> {
+    // appends the section of sub-index 0
+    #[tactic(auto, unfolding(crate::specs::Compact::compact_first))]
+    fn push_first(&self, alloc: Global, text: &mut Vec<u8>, count: u8) -> Result<(), AllocError>
+        ensures { OnOk result (text.new.items ≡ text.old.items
+            ++ compact_first (group_view self.now.group.now) self.now.index count) }
+    {
+        let is_written = is_count_written(self.index, self.group.value(b"AccessType"));
+        push_first_section(
+            alloc,
+            text,
+            self.index,
+            is_written,
+            count_at(self.index, count),
+        )
+    }
+
     // appends the name of a sub-index that no section gives one
     fn push_default_name(
         &self,
@@ -258,7 +335,7 @@ impl Compact<'_, '_, '_> {
     {
         let copied = copied_lines(alloc, self.facts, self.group)?;
         let mut text = Vec::new(alloc);
-        push_first_section(alloc, &mut text, self.index, count)?;
+        self.push_first(alloc, &mut text, count)?;
         for before in 0..count {
             self.push_sub_section(alloc, &mut text, copied.as_slice(), before + 1)?;
         }

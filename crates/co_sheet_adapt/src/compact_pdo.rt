@@ -369,7 +369,7 @@ fn push_communication(
 {
     attempt!(push_object_head(text, index));
     attempt!(text.extend_from_slice(Part::Communication.keys()));
-    attempt!(push_first_section(alloc, text, index, highest_of(subs)));
+    attempt!(push_first_section(alloc, text, index, false, highest_of(subs)));
     attempt!(push_part(alloc, text, Key { index, sub: 1 }, Part::CobId));
     attempt!(push_part(alloc, text, Key { index, sub: 2 }, Part::TransmissionType));
     attempt!(push_sub_if(

@@ -29,7 +29,7 @@ ghost use Rattle.co_sheet_adapt.specs.private.Pdos.{form_view};
 ghost use Rattle.co_sheet_changes.specs.Pieces.{mended_view, piece_view};
 ghost use Rattle.co_sheet_changes.specs.Views.{group_view, line_view};
 
-use crate::compact::Compact;
+use crate::compact::{Compact, is_mapping};
 use crate::compact_pdo::{PdoForm, pdo_change, push_pdos};
 use crate::entry::entry_change;
 use crate::facts::Facts;
@@ -100,7 +100,7 @@ fn head_text(alloc: Global, group: &Group) -> Result<Vec<u8>, AllocError>
 fn is_written_first(index: u16) -> bool
     ensures { result ≡ is_written_first index }
 {
-    matches!(index, 0x1003 | 0x1600..=0x17FF | 0x1A00..=0x1BFF)
+    index == 0x1003 || is_mapping(index)
 }
 
 // the lines of a type and an access that a section lacks

@@ -18,6 +18,7 @@ mod listing;
 mod mappings;
 mod no_sheet;
 mod orders;
+mod origins;
 mod outcome;
 mod remaining;
 

@@ -91,11 +91,12 @@ fn listed(
 }
 
 // what is said of a text that isn't accepted: why it is no data sheet, or else what remains, as
-// `lint` prints it
+// `lint` prints it; `asked` is what it is after the changes on request
 fn remaining_of(
     alloc: Global,
     text: &[u8],
     name: &str,
+    asked: &[u8],
     adapted: &Adapted<'_>,
 ) -> Result<String, AllocError>
     ensures { adapted.now.is_accepted ≡ false →
@@ -107,8 +108,7 @@ fn remaining_of(
     if let Some(why) = attempt!(no_sheet(alloc, text)) {
         return reason_line(alloc, why);
     }
-    let sheet = adapted.text.as_slice();
-    remaining(alloc, name, text, sheet, adapted.pieces.as_slice())
+    remaining(alloc, name, text, asked, adapted)
 }
 
 // whether a text stays as it is: it is accepted, and nothing was changed on request
@@ -143,7 +143,8 @@ fn outcome_with(
         stays: stays_with(adapted.stays, read.has_changes, forced.has_changes),
     };
     let changes = attempt!(listed(alloc, text, name, &steps));
-    let remaining = attempt!(remaining_of(alloc, text, name, &adapted));
+    let asked = forced.text.as_slice();
+    let remaining = attempt!(remaining_of(alloc, text, name, asked, &adapted));
     Ok(Outcome {
         sheet: adapted.text,
         changes,

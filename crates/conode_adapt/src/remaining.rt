@@ -1,9 +1,11 @@
 //! What no rule mends: the faults of a text that was rewritten, at the lines that they come from.
 
-use co_sheet_changes::Piece;
+use crate::origins::{at_source, lines_of};
+use co_sheet_adapt::Adapted;
+use co_sheet_changes::{AdaptFault, ChangeKind, Line, Piece, Request, on_request};
 use co_sheet_faults::{FaultKind, SheetFault, find_faults, fix_of, meaning_of, subject_of};
-use co_sheet_text::{number_in, same_name, trim, without_mark};
-use co_text::{split_at_first, split_line};
+use co_sheet_text::{number_in, same_name, trim};
+use co_text::split_at_first;
 use conode_json::characters_of;
 use conode_lint_text::{About, Finding, Place, Severity, missing_section, push_finding, push_more};
 use conode_text::{Value, push_filled};
@@ -15,57 +17,15 @@ const MOST: usize = 1000;
 /// The most bytes of a line that are printed.
 const LONGEST: usize = 512;
 
-// appends this number for each line of the text
-fn push_lines(sources: &mut Vec<usize>, text: &[u8], number: usize) -> Result<(), AllocError> {
-    for byte in text {
-        if *byte == b'\n' {
-            sources.push(number)?;
-        }
-    }
-    Ok(())
-}
-
-// for each line of the rewritten text, the number of its source line; the first line is a comment
-fn push_sources(sources: &mut Vec<usize>, pieces: &[Piece<'_>]) -> Result<(), AllocError> {
-    sources.push(0)?;
-    let mut number: usize = 0;
-    for piece in pieces {
-        match piece {
-            Piece::Kept(_) => {
-                number = number.saturating_add(1);
-                sources.push(number)?;
-            }
-            Piece::Changed(change) => {
-                number = number.saturating_add(1);
-                attempt!(push_lines(sources, change.new.as_slice(), number));
-            }
-            Piece::Added { line, text } => {
-                attempt!(push_lines(sources, text.as_slice(), *line));
-            }
-        }
-    }
-    Ok(())
-}
-
-fn lines_of(alloc: Global, text: &[u8]) -> Result<Vec<&[u8]>, AllocError> {
-    let mut lines = Vec::new(alloc);
-    let mut rest = without_mark(text);
-    while let Some((line, after)) = split_line(rest) {
-        lines.push(line)?;
-        rest = after;
-    }
-    Ok(lines)
-}
-
 // a line by its number, from 1, at most its first bytes
-fn line_at<'a>(lines: &[&'a [u8]], number: usize) -> &'a [u8] {
+fn line_at<'a>(lines: &[Line<'a>], number: usize) -> &'a [u8] {
     let Some(place) = number.checked_sub(1) else {
         return &[];
     };
     let Some(line) = lines.get(place) else {
         return &[];
     };
-    let (front, _) = line.split_at(line.len().min(LONGEST));
+    let (front, _) = line.bytes.split_at(line.bytes.len().min(LONGEST));
     front
 }
 
@@ -137,92 +97,117 @@ fn push_both(report: &mut String, line: &[u8]) -> Result<(), AllocError> {
     Ok(())
 }
 
-// the number of a line's source line; 0 if it has none
-fn source_of(sources: &[usize], line: usize) -> usize {
-    match line.checked_sub(1) {
-        Some(place) => sources.get(place).copied().unwrap_or(0),
-        None => 0,
+// the lines of the limits among pieces that are forced
+fn limits_in(alloc: Global, pieces: &[Piece<'_>]) -> Result<Vec<usize>, AllocError> {
+    let mut lines = Vec::new(alloc);
+    for piece in pieces {
+        if let Piece::Changed(change) = piece {
+            if let ChangeKind::ForcedLimit = change.kind {
+                lines.push(change.line)?;
+            }
+        }
+    }
+    Ok(lines)
+}
+
+// the lines of the limits that `--force` makes comments; none if the text is too large
+fn forced_limits(alloc: Global, text: &[u8]) -> Result<Vec<usize>, AllocError> {
+    match on_request(alloc, text, Some(Request::Force(&[]))) {
+        Ok(forced) => limits_in(alloc, forced.pieces.as_slice()),
+        Err(AdaptFault::Memory) => Err(AllocError),
+        Err(AdaptFault::TooLarge) => Ok(Vec::new(alloc)),
     }
 }
 
-fn push_fault(
-    alloc: Global,
-    report: &mut String,
-    file: &[char],
-    text: &[u8],
-    fault: SheetFault,
-) -> Result<(), AllocError> {
-    attempt!(push_finding(alloc, report, false, file, &finding_of(fault, text)));
-    if fault.kind == FaultKind::AmbiguousNumber {
-        return push_both(report, text);
-    }
-    Ok(())
+// a file whose faults are reported: its name, its lines, and the lines of the limits that `--force`
+// makes comments
+#[derive(Clone, Copy)]
+struct Source<'s, 'a> {
+    file: &'s [char],
+    lines: &'s [Line<'a>],
+    limits: &'s [usize],
 }
 
-// appends faults of a file with these lines
-fn push_all(
-    alloc: Global,
-    report: &mut String,
-    file: &[char],
-    lines: &[&[u8]],
-    sources: &[usize],
-    faults: &[SheetFault],
-) -> Result<(), AllocError> {
-    let (first, more) = faults.split_at(faults.len().min(MOST));
-    for fault in first {
-        let line = source_of(sources, fault.line);
-        let fault = SheetFault {
-            kind: fault.kind,
-            line,
-        };
-        attempt!(push_fault(alloc, report, file, line_at(lines, line), fault));
+impl Source<'_, '_> {
+    fn is_forced(&self, line: usize) -> bool {
+        self.limits.iter().any(|limit| *limit == line)
     }
-    if !more.is_empty() {
-        return push_more(report, file, more.len());
+
+    // appends a fault
+    fn push_fault(
+        &self,
+        alloc: Global,
+        report: &mut String,
+        fault: SheetFault,
+    ) -> Result<(), AllocError> {
+        let text = line_at(self.lines, fault.line);
+        attempt!(push_finding(alloc, report, false, self.file, &finding_of(fault, text)));
+        if fault.kind == FaultKind::AmbiguousNumber {
+            return push_both(report, text);
+        }
+        if self.is_forced(fault.line) {
+            return report.push_str("  note: --force makes this limit a comment\n");
+        }
+        Ok(())
     }
-    Ok(())
+
+    // appends faults
+    fn push_all(
+        &self,
+        alloc: Global,
+        report: &mut String,
+        faults: &[SheetFault],
+    ) -> Result<(), AllocError> {
+        let (first, more) = faults.split_at(faults.len().min(MOST));
+        for fault in first {
+            attempt!(self.push_fault(alloc, report, *fault));
+        }
+        if !more.is_empty() {
+            return push_more(report, self.file, more.len());
+        }
+        Ok(())
+    }
 }
 
-/// Appends these faults of a file as `lint` prints them, at the lines of the source. `Err`: out of
-/// memory.
+/// Appends faults of a file, at its lines, as `lint` prints them; `limits` are the lines of those
+/// limits that `--force` makes comments. `Err`: out of memory.
 pub(crate) fn push_faults(
     alloc: Global,
     report: &mut String,
     name: &str,
     source: &[u8],
-    sources: &[usize],
+    limits: &[usize],
     faults: &[SheetFault],
 ) -> Result<(), AllocError> {
     let file = attempt!(characters_of(alloc, name.as_bytes()));
     let lines = attempt!(lines_of(alloc, source));
-    push_all(
-        alloc,
-        report,
-        file.as_slice(),
-        lines.as_slice(),
-        sources,
-        faults,
-    )
+    let source = Source {
+        file: file.as_slice(),
+        lines: lines.as_slice(),
+        limits,
+    };
+    source.push_all(alloc, report, faults)
 }
 
-/// The faults that remain in a rewritten text, as `lint` prints them. `Err`: out of memory.
+/// The faults that remain of a source, as `lint` prints them; `asked` is what it is after the
+/// changes on request, of which `adapted` was made. `Err`: out of memory.
 pub(crate) fn remaining(
     alloc: Global,
     name: &str,
     source: &[u8],
-    rewritten: &[u8],
-    pieces: &[Piece<'_>],
+    asked: &[u8],
+    adapted: &Adapted<'_>,
 ) -> Result<String, AllocError> {
-    let faults = attempt!(find_faults(alloc, rewritten));
-    let mut sources = Vec::new(alloc);
-    attempt!(push_sources(&mut sources, pieces));
+    let faults = attempt!(find_faults(alloc, adapted.text.as_slice()));
+    let faults = attempt!(at_source(alloc, source, adapted, faults.as_slice()));
+    let limits = attempt!(forced_limits(alloc, asked));
     let mut report = String::new(alloc);
     attempt!(push_faults(
         alloc,
         &mut report,
         name,
         source,
-        sources.as_slice(),
+        limits.as_slice(),
         faults.as_slice(),
     ));
     Ok(report)

@@ -1,9 +1,9 @@
 -- Formats, the node-ID and names that pass, evaluated.
-use Rattle.std.proofs.Common.{◌≡◌, true, false, [], ◌∷◌, ◌++◌, codes, Some, None, refl}
+use Rattle.std.proofs.Common.{◌≡◌, true, false, [], ◌∷◌, ◌++◌, codes, map, Some, None, refl}
 use Rattle.co_sheet.specs.Content.{SheetContent}
-use Rattle.conode_lint_marks.specs.declared.mark.OtherFormat.TheVariants.{Xml, EtherNetIp, Utf16}
+use Rattle.conode_lint_marks.specs.declared.mark.OtherFormat.TheVariants.{Xml, EtherNetIp, Utf16, NoSection}
 use Rattle.conode_lint.specs.Allowed.{names_after, names_allowed, names_in, names_on, passes_by}
-use Rattle.conode_lint.specs.Formats.{begins_with, format_line, has_line, other_format}
+use Rattle.conode_lint.specs.Formats.{begins_with, format_line, has_line, has_text, is_text, other_format}
 use Rattle.conode_lint.specs.Marks.{format_of, node_for}
 
 -- ---- formats
@@ -18,9 +18,18 @@ xml = refl
 
 -- either order of bytes; of the first line alone
 utf16 : other_format ((0xFF ∷ 0xFE ∷ codes "[") ∷ codes "<?xml" ∷ []) ∷ other_format ((0xFE ∷ 0xFF ∷ []) ∷ []) ∷ other_format ((0xFF ∷ 0xFF ∷ []) ∷ []) ∷ other_format ((0xFF ∷ []) ∷ []) ∷ other_format (codes ";" ∷ (0xFF ∷ 0xFE ∷ []) ∷ []) ∷ other_format [] ∷ []
-    ≡ Some Utf16 ∷ Some Utf16 ∷ None ∷ None ∷ None ∷ None ∷ []
-unfolding other_format has_line
+    ≡ Some Utf16 ∷ Some Utf16 ∷ Some NoSection ∷ Some NoSection ∷ Some NoSection ∷ None ∷ []
+unfolding other_format has_line has_text
 utf16 = refl
+
+-- no line begins a section, and one has a text: a recording; comments, blanks and control characters alone are none
+without_section : other_format (codes "; a" ∷ codes "" ∷ codes "(1.000000) can0 705#00" ∷ []) ∷ other_format (codes "(1.000000) can0 705#00" ∷ codes " [1000" ∷ []) ∷ other_format (codes ";a" ∷ codes "  " ∷ (0 ∷ 0 ∷ []) ∷ []) ∷ []
+    ≡ Some NoSection ∷ None ∷ None ∷ []
+unfolding other_format has_line has_text
+without_section = refl
+
+line_texts : map is_text (codes "" ∷ codes "a" ∷ codes "!" ∷ codes ";" ∷ codes " a" ∷ (31 ∷ []) ∷ (255 ∷ []) ∷ []) ≡ false ∷ true ∷ true ∷ false ∷ false ∷ false ∷ true ∷ []
+line_texts = refl
 
 -- both lines, in any order; one of them alone is none
 ethernet_ip : other_format (codes "VendCode = 1;" ∷ codes "[device]" ∷ []) ≡ Some EtherNetIp
@@ -46,7 +55,7 @@ code_alone = refl
 
 -- the line that shows it: after others, in another case, after blanks; the first of two; of UTF-16 the first
 shown : format_line Xml (codes "; a" ∷ codes "" ∷ codes " <?XML v" ∷ codes "<ISO15745" ∷ []) ∷ format_line Xml (codes "a <?xml" ∷ codes "<iso15745" ∷ []) ∷ format_line EtherNetIp (codes "[File]" ∷ codes "VendCode = 1;" ∷ codes "[DEVICE]" ∷ codes "[Device]" ∷ [])
-    ∷ format_line Utf16 ((0xFF ∷ 0xFE ∷ []) ∷ codes "<?xml" ∷ []) ∷ [] ≡ 3 ∷ 2 ∷ 3 ∷ 1 ∷ []
+    ∷ format_line Utf16 ((0xFF ∷ 0xFE ∷ []) ∷ codes "<?xml" ∷ []) ∷ format_line NoSection (codes "; a" ∷ codes " b" ∷ codes "c" ∷ []) ∷ [] ≡ 3 ∷ 2 ∷ 3 ∷ 1 ∷ 2 ∷ []
 unfolding format_line
 shown = refl
 

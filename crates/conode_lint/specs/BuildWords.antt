@@ -55,7 +55,7 @@ build_fix NodeId = codes "give a node-ID from 1 to 127"
 build_fix (ValueRange key) = codes "correct the default or the limits"
 build_fix (BadCobId key) =
     if is_sync key
-    then codes "give a free COB-ID of 11 bits; if bit 30 is set, clear it: it is legal, but conode's node sends no SYNC"
+    then codes "give a free COB-ID of 11 bits; bit 30 is legal, but conode's node sends no SYNC: clear it, or let conode adapt --force clear it"
     else codes "give a free COB-ID of 11 bits; if bit 29 is set, clear it: it is legal, but conode's node has no 29-bit identifiers"
 build_fix (PdoPair index) = codes "list or describe what is missing"
 build_fix (BadMapping key) = codes "correct the mapping, or set PDOMapping=1 for the entry"

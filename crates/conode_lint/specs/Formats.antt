@@ -1,10 +1,10 @@
 -- Which texts with faults are of another format, and no data sheet of CANopen.
-use Rattle.std.specs.Prelude.{ℕ, ◌+◌, nat_eq, nat_le, Bool, true, false, not, ◌&&◌, ◌||◌, if◌then◌else◌, List, [], ◌∷◌, length, take, codes, Option, Some, None}
+use Rattle.std.specs.Prelude.{ℕ, ◌+◌, nat_eq, nat_le, nat_lt, ◌==◌, Bool, true, false, not, ◌&&◌, ◌||◌, if◌then◌else◌, List, [], ◌∷◌, length, take, codes, Option, Some, None}
 use Rattle.std.specs.List.{list_any, position_or_len, starts_with}
 use Rattle.co_sheet_text.specs.Text.{same_name, trim}
 use Rattle.co_sheet_text_warnings.specs.Lines.{text_lines}
 use Rattle.conode_lint_marks.specs.declared.mark.OtherFormat.{OtherFormat}
-use Rattle.conode_lint_marks.specs.declared.mark.OtherFormat.TheVariants.{Xml, EtherNetIp, Utf16}
+use Rattle.conode_lint_marks.specs.declared.mark.OtherFormat.TheVariants.{Xml, EtherNetIp, Utf16, NoSection}
 
 -- a line begins with a word, in any case of letters
 abbrev pub begins_with : List ℕ → List ℕ → Bool
@@ -31,12 +31,25 @@ is_ethernet_ip lines =
     has_line lines (codes "[Device]") && has_line lines (codes "VendCode")
     && not (has_line lines (codes "[DeviceInfo]") || has_line lines (codes "[MandatoryObjects]"))
 
--- a text in UTF-16; XML, as an XDD (CiA 311); an EDS of EtherNet/IP
+-- a line has a text that is no comment; one that begins with a control character has none
+abbrev pub is_text : List ℕ → Bool
+is_text [] = false
+is_text (b ∷ line) = nat_lt 32 b && not (b == 59)
+
+unfoldable pub has_text : List (List ℕ) → Bool
+has_text lines = list_any (λ line. is_text (trim line)) lines
+
+-- lines of which none begins a section, as in a recording
+abbrev pub is_without_section : List (List ℕ) → Bool
+is_without_section lines = not (has_line lines (codes "[")) && has_text lines
+
+-- a text in UTF-16; XML, as an XDD (CiA 311); an EDS of EtherNet/IP; a text without a section
 unfoldable pub other_format : List (List ℕ) → Option OtherFormat
 other_format lines =
     if begins_in_utf16 lines then Some Utf16
     else if has_line lines (codes "<?xml") || has_line lines (codes "<ISO15745") then Some Xml
     else if is_ethernet_ip lines then Some EtherNetIp
+    else if is_without_section lines then Some NoSection
     else None
 
 -- the format of a text, if it is another one
@@ -44,11 +57,12 @@ abbrev pub text_format : List ℕ → Option OtherFormat
 text_format text = other_format (text_lines text)
 
 -- a line shows the format of its text: one that begins with the word of XML or with [Device]; in UTF-16
--- the first one does
+-- the first one does; one with a text, where no line begins a section
 abbrev pub shows : OtherFormat → List ℕ → Bool
 shows Xml line = begins_with (codes "<?xml") (trim line) || begins_with (codes "<ISO15745") (trim line)
 shows EtherNetIp line = begins_with (codes "[Device]") (trim line)
 shows Utf16 line = true
+shows NoSection line = is_text (trim line)
 
 -- the first line that shows the format, from 1
 unfoldable pub format_line : OtherFormat → List (List ℕ) → ℕ

@@ -95,6 +95,7 @@ warning_about sections line text (warning.MisspeltKey known) =
 warning_about sections line text warning.MisspeltSection = facts.misspelt_section text
 warning_about sections line text warning.WrongList = facts.wrong_list text
 warning_about sections line text warning.WrongAccess = facts.wrong_access line sections
+warning_about sections line text warning.ReservedValue = facts.reserved_value line sections
 warning_about sections line text warning.Utf8 = facts.utf8 text
 warning_about sections line text other = about.Line
 
@@ -113,6 +114,8 @@ fault_fix fault.LeftOutType =
     codes "try conode adapt, which may give it a supported type; or take the object out of its list"
 fault_fix fault.CompactForm =
     codes "try conode adapt, or have the sheet's editor write each sub-index as a section of its own"
+fault_fix fault.BadList =
+    codes "number the keys 1, 2, 3 without a gap, and count them; a key with a leading zero, as 01, isn't read: write 1, or try conode adapt"
 fault_fix kind = faults.fix_of kind
 
 abbrev pub fix_of : Subject → List ℕ

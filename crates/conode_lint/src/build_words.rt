@@ -97,7 +97,7 @@ const FIXES: [&str; 9] = [
     "correct the mapping, or set PDOMapping=1 for the entry",
     "take objects out of the lists, or lower --domains or --strings",
     "run it again with more memory",
-    "give a free COB-ID of 11 bits; if bit 30 is set, clear it: it is legal, but conode's node sends no SYNC",
+    "give a free COB-ID of 11 bits; bit 30 is legal, but conode's node sends no SYNC: clear it, or let conode adapt --force clear it",
 ];
 
 /// How to fix it, in one line.

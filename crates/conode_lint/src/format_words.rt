@@ -14,6 +14,7 @@ pub fn format_meaning(format: OtherFormat) -> &'static str
         OtherFormat::EtherNetIp =>
             "this is an EDS of EtherNet/IP or DeviceNet, and none of CANopen",
         OtherFormat::Utf16 => "this is in UTF-16, and an EDS is in ASCII",
+        OtherFormat::NoSection => "this is no EDS: it has no section of an object, as [1000]",
     }
 }
 
@@ -25,5 +26,8 @@ pub(crate) fn format_fix(format: OtherFormat) -> &'static str
         OtherFormat::Xml => "export it as an EDS",
         OtherFormat::EtherNetIp => "ask the vendor for the EDS of its CANopen device",
         OtherFormat::Utf16 => "save it as UTF-8",
+        OtherFormat::NoSection => {
+            "lint a data sheet, EDS or DCF; a recording is no data sheet: conode explain reads it"
+        }
     }
 }

@@ -6,8 +6,11 @@ ghost use Rattle.conode_lint.specs.Formats.{
   begins_with,
   format_line,
   has_line,
+  has_text,
   is_ethernet_ip,
+  is_text,
   is_utf16,
+  is_without_section,
   other_format,
   shows,
   text_format,
@@ -62,6 +65,35 @@ fn is_ethernet_ip(lines: &[&[u8]]) -> bool
         && !(has_line(lines, b"[DeviceInfo]") || has_line(lines, b"[MandatoryObjects]"))
 }
 
+// whether a line has a text that is no comment
+fn is_text(line: &[u8]) -> bool
+    ensures { result ≡ is_text line.now }
+{
+    match line {
+        [first, ..] => 32 < *first && *first != b';',
+        _ => false,
+    }
+}
+
+#[tactic(auto, unfolding(crate::specs::Formats::has_text))]
+fn has_text(lines: &[&[u8]]) -> bool
+    ensures { result ≡ has_text (map (λ line. line.now) lines.now) }
+{
+    for line in lines {
+        if is_text(trim(line)) {
+            return true;
+        }
+    }
+    false
+}
+
+// lines of which none begins a section, as in a recording
+fn is_without_section(lines: &[&[u8]]) -> bool
+    ensures { result ≡ is_without_section (map (λ line. line.now) lines.now) }
+{
+    !has_line(lines, b"[") && has_text(lines)
+}
+
 /// The format of a text with faults, if it is no data sheet of CANopen.
 #[tactic(auto, unfolding(crate::specs::Formats::other_format))]
 pub(crate) fn other_format(lines: &[&[u8]]) -> Option<OtherFormat>
@@ -73,12 +105,15 @@ pub(crate) fn other_format(lines: &[&[u8]]) -> Option<OtherFormat>
         Some(OtherFormat::Xml)
     } else if is_ethernet_ip(lines) {
         Some(OtherFormat::EtherNetIp)
+    } else if is_without_section(lines) {
+        Some(OtherFormat::NoSection)
     } else {
         None
     }
 }
 
-// whether a line shows the format of its text; in UTF-16 the first one does
+// whether a line shows the format of its text; in UTF-16 the first one does, without a section one
+// with a text
 fn shows(format: OtherFormat, line: &[u8]) -> bool
     ensures { result ≡ shows format line.now }
 {
@@ -87,6 +122,7 @@ fn shows(format: OtherFormat, line: &[u8]) -> bool
         OtherFormat::Xml => begins_with(b"<?xml", text) || begins_with(b"<ISO15745", text),
         OtherFormat::EtherNetIp => begins_with(b"[Device]", text),
         OtherFormat::Utf16 => true,
+        OtherFormat::NoSection => is_text(text),
     }
 }
 

@@ -30,7 +30,7 @@ use conode_lint_text::{
     About, Place, Severity, bad_access, bad_default, bad_limits, bad_list, bad_number, bad_type,
     device_info, duplicate_key, duplicate_section, file_info, first_at, identity_number,
     listed_twice, missing_key, missing_mandatory, missing_section, misspelt_key, misspelt_section,
-    pdo_count, sub_index_0, sub_number, too_large, utf8, wrong_access, wrong_list,
+    pdo_count, reserved_value, sub_index_0, sub_number, too_large, utf8, wrong_access, wrong_list,
 };
 
 /// Its name, as `BadList`.
@@ -131,6 +131,7 @@ fn warning_about(
         WarningKind::MisspeltSection => misspelt_section(text),
         WarningKind::WrongList => wrong_list(text),
         WarningKind::WrongAccess => wrong_access(sections, line),
+        WarningKind::ReservedValue => reserved_value(sections, line),
         WarningKind::Utf8 => utf8(text),
         _ => About::Line,
     }
@@ -200,6 +201,10 @@ fn fault_fix(kind: FaultKind) -> &'static str
         FaultKind::CompactForm => {
             "try conode adapt, or have the sheet's editor write each sub-index as a section of its \
             own"
+        }
+        FaultKind::BadList => {
+            "number the keys 1, 2, 3 without a gap, and count them; a key with a leading zero, as \
+            01, isn't read: write 1, or try conode adapt"
         }
         _ => co_sheet_faults::fix_of(kind),
     }

@@ -14,7 +14,7 @@ use Rattle.conode_lint_text.specs.declared.finding.About.TheVariants.{Line, Firs
 use Rattle.conode_lint_text.specs.declared.fact.Fact.TheVariants as fact
 use Rattle.conode_lint_text.specs.declared.meant_section.MeantSection.TheVariants as meant
 use Rattle.conode_lint_text.specs.FactTexts.{fact_text, hexadecimal, missing_text, texts_of, words_of}
-use Rattle.conode_lint_text.specs.Facts.{bad_access, bad_list, bad_number, bad_type, count_fact, device_info, duplicate_key, duplicate_section, file_info, first_at, identity_number, list_fact, listed_twice, missing_key, missing_mandatory, missing_section, misspelt_key, misspelt_section, pdo_count, sub_index_0, sub_number, too_large, utf8, wrong_access, wrong_list}
+use Rattle.conode_lint_text.specs.Facts.{bad_access, bad_list, bad_number, bad_type, count_fact, device_info, duplicate_key, duplicate_section, file_info, first_at, identity_number, list_fact, listed_twice, missing_key, missing_mandatory, missing_section, misspelt_key, misspelt_section, named_code, pdo_count, reserved_value, sub_index_0, sub_number, too_large, utf8, wrong_access, wrong_list}
 use Rattle.conode_lint_text.specs.Bounds.{bad_default, bad_limits}
 use Rattle.conode_lint_text.specs.Findings.{about_message, fix_with}
 
@@ -189,9 +189,38 @@ bad_numbers : map bad_number (codes " defaultvalue = x" ∷ codes "ParameterValu
     ≡ Fact fact.NoValue ∷ Fact fact.NoValue ∷ Line ∷ Fact fact.NoObjectType ∷ Fact fact.CommentInValue ∷ []
 bad_numbers = refl
 
+-- the name of a data type, in any case of letters, another name, and a name at another key
+type_names : map bad_number (codes "DataType=UNSIGNED8" ∷ codes " datatype = Real64 " ∷ codes "DataType=BYTE" ∷ codes "PDOMapping=UNSIGNED8" ∷ [])
+    ≡ Fact (fact.TypeName 5) ∷ Fact (fact.TypeName 0x11) ∷ Fact fact.NoDataType ∷ Line ∷ []
+unfolding named_code
+type_names = refl
+
+type_codes : map named_code (codes "BOOLEAN" ∷ codes "INTEGER8" ∷ codes "INTEGER16" ∷ codes "INTEGER32" ∷ codes "INTEGER64" ∷ codes "UNSIGNED8" ∷ codes "UNSIGNED16" ∷ codes "UNSIGNED32" ∷ codes "UNSIGNED64" ∷ codes "REAL32" ∷ codes "REAL64" ∷ codes "VISIBLE_STRING" ∷ codes "OCTET_STRING" ∷ codes "UNICODE_STRING" ∷ codes "DOMAIN" ∷ codes "UNSIGNED" ∷ [])
+    ≡ Some 1 ∷ Some 2 ∷ Some 3 ∷ Some 4 ∷ Some 0x15 ∷ Some 5 ∷ Some 6 ∷ Some 7 ∷ Some 0x1B ∷ Some 8 ∷ Some 0x11 ∷ Some 9 ∷ Some 10 ∷ Some 11 ∷ Some 15 ∷ None ∷ []
+unfolding named_code
+type_codes = refl
+
+-- of the last RPDO and of the first TPDO; of 1019h, which has no sub-indices; before the first section of none
+reserved : map (λ line. reserved_value line (section 10 (SubIndex (record { index = 0x15FF; sub = 2 })) [] ∷ section 20 (SubIndex (record { index = 0x1800; sub = 2 })) [] ∷ section 30 (Object 0x1019) [] ∷ [])) (10 ∷ 11 ∷ 21 ∷ 31 ∷ [])
+    ≡ Line ∷ Fact fact.ReservedOfRpdo ∷ Fact fact.ReservedOfTpdo ∷ Fact fact.ReservedCounter ∷ []
+reserved = refl
+
+reserved_texts : map fact_text (fact.ReservedOfRpdo ∷ fact.ReservedOfTpdo ∷ fact.ReservedCounter ∷ fact.NoDataType ∷ fact.TypeName 5 ∷ [])
+    ≡ codes "CiA 301 reserves this transmission type of an RPDO" ∷ codes "CiA 301 reserves this transmission type of a TPDO" ∷ codes "CiA 301 reserves this synchronous counter overflow value"
+    ∷ codes "DataType is a number, and this is none" ∷ codes "DataType is a number: this name's is 0x0005" ∷ []
+unfolding fact_text words_of texts_of filled digits digits_text
+reserved_texts = refl
+
+reserved_fixes : map (λ about. fix_with about (codes "f")) (Fact fact.ReservedOfRpdo ∷ Fact fact.ReservedOfTpdo ∷ Fact fact.ReservedCounter ∷ Fact fact.NoDataType ∷ Fact (fact.TypeName 5) ∷ Fact (fact.FileInfoLacks (true ∷ [])) ∷ Fact (fact.DeviceInfoLacks (true ∷ [])) ∷ Fact (fact.NoFileInfo (true ∷ [])) ∷ [])
+    ≡ codes "give 0 to 240, 254 or 255" ∷ codes "give 0 to 240, or from 252 on" ∷ codes "give 0, or 2 to 240" ∷ codes "f" ∷ codes "write that number"
+    ∷ codes "add the missing keys, each with a value: one without it counts as missing" ∷ codes "add the missing keys, each with a value: one without it counts as missing" ∷ codes "f" ∷ []
+unfolding fix_with
+reserved_fixes = refl
+
 -- quotes come first, and `;` may be anywhere in the value; before `=` it is none
 odd_values : map bad_number (codes "DataType=7 ; x" ∷ codes "DataType=7;" ∷ codes "DataType = \"7\"" ∷ codes "DataType='7' ; x" ∷ codes "DefaultValue=5;6" ∷ codes "Data;Type=x" ∷ codes "DataType=" ∷ [])
-    ≡ Fact fact.CommentInValue ∷ Fact fact.CommentInValue ∷ Fact fact.QuotedValue ∷ Fact fact.QuotedValue ∷ Fact fact.CommentInValue ∷ Line ∷ Line ∷ []
+    ≡ Fact fact.CommentInValue ∷ Fact fact.CommentInValue ∷ Fact fact.QuotedValue ∷ Fact fact.QuotedValue ∷ Fact fact.CommentInValue ∷ Line ∷ Fact fact.NoDataType ∷ []
+unfolding named_code
 odd_values = refl
 
 odd_accesses : map bad_access (codes "AccessType=ro ; x" ∷ codes "AccessType=\"ro\"" ∷ codes "AccessType=Read" ∷ []) ≡ Fact fact.CommentInValue ∷ Fact fact.QuotedValue ∷ Line ∷ []

@@ -12,7 +12,7 @@ use Rattle.conode_lint_text.specs.MeantSections.{meant_text}
 use Rattle.conode_lint_text.specs.declared.fact.Fact.{Fact}
 use Rattle.conode_lint_text.specs.declared.fact.Part.{Part}
 use Rattle.conode_lint_text.specs.declared.fact.Part.TheVariants.{Number, Code, Hexadecimal, Signed}
-use Rattle.conode_lint_text.specs.declared.fact.Fact.TheVariants.{NoCount, ListCount, ListGap, HighIndex, NoMandatoryList, NotListed, LargeText, NoValue, NoObjectType, MeantSection, ByteOrderMark, CommentInValue, QuotedValue, NoPairs, DecimalIndex, LowDecimal, LowIndex, FixedType, NoType, NoAccess, NoTypeOrAccess, NoFileInfo, FileInfoLacks, NoDeviceInfo, DeviceInfoLacks, NoSubNumber, SubNumber, SubIndex0, RpdoCount, TpdoCount, NoRpdoCount, NoTpdoCount, Identity, NoIdentity, BelowLow, AboveHigh, AboveNegative, ValueOutside, LimitOutside, LimitsCrossed, NegativeHigh}
+use Rattle.conode_lint_text.specs.declared.fact.Fact.TheVariants.{NoCount, ListCount, ListGap, HighIndex, NoMandatoryList, NotListed, LargeText, NoValue, NoObjectType, NoDataType, TypeName, ReservedOfTpdo, ReservedOfRpdo, ReservedCounter, MeantSection, ByteOrderMark, CommentInValue, QuotedValue, NoPairs, DecimalIndex, LowDecimal, LowIndex, FixedType, NoType, NoAccess, NoTypeOrAccess, NoFileInfo, FileInfoLacks, NoDeviceInfo, DeviceInfoLacks, NoSubNumber, SubNumber, SubIndex0, RpdoCount, TpdoCount, NoRpdoCount, NoTpdoCount, Identity, NoIdentity, BelowLow, AboveHigh, AboveNegative, ValueOutside, LimitOutside, LimitsCrossed, NegativeHigh}
 
 -- a number as sheets have it, in hexadecimal digits
 unfoldable pub hexadecimal : ℕ → List ℕ
@@ -55,6 +55,11 @@ words_of (NotListed device error identity) = not_listed device error identity
 words_of LargeText = codes "the text has more than 1,048,576 bytes"
 words_of NoValue = codes "the value is no whole number of at most 64 bits"
 words_of NoObjectType = codes "ObjectType is a number, and this is none"
+words_of NoDataType = codes "DataType is a number, and this is none"
+words_of (TypeName code) = codes "DataType is a number: this name's is 0x%"
+words_of ReservedOfTpdo = codes "CiA 301 reserves this transmission type of a TPDO"
+words_of ReservedOfRpdo = codes "CiA 301 reserves this transmission type of an RPDO"
+words_of ReservedCounter = codes "CiA 301 reserves this synchronous counter overflow value"
 words_of (MeantSection section) = meant_text section
 words_of ByteOrderMark =
     codes "the text begins with a byte order mark of UTF-8, which older tools read as characters"
@@ -140,6 +145,7 @@ texts_of (LowIndex index) = hexadecimal index ∷ decimal 0 ∷ decimal 0 ∷ []
 texts_of (DecimalIndex index) = hexadecimal index ∷ decimal index ∷ decimal index ∷ []
 texts_of (LowDecimal index) = hexadecimal index ∷ decimal index ∷ decimal index ∷ []
 texts_of (FixedType code) = digits_text 16 4 code ∷ decimal 0 ∷ decimal 0 ∷ []
+texts_of (TypeName code) = digits_text 16 4 code ∷ decimal 0 ∷ decimal 0 ∷ []
 texts_of other = numbers 0 0 0
 
 -- of any fact

@@ -211,15 +211,40 @@ odd_value value other =
 abbrev pub is_value_key : List ℕ → Bool
 is_value_key name = same_name name (codes "DefaultValue") || same_name name (codes "ParameterValue")
 
--- and ObjectType may be written as a name
-abbrev pub number_fact : List ℕ → About
-number_fact name =
+-- and ObjectType and DataType may be written as names; the code of a data type by its name (CiA 301,
+-- data types)
+unfoldable pub named_code : List ℕ → Option ℕ
+named_code name =
+    if same_name name (codes "BOOLEAN") then Some 0x0001
+    else if same_name name (codes "INTEGER8") then Some 0x0002
+    else if same_name name (codes "INTEGER16") then Some 0x0003
+    else if same_name name (codes "INTEGER32") then Some 0x0004
+    else if same_name name (codes "INTEGER64") then Some 0x0015
+    else if same_name name (codes "UNSIGNED8") then Some 0x0005
+    else if same_name name (codes "UNSIGNED16") then Some 0x0006
+    else if same_name name (codes "UNSIGNED32") then Some 0x0007
+    else if same_name name (codes "UNSIGNED64") then Some 0x001B
+    else if same_name name (codes "REAL32") then Some 0x0008
+    else if same_name name (codes "REAL64") then Some 0x0011
+    else if same_name name (codes "VISIBLE_STRING") then Some 0x0009
+    else if same_name name (codes "OCTET_STRING") then Some 0x000A
+    else if same_name name (codes "UNICODE_STRING") then Some 0x000B
+    else if same_name name (codes "DOMAIN") then Some 0x000F
+    else None
+
+abbrev pub type_number : Option ℕ → About
+type_number (Some code) = Fact (fact.TypeName code)
+type_number None = Fact fact.NoDataType
+
+abbrev pub number_fact : List ℕ → List ℕ → About
+number_fact name value =
     if is_value_key name then Fact fact.NoValue
     else if same_name name (codes "ObjectType") then Fact fact.NoObjectType
+    else if same_name name (codes "DataType") then type_number (named_code value)
     else Line
 
 abbrev pub bad_number : List ℕ → About
-bad_number text = odd_value (key_value text) (number_fact (key_name text))
+bad_number text = odd_value (key_value text) (number_fact (key_name text) (key_value text))
 
 -- of the BadAccess of a line
 abbrev pub bad_access : List ℕ → About
@@ -272,6 +297,16 @@ access_fact s = option_map_or (λ access. Access access) (fixed_access s.kind) L
 
 abbrev pub wrong_access : ℕ → List TextSection → About
 wrong_access line sections = option_map_or access_fact (section_before line sections) Line
+
+-- of the ReservedValue of a line: a transmission type of an RPDO or of a TPDO, or the value of 1019h
+abbrev pub reserved_fact : SectionKind → About
+reserved_fact (SubIndex key) =
+    if nat_lt key.index 0x1800 then Fact fact.ReservedOfRpdo else Fact fact.ReservedOfTpdo
+reserved_fact kind = Fact fact.ReservedCounter
+
+abbrev pub reserved_value : ℕ → List TextSection → About
+reserved_value line sections =
+    option_map_or (λ s. reserved_fact s.kind) (section_before line sections) Line
 
 -- of the DuplicateKey of a line
 abbrev pub first_key : List ℕ → TextSection → About

@@ -9,7 +9,7 @@ use Rattle.conode_text.specs.Filled.{filled}
 use Rattle.conode_json.specs.Characters.{characters_of}
 use Rattle.conode_lint_text.specs.Characters.{blanks}
 use Rattle.conode_lint_text.specs.FactTexts.{fact_text}
-use Rattle.conode_lint_text.specs.declared.fact.Fact.TheVariants.{HighIndex, NoMandatoryList, NotListed, LargeText, NoValue, NoObjectType, ByteOrderMark, CommentInValue, QuotedValue, NoPairs, DecimalIndex, LowDecimal, LowIndex, FixedType, NoType, NoAccess, NoTypeOrAccess}
+use Rattle.conode_lint_text.specs.declared.fact.Fact.TheVariants.{HighIndex, NoMandatoryList, NotListed, LargeText, NoValue, NoObjectType, TypeName, ReservedOfTpdo, ReservedOfRpdo, ReservedCounter, FileInfoLacks, DeviceInfoLacks, ByteOrderMark, CommentInValue, QuotedValue, NoPairs, DecimalIndex, LowDecimal, LowIndex, FixedType, NoType, NoAccess, NoTypeOrAccess}
 use Rattle.conode_lint_text.specs.declared.finding.About.{About}
 use Rattle.conode_lint_text.specs.declared.finding.About.TheVariants.{Line, Object, Entry, Sum, NoSum, Bits, FirstAt, Misspelt, MisspeltBeside, NoSection, Access, Fact}
 use Rattle.conode_lint_text.specs.declared.finding.Finding.{Finding}
@@ -89,6 +89,14 @@ fix_with (Fact NoValue) fix =
     codes "write decimal digits, 0x and hexadecimal digits, or a sum as $NODEID+0x180"
 fix_with (Fact NoObjectType) fix =
     codes "write 0x7 for a VAR, 0x8 for an ARRAY, 0x9 for a RECORD, 0x2 for a DOMAIN"
+fix_with (Fact (TypeName code)) fix = codes "write that number"
+fix_with (Fact ReservedOfTpdo) fix = codes "give 0 to 240, or from 252 on"
+fix_with (Fact ReservedOfRpdo) fix = codes "give 0 to 240, 254 or 255"
+fix_with (Fact ReservedCounter) fix = codes "give 0, or 2 to 240"
+fix_with (Fact (FileInfoLacks missing)) fix =
+    codes "add the missing keys, each with a value: one without it counts as missing"
+fix_with (Fact (DeviceInfoLacks missing)) fix =
+    codes "add the missing keys, each with a value: one without it counts as missing"
 fix_with (Fact ByteOrderMark) fix = codes "save it without the mark"
 fix_with (Fact CommentInValue) fix = codes "put the comment on a line of its own"
 fix_with (Fact QuotedValue) fix = codes "take the quotes out"

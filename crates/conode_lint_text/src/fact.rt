@@ -43,6 +43,16 @@ pub enum Fact {
     NoValue,
     /// An ObjectType that is no number, as a name.
     NoObjectType,
+    /// A DataType that is no number.
+    NoDataType,
+    /// The same, where it is the name of the type with this code.
+    TypeName(u16),
+    /// A transmission type of a TPDO that CiA 301 reserves.
+    ReservedOfTpdo,
+    /// The same of an RPDO.
+    ReservedOfRpdo,
+    /// A synchronous counter overflow value that CiA 301 reserves.
+    ReservedCounter,
     /// A byte order mark of UTF-8.
     ByteOrderMark,
     /// The section that a misspelt name means.
@@ -180,6 +190,11 @@ fn words_of(fact: Fact) -> &'static str
         Fact::LargeText => "the text has more than 1,048,576 bytes",
         Fact::NoValue => "the value is no whole number of at most 64 bits",
         Fact::NoObjectType => "ObjectType is a number, and this is none",
+        Fact::NoDataType => "DataType is a number, and this is none",
+        Fact::TypeName(_) => "DataType is a number: this name's is 0x%",
+        Fact::ReservedOfTpdo => "CiA 301 reserves this transmission type of a TPDO",
+        Fact::ReservedOfRpdo => "CiA 301 reserves this transmission type of an RPDO",
+        Fact::ReservedCounter => "CiA 301 reserves this synchronous counter overflow value",
         Fact::MeantSection(section) => meant_text(section),
         Fact::ByteOrderMark => {
             "the text begins with a byte order mark of UTF-8, which older tools read as characters"
@@ -297,7 +312,9 @@ fn values_of(fact: Fact) -> [Part; 3]
             Part::Number(index),
             Part::Number(index),
         ],
-        Fact::FixedType(code) => [Part::Code(code), Part::Number(0), Part::Number(0)],
+        Fact::FixedType(code) | Fact::TypeName(code) => {
+            [Part::Code(code), Part::Number(0), Part::Number(0)]
+        }
         _ => numbers(0, 0, 0),
     }
 }

@@ -33,9 +33,12 @@ ghost use Rattle.conode_lint_text.specs.Facts.{
   misspelt_section,
   missing_key,
   missing_section,
+  named_code,
   number_fact,
   odd_value,
   other_type,
+  reserved_fact,
+  reserved_value,
   section_before,
   section_fact,
   section_kind,
@@ -43,6 +46,7 @@ ghost use Rattle.conode_lint_text.specs.Facts.{
   section_on,
   too_large,
   type_fact,
+  type_number,
   utf8,
   wrong_access,
   wrong_list,
@@ -219,9 +223,72 @@ fn is_value_key(name: &[u8]) -> bool
     same_name(name, b"DefaultValue") || same_name(name, b"ParameterValue")
 }
 
+// the code of a data type by its name
+#[tactic(auto, unfolding(crate::specs::Facts::named_code))]
+fn named_code(name: &[u8]) -> Option<u16>
+    ensures { result ≡ named_code name.now }
+{
+    if same_name(name, b"BOOLEAN") {
+        return Some(0x0001);
+    }
+    if same_name(name, b"INTEGER8") {
+        return Some(0x0002);
+    }
+    if same_name(name, b"INTEGER16") {
+        return Some(0x0003);
+    }
+    if same_name(name, b"INTEGER32") {
+        return Some(0x0004);
+    }
+    if same_name(name, b"INTEGER64") {
+        return Some(0x0015);
+    }
+    if same_name(name, b"UNSIGNED8") {
+        return Some(0x0005);
+    }
+    if same_name(name, b"UNSIGNED16") {
+        return Some(0x0006);
+    }
+    if same_name(name, b"UNSIGNED32") {
+        return Some(0x0007);
+    }
+    if same_name(name, b"UNSIGNED64") {
+        return Some(0x001B);
+    }
+    if same_name(name, b"REAL32") {
+        return Some(0x0008);
+    }
+    if same_name(name, b"REAL64") {
+        return Some(0x0011);
+    }
+    if same_name(name, b"VISIBLE_STRING") {
+        return Some(0x0009);
+    }
+    if same_name(name, b"OCTET_STRING") {
+        return Some(0x000A);
+    }
+    if same_name(name, b"UNICODE_STRING") {
+        return Some(0x000B);
+    }
+    if same_name(name, b"DOMAIN") {
+        return Some(0x000F);
+    }
+    None
+}
+
+// what is said of a DataType that is no number, and perhaps the name of the type with this code
+fn type_number(code: Option<u16>) -> About
+    ensures { result ≡ type_number code }
+{
+    match code {
+        Some(code) => About::Fact(Fact::TypeName(code)),
+        None => About::Fact(Fact::NoDataType),
+    }
+}
+
 // what is said of a key whose value is no number
-fn number_fact(name: &[u8]) -> About
-    ensures { result ≡ number_fact name.now }
+fn number_fact(name: &[u8], value: &[u8]) -> About
+    ensures { result ≡ number_fact name.now value.now }
 {
     if is_value_key(name) {
         return About::Fact(Fact::NoValue);
@@ -229,15 +296,19 @@ fn number_fact(name: &[u8]) -> About
     if same_name(name, b"ObjectType") {
         return About::Fact(Fact::NoObjectType);
     }
+    if same_name(name, b"DataType") {
+        return type_number(named_code(value));
+    }
     About::Line
 }
 
 /// Of the BadNumber of a line: quotes or a comment in its value, which may be a sum with `$NODEID`;
-/// or the name of an object type.
+/// or the name of an object type or of a data type.
 pub fn bad_number(text: &[u8]) -> About
     ensures { result ≡ bad_number text.now }
 {
-    odd_value(key_value(text), number_fact(key_name(text)))
+    let value = key_value(text);
+    odd_value(value, number_fact(key_name(text), value))
 }
 
 /// Of the BadAccess of a line: quotes or a comment in its value.
@@ -401,6 +472,28 @@ pub fn wrong_access(sections: &[TextSection<'_, '_>], line: usize) -> About
 {
     match section_before(sections, line) {
         Some(section) => access_fact(section),
+        None => About::Line,
+    }
+}
+
+// of which entry the value of a section is
+fn reserved_fact(kind: SectionKind) -> About
+    ensures { result ≡ reserved_fact kind }
+{
+    match kind {
+        SectionKind::SubIndex(key) if key.index < 0x1800 => About::Fact(Fact::ReservedOfRpdo),
+        SectionKind::SubIndex(_) => About::Fact(Fact::ReservedOfTpdo),
+        _ => About::Fact(Fact::ReservedCounter),
+    }
+}
+
+/// Of the ReservedValue of a line: whether it is a transmission type, and of which PDO, or the
+/// synchronous counter overflow value.
+pub fn reserved_value(sections: &[TextSection<'_, '_>], line: usize) -> About
+    ensures { result ≡ reserved_value line (map section_view sections.now) }
+{
+    match section_before(sections, line) {
+        Some(section) => reserved_fact(section.kind),
         None => About::Line,
     }
 }

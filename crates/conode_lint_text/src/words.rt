@@ -130,6 +130,13 @@ pub(crate) fn fix_of<'a>(finding: &Finding<'a>) -> &'a str
         About::Fact(Fact::NoObjectType) => {
             "write 0x7 for a VAR, 0x8 for an ARRAY, 0x9 for a RECORD, 0x2 for a DOMAIN"
         }
+        About::Fact(Fact::TypeName(_)) => "write that number",
+        About::Fact(Fact::ReservedOfTpdo) => "give 0 to 240, or from 252 on",
+        About::Fact(Fact::ReservedOfRpdo) => "give 0 to 240, 254 or 255",
+        About::Fact(Fact::ReservedCounter) => "give 0, or 2 to 240",
+        About::Fact(Fact::FileInfoLacks(_)) | About::Fact(Fact::DeviceInfoLacks(_)) => {
+            "add the missing keys, each with a value: one without it counts as missing"
+        }
         About::Fact(Fact::ByteOrderMark) => "save it without the mark",
         About::Fact(Fact::CommentInValue) => "put the comment on a line of its own",
         About::Fact(Fact::QuotedValue) => "take the quotes out",
