@@ -1,5 +1,5 @@
-//! What `explain` says in words of its own, where `decode` says it otherwise: SDO frames with a size,
-//! and NMT commands to all nodes.
+//! What `explain` says in words of its own, where `decode` says it otherwise: SDO frames with a
+//! size, and NMT commands to all nodes.
 
 ghost use Rattle.std.specs.Prelude.{◌≡◌, [], ◌++◌, is_some, unwrap_or, IfOk, OnOk, string_bytes};
 ghost use Rattle.co_sheet_changes.specs.Names.{names_view};

@@ -184,8 +184,9 @@ fn is_without_beats(last: Option<Shown>) -> bool
     }
 }
 
-/// Since when a node is silent at the end of its bus, if it is: by its heartbeats or guarding answers,
-/// and one that sent none by its PDOs. `sheet` is its producer heartbeat time in ms, if a sheet has one.
+/// Since when a node is silent at the end of its bus, if it is: by its heartbeats or guarding
+/// answers, and one that sent none by its PDOs. `sheet` is its producer heartbeat time in ms, if a
+/// sheet has one.
 #[tactic(auto, unfolding(crate::specs::Silences::silence_of))]
 pub fn silence_of(bus: &Bus, sheet: Option<u16>, number: u8, node: &Node) -> Option<Silence>
     ensures { result ≡ silence_of bus.now sheet number node.now }
