@@ -279,11 +279,7 @@ fn push_name(
 }
 
 #[tactic(auto, unfolding(crate::specs::OwnWords::sized_text))]
-fn push_sized(
-    said: &mut String,
-    names: Names<'_, '_>,
-    frame: SizedFrame,
-) -> Result<(), AllocError>
+fn push_sized(said: &mut String, names: Names<'_, '_>, frame: SizedFrame) -> Result<(), AllocError>
     ensures { OnOk result (string_bytes said.new
         ≡ string_bytes said.old ++ sized_text (names_view names.entry) frame) }
 {
