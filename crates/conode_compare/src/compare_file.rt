@@ -26,6 +26,7 @@ use conode_io::{
     out_of_memory, stopped,
 };
 use conode_logs::Form;
+use conode_sheets::{has_section, no_sheet};
 use std::alloc::Global;
 use std::fs;
 use std::io::{Input, Read, Write};
@@ -38,9 +39,11 @@ const STANDARD_INPUT: &str = "-";
 /// The status of a comparison that can't be made.
 const NOT_COMPARED: u8 = 2;
 
-/// What may help where a data sheet is refused.
-const ADAPT: &str =
-    "try conode adapt SHEET: it rewrites a vendor's sheet to one that compare takes";
+/// What may help where a data sheet has a fault.
+const HELP: &str = "; see conode lint, or conode adapt for a vendor's sheet";
+
+/// What is said of a recording that is a data sheet.
+const SHEET_AS_TRACE: &str = "TRACE is a data sheet: SHEET comes first, then a recording as TRACE";
 
 /// What is asked for.
 #[derive(Clone, Copy)]
@@ -194,6 +197,7 @@ fn compare_input<R: Read, O: Write, E: Write>(
             say_ends(settings.subject.node, &comparing, err);
             ExitCode::from(verdict_status(comparing.tally, comparing.several))
         }
+        Err(CmdFault::BadLine(_)) => bad_word(SHEET_AS_TRACE, err),
         Err(fault) => {
             let _ = stopped(fault, out, err);
             ExitCode::from(NOT_COMPARED)
@@ -339,23 +343,43 @@ fn compare_text<R: Files + AllocGlobal + Input, O: Write, E: Write>(
     }
 }
 
-// says why a text is no data sheet that is compared, and which command may make one of it
-fn refuse<O: Write, E: Write>(fault: SheetFault, out: &mut O, err: &mut E) -> ExitCode
+// names the fault of a data sheet, and what may help
+fn name_fault<E: Write>(path: &str, fault: SheetFault, err: &mut E) {
+    let text = fault.text();
+    let text = text.as_str();
+    let help = match fault.kind {
+        FaultKind::TooLarge => "",
+        _ => HELP,
+    };
+    let _ = writeln!(err, "{path}: {text}{help}");
+}
+
+// says why the text of a path is no data sheet that is compared
+fn refuse<O: Write, E: Write>(
+    path: &str,
+    text: &[u8],
+    fault: SheetFault,
+    out: &mut O,
+    err: &mut E,
+) -> ExitCode
     ensures { exit_status result ≡ 2 }
 {
-    let _ = faulty_sheet(fault, out);
-    match fault.kind {
-        FaultKind::Memory | FaultKind::TooLarge => ExitCode::from(NOT_COMPARED),
-        _ => bad_word(ADAPT, err),
+    if fault.kind == FaultKind::Memory {
+        let _ = faulty_sheet(fault, out);
+    } else if has_section(text) {
+        name_fault(path, fault, err);
+    } else {
+        let _ = no_sheet(path, err);
     }
+    ExitCode::from(NOT_COMPARED)
 }
 
 /// Compares the recording of a path, or of standard input where that is `-`, with the data sheet of
 /// a path: each difference has a line on `out`, and the last line counts the device's frames by
 /// verdict; or there is one document, by the format that is asked for. The status is 0 where there
 /// is no difference, 1 where there is one, and 2 where nothing can be compared: a file that can't
-/// be read, a sheet with a fault, no node-ID, no frame of the node, frames of several interfaces
-/// and none of them named.
+/// be read, a sheet with a fault, a text without a section as the sheet, a sheet as the recording,
+/// no node-ID, no frame of the node, frames of several interfaces and none of them named.
 pub fn compare_files<R: Files + AllocGlobal + Input, O: Write, E: Write>(
     rt: &R,
     sheet: &str,
@@ -376,6 +400,6 @@ pub fn compare_files<R: Files + AllocGlobal + Input, O: Write, E: Write>(
     let paths = Paths { sheet, recording };
     match read(rt.alloc(), text.as_slice()) {
         Ok(sheet) => compare_text(rt, text.as_slice(), &sheet, &paths, &asked, out, err),
-        Err(fault) => refuse(fault, out, err),
+        Err(fault) => refuse(paths.sheet, text.as_slice(), fault, out, err),
     }
 }

@@ -53,6 +53,7 @@ fn take_lines<R: Read, W: Write, E: Write>(
 ///
 /// * `Read`: the reader failed. `NeverEnds`: there are 2^64 - 1 lines.
 /// * `Write`: `out` failed. `Memory`: memory ran out.
+/// * `BadLine` of 0: it is a data sheet, by a section line before any line that shows the form.
 pub fn compare<R: Read, W: Write, E: Write>(
     alloc: Global,
     reader: &mut R,

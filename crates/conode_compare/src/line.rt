@@ -23,6 +23,7 @@ use conode_convert::{add_frame, name_bad_line, read_fault};
 use conode_io::{CmdFault, flush};
 use conode_logs::{Form, Log};
 use conode_record::{BadLogLine, LogLine, RecordLine};
+use conode_sheets::{IS_SHEET, is_section_line};
 use std::alloc::{AllocError, Global};
 use std::io::{Read, Write};
 
@@ -109,6 +110,17 @@ fn set_record_line(
     }
 }
 
+// A bad line that is a section line of a data sheet, before the first line that shows the form of a
+// log, ends it.
+fn unless_sheet(form: Form, line: &[u8]) -> Result<(), CmdFault> {
+    if let Form::Unknown = form {
+        if is_section_line(line) {
+            return Err(IS_SHEET);
+        }
+    }
+    Ok(())
+}
+
 /// Flushes the writer, unless the next line is held whole.
 pub(crate) fn let_out<W: Write>(lines: &BoundedLines, out: &mut W) -> Result<(), CmdFault>
     ensures text { Keeps (W.contents out.old) (W.contents out.new) }
@@ -172,6 +184,7 @@ impl Lines {
                 take_record(comparing, text, settings, number, record, line, out)
             }
             Ok(Some(bad)) => {
+                attempt!(unless_sheet(self.log.form, line));
                 let has_frame = may_have_frame(
                     settings.interface,
                     comparing.first.as_slice(),

@@ -18,7 +18,8 @@ use Rattle.conode_explain_services.specs.Lengths.{fixed_at}
 use Rattle.conode_explain_services.specs.Reserved.{is_reserved}
 use Rattle.conode_explain_services.specs.Services.{service_words, state_words}
 use Rattle.conode_explain.specs.AbortWords.{abort_words}
-use Rattle.conode_explain.specs.FrameWords.{assumed_front, assumed_mark, assumed_words, frame_words, is_bare_sync, is_default_pdo, is_of_drive, other_words, plain_words, served_words, sync_words}
+use Rattle.conode_explain.specs.FrameWords.{assumed_front, assumed_mark, assumed_words, decoded_words, frame_words, is_bare_sync, is_default_pdo, is_of_drive, other_words, plain_words, served_words, sync_words}
+use Rattle.conode_explain.specs.OwnWords.{own_words, service_to_all, sized_in}
 use Rattle.conode_explain.specs.Transfers.{transfer_in, transfer_words}
 
 -- it is between these numbers, and of a node
@@ -36,6 +37,13 @@ module _ (id : ℕ) (bytes : List ℕ) (low : 0x180 < id) (high : id < 0x580) wh
   no_transfer : transfer_in (record { id = id; bytes = bytes }) ≡ None
   unfolding transfer_in
   no_transfer = rw (le-ltb 0x600 id (omega (arith, high)), le-ltb 0x580 id (omega (arith, high))) refl
+
+  -- nor has it a size, and it is no command
+  no_own : (names : Names) → own_words names (record { id = id; bytes = bytes }) ≡ None
+  unfolding own_words sized_in service_to_all
+  no_own names =
+      let command : eqb id 0 ≡ false = grind (arith, nat_tests, low) in
+      rw (le-ltb 0x600 id (omega (arith, high)), le-ltb 0x580 id (omega (arith, high)), command) refl
 
   -- it has no service of those that have words of their own
   no_service : (drive : Bool) (last : Last) → service_words drive last (record { id = id; bytes = bytes }) ≡ None
@@ -89,10 +97,10 @@ by_step names node step bytes low high =
     (λ f. by_test (eqb step 9) (λ t. let is : step ≡ 9 = eqb-true step 9 t in rw is refl)
     (λ g. let is : step ≡ 10 = grind (arith, nat_tests, a, b, c, d, e, f, g) in rw is refl)))))))
 
-plain : (names : Names) (named : Bool) (last : Last) (id : ℕ) (bytes : List ℕ) → is_default_pdo id ≡ true
-    → assumed_mark named id ++ plain_words names last (record { id = id; bytes = bytes }) ≡ assumed_words id
+decoded : (names : Names) (named : Bool) (last : Last) (id : ℕ) (bytes : List ℕ) → is_default_pdo id ≡ true
+    → assumed_mark named id ++ decoded_words names last (record { id = id; bytes = bytes }) ≡ assumed_words id
 unfolding assumed_words
-plain names named last id bytes is =
+decoded names named last id bytes is =
     let over = above id is in
     let under = below id is in
     let low : 3 ≤ id / 128 = omega (arith, over) in
@@ -107,9 +115,13 @@ plain names named last id bytes is =
     ∙ append-nil (text_of_frame names frame)
     ∙ by_service id bytes over under names (of_node_there id is)
     ∙ ap (λ (n : ℕ). option_map_or (service_text names (id % 128) bytes) (service_at n) unknown_text) base in
-    ap (λ (words : List ℕ). words ++ plain_words names last frame) mark
+    ap (λ (words : List ℕ). words ++ decoded_words names last frame) mark
     ∙ ap (λ (words : List ℕ). codes "~" ++ words) (append_assoc (text_of_frame names frame) (abort_words frame) (state_words last frame) ∙ text)
     ∙ by_step names (id % 128) (id / 128) bytes low high
+
+plain : (names : Names) (named : Bool) (last : Last) (id : ℕ) (bytes : List ℕ) → is_default_pdo id ≡ true
+    → assumed_mark named id ++ plain_words names last (record { id = id; bytes = bytes }) ≡ assumed_words id
+plain names named last id bytes is = rw (no_own id bytes (above id is) (below id is) names) (decoded names named last id bytes is)
 
 pub assumed : (bus : Bus) (named : Bool) (last : Last) (id : ℕ) (bytes : List ℕ) → is_default_pdo id ≡ true
     → assumed_words id ≡ frame_words bus [] named last (record { id = id; bytes = bytes })
@@ -122,7 +134,7 @@ no_bytes [] none = refl
 no_bytes (byte ∷ bytes) none = absurd (omega (arith, eqb-true (length (byte ∷ bytes)) 0 none))
 
 at_sync : (bus : Bus) (named : Bool) (last : Last) → sync_words named ≡ frame_words bus [] named last (record { id = 0x080; bytes = [] })
-unfolding frame_words transfer_words transfer_in other_words served_words service_words fixed_at text_of_frame sync_text abort_words state_words
+unfolding frame_words transfer_words transfer_in other_words served_words service_words fixed_at own_words sized_in service_to_all text_of_frame sync_text abort_words state_words
 at_sync bus true last = refl
 at_sync bus false last = refl
 

@@ -9,6 +9,7 @@ mod InterfaceExamples
 pub mod LogLemmas
 pub mod NodeDigitsTable
 pub mod NodeExamples
+mod OwnWordExamples
 pub mod ServiceLemmas
 pub mod SheetExamples
 pub mod TellingLemmas

@@ -8,6 +8,7 @@ use Rattle.conode_record.specs.declared.fields.Identifier.{Identifier}
 use Rattle.conode_record.specs.declared.fields.Identifier.TheVariants.{Base, Extended, Error}
 use Rattle.co_frame.specs.FrameContent.{FrameContent}
 use Rattle.conode_explain.specs.AbortWords.{abort_words}
+use Rattle.conode_explain.specs.OwnWords.{own_words}
 use Rattle.conode_explain.specs.Transfers.{transfer_words}
 use Rattle.conode_explain_cob_ids.specs.declared.claim.Claim.{Claim}
 use Rattle.conode_explain_cob_ids.specs.Buses.{Bus, names_at}
@@ -31,8 +32,12 @@ abbrev pub assumed_mark : Bool → ℕ → List ℕ
 assumed_mark named id = if is_default_pdo id || (is_default_service id && not named) then codes "~" else []
 
 -- the text of a frame, what an abort's code means, and the NMT state of its node
+abbrev pub decoded_words : Names → Last → FrameContent → List ℕ
+decoded_words names last frame = text_of_frame names frame ++ abort_words frame ++ state_words last frame
+
+-- words of its own, where there are some, else these
 abbrev pub plain_words : Names → Last → FrameContent → List ℕ
-plain_words names last frame = text_of_frame names frame ++ abort_words frame ++ state_words last frame
+plain_words names last frame = unwrap_or (own_words names frame) (decoded_words names last frame)
 
 -- by its service, where its node is a drive or isn't and its last frames had this, else by its text
 unfoldable pub served_words : Names → Bool → Last → FrameContent → List ℕ

@@ -6,6 +6,7 @@ pub mod FrameWords
 pub mod LogLines
 pub mod NodeDigits
 pub mod Nodes
+pub mod OwnWords
 pub mod Sheets
 pub mod Taking
 pub mod ToldWords

@@ -11,6 +11,7 @@ ghost use Rattle.conode_explain.specs.FrameWords.{
   assumed_front,
   assumed_mark,
   assumed_words,
+  decoded_words,
   frame_words,
   is_bare_sync,
   is_default_pdo,
@@ -25,6 +26,7 @@ ghost use Rattle.conode_explain.specs.FrameWords.{
 
 use crate::abort_words::push_abort_words;
 use crate::node_digits::push_node;
+use crate::own_words::push_own_words;
 use crate::progress::last_of;
 use crate::transfer::{push_transfer, transfer_in};
 use co_frame::Frame;
@@ -62,6 +64,22 @@ fn assumed_mark(named: bool, id: u16) -> &'static str
 }
 
 // the text of a frame, what an abort's code means, and the NMT state of its node
+fn push_decoded_words(
+    said: &mut String,
+    names: Names<'_, '_>,
+    last: &Last,
+    frame: &Frame,
+) -> Result<(), AllocError>
+    ensures { OnOk result (string_bytes said.new
+        ≡ string_bytes said.old ++ decoded_words (names_view names.entry) last.now frame.now) }
+{
+    attempt!(push_text(said, names, frame));
+    attempt!(push_abort_words(said, frame));
+    push_state(said, *last, frame)
+}
+
+// words of its own, where there are some, else these
+#[tactic(auto, using(crate::proofs::ServiceLemmas::said_alone, crate::proofs::ServiceLemmas::others_alone))]
 fn push_plain_words(
     said: &mut String,
     names: Names<'_, '_>,
@@ -71,9 +89,11 @@ fn push_plain_words(
     ensures { OnOk result (string_bytes said.new
         ≡ string_bytes said.old ++ plain_words (names_view names.entry) last.now frame.now) }
 {
-    attempt!(push_text(said, names, frame));
-    attempt!(push_abort_words(said, frame));
-    push_state(said, *last, frame)
+    match push_own_words(said, names, frame) {
+        Ok(true) => Ok(()),
+        Ok(false) => push_decoded_words(said, names, last, frame),
+        Err(fault) => Err(fault),
+    }
 }
 
 // by its service, else by its text

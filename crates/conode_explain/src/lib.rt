@@ -42,6 +42,7 @@ mod filtered;
 mod frame_words;
 mod no_channel;
 mod node_digits;
+mod own_words;
 mod progress;
 mod settings;
 mod sheets;

@@ -34,13 +34,15 @@ pub(crate) struct Transfer {
     pub(crate) content: ExpeditedData,
 }
 
-fn is_request(frame: &Frame) -> bool
+/// Whether a frame is a request on a default SDO channel (CiA 301, 7.3.3).
+pub(crate) fn is_request(frame: &Frame) -> bool
     ensures { result ≡ is_request frame.now }
 {
     (0x600 < frame.id() && frame.id() < 0x680) && frame.bytes().len() == 8
 }
 
-fn is_answer(frame: &Frame) -> bool
+/// Whether it is an answer there.
+pub(crate) fn is_answer(frame: &Frame) -> bool
     ensures { result ≡ is_answer frame.now }
 {
     (0x580 < frame.id() && frame.id() < 0x600) && frame.bytes().len() == 8

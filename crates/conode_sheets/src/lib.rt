@@ -9,6 +9,6 @@ mod sheet_text;
 mod sheet_word;
 
 pub use readable::readable_texts;
-pub use section_line::{IS_SHEET, is_section_line, sheet_as_recording};
-pub use sheet_text::{SheetText, bad_sheet};
+pub use section_line::{IS_SHEET, has_section, is_section_line, sheet_as_recording};
+pub use sheet_text::{SheetText, bad_sheet, no_sheet};
 pub use sheet_word::{SheetPart, SheetWord, SheetWordFault, sheet_words};

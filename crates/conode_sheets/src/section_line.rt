@@ -68,8 +68,9 @@ fn begins_section(line: &[u8]) -> bool
     }
 }
 
-/// Whether a text has a line that begins a section of a data sheet.
-pub(crate) fn has_section(text: &[u8]) -> bool {
+/// Whether a text has a line that begins a section of a data sheet (CiA 306, structure of an EDS):
+/// one of another kind, as a recording, has none.
+pub fn has_section(text: &[u8]) -> bool {
     for line in text.split(|byte| *byte == b'\n') {
         if begins_section(line) {
             return true;

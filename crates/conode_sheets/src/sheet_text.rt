@@ -85,8 +85,8 @@ fn in_utf8(alloc: Global, text: Vec<u8>) -> Result<Vec<u8>, AllocError> {
     Ok(made)
 }
 
-// Says that a file is no data sheet. The status is 1.
-fn no_sheet<E: Write>(path: &str, err: &mut E) -> ExitCode
+/// Says that a file is no data sheet, since its text has no section. The status is 1.
+pub fn no_sheet<E: Write>(path: &str, err: &mut E) -> ExitCode
     ensures { exit_status result ≡ 1 }
 {
     let _ = writeln!(

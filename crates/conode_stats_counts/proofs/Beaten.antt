@@ -11,7 +11,7 @@ use Rattle.conode_stats_counts.specs.declared.state.NmtState.{NmtState}
 use Rattle.conode_stats_counts.specs.declared.state.NmtState.TheVariants.{BootUp}
 use Rattle.conode_stats_counts.specs.Gaps.{counted, greatest}
 use Rattle.conode_stats_counts.specs.Heartbeats.{beat_with, first_gaps, first_with, heartbeats_of, is_late, late_gaps, late_with, other_gaps, other_with, since, timed_with, wait, wait_with, written_time}
-use Rattle.conode_stats_counts.specs.States.{NodeEvent, Commanded, Sent, Exchanged, Timed, same_state}
+use Rattle.conode_stats_counts.specs.States.{NodeEvent, Commanded, Sent, Exchanged, Timed, Asked, same_state}
 use Rattle.conode_stats_counts.proofs.Tallied.{counted_next}
 
 pub none : heartbeats_of [] ≡ record { written = None; since = None; late = 0; longest_late = 0; longest = 0; first = [] }
@@ -92,6 +92,10 @@ timed_more log direction time micros = refl
 pub commanded_more : (log : List NodeEvent) → heartbeats_of log ≡ heartbeats_of (Commanded ∷ log)
 unfolding heartbeats_of written_time since late_gaps other_gaps
 commanded_more log = refl
+
+pub asked_more : (log : List NodeEvent) (micros : ℕ) → heartbeats_of log ≡ heartbeats_of (Asked micros ∷ log)
+unfolding heartbeats_of written_time since late_gaps other_gaps
+asked_more log micros = refl
 
 -- ---- the array that holds the first gaps
 

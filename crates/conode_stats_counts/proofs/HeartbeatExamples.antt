@@ -4,7 +4,7 @@ use Rattle.conode_explain_transfers.specs.declared.kinds.Direction.TheVariants.{
 use Rattle.conode_stats_counts.specs.declared.sdo_frame.SdoFrame.TheVariants.{Abort, Request, Response}
 use Rattle.conode_stats_counts.specs.declared.state.NmtState.TheVariants.{BootUp, Operational}
 use Rattle.conode_stats_counts.specs.Heartbeats.{first_gaps, is_late, late_gaps, longest_answer, other_gaps, pending, since, written_time}
-use Rattle.conode_stats_counts.specs.States.{NodeEvent, Commanded, Sent, Exchanged, Timed}
+use Rattle.conode_stats_counts.specs.States.{NodeEvent, Commanded, Sent, Exchanged, Timed, Asked}
 
 -- ---- which wait is too long
 
@@ -33,7 +33,12 @@ none_late_without : late_gaps beats ≡ []
 unfolding late_gaps since written_time
 none_late_without = refl
 
--- the same, in the order in which they came
+-- of guarding answers
+gaps_guarded : other_gaps (Sent Operational 90000 ∷ Asked 89000 ∷ Sent Operational 60000 ∷ []) ≡ 30000 ∷ []
+unfolding other_gaps since written_time
+gaps_guarded = refl
+
+-- the first two, in the order in which they came
 first_two : first_gaps (30000 ∷ 20000 ∷ []) ≡ 20000 ∷ 30000 ∷ []
 first_two = refl
 

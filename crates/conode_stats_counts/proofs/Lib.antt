@@ -9,6 +9,7 @@ mod Examples
 pub mod Failed
 mod FailureExamples
 pub mod Grouped
+mod GuardingExamples
 mod HeartbeatExamples
 pub mod Loaded
 pub mod NodeEvents

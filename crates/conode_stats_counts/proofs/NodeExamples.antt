@@ -7,13 +7,13 @@ use Rattle.conode_explain_transfers.specs.declared.kinds.Direction.TheVariants.{
 use Rattle.conode_record.specs.declared.content.Content.TheVariants.{Data, Remote}
 use Rattle.conode_record.specs.declared.fields.Identifier.TheVariants.{Base, Extended}
 use Rattle.conode_stats_counts.specs.declared.sdo_frame.SdoFrame.TheVariants.{Abort, Request, Response}
-use Rattle.conode_stats_counts.specs.declared.sign.Sign.TheVariants.{Reset, Shows, Exchanges, Other}
+use Rattle.conode_stats_counts.specs.declared.sign.Sign.TheVariants.{Reset, Shows, Exchanges, Asks, Other}
 use Rattle.conode_stats_counts.specs.declared.state.NmtState.TheVariants.{BootUp, PreOperational, Operational, Stopped, Unknown}
 use Rattle.conode_stats_counts.specs.Nodes.{log_timed, log_with, sign_as, table}
 use Rattle.conode_stats_counts.specs.ShownTimes.{time_by}
 use Rattle.conode_stats_counts.specs.Heartbeats.{longest_answer, pending}
 use Rattle.conode_stats_counts.specs.Restarts.{last_restart, restarts}
-use Rattle.conode_stats_counts.specs.States.{NodeEvent, Commanded, Sent, Exchanged, Timed, boot_ups, is_commanded, newest, state_of, time_in}
+use Rattle.conode_stats_counts.specs.States.{NodeEvent, Commanded, Sent, Exchanged, Timed, Asked, boot_ups, is_commanded, newest, state_of, time_in}
 
 -- ---- what a byte of error control shows (CiA 301, 7.2.8.3.2)
 
@@ -80,8 +80,20 @@ after_control = refl
 longer_control : sign_as (Base 0x705) (Data (0x05 ∷ 0x00 ∷ [])) ≡ Other
 longer_control = refl
 
-guarding_request : sign_as (Base 0x705) (Remote 1) ≡ Other
-guarding_request = refl
+first_guarding_request : sign_as (Base 0x701) (Remote 1) ≡ Asks 1
+first_guarding_request = refl
+
+last_guarding_request : sign_as (Base 0x77F) (Remote 0) ≡ Asks 127
+last_guarding_request = refl
+
+before_guarding_requests : sign_as (Base 0x700) (Remote 1) ≡ Other
+before_guarding_requests = refl
+
+after_guarding_requests : sign_as (Base 0x780) (Remote 1) ≡ Other
+after_guarding_requests = refl
+
+extended_guarding_request : sign_as (Extended 0x705) (Remote 1) ≡ Other
+extended_guarding_request = refl
 
 extended_control : sign_as (Extended 0x705) (Data (0x05 ∷ [])) ≡ Other
 extended_control = refl
@@ -129,6 +141,12 @@ to_another = refl
 
 of_another : log_with 6 (Shows 7 BootUp) 10 [] ≡ []
 of_another = refl
+
+asked : log_with 6 (Asks 6) 10 [] ≡ Asked 10 ∷ []
+asked = refl
+
+asked_another : log_with 6 (Asks 7) 10 [] ≡ []
+asked_another = refl
 
 timed : log_timed 6 (Some (record { node = 6; direction = Upload; time = 500 })) 10 [] ≡ Timed Upload 500 10 ∷ []
 timed = refl
@@ -232,6 +250,11 @@ restarted_again_at = refl
 restarted_server : restarts (Sent BootUp 40 ∷ Exchanged Response 20 ∷ Exchanged Request 10 ∷ []) ≡ 1
 unfolding restarts newest longest_answer pending is_commanded
 restarted_server = refl
+
+-- a guarding request shows nothing of the node
+asked_before : restarts (Sent BootUp 40 ∷ Asked 20 ∷ []) ≡ 0
+unfolding restarts newest longest_answer is_commanded
+asked_before = refl
 
 -- one that didn't answer may have been switched on since
 switched_on : restarts (Sent BootUp 40 ∷ Exchanged Request 10 ∷ []) ≡ 0

@@ -9,12 +9,12 @@ use Rattle.conode_record.specs.declared.line.Record.{Record}
 use Rattle.conode_stats_counts.specs.declared.node.Node.{Node}
 use Rattle.conode_stats_counts.specs.declared.shown_time.ShownTime.{ShownTime}
 use Rattle.conode_stats_counts.specs.declared.sign.Sign.{Sign}
-use Rattle.conode_stats_counts.specs.declared.sign.Sign.TheVariants.{Reset, Shows, Exchanges, Other}
+use Rattle.conode_stats_counts.specs.declared.sign.Sign.TheVariants.{Reset, Shows, Exchanges, Asks, Other}
 use Rattle.conode_stats_counts.specs.Failures.{channels_of}
 use Rattle.conode_stats_counts.specs.Nodes.{changed_at, log_timed, log_with, most_nodes, new_node, node_log, nodes_of, nodes_timed, nodes_with, shown_by, sign_of, table}
-use Rattle.conode_stats_counts.specs.NodeCounts.{node_commanded, node_exchanged, node_of, node_timed, node_with}
+use Rattle.conode_stats_counts.specs.NodeCounts.{node_asked, node_commanded, node_exchanged, node_of, node_timed, node_with}
 use Rattle.conode_stats_counts.specs.States.{NodeEvent, Commanded}
-use Rattle.conode_stats_counts.proofs.NodeEvents.{commanded_more, exchanged_more, shows_more, timed_more}
+use Rattle.conode_stats_counts.proofs.NodeEvents.{asked_more, commanded_more, exchanged_more, shows_more, timed_more}
 
 -- ---- tables
 
@@ -97,6 +97,9 @@ module _ (logs : ℕ → List NodeEvent) (count : ℕ) where
       (λ n other. rw other refl)
   sign_more (Exchanges place frame) micros =
       one (λ n. log_with n (Exchanges place frame) micros (logs n)) place (node_exchanged frame micros) (let self : (place == place) ≡ true = grind (arith, nat_tests) in rw self (exchanged_more (logs place) frame micros))
+      (λ n other. rw other refl)
+  sign_more (Asks place) micros =
+      one (λ n. log_with n (Asks place) micros (logs n)) place (node_asked micros) (let self : (place == place) ≡ true = grind (arith, nat_tests) in rw self (asked_more (logs place) micros))
       (λ n other. rw other refl)
 
   time_more : (shown : Option ShownTime) (micros : ℕ) → nodes_timed shown micros (nodes logs) ≡ nodes (λ n. log_timed n shown micros (logs n))

@@ -8,7 +8,7 @@ use Rattle.conode_stats_counts.specs.declared.sdo_frame.SdoFrame.{SdoFrame}
 use Rattle.conode_stats_counts.specs.declared.sdo_frame.SdoFrame.TheVariants.{Request, Response}
 use Rattle.conode_stats_counts.specs.declared.state.NmtState.TheVariants.{BootUp}
 use Rattle.conode_stats_counts.specs.Gaps.{counted, greatest}
-use Rattle.conode_stats_counts.specs.States.{NodeEvent, Commanded, Sent, Exchanged, Timed, same_state}
+use Rattle.conode_stats_counts.specs.States.{NodeEvent, Commanded, Sent, Exchanged, Timed, Asked, same_state}
 
 -- ---- requests and responses
 
@@ -21,6 +21,7 @@ pending_by _ micros = None
 unfoldable pub pending : List NodeEvent → Option ℕ
 pending [] = None
 pending (Commanded ∷ older) = pending older
+pending (Asked micros ∷ older) = pending older
 pending (Timed direction time micros ∷ older) = pending older
 pending (Sent state micros ∷ older) = if same_state state BootUp then None else pending older
 pending (Exchanged frame micros ∷ older) = pending_by frame micros
@@ -40,6 +41,7 @@ longer (Some a) (Some b) = Some (max a b)
 unfoldable pub longest_answer : List NodeEvent → Option ℕ
 longest_answer [] = None
 longest_answer (Commanded ∷ older) = longest_answer older
+longest_answer (Asked micros ∷ older) = longest_answer older
 longest_answer (Timed direction time micros ∷ older) = longest_answer older
 longest_answer (Sent state micros ∷ older) = longest_answer older
 longest_answer (Exchanged frame micros ∷ older) = longer (longest_answer older) (answer_time (pending older) frame micros)
@@ -51,6 +53,7 @@ longest_answer (Exchanged frame micros ∷ older) = longer (longest_answer older
 unfoldable pub written_time : List NodeEvent → Option ℕ
 written_time [] = None
 written_time (Commanded ∷ older) = written_time older
+written_time (Asked micros ∷ older) = written_time older
 written_time (Exchanged frame micros ∷ older) = written_time older
 written_time (Timed direction time micros ∷ older) = Some time
 written_time (Sent state micros ∷ older) = if same_state state BootUp then None else written_time older
@@ -68,6 +71,7 @@ since_by Upload micros (Some since) = Some since
 unfoldable pub since : List NodeEvent → Option ℕ
 since [] = None
 since (Commanded ∷ older) = since older
+since (Asked micros ∷ older) = since older
 since (Exchanged frame micros ∷ older) = since older
 since (Timed direction time micros ∷ older) = since_by direction micros (since older)
 since (Sent state micros ∷ older) = Some micros
@@ -91,6 +95,7 @@ late_with _ _ gaps = gaps
 unfoldable pub late_gaps : List NodeEvent → List ℕ
 late_gaps [] = []
 late_gaps (Commanded ∷ older) = late_gaps older
+late_gaps (Asked micros ∷ older) = late_gaps older
 late_gaps (Exchanged frame micros ∷ older) = late_gaps older
 late_gaps (Timed direction time micros ∷ older) = late_gaps older
 late_gaps (Sent state micros ∷ older) =
@@ -105,6 +110,7 @@ other_with _ _ gaps = gaps
 unfoldable pub other_gaps : List NodeEvent → List ℕ
 other_gaps [] = []
 other_gaps (Commanded ∷ older) = other_gaps older
+other_gaps (Asked micros ∷ older) = other_gaps older
 other_gaps (Exchanged frame micros ∷ older) = other_gaps older
 other_gaps (Timed direction time micros ∷ older) = other_gaps older
 other_gaps (Sent state micros ∷ older) =

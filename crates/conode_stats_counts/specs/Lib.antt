@@ -5,6 +5,7 @@ pub mod Emergencies
 pub mod Failures
 pub mod Gaps
 pub mod Groups
+pub mod Guardings
 pub mod Heartbeats
 pub mod Loads
 pub mod NodeCounts

@@ -7,6 +7,7 @@ use Rattle.conode_stats_counts.specs.declared.state.NmtState.{NmtState}
 use Rattle.conode_stats_counts.specs.declared.state.NmtState.TheVariants.{BootUp}
 use Rattle.conode_stats_counts.specs.Gaps.{counted}
 use Rattle.conode_stats_counts.specs.Heartbeats.{answer_time, beat_with, heartbeats_of, longer, longest_answer, pending, pending_by, timed_with}
+use Rattle.conode_stats_counts.specs.Guardings.{answered_with, asked_with, guarding_of, timed_with as guarding_timed}
 use Rattle.conode_stats_counts.specs.Restarts.{last_restart, restarts}
 use Rattle.conode_stats_counts.specs.States.{NodeEvent, boot_ups, is_commanded, newest, same_state, times_of, times_since}
 
@@ -19,6 +20,7 @@ node_of log = record {
   is_commanded = is_commanded log;
   times = times_of log;
   heartbeats = heartbeats_of log;
+  guarding = guarding_of log;
   pending = pending log;
   longest_answer = longest_answer log;
 }
@@ -48,6 +50,7 @@ node_with state micros node = record (booted_if (same_state state BootUp) micros
   last = Some (record { state = state; micros = micros });
   times = times_since node.last micros node.times;
   heartbeats = beat_with (same_state state BootUp) micros node.heartbeats;
+  guarding = answered_with (same_state state BootUp) node.guarding;
 }
 
 -- a command to reset it
@@ -64,4 +67,8 @@ node_exchanged frame micros node = record node {
 -- an SDO transfer that shows its producer heartbeat time
 unfoldable pub node_timed : Direction → ℕ → ℕ → Node → Node
 node_timed direction time micros node =
-    record node { heartbeats = timed_with direction time micros node.heartbeats }
+    record node { heartbeats = timed_with direction time micros node.heartbeats; guarding = guarding_timed direction node.guarding }
+
+-- a guarding request
+unfoldable pub node_asked : ℕ → Node → Node
+node_asked micros node = record node { guarding = asked_with micros node.guarding }

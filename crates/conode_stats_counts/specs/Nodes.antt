@@ -2,7 +2,7 @@
 use Rattle.std.specs.Prelude.{ℕ, zero, suc, ◌-◌, ◌==◌, nat_lt, ◌&&◌, ◌||◌, if◌then◌else◌, List, [], ◌∷◌, Option, Some, None, length, map, slice_set}
 use Rattle.std.specs.List.{slice_index_or}
 use Rattle.conode_record.specs.declared.content.Content.{Content}
-use Rattle.conode_record.specs.declared.content.Content.TheVariants.{Data}
+use Rattle.conode_record.specs.declared.content.Content.TheVariants.{Data, Remote}
 use Rattle.conode_record.specs.declared.fields.Identifier.{Identifier}
 use Rattle.conode_record.specs.declared.fields.Identifier.TheVariants.{Base}
 use Rattle.conode_record.specs.declared.line.Record.{Record}
@@ -10,12 +10,12 @@ use Rattle.conode_explain_transfers.specs.declared.track.Track.{Track}
 use Rattle.conode_stats_counts.specs.declared.node.Node.{Node}
 use Rattle.conode_stats_counts.specs.declared.shown_time.ShownTime.{ShownTime}
 use Rattle.conode_stats_counts.specs.declared.sign.Sign.{Sign}
-use Rattle.conode_stats_counts.specs.declared.sign.Sign.TheVariants.{Reset, Shows, Exchanges, Other}
+use Rattle.conode_stats_counts.specs.declared.sign.Sign.TheVariants.{Reset, Shows, Exchanges, Asks, Other}
 use Rattle.conode_stats_counts.specs.SdoFrames.{request_in, response_in}
-use Rattle.conode_stats_counts.specs.NodeCounts.{node_commanded, node_of, node_exchanged, node_timed, node_with}
+use Rattle.conode_stats_counts.specs.NodeCounts.{node_asked, node_commanded, node_of, node_exchanged, node_timed, node_with}
 use Rattle.conode_stats_counts.specs.Failures.{channels_of, telling_of}
 use Rattle.conode_stats_counts.specs.ShownTimes.{time_of}
-use Rattle.conode_stats_counts.specs.States.{NodeEvent, Commanded, Sent, Exchanged, Timed, state_of}
+use Rattle.conode_stats_counts.specs.States.{NodeEvent, Commanded, Sent, Exchanged, Timed, Asked, state_of}
 
 -- ---- what a frame shows
 
@@ -37,8 +37,13 @@ sign_in id bytes =
     else (if nat_lt 0x580 id && nat_lt id 0x600 then response_in (id - 0x580) bytes
     else (if nat_lt 0x600 id && nat_lt id 0x680 then request_in (id - 0x600) bytes else Other)))
 
+-- a guarding request: a remote frame with a node's identifier of error control (CiA 301, 7.2.8.3.2.2)
+abbrev pub remote_sign : ℕ → Sign
+remote_sign id = if nat_lt 0x700 id && nat_lt id 0x780 then Asks (id - 0x700) else Other
+
 abbrev pub sign_as : Identifier → Content → Sign
 sign_as (Base id) (Data bytes) = sign_in id bytes
+sign_as (Base id) (Remote length) = remote_sign id
 sign_as _ _ = Other
 
 unfoldable pub sign_of : Record → Sign
@@ -51,6 +56,7 @@ abbrev pub log_with : ℕ → Sign → ℕ → List NodeEvent → List NodeEvent
 log_with node (Reset other) micros log = if (other == 0) || (other == node) then Commanded ∷ log else log
 log_with node (Shows other state) micros log = if other == node then Sent state micros ∷ log else log
 log_with node (Exchanges other frame) micros log = if other == node then Exchanged frame micros ∷ log else log
+log_with node (Asks other) micros log = if other == node then Asked micros ∷ log else log
 log_with node Other micros log = log
 
 -- the same of what a transfer shows
@@ -97,6 +103,7 @@ unfoldable pub nodes_with : Sign → ℕ → List Node → List Node
 nodes_with (Reset node) micros nodes = if node == 0 then map node_commanded nodes else changed_at node node_commanded nodes
 nodes_with (Shows node state) micros nodes = changed_at node (node_with state micros) nodes
 nodes_with (Exchanges node frame) micros nodes = changed_at node (node_exchanged frame micros) nodes
+nodes_with (Asks node) micros nodes = changed_at node (node_asked micros) nodes
 nodes_with Other micros nodes = nodes
 
 -- with what a transfer shows

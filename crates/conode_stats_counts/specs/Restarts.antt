@@ -3,7 +3,7 @@ use Rattle.std.specs.Prelude.{ℕ, ◌+◌, Bool, not, ◌&&◌, ◌||◌, if◌
 use Rattle.conode_stats_counts.specs.declared.state.NmtState.{NmtState}
 use Rattle.conode_stats_counts.specs.declared.state.NmtState.TheVariants.{BootUp}
 use Rattle.conode_stats_counts.specs.Heartbeats.{longest_answer}
-use Rattle.conode_stats_counts.specs.States.{NodeEvent, Commanded, Sent, Exchanged, Timed, is_commanded, newest, same_state}
+use Rattle.conode_stats_counts.specs.States.{NodeEvent, Commanded, Sent, Exchanged, Timed, Asked, is_commanded, newest, same_state}
 
 -- whether the node was there before: it sent a frame of error control, or answered an SDO request
 abbrev pub is_known : List NodeEvent → Bool
@@ -19,6 +19,7 @@ restarts [] = 0
 restarts (Commanded ∷ older) = restarts older
 restarts (Exchanged frame micros ∷ older) = restarts older
 restarts (Timed direction time micros ∷ older) = restarts older
+restarts (Asked micros ∷ older) = restarts older
 restarts (Sent state micros ∷ older) = (if is_restart state older then 1 else 0) + restarts older
 
 -- the stamp of the last of them, 0 where there is none
@@ -27,4 +28,5 @@ last_restart [] = 0
 last_restart (Commanded ∷ older) = last_restart older
 last_restart (Exchanged frame micros ∷ older) = last_restart older
 last_restart (Timed direction time micros ∷ older) = last_restart older
+last_restart (Asked micros ∷ older) = last_restart older
 last_restart (Sent state micros ∷ older) = if is_restart state older then micros else last_restart older

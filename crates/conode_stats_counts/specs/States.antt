@@ -39,6 +39,8 @@ pub data NodeEvent : Type 0 where
   Exchanged : SdoFrame → ℕ → NodeEvent
   -- an SDO transfer that is done wrote or read its producer heartbeat time, in ms; with its stamp
   Timed : Direction → ℕ → ℕ → NodeEvent
+  -- a guarding request for it, with its stamp
+  Asked : ℕ → NodeEvent
 
 -- its newest frame
 unfoldable pub newest : List NodeEvent → Option Shown
@@ -46,6 +48,7 @@ newest [] = None
 newest (Commanded ∷ older) = newest older
 newest (Exchanged frame micros ∷ older) = newest older
 newest (Timed direction time micros ∷ older) = newest older
+newest (Asked micros ∷ older) = newest older
 newest (Sent state micros ∷ older) = Some (record { state = state; micros = micros })
 
 -- ---- times
@@ -65,6 +68,7 @@ time_in state [] = 0
 time_in state (Commanded ∷ older) = time_in state older
 time_in state (Exchanged frame micros ∷ older) = time_in state older
 time_in state (Timed direction time micros ∷ older) = time_in state older
+time_in state (Asked micros ∷ older) = time_in state older
 time_in state (Sent other micros ∷ older) = time_since state (newest older) micros + time_in state older
 
 abbrev pub times_of : List NodeEvent → StateTimes
@@ -83,6 +87,7 @@ boot_ups [] = 0
 boot_ups (Commanded ∷ older) = boot_ups older
 boot_ups (Exchanged frame micros ∷ older) = boot_ups older
 boot_ups (Timed direction time micros ∷ older) = boot_ups older
+boot_ups (Asked micros ∷ older) = boot_ups older
 boot_ups (Sent state micros ∷ older) = (if same_state state BootUp then 1 else 0) + boot_ups older
 
 -- whether a command to reset came since the last boot-up
@@ -91,6 +96,7 @@ is_commanded [] = false
 is_commanded (Commanded ∷ older) = true
 is_commanded (Exchanged frame micros ∷ older) = is_commanded older
 is_commanded (Timed direction time micros ∷ older) = is_commanded older
+is_commanded (Asked micros ∷ older) = is_commanded older
 is_commanded (Sent state micros ∷ older) = if same_state state BootUp then false else is_commanded older
 
 -- ---- one event more, as it is counted

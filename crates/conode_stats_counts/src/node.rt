@@ -3,6 +3,7 @@
 ghost use Rattle.std.specs.Prelude.{◌≡◌, []};
 ghost use Rattle.conode_stats_counts.specs.NodeCounts.{
   booted,
+  node_asked,
   node_commanded,
   node_exchanged,
   node_of,
@@ -10,6 +11,7 @@ ghost use Rattle.conode_stats_counts.specs.NodeCounts.{
   node_with,
 };
 
+use crate::guarding::Guarding;
 use crate::heartbeats::Heartbeats;
 use crate::sdo_frame::{SdoFrame, longer};
 use crate::state::{NmtState, StateTimes};
@@ -26,8 +28,8 @@ pub struct Shown {
     pub micros: u64,
 }
 
-/// What a node shows by its frames of error control and the SDO frames on its default channel.
-/// Counts and sums saturate at 2^64 - 1.
+/// What a node shows by its frames of error control, the guarding requests for it, and the SDO
+/// frames on its default channel. Counts and sums saturate at 2^64 - 1.
 #[derive(Drop)]
 pub struct Node {
     /// Its newest frame of error control; `None` if there is none.
@@ -45,6 +47,8 @@ pub struct Node {
     pub times: StateTimes,
     /// Its heartbeats.
     pub heartbeats: Heartbeats,
+    /// Its guarding.
+    pub guarding: Guarding,
     /// The stamp of the SDO request to it that awaits a response, in microseconds, if there is one.
     pub pending: Option<u64>,
     /// The longest time from an SDO request to its response, in microseconds, if there is any.
@@ -53,7 +57,7 @@ pub struct Node {
 
 impl Node {
     /// A node that sent nothing.
-    #[tactic(auto, unfolding(crate::specs::NodeCounts::node_of, crate::specs::Heartbeats::pending, crate::specs::Heartbeats::longest_answer, crate::specs::States::newest, crate::specs::States::boot_ups, crate::specs::Restarts::restarts, crate::specs::Restarts::last_restart, crate::specs::States::is_commanded))]
+    #[tactic(auto, unfolding(crate::specs::NodeCounts::node_of, crate::specs::Heartbeats::pending, crate::specs::Heartbeats::longest_answer, crate::specs::States::newest, crate::specs::States::boot_ups, crate::specs::Restarts::restarts, crate::specs::Restarts::last_restart, crate::specs::States::is_commanded, crate::specs::Guardings::unanswered, crate::specs::Guardings::is_answer))]
     pub(crate) fn new() -> Node
         ensures { result ≡ node_of [] }
     {
@@ -65,6 +69,10 @@ impl Node {
             is_commanded: false,
             times: StateTimes::new(),
             heartbeats: Heartbeats::new(),
+            guarding: Guarding {
+                is_answer: false,
+                asked: None,
+            },
             pending: None,
             longest_answer: None,
         }
@@ -106,6 +114,7 @@ impl Node {
             self.boot(micros);
         }
         self.heartbeats.beat(boots, micros);
+        self.guarding.answer(boots);
         self.last = Some(Shown { state, micros });
     }
 
@@ -125,5 +134,14 @@ impl Node {
         ensures { self.new ≡ node_timed direction time micros self.old }
     {
         self.heartbeats.show(direction, time, micros);
+        self.guarding.show(direction);
+    }
+
+    /// Notes a guarding request for it.
+    #[tactic(auto, unfolding(crate::specs::NodeCounts::node_asked))]
+    pub(crate) fn ask(&mut self, micros: u64)
+        ensures { self.new ≡ node_asked micros self.old }
+    {
+        self.guarding.ask(micros);
     }
 }

@@ -2,7 +2,12 @@
 
 ghost use Rattle.std.specs.Prelude.{◌≡◌, [], map, IfOk};
 ghost use Rattle.conode_stats_counts.specs.Nodes.{changed_at, nodes_of, nodes_timed, nodes_with};
-ghost use Rattle.conode_stats_counts.specs.NodeCounts.{node_commanded, node_exchanged, node_with};
+ghost use Rattle.conode_stats_counts.specs.NodeCounts.{
+  node_asked,
+  node_commanded,
+  node_exchanged,
+  node_with,
+};
 
 use crate::node::Node;
 use crate::sdo_frame::SdoFrame;
@@ -65,6 +70,16 @@ fn exchange_one(nodes: &mut [Node], node: u8, frame: SdoFrame, micros: u64)
     }
 }
 
+// notes a guarding request for a node
+fn ask_one(nodes: &mut [Node], node: u8, micros: u64)
+    ensures { nodes.new ≡ changed_at node (node_asked micros) nodes.old }
+{
+    let place = node as usize;
+    if place < nodes.len() {
+        nodes[place].ask(micros);
+    }
+}
+
 /// Counts a frame that shows this.
 #[tactic(auto, unfolding(crate::specs::Nodes::nodes_with))]
 pub(crate) fn show_sign(nodes: &mut [Node], sign: Sign, micros: u64)
@@ -75,6 +90,7 @@ pub(crate) fn show_sign(nodes: &mut [Node], sign: Sign, micros: u64)
         Sign::Reset(node) => command_one(nodes, node),
         Sign::Shows(node, state) => show_one(nodes, node, state, micros),
         Sign::Exchanges(node, frame) => exchange_one(nodes, node, frame, micros),
+        Sign::Asks(node) => ask_one(nodes, node, micros),
         Sign::Other => {}
     }
 }

@@ -1,7 +1,13 @@
 //! What a frame shows of nodes.
 
 ghost use Rattle.std.specs.Prelude.{◌≡◌};
-ghost use Rattle.conode_stats_counts.specs.Nodes.{command_in, control_in, sign_as, sign_in};
+ghost use Rattle.conode_stats_counts.specs.Nodes.{
+  command_in,
+  control_in,
+  remote_sign,
+  sign_as,
+  sign_in,
+};
 ghost use Rattle.conode_stats_counts.specs.SdoFrames.{request_in, response_in};
 
 use crate::sdo_frame::SdoFrame;
@@ -18,6 +24,8 @@ pub(crate) enum Sign {
     Shows(u8, NmtState),
     /// An SDO frame on a node's default channel.
     Exchanges(u8, SdoFrame),
+    /// A guarding request for a node.
+    Asks(u8),
     /// None of these.
     Other,
 }
@@ -87,6 +95,16 @@ fn sign_in(id: u16, bytes: &PackedBytes) -> Sign
     Sign::Other
 }
 
+// a remote frame, by its identifier: with that of a node's error control it is a guarding request
+fn remote_sign(id: u16) -> Sign
+    ensures { result ≡ remote_sign id }
+{
+    if 0x700 < id && id < 0x780 {
+        return Sign::Asks((id - 0x700) as u8);
+    }
+    Sign::Other
+}
+
 impl Sign {
     /// What a frame with this identifier and content shows.
     pub(crate) fn of(id: Identifier, content: &Content<'_>) -> Sign
@@ -94,6 +112,7 @@ impl Sign {
     {
         match (id, content) {
             (Identifier::Base(id), Content::Data(data)) => sign_in(id, data),
+            (Identifier::Base(id), Content::Remote(_)) => remote_sign(id),
             _ => Sign::Other,
         }
     }

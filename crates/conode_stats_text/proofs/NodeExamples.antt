@@ -40,6 +40,7 @@ node restarts = record {
   is_commanded = false;
   times = times;
   heartbeats = heartbeats;
+  guarding = record { is_answer = false; asked = None };
   pending = None;
   longest_answer = Some 1200;
 }

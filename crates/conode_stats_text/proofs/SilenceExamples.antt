@@ -1,6 +1,7 @@
 -- Which nodes are silent at the end, evaluated.
 use Rattle.std.proofs.Common.{ℕ, Option, [], ◌∷◌, ◌≡◌, Some, None, true, false, refl}
 use Rattle.std.specs.Prelude.{List}
+use Rattle.conode_stats_counts.specs.declared.node.Node.{Node}
 use Rattle.conode_stats_counts.specs.declared.row.Row.{Row}
 use Rattle.conode_stats_counts.specs.declared.state.NmtState.TheVariants.{BootUp}
 use Rattle.conode_stats_counts.specs.declared.tally.Tally.{Tally}
@@ -18,21 +19,43 @@ use Rattle.conode_stats_text.proofs.PaceExamples.{heartbeats}
 
 -- ---- by heartbeats: the last one at 1 s, by 100 ms
 
-not_silent : beat_silence (ended_at 1150000) None (heartbeats (Some 100) 2 0 []) ≡ None
+abbrev by_beats : Node
+by_beats = record (server None) { heartbeats = heartbeats (Some 100) 2 0 [] }
+
+not_silent : beat_silence (ended_at 1150000) None by_beats ≡ None
 not_silent = refl
 
-silent : beat_silence (ended_at 1150001) None (heartbeats (Some 100) 2 0 []) ≡ Some (record { since = 1000000; pace = Written 100 })
+silent : beat_silence (ended_at 1150001) None by_beats ≡ Some (record { since = 1000000; pace = Written 100 })
 silent = refl
 
 -- the clock was set back by a second since: 100 ms up to then, and 50 ms from then on
 abbrev set_back : ℕ → Tally
 set_back last = record (ended_at last) { steps_back = 1; step_from = 1100000; step_to = 5000 }
 
-not_silent_set_back : beat_silence (set_back 55000) None (heartbeats (Some 100) 2 0 []) ≡ None
+not_silent_set_back : beat_silence (set_back 55000) None by_beats ≡ None
 not_silent_set_back = refl
 
-silent_set_back : beat_silence (set_back 55001) None (heartbeats (Some 100) 2 0 []) ≡ Some (record { since = 1000000; pace = Written 100 })
+silent_set_back : beat_silence (set_back 55001) None by_beats ≡ Some (record { since = 1000000; pace = Written 100 })
 silent_set_back = refl
+
+-- ---- by guarding answers, the last one at 1 s: of requests that it didn't answer the first one, at 1.1 s
+
+abbrev guarded : Option ℕ → Node
+guarded asked = record by_beats { guarding = record { is_answer = true; asked = asked } }
+
+no_longer_guarded : beat_silence (ended_at 9000000) None (guarded None) ≡ None
+no_longer_guarded = refl
+
+answer_awaited : beat_silence (ended_at 1250000) None (guarded (Some 1100000)) ≡ None
+answer_awaited = refl
+
+answer_missing : beat_silence (ended_at 1250001) None (guarded (Some 1100000)) ≡ Some (record { since = 1100000; pace = Written 100 })
+answer_missing = refl
+
+-- one that has heartbeats doesn't answer a request
+asked_in_vain : beat_silence (ended_at 1150001) None (record by_beats { guarding = record { is_answer = false; asked = Some 1100000 } })
+    ≡ Some (record { since = 1000000; pace = Written 100 })
+asked_in_vain = refl
 
 -- ---- who sends a frame: the identifiers of node 5 and of its neighbours in the table (CiA 301, 7.3.3)
 

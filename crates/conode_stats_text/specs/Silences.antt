@@ -1,8 +1,7 @@
--- Nodes that are silent at the end: by their heartbeats, and one that sends none by its PDOs. Times are in
+-- Nodes that are silent at the end: by their heartbeats or guarding answers, and one that sends none by its PDOs. Times are in
 -- microseconds.
 use Rattle.std.specs.Prelude.{ℕ, ◌+◌, ◌-◌, ◌/◌, ◌^◌, ◌==◌, Bool, true, false, nat_le, not, min, fold, ◌&&◌, ◌||◌, if◌then◌else◌, List, Option, Some, None}
 use Rattle.std.specs.Option.{option_or}
-use Rattle.conode_stats_counts.specs.declared.heartbeats.Heartbeats.{Heartbeats}
 use Rattle.conode_stats_counts.specs.declared.node.Node.{Node}
 use Rattle.conode_stats_counts.specs.declared.node.Shown.{Shown}
 use Rattle.conode_stats_counts.specs.declared.row.Row.{Row}
@@ -18,17 +17,22 @@ use Rattle.conode_stats_text.specs.declared.silence.Source.{Source}
 use Rattle.conode_stats_text.specs.declared.silence.Source.TheVariants.{Commands, Syncs, Sender}
 use Rattle.conode_stats_text.specs.Paces.{is_long, pace_of}
 
--- ---- by heartbeats
+-- ---- by heartbeats and guarding answers
 
--- since a frame up to the end of the bus it is too long at this pace; a node of which no heartbeat is known
+-- Since when a frame of error control is awaited: since the newest one, or the download of 1017:00 after it. A
+-- guarded node sends none but as an answer: since the first request that it didn't answer.
+abbrev pub awaited_since : Node → Option ℕ
+awaited_since node = if node.guarding.is_answer then node.guarding.asked else node.heartbeats.since
+
+-- since this stamp up to the end of the bus it is too long at this pace; a node of which no heartbeat is known
 -- to be awaited isn't silent
 abbrev pub beat_silence_by : Tally → Option Pace → Option ℕ → Option Silence
 beat_silence_by all (Some pace) (Some since) =
     if is_long pace (elapsed all since) then Some (record { since = since; pace = pace }) else None
 beat_silence_by all _ _ = None
 
-abbrev pub beat_silence : Tally → Option ℕ → Heartbeats → Option Silence
-beat_silence all sheet heartbeats = beat_silence_by all (pace_of sheet heartbeats) heartbeats.since
+abbrev pub beat_silence : Tally → Option ℕ → Node → Option Silence
+beat_silence all sheet node = beat_silence_by all (pace_of sheet node.heartbeats) (awaited_since node)
 
 -- ---- who sends a frame, by the pre-defined connection set (CiA 301, 7.3.3)
 
@@ -125,4 +129,4 @@ other_silence all rows node last = if is_without_beats last then pdo_silence all
 -- since when a node is silent at the end of its bus, if it is, and at which pace; by the time of a sheet
 unfoldable pub silence_of : BusCounts → Option ℕ → ℕ → Node → Option Silence
 silence_of bus sheet number node =
-    option_or (beat_silence bus.all sheet node.heartbeats) (other_silence bus.all bus.rows number node.last)
+    option_or (beat_silence bus.all sheet node) (other_silence bus.all bus.rows number node.last)

@@ -3,6 +3,7 @@
 ghost use Rattle.std.specs.Prelude.{◌≡◌};
 ghost use Rattle.conode_stats_text.specs.Silences.{
   are_missed,
+  awaited_since,
   beat_silence,
   is_from,
   is_steady,
@@ -16,7 +17,7 @@ ghost use Rattle.conode_stats_text.specs.Silences.{
 };
 
 use crate::pace::Pace;
-use conode_stats_counts::{Bus, Heartbeats, NmtState, Node, Row, Shown, Tally};
+use conode_stats_counts::{Bus, NmtState, Node, Row, Shown, Tally};
 
 /// How a node is silent at the end of its bus.
 #[derive(Clone, Copy)]
@@ -41,11 +42,22 @@ pub(crate) enum Source {
 /// TPDOs with fewer gaps aren't known to be cyclic.
 const FEWEST_GAPS: u64 = 20;
 
-// by its heartbeats
-fn beat_silence(all: &Tally, sheet: Option<u16>, heartbeats: &Heartbeats) -> Option<Silence>
-    ensures { result ≡ beat_silence all.now sheet heartbeats.now }
+// since when a frame of error control is awaited
+fn awaited_since(node: &Node) -> Option<u64>
+    ensures { result ≡ awaited_since node.now }
 {
-    match (Pace::of(sheet, heartbeats), heartbeats.since) {
+    if node.guarding.is_answer {
+        node.guarding.asked
+    } else {
+        node.heartbeats.since
+    }
+}
+
+// by its heartbeats, or its guarding answers
+fn beat_silence(all: &Tally, sheet: Option<u16>, node: &Node) -> Option<Silence>
+    ensures { result ≡ beat_silence all.now sheet node.now }
+{
+    match (Pace::of(sheet, &node.heartbeats), awaited_since(node)) {
         (Some(pace), Some(since)) if pace.is_long(all.elapsed(since)) => {
             Some(Silence { since, pace })
         }
@@ -172,14 +184,15 @@ fn is_without_beats(last: Option<Shown>) -> bool
     }
 }
 
-/// Since when a node is silent at the end of its bus, if it is: by its heartbeats, and one that sent
-/// none by its PDOs. `sheet` is its producer heartbeat time in ms, if a sheet has one.
+/// Since when a node is silent at the end of its bus, if it is: by its heartbeats or guarding
+/// answers, and one that sent none by its PDOs. `sheet` is its producer heartbeat time in ms, if a
+/// sheet has one.
 #[tactic(auto, unfolding(crate::specs::Silences::silence_of))]
 pub fn silence_of(bus: &Bus, sheet: Option<u16>, number: u8, node: &Node) -> Option<Silence>
     ensures { result ≡ silence_of bus.now sheet number node.now }
 {
     let all = bus.all();
-    match beat_silence(&all, sheet, &node.heartbeats) {
+    match beat_silence(&all, sheet, node) {
         Some(silence) => Some(silence),
         None => {
             if is_without_beats(node.last) {

@@ -246,12 +246,12 @@ After the last frame of an SDO transfer a line says how it went:
 
 With --transfers only these lines are printed. The filters choose which lines
 are printed; all transfers are still followed: --of by nodes, --id by
-identifiers, --kind by services, --from and --to by times, in seconds since the
-first frame, or with a leading `@` as stamps of the recording. A line is printed
-if it meets each option that is used. With --changes a PDO, a heartbeat or a
-SYNC has a line only where its data or its meaning differ from those of the last
-one on its identifier and interface. --format json writes each line as an object
-of JSON.
+identifiers, --kind by services (TIME, LSS and what has no word there are in
+`other`), --from and --to by times, in seconds since the first frame, or with a
+leading `@` as stamps of the recording. A line is printed if it meets each
+option that is used. With --changes a PDO, a heartbeat or a SYNC has a line only
+where its data or its meaning differ from those of the last one on its
+identifier and interface. --format json writes each line as an object of JSON.
 
 With --signal a table is printed in place of these lines, as comma-separated
 values: a first line with the names of the entries, and a line for each frame
