@@ -37,7 +37,7 @@ use Rattle.conode_compare_nmt.specs.OtherClients.{is_channel}
 use Rattle.conode_compare_nmt.specs.Heartbeats.{after_transfer, allowance, follows_closely, is_gap, late_finding, overdue_by, overdue_for, overdue_since, overdue_with, runs_still, sent_after}
 use Rattle.conode_compare_rules.specs.NmtFrames as nmt_frames
 use Rattle.conode_compare_rules.specs.Gaps.{anew_after, begins_anew, begun, free_at, with_gap}
-use Rattle.conode_compare_rules.specs.NmtFrames.{after_command, booted, control_findings, is_missing_at, heartbeat_findings, is_again, late_alone, late_at, late_by, may_differ}
+use Rattle.conode_compare_rules.specs.NmtFrames.{after_command, booted, comes_again, control_findings, is_missing_at, heartbeat_findings, is_again, late_alone, late_at, late_by, late_coming, may_differ}
 use Rattle.conode_compare_rules.specs.EmergencyRules.{after_emergency, emergency_findings}
 use Rattle.conode_compare_rules.specs.Channels.{after_sdo, answer_findings, answer_noted, channel_heard, confirmed_findings, entries_asked, entries_ended, entries_heard, exchange_at, exchange_noted, late_noted, request_findings, hides_end, shown_beside}
 use Rattle.conode_compare_rules.specs.Processes.{after_process, is_of_client, late_by_tpdo, process_findings, sighted, sighting_findings}
@@ -200,6 +200,9 @@ unless_again false late none = none
 -- whether the last one was late, too, or not
 none_late : (subject : Subject) (p : Progress) (micros period ago : ℕ) → (period ≡ 0) ⊎ (ago ≤ period * 1000) → Begun period micros ago p → late_at subject p micros ≡ None
 none_late subject p micros period ago few h = unless_again (is_again subject p) (late_alone subject p micros) (none_alone subject p micros period ago few h)
+
+none_coming : (subject : Subject) (p : Progress) (micros period ago : ℕ) → (period ≡ 0) ⊎ (ago ≤ period * 1000) → Begun period micros ago p → late_coming subject p micros ≡ None
+none_coming subject p micros period ago few h = unless_again (comes_again subject p) (late_alone subject p micros) (none_alone subject p micros period ago few h)
 
 -- ---- one frame
 
@@ -436,7 +439,7 @@ unfolding found control_findings heartbeat_findings nmt_frames.after_control
 heartbeat_passes subject rows p micros byte period ago after other few h =
     (let e : Beats period micros ago p = ended period micros ago p h in
     record {
-      none = rw other (ap (λ o. option_to_list o) (none_late subject p micros period ago few h));
+      none = rw other (ap (λ o. option_to_list o) (none_coming subject p micros period ago few h));
       beats = rw other (record { fresh = e.fresh; known = e.known; since = always p.entries.period (λ n. inr (omega arith)) });
     })
 

@@ -228,6 +228,22 @@ is_late_again limits None heartbeats free = false
 is_late_again limits (Some period) heartbeats free =
     is_as_slow limits period heartbeats.slow (time_taken heartbeats free)
 
+-- One that took more than two periods is a pause: only those that take about as long go on with its row, by the
+-- tolerance and by how much the clocks may differ.
+abbrev pub is_of_row : Limits → ℕ → Option ℕ → Option ℕ → Bool
+is_of_row limits period None taken = true
+is_of_row limits period (Some slow) None = true
+is_of_row limits period (Some slow) (Some taken) = nat_le slow (2 * micros_of period) || nat_le (slow - taken) (leeway limits period)
+
+abbrev pub stays_in_row : Limits → Option ℕ → Heartbeats → ℕ → Bool
+stays_in_row limits None heartbeats free = false
+stays_in_row limits (Some period) heartbeats free = is_of_row limits period heartbeats.slow (time_taken heartbeats free)
+
+-- a heartbeat that comes late is the same mistake as those before it
+abbrev pub comes_again : Limits → Option ℕ → Heartbeats → ℕ → Bool
+comes_again limits period heartbeats free =
+    is_late_again limits period heartbeats free && stays_in_row limits period heartbeats free
+
 abbrev pub longer : Option ℕ → Option ℕ → Option ℕ
 longer None taken = taken
 longer (Some slow) None = Some slow
@@ -238,17 +254,17 @@ abbrev pub comes_late : Limits → Option ℕ → Heartbeats → ℕ → ℕ →
 comes_late limits period heartbeats free micros =
     not (is_some heartbeats.since) || is_some (overdue_by limits period heartbeats free micros)
 
--- one that takes more than two periods is a pause, and says nothing of those after it
-abbrev pub unless_pause : Option ℕ → Option ℕ → Option ℕ
-unless_pause None slow = None
-unless_pause (Some period) None = None
-unless_pause (Some period) (Some slow) = if nat_le slow (2 * micros_of period) then Some slow else None
+-- a row goes on, or begins anew with the heartbeat; where the period isn't known, there is none
+abbrev pub row_after : Limits → Option ℕ → Heartbeats → ℕ → Option ℕ
+row_after limits None heartbeats free = None
+row_after limits (Some period) heartbeats free =
+    if is_of_row limits period heartbeats.slow (time_taken heartbeats free)
+    then longer heartbeats.slow (time_taken heartbeats free) else time_taken heartbeats free
 
 -- the longest time of the row, after a heartbeat: one that comes in time ends it
 abbrev pub slow_after : Limits → Option ℕ → Heartbeats → ℕ → ℕ → Option ℕ
 slow_after limits period heartbeats free micros =
-    if comes_late limits period heartbeats free micros
-    then unless_pause period (longer heartbeats.slow (time_taken heartbeats free)) else None
+    if comes_late limits period heartbeats free micros then row_after limits period heartbeats free else None
 
 -- ---- early ones
 

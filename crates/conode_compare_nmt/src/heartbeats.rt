@@ -10,19 +10,22 @@ ghost use Rattle.conode_compare_nmt.specs.Heartbeats.{
   no_heartbeat,
   overdue_by,
   overdue_with,
+  comes_again,
   comes_late,
   is_as_slow,
   is_gap,
   is_late_again,
   is_missing,
+  is_of_row,
   is_shown,
   leeway,
   longer,
   missing_after,
+  row_after,
   shown_after,
   slow_after,
+  stays_in_row,
   time_taken,
-  unless_pause,
   with_shown,
   follows_closely,
 };
@@ -99,13 +102,17 @@ pub fn follows_closely(newest: u64, micros: u64) -> bool
     micros.saturating_sub(newest) <= FRAME_TIME
 }
 
-// one that takes more than two periods is a pause, and says nothing of those after it
-fn unless_pause(period: Option<u16>, slow: Option<u64>) -> Option<u64>
-    ensures { result ≡ unless_pause period slow }
+// Whether a heartbeat goes on with the row of late ones before it: with that of one that took more
+// than two periods, a pause, only where it takes about as long.
+fn is_of_row(limits: &Limits, period: u16, slow: Option<u64>, taken: Option<u64>) -> bool
+    ensures { result ≡ is_of_row limits.now period slow taken }
 {
-    match (period, slow) {
-        (Some(period), Some(slow)) if slow <= 2 * micros_of(period as u32) => Some(slow),
-        _ => None,
+    match (slow, taken) {
+        (Some(slow), Some(taken)) => {
+            slow <= 2 * micros_of(period as u32)
+                || slow.saturating_sub(taken) <= leeway(limits, period)
+        }
+        _ => true,
     }
 }
 
@@ -312,8 +319,8 @@ impl Heartbeats {
         }
     }
 
-    /// Whether the next heartbeat, where it is late, takes no longer than the last ones, which came
-    /// late, too; the bus was free last at this stamp in microseconds.
+    /// Whether the next heartbeat, where it is late, takes no longer so far than the last ones, which
+    /// came late, too; the bus was free last at this stamp in microseconds.
     pub fn is_late_again(&self, limits: &Limits, entries: &Entries, free: u64) -> bool
         ensures { result ≡ is_late_again limits.now entries.now.period self.now free }
     {
@@ -322,6 +329,39 @@ impl Heartbeats {
                 taken.saturating_sub(slow) <= leeway(limits, period)
             }
             _ => false,
+        }
+    }
+
+    // whether it goes on with their row
+    fn stays_in_row(&self, limits: &Limits, entries: &Entries, free: u64) -> bool
+        ensures { result ≡ stays_in_row limits.now entries.now.period self.now free }
+    {
+        match entries.period {
+            Some(period) => is_of_row(limits, period, self.slow, self.time_taken(free)),
+            None => false,
+        }
+    }
+
+    /// Whether a heartbeat that comes, where it is late, is the same mistake as the last ones, which
+    /// came late, too; the bus was free last at this stamp in microseconds.
+    pub fn comes_again(&self, limits: &Limits, entries: &Entries, free: u64) -> bool
+        ensures { result ≡ comes_again limits.now entries.now.period self.now free }
+    {
+        self.is_late_again(limits, entries, free) && self.stays_in_row(limits, entries, free)
+    }
+
+    // the longest time of the row once a heartbeat comes late, with which it goes on or begins anew
+    fn row_after(&self, limits: &Limits, entries: &Entries, free: u64) -> Option<u64>
+        ensures { result ≡ row_after limits.now entries.now.period self.now free }
+    {
+        if entries.period.is_none() {
+            return None;
+        }
+        let taken = self.time_taken(free);
+        if self.stays_in_row(limits, entries, free) {
+            longer(self.slow, taken)
+        } else {
+            taken
         }
     }
 
@@ -339,6 +379,6 @@ impl Heartbeats {
         if self.since.is_some() && self.overdue_by(limits, entries, free, micros).is_none() {
             return None;
         }
-        unless_pause(entries.period, longer(self.slow, self.time_taken(free)))
+        self.row_after(limits, entries, free)
     }
 }

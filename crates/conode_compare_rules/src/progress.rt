@@ -15,6 +15,7 @@ ghost use Rattle.conode_compare_rules.specs.NmtFrames.{
   booted_former,
   booted_pdos,
   byte_finding,
+  comes_again,
   comes_early,
   control_findings,
   control_judged,
@@ -25,6 +26,7 @@ ghost use Rattle.conode_compare_rules.specs.NmtFrames.{
   late_alone,
   late_at,
   late_by,
+  late_coming,
   may_be_written,
   may_differ,
   odd_control_findings,
@@ -89,6 +91,9 @@ pub struct Progress {
     pub written: Written,
     /// What the newest frame is on its SDO channel, if it is of that.
     pub exchange: Option<Exchange>,
+    /// Whether the newest frame of the SDO channel is a wrong answer, which was said, and none came
+    /// later.
+    pub(crate) wrong: bool,
     /// What else the newest frame shows.
     pub remark: Option<Remark>,
 }
@@ -114,6 +119,7 @@ impl Progress {
             asked_at: None,
             written: Written::nothing(),
             exchange: None,
+            wrong: false,
             remark: None,
         }
     }
@@ -271,7 +277,7 @@ impl Progress {
             .late_finding(&subject.limits, &self.entries, self.free, micros)
     }
 
-    // whether a heartbeat that is late takes no longer than the last ones, which were late, too
+    // whether a heartbeat that is late takes no longer so far than the last ones, which were late, too
     fn is_again(&self, subject: &Subject) -> bool
         ensures { result ≡ is_again subject.now self.now }
     {
@@ -279,11 +285,30 @@ impl Progress {
             .is_late_again(&subject.limits, &self.entries, self.free)
     }
 
-    /// The difference of a heartbeat that is late, where that isn't said already.
+    /// The difference of a heartbeat that is late, before it comes, where that isn't said already.
     pub(crate) fn late_at(&self, subject: &Subject, micros: u64) -> Option<Finding>
         ensures { result ≡ late_at subject.now self.now micros }
     {
         if self.is_again(subject) {
+            None
+        } else {
+            self.late_alone(subject, micros)
+        }
+    }
+
+    // whether a heartbeat that comes late is the same mistake as the last ones
+    fn comes_again(&self, subject: &Subject) -> bool
+        ensures { result ≡ comes_again subject.now self.now }
+    {
+        self.heartbeats
+            .comes_again(&subject.limits, &self.entries, self.free)
+    }
+
+    // the difference of a heartbeat that comes late, where that isn't said already
+    fn late_coming(&self, subject: &Subject, micros: u64) -> Option<Finding>
+        ensures { result ≡ late_coming subject.now self.now micros }
+    {
+        if self.comes_again(subject) {
             None
         } else {
             self.late_alone(subject, micros)
@@ -321,7 +346,7 @@ impl Progress {
         ensures { result ≡ is_repeated subject.now self.now micros byte }
     {
         self.nmt.is_same_byte(byte)
-            || self.is_again(subject) && self.late_alone(subject, micros).is_some()
+            || self.comes_again(subject) && self.late_alone(subject, micros).is_some()
     }
 
     // what is found at a heartbeat; `frame`: the difference of its byte
@@ -340,7 +365,7 @@ impl Progress {
         let is_repeated = self.is_repeated(subject, micros, byte);
         Findings::of(
             self.nmt.boot_finding(&subject.limits, micros),
-            self.late_at(subject, micros),
+            self.late_coming(subject, micros),
             answer,
             frame,
             self.control_judged(subject) && !is_repeated,
@@ -443,7 +468,7 @@ impl Progress {
     {
         let limits = &subject.limits;
         let boot = self.nmt.boot_finding(limits, micros);
-        let heartbeat = self.late_at(subject, micros);
+        let heartbeat = self.late_coming(subject, micros);
         let frame = self.nmt.odd_finding(length);
         let is_repeated = self.nmt.is_same_length(length);
         self.nmt = self.nmt.after_other(limits, micros);

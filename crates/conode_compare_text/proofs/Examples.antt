@@ -216,7 +216,7 @@ pdo_state : finding_text plain (Pdo 2 NotOperational) ≡ codes "pdo-state: TPDO
 unfolding finding_text pdo_text digits filled
 pdo_state = refl
 
-pdo_sync : finding_text plain (Pdo 3 WithoutSync) ≡ codes "pdo-sync: TPDO3, and since its last one no SYNC came"
+pdo_sync : finding_text plain (Pdo 3 WithoutSync) ≡ codes "pdo-sync: TPDO3 without a SYNC that it may answer"
 unfolding finding_text pdo_text digits filled
 pdo_sync = refl
 

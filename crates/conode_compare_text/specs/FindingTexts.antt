@@ -43,7 +43,7 @@ pdo_text number (Length length mapped) =
 pdo_text number NotOperational =
     filled (codes "pdo-state: TPDO% while the device isn't operational") (decimal number ∷ [])
 pdo_text number WithoutSync =
-    filled (codes "pdo-sync: TPDO%, and since its last one no SYNC came") (decimal number ∷ [])
+    filled (codes "pdo-sync: TPDO% without a SYNC that it may answer") (decimal number ∷ [])
 pdo_text number (FewSyncs syncs kind) = few_text number syncs kind
 pdo_text number (Inhibit passed inhibit) =
     filled (codes "pdo-inhibit: TPDO% % since the last one, its inhibit time is %")

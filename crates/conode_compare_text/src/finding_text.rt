@@ -74,7 +74,7 @@ fn pdo_said(number: u8, deviation: Deviation) -> Said
             Value::Number(number as u64),
         ),
         Deviation::WithoutSync => Said::One(
-            "pdo-sync: TPDO%, and since its last one no SYNC came",
+            "pdo-sync: TPDO% without a SYNC that it may answer",
             Value::Number(number as u64),
         ),
         Deviation::FewSyncs(syncs, kind) => few_said(number, syncs, kind),
