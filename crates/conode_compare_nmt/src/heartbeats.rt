@@ -18,6 +18,7 @@ ghost use Rattle.conode_compare_nmt.specs.Heartbeats.{
   is_missing,
   is_of_row,
   is_shown,
+  late_since,
   leeway,
   longer,
   missing_after,
@@ -40,6 +41,17 @@ use conode_explain_transfers::{Direction, Ended};
 /// The longest period, in ms: 1017:00 has 16 bits (CiA 301, 7.5.2.20).
 pub const LONGEST_PERIOD: u16 = 65535;
 
+/// From what on the next heartbeat is awaited.
+#[derive(Clone, Copy)]
+pub enum Since {
+    /// The last one, or another frame of error control.
+    Heartbeat,
+    /// The boot-up.
+    BootUp,
+    /// The end of a transfer of 1017:00.
+    Transfer,
+}
+
 /// What a recording shows of a device's heartbeats: stamps in microseconds, periods in ms.
 #[derive(Clone, Copy)]
 pub struct Heartbeats {
@@ -47,6 +59,8 @@ pub struct Heartbeats {
     pub guarded: bool,
     /// Since when the next one is awaited.
     pub since: Option<u64>,
+    /// What came then.
+    pub awaited: Since,
     /// When the bus was free before the newest one or the boot-up, or 1017:00 was asked to be
     /// written: from then on the device counts its period, or from later.
     pub sent: Option<u64>,
@@ -116,6 +130,17 @@ fn is_of_row(limits: &Limits, period: u16, slow: Option<u64>, taken: Option<u64>
     }
 }
 
+// a heartbeat is late by so many microseconds since this came; 1017:00 has so many ms
+fn late_since(awaited: Since, passed: u64, period: u16) -> Finding
+    ensures { result ≡ late_since awaited (passed, period) }
+{
+    match awaited {
+        Since::Heartbeat => Finding::HeartbeatLate(passed, period),
+        Since::BootUp => Finding::LateAfterBootUp(passed, period),
+        Since::Transfer => Finding::LateAfterTransfer(passed, period),
+    }
+}
+
 // the longer one of two times
 fn longer(slow: Option<u64>, taken: Option<u64>) -> Option<u64>
     ensures { result ≡ longer slow taken }
@@ -135,6 +160,7 @@ impl Heartbeats {
         Heartbeats {
             guarded: false,
             since: None,
+            awaited: Since::Heartbeat,
             sent: None,
             shown: None,
             slow: None,
@@ -152,6 +178,7 @@ impl Heartbeats {
         Heartbeats {
             guarded: self.guarded || is_guarded_state(byte),
             since: Some(micros),
+            awaited: Since::Heartbeat,
             sent: Some(free),
             shown: self.shown,
             slow: self.slow,
@@ -170,6 +197,7 @@ impl Heartbeats {
             Some(ended) if shown_period(ended).is_some() => Heartbeats {
                 guarded: self.guarded,
                 since: Some(micros),
+                awaited: Since::Transfer,
                 sent: match ended.direction {
                     Direction::Download => Some(ended.begun),
                     Direction::Upload => self.sent,
@@ -304,7 +332,7 @@ impl Heartbeats {
         ensures { result ≡ late_finding limits.now entries.now.period self.now free micros }
     {
         match self.overdue_by(limits, entries, free, micros) {
-            Some((passed, period)) => Some(Finding::HeartbeatLate(passed, period)),
+            Some((passed, period)) => Some(late_since(self.awaited, passed, period)),
             None => None,
         }
     }

@@ -10,7 +10,7 @@ use Rattle.conode_compare_pdos.specs.Deviations.{deviation_at, time_deviation}
 use Rattle.conode_compare_pdos.specs.Tpdos.{booted_tpdo}
 use Rattle.conode_compare_nmt.specs.declared.entries.Entries.{Entries}
 use Rattle.conode_compare_nmt.specs.declared.finding.Finding.{Finding}
-use Rattle.conode_compare_nmt.specs.declared.finding.Finding.TheVariants.{EmergencyStopped, HeartbeatLate, HeartbeatLength, NoState, Pdo as PdoFinding, TwoStates, WrongState}
+use Rattle.conode_compare_nmt.specs.declared.finding.Finding.TheVariants.{EmergencyStopped, HeartbeatLate, HeartbeatLength, LateAfterBootUp, NoState, Pdo as PdoFinding, TwoStates, WrongState}
 use Rattle.conode_compare_nmt.specs.declared.finding.NmtState.TheVariants.{PreOperational, Operational, Stopped}
 use Rattle.conode_compare_rules.specs.declared.kind.FrameKind.{FrameKind}
 use Rattle.conode_compare_rules.specs.declared.kind.FrameKind.TheVariants.{Command, Control, Emergency, OddControl, Process}
@@ -223,7 +223,7 @@ length_between = refl
 abbrev late_once : List (ℕ × FrameKind)
 late_once = (0, Control 0) ∷ (1100000, Control 127) ∷ []
 
-late_first : last_late ((0, Control 0) ∷ []) 1100000 (Control 127) ≡ Some (HeartbeatLate 1100000 1000)
+late_first : last_late ((0, Control 0) ∷ []) 1100000 (Control 127) ≡ Some (LateAfterBootUp 1100000 1000)
 unfolding findings_at progress_with begun booted found control_findings heartbeat_findings late_finding overdue_by
 late_first = refl
 
@@ -271,7 +271,7 @@ abbrev emergency : FrameKind
 emergency = Emergency 0x8130 0x11
 
 missing_in_row : last_late ((0, Control 0) ∷ (1100000, emergency) ∷ []) 2200000 emergency ∷ last_late (pauses ++ (3600000, emergency) ∷ []) 4900000 emergency ∷ []
-    ≡ Some (HeartbeatLate 2200000 1000) ∷ None ∷ []
+    ≡ Some (LateAfterBootUp 2200000 1000) ∷ None ∷ []
 unfolding findings_at progress_with begun booted found control_findings heartbeat_findings nmt_frames.after_control after_emergency emergency_findings late_finding overdue_by is_missing
 missing_in_row = refl
 

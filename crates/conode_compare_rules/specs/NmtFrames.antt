@@ -10,6 +10,7 @@ use Rattle.conode_compare_nmt.specs.declared.finding.Finding.{Finding}
 use Rattle.conode_compare_nmt.specs.declared.finding.NmtState.{NmtState}
 use Rattle.conode_compare_nmt.specs.declared.finding.NmtState.TheVariants.{Unknown, Initialising}
 use Rattle.conode_compare_nmt.specs.declared.heartbeats.Heartbeats.{Heartbeats}
+use Rattle.conode_compare_nmt.specs.declared.heartbeats.Since.TheVariants.{Heartbeat, BootUp}
 use Rattle.conode_compare_nmt.specs.declared.limits.Subject.{Subject}
 use Rattle.conode_compare_nmt.specs.declared.repeated.Odd.TheVariants.{Length}
 use Rattle.conode_compare_rules.specs.declared.verdict.Findings.{Findings}
@@ -79,7 +80,7 @@ booted_former subject progress = if may_be_written subject progress then Some lo
 unfoldable pub booted : Subject → Progress → ℕ → Progress
 booted subject progress micros = record progress {
   nmt = states.after_control subject.limits progress.started progress.nmt progress.free micros 0;
-  heartbeats = record progress.heartbeats { since = Some micros; sent = Some progress.free; slow = None; former = booted_former subject progress; asked = None };
+  heartbeats = record progress.heartbeats { since = Some micros; awaited = BootUp; sent = Some progress.free; slow = None; former = booted_former subject progress; asked = None };
   entries = booted_entries subject progress;
   emergency = None;
   dialogue = record (interrupted progress.dialogue micros) { slow = nothing_left; sub_block = false };
@@ -215,7 +216,7 @@ odd_control_findings subject progress micros length =
 unfoldable pub after_odd_control : Subject → Progress → ℕ → Progress
 after_odd_control subject progress micros = record progress {
   nmt = states.after_other subject.limits progress.nmt micros;
-  heartbeats = record progress.heartbeats { since = Some micros; sent = None };
+  heartbeats = record progress.heartbeats { since = Some micros; awaited = Heartbeat; sent = None };
 }
 
 abbrev pub after_length : Subject → Progress → ℕ → ℕ → Progress

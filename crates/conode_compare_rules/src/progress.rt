@@ -55,7 +55,8 @@ use crate::verdict::Findings;
 use co_frame::NmtService;
 use co_sheet::EntryRow;
 use conode_compare_nmt::{
-    Entries, Finding, Heartbeats, LONGEST_PERIOD, Nmt, NmtState, Odd, Remark, Subject, is_reset,
+    Entries, Finding, Heartbeats, LONGEST_PERIOD, Nmt, NmtState, Odd, Remark, Since, Subject,
+    is_reset,
 };
 use conode_compare_pdos::Pdos;
 use conode_compare_transfers::{Dialogue, Exchange, Left, is_past};
@@ -228,6 +229,7 @@ impl Progress {
         self.entries = self.booted_entries(subject);
         self.pdos = self.booted_pdos(subject);
         self.heartbeats.since = Some(micros);
+        self.heartbeats.awaited = Since::BootUp;
         self.heartbeats.sent = Some(self.free);
         self.heartbeats.former = self.booted_former(subject);
         self.heartbeats.asked = None;
@@ -474,6 +476,7 @@ impl Progress {
         self.nmt = self.nmt.after_other(limits, micros);
         self.nmt.odd = Some(Odd::Length(length));
         self.heartbeats.since = Some(micros);
+        self.heartbeats.awaited = Since::Heartbeat;
         self.heartbeats.sent = None;
         Findings::of(boot, heartbeat, None, frame, !is_repeated)
     }

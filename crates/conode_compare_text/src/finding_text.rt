@@ -252,6 +252,16 @@ fn finding_said(details: Details, finding: Finding) -> Said
             Value::Millis(passed),
             Value::Number(period as u64),
         ),
+        Finding::LateAfterBootUp(passed, period) => Said::Two(
+            "heartbeat-late: % since the boot-up, 1017:00 has % ms",
+            Value::Millis(passed),
+            Value::Number(period as u64),
+        ),
+        Finding::LateAfterTransfer(passed, period) => Said::Two(
+            "heartbeat-late: % since a transfer of 1017:00, which has % ms",
+            Value::Millis(passed),
+            Value::Number(period as u64),
+        ),
         Finding::EmergencyLength(length) => Said::One(
             "emcy-length: %, not 8",
             Value::Bytes(length as u64),
