@@ -11,7 +11,7 @@ use Rattle.co_dict.specs.Refusals.{refused_if, first_of}
 use Rattle.co_dict.specs.Objects.{subs_present}
 use Rattle.co_dict.specs.MappingWords.{word_width}
 use Rattle.co_dict.specs.MappingCounts.{counted_words, total_width, count_refusal}
-use Rattle.co_frame.specs.AbortCodes.{invalid_value, not_mappable, mapping_too_long}
+use Rattle.co_frame_aborts.specs.AbortCodes.{invalid_value, not_mappable, mapping_too_long}
 
 -- the words past the first `earlier` ones, of `count`
 abbrev pub words_left : Contents → ℕ → ℕ → ℕ → List ℕ

@@ -9,7 +9,7 @@ use Rattle.co_dict.specs.declared.row.Row.{Row}
 use Rattle.co_dict.specs.Rows.{Rows}
 use Rattle.co_dict.specs.Refusals.{refused_if, first_of}
 use Rattle.co_dict.specs.Objects.{has_sub, has_object, missing_entry}
-use Rattle.co_frame.specs.AbortCodes.{object_missing, sub_index_missing}
+use Rattle.co_frame_aborts.specs.AbortCodes.{object_missing, sub_index_missing}
 
 -- what holds of a number of a range holds of one of them
 pub any_in_range : (p : ℕ → Bool) (first count i : ℕ) → first ≤ i → i < first + count → p i ≡ true → list_any p (range_with_len first count) ≡ true

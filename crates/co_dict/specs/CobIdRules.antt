@@ -6,7 +6,7 @@ use Rattle.co_dict.specs.Rows.{Contents, number_at}
 use Rattle.co_dict.specs.Refusals.{refused_if, first_refusal}
 use Rattle.co_dict.specs.CobIds.{has_bit_31, is_valid}
 use Rattle.co_dict.specs.FreeIds.{is_good_word, is_good_sync_word}
-use Rattle.co_frame.specs.AbortCodes.{invalid_value, not_in_this_state}
+use Rattle.co_frame_aborts.specs.AbortCodes.{invalid_value, not_in_this_state}
 
 -- 1005:00: the word must be a good SYNC word
 abbrev pub sync_cob_id_refusal : ℕ → Contents → ℕ → Option ℕ

@@ -6,7 +6,7 @@ use Rattle.co_value.specs.declared.key.Key.{Key}
 use Rattle.co_profile.specs.Indices.{consumer_heartbeat}
 use Rattle.co_dict.specs.Rows.{Contents, number_at}
 use Rattle.co_dict.specs.Refusals.{refused_if}
-use Rattle.co_frame.specs.AbortCodes.{parameter_incompatible}
+use Rattle.co_frame_aborts.specs.AbortCodes.{parameter_incompatible}
 
 -- the key of an entry, 1016:01 to 7F
 abbrev pub consumer_key : ℕ → Key

@@ -7,7 +7,7 @@ use Rattle.co_profile.specs.Indices.{error_field}
 use Rattle.co_dict.specs.Rows.{Rows, Contents, number_at, written}
 use Rattle.co_dict.specs.Refusals.{refused_if}
 use Rattle.co_dict.specs.Objects.{has_sub, subs_present}
-use Rattle.co_frame.specs.AbortCodes.{invalid_value}
+use Rattle.co_frame_aborts.specs.AbortCodes.{invalid_value}
 
 -- the key of an error, or for 0 that of the number of errors
 abbrev pub error_key : ℕ → Key

@@ -10,7 +10,7 @@ use Rattle.co_dict.specs.Stores.{Description}
 use Rattle.co_dict.specs.Refusals.{refused_if, first_refusal}
 use Rattle.co_dict.specs.Objects.{subs_present}
 use Rattle.co_dict.specs.MappingWords.{word_width}
-use Rattle.co_frame.specs.AbortCodes.{invalid_value, not_mappable, mapping_too_long}
+use Rattle.co_frame_aborts.specs.AbortCodes.{invalid_value, not_mappable, mapping_too_long}
 
 -- the index of a mapping parameter of a side
 abbrev pub is_mapping_index : Side → ℕ → Bool

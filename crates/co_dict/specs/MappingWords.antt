@@ -13,7 +13,7 @@ use Rattle.co_dict.specs.Rows.{Rows}
 use Rattle.co_dict.specs.Stores.{Description}
 use Rattle.co_dict.specs.Refusals.{refused_if, first_of}
 use Rattle.co_dict.specs.Objects.{missing_entry}
-use Rattle.co_frame.specs.AbortCodes.{sub_index_missing, not_mappable}
+use Rattle.co_frame_aborts.specs.AbortCodes.{sub_index_missing, not_mappable}
 
 -- the key that a word maps
 abbrev pub mapped_key : ℕ → Key

@@ -6,7 +6,7 @@ use Rattle.co_value.specs.declared.key.Key.{Key}
 use Rattle.co_dict.specs.declared.row.Row.{Row}
 use Rattle.co_dict.specs.Rows.{Rows}
 use Rattle.co_dict.specs.Refusals.{refused_if, first_of, first_refusal}
-use Rattle.co_frame.specs.AbortCodes.{object_missing, sub_index_missing}
+use Rattle.co_frame_aborts.specs.AbortCodes.{object_missing, sub_index_missing}
 
 -- an object has an entry of a sub-index
 abbrev pub has_sub : Rows → ℕ → ℕ → Bool

@@ -19,7 +19,7 @@ use Rattle.co_dict.specs.ErrorField.{error_count_refusal}
 use Rattle.co_dict.specs.CobIdRules.{sync_cob_id_refusal, cob_id_refusal}
 use Rattle.co_dict.specs.ConsumerHeartbeats.{consumer_refusal}
 use Rattle.co_dict.specs.PdoRules.{transmission_type_refusal, inhibit_time_refusal, sync_start_refusal, mapping_entry_refusal, mapping_count_refusal}
-use Rattle.co_frame.specs.AbortCodes.{invalid_value, not_storable}
+use Rattle.co_frame_aborts.specs.AbortCodes.{invalid_value, not_storable}
 
 -- 1010h and 1011h, storing and restoring parameters, aren't supported
 abbrev pub stored_parameters_refusal : Option ℕ

@@ -9,7 +9,7 @@ use Rattle.co_dict.specs.Refusals.{refused_if, first_of}
 use Rattle.co_dict.specs.CobIds.{is_valid}
 use Rattle.co_dict.specs.MappingWords.{word_refusal}
 use Rattle.co_dict.specs.MappingCounts.{count_refusal}
-use Rattle.co_frame.specs.AbortCodes.{invalid_value, not_in_this_state}
+use Rattle.co_frame_aborts.specs.AbortCodes.{invalid_value, not_in_this_state}
 
 -- a PDO, by the index of its communication parameter, is valid: its COB-ID word is
 abbrev pub is_pdo_valid : Contents → ℕ → Bool

@@ -7,7 +7,7 @@ use Rattle.co_dict.specs.Rows.{Rows, Contents}
 use Rattle.co_dict.specs.Refusals.{refused_if}
 use Rattle.co_dict.specs.Objects.{entry_refusal}
 use Rattle.co_dict.specs.ErrorField.{is_past_errors}
-use Rattle.co_frame.specs.AbortCodes.{write_only, no_value}
+use Rattle.co_frame_aborts.specs.AbortCodes.{write_only, no_value}
 
 -- an entry can't be read
 abbrev pub is_write_only : Access → Bool

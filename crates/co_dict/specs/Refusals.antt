@@ -1,6 +1,6 @@
 -- Refusals: of a list, the first that applies (CiA 301, 7.2.4.3.17).
 use Rattle.std.specs.Prelude.{ℕ, Bool, List, [], ◌∷◌, Option, Some, None, Result, Ok, Err, if◌then◌else◌}
-use Rattle.co_frame.specs.declared.abort_code.AbortCode.{AbortCode}
+use Rattle.co_frame_aborts.specs.declared.abort_code.AbortCode.{AbortCode}
 
 -- an abort code, if a condition is true
 abbrev pub refused_if : Bool → ℕ → Option ℕ

@@ -12,7 +12,7 @@ use Rattle.co_dict.specs.Refusals.{refused_if, first_refusal}
 use Rattle.co_profile.specs.Indices.{is_within, sdo_server}
 use Rattle.co_dict.specs.OwnRules.{own_refusal}
 use Rattle.co_dict.specs.Objects.{entry_refusal}
-use Rattle.co_frame.specs.AbortCodes.{read_only, too_long, too_short, above_high_limit, below_low_limit}
+use Rattle.co_frame_aborts.specs.AbortCodes.{read_only, too_long, too_short, above_high_limit, below_low_limit}
 
 -- an access without writing
 abbrev pub is_read_only : Access → Bool

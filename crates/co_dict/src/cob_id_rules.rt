@@ -10,7 +10,7 @@ use crate::cob_id::CobId;
 use crate::free_ids::{is_good_sync_word, is_good_word};
 use crate::numbers::number_u32;
 use crate::store::ObjectStore;
-use co_frame::AbortCode;
+use co_frame_aborts::AbortCode;
 use co_value::Key;
 
 // 1005:00: the word must be one that SYNC may have

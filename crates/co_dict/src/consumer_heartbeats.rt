@@ -15,7 +15,7 @@ ghost use Rattle.co_dict.specs.ConsumerHeartbeats.{
 
 use crate::numbers::number_u32;
 use crate::store::ObjectStore;
-use co_frame::AbortCode;
+use co_frame_aborts::AbortCode;
 use co_profile::CONSUMER_HEARTBEAT;
 use co_value::Key;
 

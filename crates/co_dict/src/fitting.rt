@@ -7,7 +7,7 @@ ghost use Rattle.co_dict.specs.WriteRefusals.{size_refusal, limit_refusal};
 
 use crate::row::Row;
 use crate::store::{ObjectStore, store_laws};
-use co_frame::AbortCode;
+use co_frame_aborts::AbortCode;
 use co_value::{Key, from_bytes};
 
 impl Row {

@@ -21,7 +21,7 @@ use crate::objects::entry_row;
 use crate::row::Row;
 use crate::side::Side;
 use crate::store::ObjectStore;
-use co_frame::AbortCode;
+use co_frame_aborts::AbortCode;
 use co_profile::Access;
 use co_value::Key;
 

@@ -7,7 +7,7 @@ ghost use Rattle.co_dict.specs.Places.{place_of};
 
 use crate::row::Row;
 use crate::store::{ObjectStore, place_laws};
-use co_frame::AbortCode;
+use co_frame_aborts::AbortCode;
 use co_value::Key;
 
 /// Whether an object has an entry of a sub-index (CiA 301, 7.4.1).

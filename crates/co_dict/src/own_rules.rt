@@ -17,7 +17,7 @@ use crate::pdo_rules::{
     check_transmission_type,
 };
 use crate::store::ObjectStore;
-use co_frame::AbortCode;
+use co_frame_aborts::AbortCode;
 use co_profile::TransmissionType;
 use co_value::Key;
 

@@ -21,7 +21,7 @@ use crate::numbers::{number_u8, number_u32};
 use crate::objects::subs_present;
 use crate::side::Side;
 use crate::store::ObjectStore;
-use co_frame::AbortCode;
+use co_frame_aborts::AbortCode;
 use co_profile::TransmissionType;
 use co_value::Key;
 

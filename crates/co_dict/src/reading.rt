@@ -9,7 +9,7 @@ ghost use Rattle.co_dict.specs.ReadRefusals.{reading_refusal};
 use crate::error_field::error_count;
 use crate::objects::placed_row;
 use crate::store::{ObjectStore, store_laws};
-use co_frame::AbortCode;
+use co_frame_aborts::AbortCode;
 use co_profile::{Access, ERROR_FIELD};
 use co_value::Key;
 

@@ -3,7 +3,7 @@
 ghost use Rattle.std.specs.Prelude.{◌≡◌, ◌||◌, Some, None, true, length, is_some, OnOk, IfSome};
 ghost use Rattle.co_dict.specs.Rows.{takes};
 ghost use Rattle.co_dict.specs.Refusals.{refused_if, refusal_in};
-ghost use Rattle.co_frame.specs.AbortCodes.{read_only};
+ghost use Rattle.co_frame_aborts.specs.AbortCodes.{read_only};
 ghost use Rattle.co_dict.specs.WriteRefusals.{
   is_read_only,
   is_constant,
@@ -20,7 +20,7 @@ use crate::objects::entry_row;
 use crate::own_rules::check_own_rule;
 use crate::row::Row;
 use crate::store::ObjectStore;
-use co_frame::AbortCode;
+use co_frame_aborts::AbortCode;
 use co_profile::{Access, IndexRange};
 use co_value::Key;
 

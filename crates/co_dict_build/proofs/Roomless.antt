@@ -6,7 +6,7 @@ use Rattle.co_value.specs.declared.key.Key.{Key}
 use Rattle.co_value.specs.Keys.{same_key}
 use Rattle.co_value.specs.Types.{width_of}
 use Rattle.co_sheet.specs.Content.{Row as SheetRow}
-use Rattle.co_frame.specs.AbortCodes.{invalid_value, not_mappable, mapping_too_long}
+use Rattle.co_frame_aborts.specs.AbortCodes.{invalid_value, not_mappable, mapping_too_long}
 use Rattle.co_dict.specs.declared.row.Row.{Row}
 use Rattle.co_dict.specs.declared.side.Side.{Side}
 use Rattle.co_dict.specs.declared.side.Side.TheVariants.{Rpdo, Tpdo}

@@ -6,7 +6,7 @@ use Rattle.std.proofs.Math.Nat.{eq-or-lt_of_le}
 use Rattle.std.specs.Prelude.{is_some, is_none, not, ◌&&◌, ◌||◌, nat_lt, flat_map}
 use Rattle.std.specs.List.{list_any, range_with_len, prefix_len}
 use Rattle.std.proofs.lemmas.List.Folds.{length-prefix_len}
-use Rattle.co_frame.specs.AbortCodes.{invalid_value, not_mappable, mapping_too_long}
+use Rattle.co_frame_aborts.specs.AbortCodes.{invalid_value, not_mappable, mapping_too_long}
 use Rattle.co_dict.specs.declared.side.Side.{Side}
 use Rattle.co_dict.specs.Rows.{Rows, Contents, number_at}
 use Rattle.co_dict.specs.Stores.{Description}

@@ -7,7 +7,7 @@ use Rattle.co_value.specs.declared.key.Key.{Key}
 use Rattle.co_value.specs.declared.data_type.DataType.{DataType}
 use Rattle.co_value.specs.declared.data_type.DataType.TheVariants.{Boolean}
 use Rattle.co_value.specs.Types.{width_of}
-use Rattle.co_frame.specs.AbortCodes.{not_mappable, sub_index_missing}
+use Rattle.co_frame_aborts.specs.AbortCodes.{not_mappable, sub_index_missing}
 use Rattle.co_dict.specs.declared.row.Row.{Row}
 use Rattle.co_dict.specs.declared.side.Side.{Side}
 use Rattle.co_dict.specs.declared.side.Side.TheVariants.{Rpdo, Tpdo}

@@ -7,7 +7,7 @@ ghost use Rattle.co_dict.specs.WriteRefusals.{app_refusal};
 
 use crate::placed::Placed;
 use co_dict::{ObjectStore, app_store};
-use co_frame::AbortCode;
+use co_frame_aborts::AbortCode;
 use co_value::Key;
 
 /// Whether the application may set these bytes of the entry at a place, which has this key: refused

@@ -1,4 +1,3 @@
-pub mod AbortCodes
 pub mod AppEvents
 pub mod BlockSegments
 pub mod Ccs

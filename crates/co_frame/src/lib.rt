@@ -1,7 +1,6 @@
 //! CAN frames and the services of CANopen that they spell.
 #![tactic(auto)]
 
-mod abort_code;
 mod aborts;
 mod app_event;
 mod block_segment;
@@ -21,10 +20,10 @@ mod segment_sizes;
 mod subcommands;
 mod sync;
 
-pub use abort_code::AbortCode;
 pub use aborts::abort_byte;
 pub use app_event::AppEvent;
 pub use block_segment::BlockSegment;
+pub use co_frame_aborts::AbortCode;
 pub use emergency::Emergency;
 pub use frame::{Frame, FrameFault};
 pub use heartbeat::Heartbeat;

@@ -23,11 +23,11 @@ ghost use Rattle.co_frame.specs.SdoParts.{
   acknowledge_bytes,
 };
 
-use crate::abort_code::AbortCode;
 use crate::sdo_request::ExpeditedData;
 use crate::{ccs, subcommands};
 use arrayvec::ArrayVec;
 use byteorder::{ByteOrder, LittleEndian};
+use co_frame_aborts::AbortCode;
 use co_value::Key;
 
 // the command byte of a specifier, with bits 4 to 0

@@ -4,10 +4,10 @@ ghost use Rattle.std.specs.Prelude.{◌≡◌, ◌<◌, length};
 ghost use Rattle.co_frame.specs.SdoFields.{specifier, subcommand, has_bit, unused_of_end, key_in, number_in};
 ghost use Rattle.co_frame.specs.SdoParts.{expedited_in, segment_in, size_in, code_in};
 
-use crate::abort_code::AbortCode;
 use crate::sdo_request::ExpeditedData;
 use arrayvec::ArrayVec;
 use byteorder::{ByteOrder, LittleEndian};
+use co_frame_aborts::AbortCode;
 use co_value::Key;
 
 // bits 7 to 5 of the command byte

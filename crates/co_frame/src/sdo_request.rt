@@ -15,7 +15,6 @@ ghost use Rattle.co_frame.specs.SdoRequests.{
 };
 ghost use Rattle.co_frame.specs.SdoParts.{IsExpeditedData};
 
-use crate::abort_code::AbortCode;
 use crate::frame::Frame;
 use crate::sdo_bytes::{
     abort, acknowledge, bare, block_end, block_initiate, command, expedited, initiate, keyed,
@@ -27,6 +26,7 @@ use crate::sdo_fields::{
 };
 use crate::{ccs, subcommands};
 use arrayvec::ArrayVec;
+use co_frame_aborts::AbortCode;
 use co_value::Key;
 
 /// The data of an expedited transfer (CiA 301, 7.2.4.3.3 and 7.2.4.3.6).

@@ -14,7 +14,6 @@ ghost use Rattle.co_frame.specs.SdoResponses.{
   response_bytes,
 };
 
-use crate::abort_code::AbortCode;
 use crate::frame::Frame;
 use crate::sdo_bytes::{
     abort, acknowledge, bare, block_end, block_initiate, command, expedited, initiate, keyed,
@@ -27,6 +26,7 @@ use crate::sdo_fields::{
 use crate::sdo_request::ExpeditedData;
 use crate::{scs, subcommands};
 use arrayvec::ArrayVec;
+use co_frame_aborts::AbortCode;
 use co_value::Key;
 
 /// A response of an SDO server (CiA 301, 7.2.4.3).

@@ -1,7 +1,7 @@
 //! Application events, at reception.
 
 ghost use Rattle.std.specs.Prelude.{◌≡◌, false, true, MatchOption};
-ghost use Rattle.co_frame.specs.declared.abort_code.AbortCode.{AbortCode};
+ghost use Rattle.co_frame_aborts.specs.declared.abort_code.AbortCode.{AbortCode};
 ghost use Rattle.co_node_parts.specs.EmergencyQueues.{EmergencyLog, EmergenciesStand, with_queued};
 ghost use Rattle.co_node_model.specs.AppEvents.{is_tpdo};
 ghost use Rattle.co_node_model.specs.Inputs.{Written, EventOn, ChangedAt, Raised, Cleared, app_view};

@@ -11,7 +11,7 @@ use Rattle.co_frame.specs.Heartbeats.{heartbeat_in}
 use Rattle.co_frame.specs.Nmt.{nmt_command_in}
 use Rattle.co_frame.specs.declared.nmt.NmtService.{NmtService}
 use Rattle.co_frame.specs.declared.nmt.NmtService.TheVariants.{Start, Stop, EnterPreOperational, ResetNode, ResetCommunication}
-use Rattle.co_frame.specs.AbortCodes.{invalid_value, not_in_this_state}
+use Rattle.co_frame_aborts.specs.AbortCodes.{invalid_value, not_in_this_state}
 use Rattle.co_dict.specs.CobIds.{has_11_bits, has_bit_31, identifier_of, is_default_sdo, is_restricted, is_sync_consumer, is_valid}
 use Rattle.co_dict.specs.CobIdRules.{changes_while_valid}
 use Rattle.co_dict.specs.FreeIds.{is_free, is_good_sync_word, is_good_word}

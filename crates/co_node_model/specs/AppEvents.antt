@@ -1,6 +1,6 @@
 -- Application events: what they do, and their answers.
 use Rattle.std.specs.Prelude.{ℕ, ◌&&◌, nat_lt, Bool, ◌==◌, not, Option, None, Some, bit_or, List, [], ◌∷◌}
-use Rattle.co_frame.specs.AbortCodes.{object_missing, invalid_value}
+use Rattle.co_frame_aborts.specs.AbortCodes.{object_missing, invalid_value}
 use Rattle.co_frame.specs.declared.emergency.Emergency.{Emergency}
 use Rattle.co_dict.specs.Rows.{Rows, Contents, written}
 use Rattle.co_dict.specs.Stores.{Description}

@@ -21,7 +21,7 @@ use Rattle.co_dict.specs.Refusals.{refused_if, first_refusal}
 use Rattle.co_dict.specs.Objects.{has_sub, subs_present}
 use Rattle.co_dict.specs.MappingWords.{mapped_key, mapped_bits, dummy_widths, dummy_width, usable_dummy, may_be_mapped, entry_width, mapping_width, word_width}
 use Rattle.co_dict.specs.MappingCounts.{counted_words, total_width, count_refusal}
-use Rattle.co_frame.specs.AbortCodes.{invalid_value, not_mappable, mapping_too_long}
+use Rattle.co_frame_aborts.specs.AbortCodes.{invalid_value, not_mappable, mapping_too_long}
 use Rattle.co_pdo.specs.declared.mapping.Mapped.{Mapped}
 use Rattle.co_pdo.specs.declared.mapping.Mapped.TheVariants.{Entry, Dummy}
 use Rattle.co_pdo.specs.Mappings.{mapped_by, mapped_words, width_in, total_of, is_there, all_there}

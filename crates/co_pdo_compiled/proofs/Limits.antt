@@ -9,7 +9,7 @@ use Rattle.std.proofs.lemmas.List.Sums.{sum_by-cons}
 use Rattle.co_value.specs.Types.{width_of, is_signed, is_boolean, least_at, greatest_at}
 use Rattle.co_value.specs.Numbers.{AreBytes, number_of}
 use Rattle.co_value.proofs.Bytes.{bytes_by_index, number_of-FitsWidth}
-use Rattle.co_frame.specs.AbortCodes.{above_high_limit, below_low_limit}
+use Rattle.co_frame_aborts.specs.AbortCodes.{above_high_limit, below_low_limit}
 use Rattle.co_dict.specs.declared.row.Row.{Row}
 use Rattle.co_dict.specs.Stores.{Description}
 use Rattle.co_dict.specs.Refusals.{refused_if, first_refusal}

@@ -10,7 +10,7 @@ use Rattle.co_dict.specs.Refusals.{refused_if, first_refusal}
 use Rattle.co_dict.specs.Objects.{subs_present}
 use Rattle.co_dict.specs.MappingWords.{word_width}
 use Rattle.co_dict.specs.MappingCounts.{counted_words, total_width}
-use Rattle.co_frame.specs.AbortCodes.{invalid_value, not_mappable, mapping_too_long}
+use Rattle.co_frame_aborts.specs.AbortCodes.{invalid_value, not_mappable, mapping_too_long}
 use Rattle.co_pdo.specs.declared.mapping.Mapped.{Mapped}
 use Rattle.co_pdo.specs.Mappings.{mapped_by, has_pdo, mapping_index, count_of, mapping_of}
 use Rattle.co_pdo_compiled.specs.CompiledMappings.{AgreeOnMapping}

@@ -3,7 +3,7 @@ use Rattle.std.proofs.Common.{◌≡◌, ℕ, ◌+◌, ◌*◌, ◌++◌, Bool, 
 use Rattle.std.specs.Prelude.{◌==◌, ◌&&◌, nat_le, nat_lt}
 use Rattle.std.proofs.lemmas.Bool.{false≢true}
 use Rattle.co_value.specs.declared.key.Key.{Key}
-use Rattle.co_frame.specs.AbortCodes.{invalid_sequence_number}
+use Rattle.co_frame_aborts.specs.AbortCodes.{invalid_sequence_number}
 use Rattle.co_frame.specs.SdoFields.{command}
 use Rattle.co_frame.specs.SdoRequests.{request_in}
 use Rattle.co_frame.specs.declared.sdo_request.SdoRequest.{SdoRequest}

@@ -3,7 +3,7 @@ use Rattle.std.specs.Prelude.{ℕ, ◌+◌, ◌==◌, ◌&&◌, Bool, true, fals
 use Rattle.std.specs.Option.{option_map_or}
 use Rattle.co_value.specs.declared.key.Key.{Key}
 use Rattle.co_frame.specs.SegmentSizes.{segments_per_sub_block}
-use Rattle.co_frame.specs.AbortCodes.{unknown_command, toggle_not_alternated, too_long, invalid_block_size, invalid_sequence_number, timed_out}
+use Rattle.co_frame_aborts.specs.AbortCodes.{unknown_command, toggle_not_alternated, too_long, invalid_block_size, invalid_sequence_number, timed_out}
 use Rattle.co_frame.specs.SdoRequests.{request_in}
 use Rattle.co_frame.specs.declared.sdo_request.SdoRequest.{SdoRequest}
 use Rattle.co_frame.specs.declared.sdo_request.SdoRequest.TheVariants.{DownloadExpedited, DownloadInitiate, DownloadSegment, Upload, UploadSegment, BlockUploadInitiate, BlockUploadEnd, BlockUploadAcknowledge, BlockUploadStart, BlockDownloadInitiate, BlockDownloadEnd}

@@ -1,7 +1,7 @@
 -- What one frame does to the open transfer, without the log.
 use Rattle.std.specs.Prelude.{ℕ, ◌+◌, ◌==◌, ◌&&◌, Bool, false, not, nat_lt, nat_le, List, [], ◌++◌, length, Option, Some, None, if◌then◌else◌}
 use Rattle.co_value.specs.declared.key.Key.{Key}
-use Rattle.co_frame.specs.AbortCodes.{invalid_sequence_number}
+use Rattle.co_frame_aborts.specs.AbortCodes.{invalid_sequence_number}
 use Rattle.co_frame.specs.SdoFields.{command}
 use Rattle.co_frame.specs.SdoRequests.{request_in}
 use Rattle.co_frame.specs.declared.sdo_request.SdoRequest.{SdoRequest}

@@ -1,7 +1,7 @@
 -- Worked downloads, computed from the definitions.
 use Rattle.std.proofs.Common.{◌≡◌, ℕ, ◌+◌, ◌-◌, ◌^◌, List, [], ◌∷◌, refl, codes, true, false, map, drop, replicate}
 use Rattle.co_frame.specs.SdoResponses.{response_row_in}
-use Rattle.co_frame.specs.AbortCodes.{toggle_not_alternated, timed_out, unknown_command, invalid_block_size, invalid_sequence_number, object_missing}
+use Rattle.co_frame_aborts.specs.AbortCodes.{toggle_not_alternated, timed_out, unknown_command, invalid_block_size, invalid_sequence_number, object_missing}
 use Rattle.co_sdo_client.specs.declared.mode.Mode.TheVariants.{Plain, Segmented, Block}
 use Rattle.co_sdo_client.specs.Calls.{Call, Answered, Ticked, message_bytes}
 use Rattle.co_sdo_client.specs.Segments.{requests_needed}

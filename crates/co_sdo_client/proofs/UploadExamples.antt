@@ -1,7 +1,7 @@
 -- Worked uploads, computed from the definitions.
 use Rattle.std.proofs.Common.{◌≡◌, [], ◌∷◌, refl, codes, replicate}
 use Rattle.co_frame.specs.SdoResponses.{response_row_in}
-use Rattle.co_frame.specs.AbortCodes.{toggle_not_alternated, timed_out, unknown_command, out_of_memory, object_missing, too_long, too_short}
+use Rattle.co_frame_aborts.specs.AbortCodes.{toggle_not_alternated, timed_out, unknown_command, out_of_memory, object_missing, too_long, too_short}
 use Rattle.co_sdo_client.specs.declared.mode.Mode.TheVariants.{Plain, Segmented, Block}
 use Rattle.co_sdo_client.specs.Calls.{Ticked, Request}
 use Rattle.co_frame.specs.declared.sdo_request.SdoRequest.TheVariants.{BlockUploadAcknowledge}

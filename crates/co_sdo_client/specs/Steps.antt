@@ -1,6 +1,6 @@
 -- What one event does to a waiting client, without the events before it.
 use Rattle.std.specs.Prelude.{ℕ, ◌+◌, ◌-◌, ◌==◌, ◌&&◌, Bool, false, not, nat_lt, List, [], ◌++◌, length, Option, if◌then◌else◌}
-use Rattle.co_frame.specs.AbortCodes.{timed_out}
+use Rattle.co_frame_aborts.specs.AbortCodes.{timed_out}
 use Rattle.co_frame.specs.SdoResponses.{response_in}
 use Rattle.co_frame.specs.declared.sdo_response.SdoResponse.{SdoResponse}
 use Rattle.co_sdo_client.specs.declared.stage.Stage.{Stage}

@@ -2,7 +2,7 @@
 
 ghost use Rattle.std.specs.Prelude.{◌≡◌, ◌+◌, ◌<◌, ◌≤◌, ◌++◌, [], None, Some, if◌then◌else◌, nat_lt, not};
 ghost use Rattle.co_value.specs.Keys.{same_key};
-ghost use Rattle.co_frame.specs.AbortCodes.{out_of_memory, unknown_command};
+ghost use Rattle.co_frame_aborts.specs.AbortCodes.{out_of_memory, unknown_command};
 ghost use Rattle.arrayvec.specs.ArrayVec.{array_vec_len};
 ghost use Rattle.co_frame.specs.SegmentSizes.{segments_per_sub_block};
 ghost use Rattle.co_frame.specs.Outboxes.{HasRoomFor};

@@ -2,7 +2,7 @@
 -- (7.2.4.3.17).
 use Rattle.std.specs.Prelude.{ℕ, ◌==◌, Bool, not, ◌&&◌, ◌||◌, if◌then◌else◌, List, Option, Some, None, option_and_then}
 use Rattle.std.specs.Option.{option_or}
-use Rattle.co_frame.specs.AbortCodes.{above_high_limit, below_low_limit, invalid_value, mapping_too_long, not_in_this_state, not_mappable, not_storable, object_missing, read_only, sub_index_missing, too_long, too_short, write_only}
+use Rattle.co_frame_aborts.specs.AbortCodes.{above_high_limit, below_low_limit, invalid_value, mapping_too_long, not_in_this_state, not_mappable, not_storable, object_missing, read_only, sub_index_missing, too_long, too_short, write_only}
 use Rattle.co_frame.specs.FrameContent.{FrameContent}
 use Rattle.co_sheet.specs.Content.{Row}
 use Rattle.co_value.specs.declared.key.Key.{Key}

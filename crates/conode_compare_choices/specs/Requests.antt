@@ -2,7 +2,7 @@
 -- 301, 7.2.4.3).
 use Rattle.std.specs.Prelude.{ℕ, ◌-◌, ◌*◌, ◌/◌, ◌%◌, ◌==◌, nat_le, nat_lt, Bool, false, not, ◌&&◌, ◌||◌, if◌then◌else◌, List, [], ◌∷◌, take, Option, Some, None, is_some, option_and_then}
 use Rattle.std.specs.Option.{option_map_or, option_or}
-use Rattle.co_frame.specs.AbortCodes.{above_high_limit, below_low_limit, not_mappable, not_storable, object_missing, sub_index_missing, too_long, too_short}
+use Rattle.co_frame_aborts.specs.AbortCodes.{above_high_limit, below_low_limit, not_mappable, not_storable, object_missing, sub_index_missing, too_long, too_short}
 use Rattle.co_frame.specs.FrameContent.{FrameContent}
 use Rattle.co_profile.specs.Indices.{restore_parameters, store_parameters}
 use Rattle.co_sheet.specs.Content.{Row}

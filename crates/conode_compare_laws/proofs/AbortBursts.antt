@@ -14,7 +14,7 @@ use Rattle.co_frame.specs.SdoFields.{has_bit, key_in}
 use Rattle.co_frame.specs.SdoParts.{code_in, segment_in}
 use Rattle.co_frame.specs.SdoRequests.{request_in}
 use Rattle.co_frame.specs.SdoResponses.{response_in, response_row_in}
-use Rattle.co_frame.specs.declared.abort_code.AbortCode.{AbortCode}
+use Rattle.co_frame_aborts.specs.declared.abort_code.AbortCode.{AbortCode}
 use Rattle.co_frame.specs.declared.block_segment.BlockSegment.{BlockSegment}
 use Rattle.co_frame.specs.declared.sdo_request.ExpeditedData.TheVariants.{Indicated}
 use Rattle.co_frame.specs.declared.sdo_request.SdoRequest.{SdoRequest}

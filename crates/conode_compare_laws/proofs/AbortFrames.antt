@@ -6,7 +6,7 @@ use Rattle.std.proofs.lemmas.Bool.{false≢true}
 use Rattle.std.proofs.lemmas.Bool.Decides.{nat_tests}
 use Rattle.co_value.specs.declared.key.Key.{Key}
 use Rattle.co_value.specs.Keys.{same_key}
-use Rattle.co_frame.specs.AbortCodes.{unknown_command}
+use Rattle.co_frame_aborts.specs.AbortCodes.{unknown_command}
 use Rattle.co_frame.specs.FrameContent.{FrameContent}
 use Rattle.co_sheet.specs.Content.{Row}
 use Rattle.conode_explain_transfers.specs.declared.channel.Heard.{Heard as Says}

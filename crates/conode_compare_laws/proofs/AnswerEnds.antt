@@ -5,7 +5,7 @@ use Rattle.std.proofs.lemmas.Bool.{false≢true}
 use Rattle.arrayvec.specs.ArrayVec.{ArrayVec}
 use Rattle.co_value.specs.declared.key.Key.{Key}
 use Rattle.co_value.specs.Keys.{same_key}
-use Rattle.co_frame.specs.declared.abort_code.AbortCode.{AbortCode}
+use Rattle.co_frame_aborts.specs.declared.abort_code.AbortCode.{AbortCode}
 use Rattle.co_frame.specs.Segments.{same_bool}
 use Rattle.co_frame.specs.declared.block_segment.BlockSegment.{BlockSegment}
 use Rattle.co_frame.specs.declared.sdo_response.SdoResponse.{SdoResponse}

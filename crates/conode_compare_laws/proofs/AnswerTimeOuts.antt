@@ -10,7 +10,7 @@ use Rattle.co_sdo.specs.Log.{Log, Response as Replied, Ticked as Elapsed, answer
 use Rattle.co_sdo.specs.Opened.{is_time_over, opened, opened_after}
 use Rattle.co_sdo.specs.OpenTransfers.{open_transfer}
 use Rattle.co_sdo.specs.Replies.{open_key, time_out_reply}
-use Rattle.co_frame.specs.AbortCodes.{timed_out as timed_out_code}
+use Rattle.co_frame_aborts.specs.AbortCodes.{timed_out as timed_out_code}
 use Rattle.co_sdo_laws.proofs.Channel.{tick_opens}
 use Rattle.co_sheet.specs.Content.{Row}
 use Rattle.conode_explain_transfers.specs.declared.kinds.Side.TheVariants.{Server}

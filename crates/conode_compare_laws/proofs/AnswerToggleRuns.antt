@@ -6,7 +6,7 @@ use Rattle.std.proofs.lemmas.Bool.{eqb-true, false≢true}
 use Rattle.arrayvec.specs.ArrayVec.{ArrayVec}
 use Rattle.co_value.specs.declared.key.Key.{Key}
 use Rattle.co_value.specs.Keys.{same_key}
-use Rattle.co_frame.specs.AbortCodes.{timed_out as timed_out_code, unknown_command}
+use Rattle.co_frame_aborts.specs.AbortCodes.{timed_out as timed_out_code, unknown_command}
 use Rattle.co_frame.specs.FrameContent.{FrameContent}
 use Rattle.co_frame.specs.Segments.{is_odd}
 use Rattle.co_frame.specs.SdoRequests.{request_in}

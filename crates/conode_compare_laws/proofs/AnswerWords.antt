@@ -6,7 +6,7 @@ use Rattle.std.proofs.lemmas.Bool.Decides.{nat_tests}
 use Rattle.co_value.specs.declared.key.Key.{Key}
 use Rattle.co_value.specs.Keys.{same_key, same_key-is, same_key-refl}
 use Rattle.co_value.specs.Numbers.{unsigned_of}
-use Rattle.co_frame.specs.AbortCodes.{invalid_value, not_in_this_state}
+use Rattle.co_frame_aborts.specs.AbortCodes.{invalid_value, not_in_this_state}
 use Rattle.co_frame.specs.FrameContent.{FrameContent}
 use Rattle.co_frame.specs.Nmt.{nmt_command_in}
 use Rattle.co_frame.specs.declared.nmt.NmtService.{NmtService}

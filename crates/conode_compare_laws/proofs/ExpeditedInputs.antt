@@ -5,7 +5,7 @@ use Rattle.std.specs.Prelude.{◌==◌, IfSome}
 use Rattle.std.specs.List.{AllByRecursion}
 use Rattle.std.proofs.lemmas.Bool.{eqb-true, false≢true}
 use Rattle.co_value.specs.declared.key.Key.{Key}
-use Rattle.co_frame.specs.AbortCodes.{timed_out as timed_out_code}
+use Rattle.co_frame_aborts.specs.AbortCodes.{timed_out as timed_out_code}
 use Rattle.co_frame.specs.FrameContent.{FrameContent}
 use Rattle.co_frame.specs.Heartbeats.{heartbeat_bytes}
 use Rattle.co_frame.specs.SdoRequests.{request_in}

@@ -5,7 +5,7 @@ use Rattle.std.specs.Prelude.{if◌then◌else◌, IfSome, nat_le, nat_lt, ◌==
 use Rattle.std.proofs.lemmas.Bool.{false≢true}
 use Rattle.co_value.specs.declared.key.Key.{Key}
 use Rattle.co_value.specs.Numbers.{AreBytes}
-use Rattle.co_frame.specs.AbortCodes.{invalid_block_size, invalid_sequence_number, too_long, toggle_not_alternated, unknown_command}
+use Rattle.co_frame_aborts.specs.AbortCodes.{invalid_block_size, invalid_sequence_number, too_long, toggle_not_alternated, unknown_command}
 use Rattle.co_frame.specs.SdoFields.{command}
 use Rattle.co_frame.specs.SdoRequests.{request_in}
 use Rattle.co_frame.specs.declared.sdo_request.SdoRequest.{SdoRequest}

@@ -3,7 +3,7 @@ use Rattle.std.proofs.Common.{◌≡◌, ℕ, Bool, true, false, List, [], ◌�
 use Rattle.std.specs.Prelude.{option_and_then, IfSome}
 use Rattle.std.proofs.lemmas.Bool.{false≢true}
 use Rattle.co_value.specs.declared.key.Key.{Key}
-use Rattle.co_frame.specs.AbortCodes.{no_value, write_only}
+use Rattle.co_frame_aborts.specs.AbortCodes.{no_value, write_only}
 use Rattle.co_profile.specs.declared.access.Access.{Access}
 use Rattle.co_profile.specs.declared.access.Access.TheVariants.{Wo}
 use Rattle.co_dict.specs.ErrorField.{is_past_errors}

@@ -5,7 +5,7 @@ use Rattle.std.specs.List.{filter_map, list_any, range_with_len}
 use Rattle.std.proofs.lemmas.Bool.{and_parts}
 use Rattle.std.proofs.lemmas.List.{length-append, length-replicate}
 use Rattle.std.proofs.lemmas.List.Sums.{sum_by-cons}
-use Rattle.co_frame.specs.AbortCodes.{invalid_value, mapping_too_long, not_mappable}
+use Rattle.co_frame_aborts.specs.AbortCodes.{invalid_value, mapping_too_long, not_mappable}
 use Rattle.co_dict.specs.declared.side.Side.TheVariants as side
 use Rattle.co_dict.specs.MappingCounts.{counted_words, total_width}
 use Rattle.co_dict.specs.MappingWords.{word_width}

@@ -7,7 +7,7 @@ use Rattle.std.proofs.lemmas.Bool.Decides.{nat_tests}
 use Rattle.co_value.specs.declared.key.Key.{Key}
 use Rattle.co_value.specs.Keys.{same_key, same_key-refl}
 use Rattle.co_value.specs.Numbers.{low_bytes, unsigned_of}
-use Rattle.co_frame.specs.AbortCodes.{unknown_command}
+use Rattle.co_frame_aborts.specs.AbortCodes.{unknown_command}
 use Rattle.co_frame.specs.BlockSegments.{block_segment_in, is_abort_in_sub_block}
 use Rattle.co_frame.specs.SdoParts.{code_in}
 use Rattle.co_frame.specs.SdoResponses.{response_bytes, response_in, response_row_in}

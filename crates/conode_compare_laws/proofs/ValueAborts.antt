@@ -9,7 +9,7 @@ use Rattle.co_frame.specs.SdoFields.{has_bit, specifier, subcommand}
 use Rattle.co_frame.specs.SdoParts.{code_in}
 use Rattle.co_frame.specs.SdoResponses.{block_download_in, block_upload_in, response_bytes, response_in, response_row_in, upload_in}
 use Rattle.co_frame.specs.Subcommands as subcommands
-use Rattle.co_frame.specs.declared.abort_code.AbortCode.{AbortCode}
+use Rattle.co_frame_aborts.specs.declared.abort_code.AbortCode.{AbortCode}
 use Rattle.co_frame.specs.declared.block_segment.BlockSegment.{BlockSegment}
 use Rattle.co_frame.specs.declared.sdo_request.ExpeditedData.TheVariants.{Indicated, NotIndicated}
 use Rattle.co_frame.specs.declared.sdo_response.SdoResponse.{SdoResponse}

@@ -8,7 +8,7 @@ use Rattle.co_value.specs.declared.key.Key.{Key}
 use Rattle.co_value.specs.Keys.{same_key}
 use Rattle.co_value.specs.Numbers.{number_of}
 use Rattle.co_value.specs.Types.{greatest_of, least_of, width_of}
-use Rattle.co_frame.specs.AbortCodes.{above_high_limit, below_low_limit, read_only}
+use Rattle.co_frame_aborts.specs.AbortCodes.{above_high_limit, below_low_limit, read_only}
 use Rattle.co_profile.specs.declared.access.Access.{Access}
 use Rattle.co_profile.specs.declared.access.Access.TheVariants.{Constant, Ro}
 use Rattle.co_dict.specs.declared.row.Row.{Row as DictionaryRow}

@@ -6,7 +6,7 @@ use Rattle.std.specs.Option.{option_or}
 use Rattle.std.proofs.lemmas.Bool.{false≢true}
 use Rattle.std.proofs.lemmas.Bool.Decides.{nat_tests}
 use Rattle.co_frame.specs.FrameContent.{FrameContent}
-use Rattle.co_frame.specs.declared.abort_code.AbortCode.{AbortCode}
+use Rattle.co_frame_aborts.specs.declared.abort_code.AbortCode.{AbortCode}
 use Rattle.co_sheet.specs.Content.{Row}
 use Rattle.co_sheet.specs.Limits.{Default, absent, number, node_id, text, pairs}
 use Rattle.co_sheet_changes.specs.Names.{row_at}

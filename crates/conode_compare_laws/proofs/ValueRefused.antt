@@ -9,7 +9,7 @@ use Rattle.co_value.specs.declared.key.Key.{Key}
 use Rattle.co_value.specs.Keys.{same_key, same_key-is}
 use Rattle.co_value.specs.Numbers.{low_bytes, number_of, unsigned_of}
 use Rattle.co_value.specs.Types.{width_of}
-use Rattle.co_frame.specs.AbortCodes.{above_high_limit, below_low_limit, invalid_value, no_value, not_in_this_state, not_mappable, object_missing, mapping_too_long, not_storable, parameter_incompatible, read_only, sub_index_missing, too_long, too_short, write_only}
+use Rattle.co_frame_aborts.specs.AbortCodes.{above_high_limit, below_low_limit, invalid_value, no_value, not_in_this_state, not_mappable, object_missing, mapping_too_long, not_storable, parameter_incompatible, read_only, sub_index_missing, too_long, too_short, write_only}
 use Rattle.co_profile.specs.declared.access.Access.{Access}
 use Rattle.co_profile.specs.declared.access.Access.TheVariants.{Wo}
 use Rattle.co_profile.specs.declared.indices.IndexRange.{IndexRange}

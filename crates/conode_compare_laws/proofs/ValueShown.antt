@@ -9,7 +9,7 @@ use Rattle.conode_explain_transfers.specs.declared.kinds.Side.{Side}
 use Rattle.conode_explain_transfers.specs.declared.kinds.Side.TheVariants.{Client, Server}
 use Rattle.conode_explain_transfers.specs.declared.kinds.What.{What}
 use Rattle.conode_explain_transfers.specs.declared.transfer.Transfer.{Transfer}
-use Rattle.co_frame.specs.declared.abort_code.AbortCode.{AbortCode}
+use Rattle.co_frame_aborts.specs.declared.abort_code.AbortCode.{AbortCode}
 use Rattle.conode_explain_transfers.specs.Data.{data_with}
 use Rattle.conode_explain_transfers.specs.Digests.{counted, digest_of}
 use Rattle.conode_explain_transfers.specs.Endings.{ended, verdict}

@@ -11,7 +11,7 @@ use Rattle.co_value.specs.declared.data_type.DataType.TheVariants.{Domain, Octet
 use Rattle.co_value.specs.declared.key.Key.{Key}
 use Rattle.co_value.specs.Numbers.{number_of}
 use Rattle.co_value.specs.Types.{width_of}
-use Rattle.co_frame.specs.AbortCodes.{too_long, too_short}
+use Rattle.co_frame_aborts.specs.AbortCodes.{too_long, too_short}
 use Rattle.co_frame.specs.declared.sdo_request.ExpeditedData.TheVariants.{Indicated, NotIndicated}
 use Rattle.co_frame.specs.declared.sdo_request.SdoRequest.{SdoRequest}
 use Rattle.co_frame.specs.declared.sdo_request.SdoRequest.TheVariants.{DownloadExpedited}

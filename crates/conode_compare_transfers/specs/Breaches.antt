@@ -1,8 +1,8 @@
 -- What a device does otherwise in an open transfer, by what both ends named (CiA 301, 7.2.4.3).
 use Rattle.std.specs.Prelude.{ℕ, ◌+◌, ◌*◌, ◌/◌, ◌%◌, ◌==◌, nat_le, nat_lt, Bool, true, false, ◌&&◌, ◌||◌, if◌then◌else◌, slice_index, Option, Some, None}
-use Rattle.co_frame.specs.AbortCodes.{unknown_command}
+use Rattle.co_frame_aborts.specs.AbortCodes.{unknown_command}
 use Rattle.co_frame.specs.FrameContent.{FrameContent}
-use Rattle.co_frame.specs.declared.abort_code.AbortCode.{AbortCode}
+use Rattle.co_frame_aborts.specs.declared.abort_code.AbortCode.{AbortCode}
 use Rattle.co_value.specs.declared.key.Key.{Key}
 use Rattle.co_value.specs.Keys.{same_key}
 use Rattle.conode_explain_transfers.specs.declared.channel.Heard.{Heard}

@@ -2,7 +2,7 @@
 -- CiA 301 doesn't say after which time, nor that it has to.
 use Rattle.std.specs.Prelude.{ℕ, ◌+◌, ◌-◌, ◌*◌, ◌==◌, nat_lt, Bool, true, false, ◌&&◌, ◌||◌, if◌then◌else◌, Option, Some, None, option_and_then}
 use Rattle.std.specs.Option.{option_or}
-use Rattle.co_frame.specs.AbortCodes.{timed_out}
+use Rattle.co_frame_aborts.specs.AbortCodes.{timed_out}
 use Rattle.co_value.specs.declared.key.Key.{Key}
 use Rattle.conode_explain_transfers.specs.declared.channel.Heard.{Heard}
 use Rattle.conode_explain_transfers.specs.declared.ended.Ended.{Ended}

@@ -3,8 +3,8 @@
 use Rattle.std.specs.Prelude.{ℕ, ◌+◌, ◌-◌, ◌/◌, ◌%◌, ℤ, pos, ◌==◌, int_lt, nat_lt, nat_le, max, Bool, true, false, not, ◌&&◌, ◌||◌, if◌then◌else◌, List, length, take, slice_index, bytes_eq, Option, Some, None, option_map, option_and_then}
 use Rattle.std.specs.List.{list_all}
 use Rattle.std.specs.Option.{option_map_or, option_or}
-use Rattle.co_frame.specs.declared.abort_code.AbortCode.{AbortCode}
-use Rattle.co_frame.specs.AbortCodes.{write_only, object_missing, sub_index_missing}
+use Rattle.co_frame_aborts.specs.declared.abort_code.AbortCode.{AbortCode}
+use Rattle.co_frame_aborts.specs.AbortCodes.{write_only, object_missing, sub_index_missing}
 use Rattle.co_profile.specs.declared.access.Access.{Access}
 use Rattle.co_profile.specs.declared.access.Access.TheVariants.{Ro, Wo, Constant}
 use Rattle.co_profile.specs.Indices.{device_type, error_field, error_register, identity, restore_parameters, sdo_server, store_parameters}

@@ -6,7 +6,7 @@ use Rattle.std.proofs.lemmas.Bool.{eqb-true, false≢true}
 use Rattle.std.proofs.lemmas.Bool.Decides.{nat_tests}
 use Rattle.co_value.specs.declared.key.Key.{Key}
 use Rattle.co_value.specs.Keys.{same_key}
-use Rattle.co_frame.specs.AbortCodes.{invalid_block_size, invalid_sequence_number}
+use Rattle.co_frame_aborts.specs.AbortCodes.{invalid_block_size, invalid_sequence_number}
 use Rattle.co_frame.specs.BlockSegments.{block_segment_in, is_abort_in_sub_block}
 use Rattle.co_frame.specs.Segments.{segment_count, block_segment, sub_block_length}
 use Rattle.co_frame.specs.SdoRequests.{request_bytes}

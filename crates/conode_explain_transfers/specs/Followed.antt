@@ -1,7 +1,7 @@
 -- A channel that is followed through a recording, frame by frame.
 use Rattle.std.specs.Prelude.{ℕ, ◌+◌, ◌&&◌, not, Bool, true, false, if◌then◌else◌, List, [], ◌∷◌, Option, Some, None}
 use Rattle.co_value.specs.declared.key.Key.{Key}
-use Rattle.co_frame.specs.declared.abort_code.AbortCode.{AbortCode}
+use Rattle.co_frame_aborts.specs.declared.abort_code.AbortCode.{AbortCode}
 use Rattle.conode_explain_transfers.specs.declared.channel.Heard.{Heard}
 use Rattle.conode_explain_transfers.specs.declared.ended.Ended.{Ended}
 use Rattle.conode_explain_transfers.specs.declared.ended.Ending.{Ending}

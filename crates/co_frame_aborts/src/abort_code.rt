@@ -1,7 +1,7 @@
 //! Why a transfer was aborted.
 
 ghost use Rattle.std.specs.Prelude.{◌≡◌};
-ghost use Rattle.co_frame.specs.AbortCodes as codes;
+ghost use Rattle.co_frame_aborts.specs.AbortCodes as codes;
 
 /// An abort code of the SDO protocol (CiA 301, 7.2.4.3.17). Any number may come in a frame.
 #[derive(Clone, Copy, Debug, PartialEq, Eq)]
