@@ -19,7 +19,7 @@ use Rattle.conode_compare_rules.specs.declared.progress.Progress.{Progress}
 use Rattle.conode_compare_rules.specs.declared.verdict.Findings.{Findings}
 use Rattle.conode_compare_rules.specs.FrameKinds.{data_kind}
 use Rattle.conode_compare_rules.specs.NmtFrames as nmt_frames
-use Rattle.conode_compare_rules.specs.Gaps.{after_fault, begins_anew, begun, was_quiet, with_gap}
+use Rattle.conode_compare_rules.specs.Gaps.{after_fault, begins_anew, begun, breaks_off, with_gap}
 use Rattle.conode_compare_rules.specs.NmtFrames.{after_command, after_odd_control, booted, silence_at}
 use Rattle.conode_compare_rules.specs.EmergencyRules.{after_emergency, emergency_noted}
 use Rattle.conode_compare_rules.specs.Processes.{after_process}
@@ -45,7 +45,7 @@ module _ (P : Dialogue → Type 0) (none : (d : Dialogue) → d.newest ≡ None 
 
   pub begun_has : (subject : Subject) (p : Progress) (micros : ℕ) → Has p → Has (begun subject p micros)
   unfolding begun
-  begun_has subject p micros h = either (begins_anew subject.limits p micros) _ _ (none _ refl) (either_dialogue (was_quiet subject.limits p micros) (interrupted p.dialogue micros) p.dialogue (none _ refl) h)
+  begun_has subject p micros h = either (begins_anew subject.limits p micros) _ _ (none _ refl) (either_dialogue (breaks_off subject.limits p micros) (interrupted p.dialogue micros) p.dialogue (none _ refl) h)
 
   command_has : (p : Progress) (service : NmtService) (own : Bool) (micros : ℕ) → Has p → Has (after_command p service own micros)
   unfolding after_command with_gap

@@ -25,7 +25,7 @@ use Rattle.conode_compare_rules.specs.declared.progress.Progress.{Progress}
 use Rattle.conode_compare_rules.specs.declared.verdict.Findings.{Findings}
 use Rattle.conode_compare_rules.specs.FrameKinds.{command_kind, command_to, control_kind, data_kind, emergency_kind, emergency_with, length_of, long_command_in}
 use Rattle.conode_compare_rules.specs.NmtFrames as nmt_frames
-use Rattle.conode_compare_rules.specs.Gaps.{after_fault, begins_anew, begun, was_quiet, with_gap}
+use Rattle.conode_compare_rules.specs.Gaps.{after_fault, begins_anew, begun, breaks_off, with_gap}
 use Rattle.conode_compare_rules.specs.NmtFrames.{after_command, after_odd_control, booted, silence_at}
 use Rattle.conode_compare_rules.specs.EmergencyRules.{after_emergency, emergency_noted}
 use Rattle.conode_compare_rules.specs.Processes.{after_process}
@@ -55,7 +55,7 @@ module _ (P : Option Transfer → Type 0) (none : P None) where
 
   pub begun_has : (subject : Subject) (p : Progress) (micros : ℕ) → Has p → Has (begun subject p micros)
   unfolding begun
-  begun_has subject p micros h = either (begins_anew subject.limits p micros) _ _ none (either_dialogue (was_quiet subject.limits p micros) (interrupted p.dialogue micros) p.dialogue none h)
+  begun_has subject p micros h = either (begins_anew subject.limits p micros) _ _ none (either_dialogue (breaks_off subject.limits p micros) (interrupted p.dialogue micros) p.dialogue none h)
 
   command_has : (p : Progress) (service : NmtService) (own : Bool) (micros : ℕ) → Has p → Has (after_command p service own micros)
   unfolding after_command with_gap
@@ -71,7 +71,7 @@ module _ (P : Option Transfer → Type 0) (none : P None) where
 
   control_has : (subject : Subject) (p : Progress) (micros byte : ℕ) → Has p → Has (nmt_frames.after_control subject p micros byte)
   unfolding nmt_frames.after_control
-  control_has subject p micros byte h = either_dialogue (is_some (silence_at subject p micros byte)) (given_up p.dialogue micros) p.dialogue h h
+  control_has subject p micros byte h = either_dialogue (is_some (silence_at subject p micros byte)) (given_up p.dialogue micros) p.dialogue none h
 
   odd_has : (subject : Subject) (p : Progress) (micros : ℕ) → Has p → Has (after_odd_control subject p micros)
   unfolding after_odd_control

@@ -34,7 +34,7 @@ use Rattle.conode_compare_rules.specs.FrameKinds.{command_to, data_kind}
 use Rattle.conode_compare_nmt.specs.Heartbeats.{is_gap}
 use Rattle.conode_compare_rules.specs.NmtFrames as nmt_frames
 use Rattle.conode_compare_rules.specs.Processes as processes
-use Rattle.conode_compare_rules.specs.Gaps.{anew_after, begins_anew, begun, was_quiet, with_gap}
+use Rattle.conode_compare_rules.specs.Gaps.{anew_after, begins_anew, begun, breaks_off, is_later, with_gap}
 use Rattle.conode_compare_rules.specs.NmtFrames.{after_command, booted, control_findings, heartbeat_findings, silence_at}
 use Rattle.conode_compare_rules.specs.EmergencyRules.{after_emergency, emergency_findings}
 use Rattle.conode_compare_rules.specs.Channels.{answer_findings, answer_nmt, channel_heard, confirmed_findings, exchange_at, exchange_noted, late_noted, left_open, may_miss_end, request_findings}
@@ -140,7 +140,7 @@ pub begun_holds : (Idle Inside : Type 0) (subject : Subject) (p : Progress) (mic
 unfolding begun
 begun_holds Idle Inside subject p micros stage h =
     begun_either Idle Inside stage (begins_anew subject.limits p micros) _ _ (record { live = tt; asked = tt; covers = λ i. record { apart = tt; covered = inl (interrupted_kept p.dialogue micros (h.covers i)) } })
-    (λ e. quiet_holds Idle Inside stage (Some micros) p.nmt.commanded p.dialogue micros (was_quiet subject.limits p micros) (newer Idle Inside stage subject.limits p.entries.period micros p.newest p.nmt.commanded p.dialogue e h))
+    (λ e. quiet_holds Idle Inside stage (Some micros) p.nmt.commanded p.dialogue micros (breaks_off subject.limits p micros) (newer Idle Inside stage subject.limits p.entries.period micros p.newest p.nmt.commanded p.dialogue e h))
 
 newest_either : (b : Bool) (x y : Progress) (n : Option ℕ) → x.newest ≡ n → y.newest ≡ n → (if b then x else y).newest ≡ n
 newest_either true x y n p q = p
@@ -164,14 +164,21 @@ no_gap limits (Some period) micros = by (nat_lt 0 period) (nat_lt micros micros)
     by true back far past b f p = rw (b, f) refl
     by false back far past b f p = rw (b, p) refl
 
-not_quiet : (limits : Limits) (micros : ℕ) (newest : Option ℕ) → newest ≡ Some micros → option_map_or (λ n. is_past n limits.answer micros) newest false ≡ false
-not_quiet limits micros newest e = ap (λ o. option_map_or (λ n. is_past n limits.answer micros) o false) e ∙ never_past micros limits.answer
+not_broken : (limits : Limits) (wrong : Bool) (micros : ℕ) (newest : Option ℕ) → newest ≡ Some micros
+    → (option_map_or (λ n. is_past n limits.answer micros) newest false || (wrong && is_later newest micros)) ≡ false
+not_broken limits wrong micros newest e =
+    ap (λ o. option_map_or (λ n. is_past n limits.answer micros) o false || (wrong && is_later o micros)) e
+    ∙ by wrong (is_past micros limits.answer micros) (nat_lt micros micros) (never_past micros limits.answer) (grind (arith, nat_tests))
+  where
+    by : (wrong past later : Bool) → past ≡ false → later ≡ false → (past || (wrong && later)) ≡ false
+    by true past later p l = rw (p, l) refl
+    by false past later p l = rw p refl
 
 pub begun_same : (subject : Subject) (p : Progress) (micros : ℕ) → p.newest ≡ Some micros → Same p (begun subject p micros) micros
 unfolding begun
 begun_same subject p micros now =
     let same : begins_anew subject.limits p micros ≡ false = ap (λ o. anew_after subject.limits p.entries.period o micros) now ∙ no_gap subject.limits p.entries.period micros in
-    let heard : was_quiet subject.limits p micros ≡ false = not_quiet subject.limits micros p.newest now in
+    let heard : breaks_off subject.limits p micros ≡ false = not_broken subject.limits p.wrong micros p.newest now in
     rw same (record { newest = refl; dialogue = ap (λ b. if b then interrupted p.dialogue micros else p.dialogue) heard; nmt = refl })
 
 -- ---- one frame
@@ -339,7 +346,7 @@ none_silent Idle Inside subject p micros final h = by p.dialogue.asked refl h.as
 
 given_up_holds : (Idle Inside : Type 0) (stage : Stage) (newest : Option ℕ) (commanded : Option Commanded) (d : Dialogue) (micros : ℕ) (late : Bool) → HoldsOf Idle Inside stage newest commanded d
     → HoldsOf Idle Inside stage newest commanded (if late then given_up d micros else d)
-given_up_holds Idle Inside stage newest commanded d micros true h = record { live = h.live; asked = tt; covers = λ i. let c = h.covers i in record { apart = c.apart; covered = c.covered } }
+given_up_holds Idle Inside stage newest commanded d micros true h = record { live = tt; asked = tt; covers = λ i. record { apart = tt; covered = inl (interrupted_kept d micros (h.covers i)) } }
 given_up_holds Idle Inside stage newest commanded d micros false h = h
 
 life_none : (Idle Inside : Type 0) (subject : Subject) (rows : List Row) (p : Progress) (micros : ℕ) (final : NodeState) → Holds Idle Inside (runs final) p

@@ -23,7 +23,6 @@ use Rattle.conode_explain_transfers.specs.declared.kinds.Side.TheVariants.{Clien
 use Rattle.conode_compare_pdos.specs.declared.pdos.Sighting.{Sighting}
 use Rattle.conode_compare_nmt.specs.declared.entries.Entries.{Entries}
 use Rattle.conode_compare_nmt.specs.declared.finding.Finding.{Finding}
-use Rattle.conode_compare_nmt.specs.declared.finding.Finding.TheVariants.{HeartbeatLate}
 use Rattle.conode_compare_nmt.specs.declared.heartbeats.Heartbeats.{Heartbeats}
 use Rattle.conode_compare_rules.specs.declared.kind.FrameKind.{FrameKind}
 use Rattle.conode_compare_rules.specs.declared.kind.FrameKind.TheVariants.{Command, CommandToAll, LongCommand, Control, Emergency as Emcy, OddEmergency, Other, Process, Sdo}
@@ -34,10 +33,10 @@ use Rattle.conode_compare_rules.specs.FrameKinds.{command_kind, command_to, cont
 use Rattle.conode_compare_rules.specs.Answers.{confirmed_finding}
 use Rattle.conode_compare_nmt.specs.EntriesInForce.{asked_by, asked_to_write, done_word, overwritten, shown_inhibit, shown_period, with_inhibit, with_period}
 use Rattle.conode_compare_nmt.specs.OtherClients.{is_channel}
-use Rattle.conode_compare_nmt.specs.Heartbeats.{after_transfer, allowance, follows_closely, is_gap, late_finding, overdue_by, overdue_for, overdue_since, overdue_with, runs_still, sent_after}
+use Rattle.conode_compare_nmt.specs.Heartbeats.{after_transfer, allowance, follows_closely, is_gap, late_finding, late_since, overdue_by, overdue_for, overdue_since, overdue_with, runs_still, sent_after}
 use Rattle.conode_compare_rules.specs.NmtFrames as nmt_frames
 use Rattle.conode_compare_rules.specs.Gaps.{anew_after, begins_anew, begun, free_at, with_gap}
-use Rattle.conode_compare_rules.specs.NmtFrames.{after_command, booted, control_findings, is_missing_at, heartbeat_findings, is_again, late_alone, late_at, late_by, may_differ}
+use Rattle.conode_compare_rules.specs.NmtFrames.{after_command, booted, comes_again, control_findings, is_missing_at, heartbeat_findings, is_again, late_alone, late_at, late_by, late_coming, may_differ}
 use Rattle.conode_compare_rules.specs.EmergencyRules.{after_emergency, emergency_findings}
 use Rattle.conode_compare_rules.specs.Channels.{after_sdo, answer_findings, answer_noted, channel_heard, confirmed_findings, entries_asked, entries_ended, entries_heard, exchange_at, exchange_noted, late_noted, request_findings, hides_end, shown_beside}
 use Rattle.conode_compare_rules.specs.Processes.{after_process, is_of_client, late_by_tpdo, process_findings, sighted, sighting_findings}
@@ -187,7 +186,7 @@ none_with limits (Some n) p micros period ago same since few free = none_since l
 none_alone : (subject : Subject) (p : Progress) (micros period ago : ℕ) → (period ≡ 0) ⊎ (ago ≤ period * 1000) → Begun period micros ago p → late_alone subject p micros ≡ None
 unfolding late_finding overdue_by
 none_alone subject p micros period ago few h =
-    ap (λ o. option_map (λ (late : ℕ × ℕ). HeartbeatLate late.0 late.1) o) (by (runs_still subject.limits p.heartbeats.former p.heartbeats.answered p.free))
+    ap (λ o. option_map (late_since p.heartbeats.awaited) o) (by (runs_still subject.limits p.heartbeats.former p.heartbeats.answered p.free))
   where
     by : (b : Bool) → (if b then None else overdue_with subject.limits p.entries.period p.heartbeats p.free micros) ≡ None
     by true = refl
@@ -200,6 +199,9 @@ unless_again false late none = none
 -- whether the last one was late, too, or not
 none_late : (subject : Subject) (p : Progress) (micros period ago : ℕ) → (period ≡ 0) ⊎ (ago ≤ period * 1000) → Begun period micros ago p → late_at subject p micros ≡ None
 none_late subject p micros period ago few h = unless_again (is_again subject p) (late_alone subject p micros) (none_alone subject p micros period ago few h)
+
+none_coming : (subject : Subject) (p : Progress) (micros period ago : ℕ) → (period ≡ 0) ⊎ (ago ≤ period * 1000) → Begun period micros ago p → late_coming subject p micros ≡ None
+none_coming subject p micros period ago few h = unless_again (comes_again subject p) (late_alone subject p micros) (none_alone subject p micros period ago few h)
 
 -- ---- one frame
 
@@ -436,7 +438,7 @@ unfolding found control_findings heartbeat_findings nmt_frames.after_control
 heartbeat_passes subject rows p micros byte period ago after other few h =
     (let e : Beats period micros ago p = ended period micros ago p h in
     record {
-      none = rw other (ap (λ o. option_to_list o) (none_late subject p micros period ago few h));
+      none = rw other (ap (λ o. option_to_list o) (none_coming subject p micros period ago few h));
       beats = rw other (record { fresh = e.fresh; known = e.known; since = always p.entries.period (λ n. inr (omega arith)) });
     })
 

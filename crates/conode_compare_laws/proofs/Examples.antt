@@ -19,7 +19,7 @@ use Rattle.conode_record.specs.declared.fields.Identifier.TheVariants.{Base}
 use Rattle.conode_compare_pdos.specs.Followed.{unknown_pdos}
 use Rattle.conode_compare_nmt.specs.declared.entries.Entries.{Entries}
 use Rattle.conode_compare_nmt.specs.declared.finding.Finding.{Finding}
-use Rattle.conode_compare_nmt.specs.declared.finding.Finding.TheVariants.{EmergencyInhibit, EmergencyLength, HeartbeatLate, HeartbeatLength, SecondBootUp, WrongState}
+use Rattle.conode_compare_nmt.specs.declared.finding.Finding.TheVariants.{EmergencyInhibit, EmergencyLength, HeartbeatLength, LateAfterTransfer, SecondBootUp, WrongState}
 use Rattle.conode_compare_nmt.specs.declared.finding.NmtState.TheVariants.{Operational, PreOperational}
 use Rattle.conode_compare_nmt.specs.declared.limits.Subject.{Subject}
 use Rattle.conode_compare_rules.specs.EmergencyRules.{emergency_finding, inhibit_finding, after_emergency, emergency_findings}
@@ -186,7 +186,7 @@ abbrev late_found : ℕ → ℕ → List Finding
 late_found request response = differences_in late_differences beating []
     (with_stamp 0 (frame 0x705 1 0) ∷ with_stamp 100000 (frame 0x605 8 request) ∷ with_stamp 100000 (frame 0x585 8 response) ∷ with_stamp 400000 (frame 0x705 1 127) ∷ [])
 
-shown_otherwise : late_found 0x4017_1000_0000_0000 0x4B17_1000_6400_0000 ≡ HeartbeatLate 300000 100 ∷ []
+shown_otherwise : late_found 0x4017_1000_0000_0000 0x4B17_1000_6400_0000 ≡ LateAfterTransfer 300000 100 ∷ []
 unfolding findings_at progress_with begun booted found states.after_control after_boot_up after_other awaits_boot_up boot_finding is_settled control_findings heartbeat_findings late_finding overdue_by channel_heard exchange_at exchange_noted late_noted
     request_findings confirmed_finding answer_findings dialogue_heard exchange_in is_certain shown_period shown_inhibit asked_to_write request_row_in response_row_in is_missing
 shown_otherwise = refl

@@ -42,7 +42,7 @@ use Rattle.conode_compare_rules.specs.declared.progress.Progress.{Progress}
 use Rattle.conode_compare_rules.specs.declared.verdict.Findings.{Findings}
 use Rattle.conode_compare_rules.specs.FrameKinds.{command_kind, command_to, control_kind, data_kind, emergency_kind, emergency_with, length_of, long_command_in}
 use Rattle.conode_compare_rules.specs.NmtFrames as nmt_frames
-use Rattle.conode_compare_rules.specs.Gaps.{after_fault, begins_anew, begun, was_quiet, with_gap}
+use Rattle.conode_compare_rules.specs.Gaps.{after_fault, begins_anew, begun, breaks_off, with_gap}
 use Rattle.conode_compare_rules.specs.NmtFrames.{after_command, after_odd_control, booted, silence_at}
 use Rattle.conode_compare_rules.specs.EmergencyRules.{after_emergency}
 use Rattle.conode_compare_rules.specs.Channels.{shown_beside, after_sdo, answer_noted, channel_heard, exchange_at, exchange_noted, late_noted}
@@ -234,7 +234,7 @@ IsOpenOn P p = IfSome p.dialogue.channel.transfer (λ t. P t.key)
 
 pub begun_open : (P : Key → Type 0) (subject : Subject) (p : Progress) (micros : ℕ) → IsOpenOn P p → IsOpenOn P (begun subject p micros)
 unfolding begun
-begun_open P subject p micros h = by (begins_anew subject.limits p micros) _ _ tt (quiet (was_quiet subject.limits p micros))
+begun_open P subject p micros h = by (begins_anew subject.limits p micros) _ _ tt (quiet (breaks_off subject.limits p micros))
   where
     by : (b : Bool) (x y : Progress) → IsOpenOn P x → IsOpenOn P y → IsOpenOn P (if b then x else y)
     by true x y f g = f
@@ -320,7 +320,7 @@ control_open P subject p micros byte h = by (byte == 0) _ _ tt (given (is_some (
     by false x y f g = g
 
     given : (b : Bool) → IfSome (if b then given_up p.dialogue micros else p.dialogue).channel.transfer (λ t. P t.key)
-    given true = h
+    given true = tt
     given false = h
 
 frame_open : (P : Key → Type 0) (subject : Subject) (p : Progress) (micros : ℕ) (kind : FrameKind) → NamesAs P kind → IsOpenOn P p → IsOpenOn P (after_frame subject p micros kind)

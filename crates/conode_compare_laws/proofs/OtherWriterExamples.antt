@@ -13,7 +13,7 @@ use Rattle.conode_compare_pdos.specs.Followed.{framed, sighting, unknown_pdos}
 use Rattle.conode_compare_nmt.specs.declared.clients.OtherClients.{OtherClients}
 use Rattle.conode_compare_nmt.specs.declared.entries.Entries.{Entries}
 use Rattle.conode_compare_nmt.specs.declared.finding.Finding.{Finding}
-use Rattle.conode_compare_nmt.specs.declared.finding.Finding.TheVariants.{HeartbeatLate}
+use Rattle.conode_compare_nmt.specs.declared.finding.Finding.TheVariants.{LateAfterBootUp}
 use Rattle.conode_compare_nmt.specs.declared.limits.Subject.{Subject}
 use Rattle.conode_compare_nmt.specs.EntriesInForce.{overwritten}
 use Rattle.conode_compare_nmt.specs.Heartbeats.{is_missing, late_finding, overdue_by}
@@ -82,6 +82,6 @@ abbrev late_found : OtherClients → List Finding
 late_found clients = differences_in late_differences (subject clients) []
     (with_stamp 0 (frame 0x705 1 0) ∷ with_stamp 100000 (frame 0x680 8 0x2B17_1000_DC05_0000) ∷ with_stamp 1600000 (frame 0x705 1 127) ∷ [])
 
-written_beside : map late_found (no_clients ∷ told ∷ []) ≡ (HeartbeatLate 1600000 1000 ∷ []) ∷ [] ∷ []
+written_beside : map late_found (no_clients ∷ told ∷ []) ≡ (LateAfterBootUp 1600000 1000 ∷ []) ∷ [] ∷ []
 unfolding findings_at progress_with begun booted found nmt_frames.after_control states.after_control silence_finding after_boot_up after_other awaits_boot_up boot_finding is_settled control_findings heartbeat_findings late_finding overdue_by process_findings moment_at sighting after_process framed overwritten is_missing
 written_beside = refl

@@ -37,7 +37,7 @@ use Rattle.conode_compare_rules.specs.declared.progress.Progress.{Progress}
 use Rattle.conode_compare_rules.specs.declared.verdict.Findings.{Findings}
 use Rattle.conode_compare_rules.specs.FrameKinds.{data_kind}
 use Rattle.conode_compare_rules.specs.NmtFrames as nmt_frames
-use Rattle.conode_compare_rules.specs.Gaps.{after_fault, begins_anew, begun, was_quiet, with_gap}
+use Rattle.conode_compare_rules.specs.Gaps.{after_fault, begins_anew, begun, breaks_off, with_gap}
 use Rattle.conode_compare_rules.specs.NmtFrames.{after_command, after_odd_control, booted, silence_at}
 use Rattle.conode_compare_rules.specs.EmergencyRules.{after_emergency, emergency_noted}
 use Rattle.conode_compare_rules.specs.Processes.{after_process}
@@ -98,7 +98,7 @@ pub none_known : (log : Log) (d : Dialogue) → d.channel.transfer ≡ None → 
 none_known log d e = inr (subst (λ o. IfSome o (InStep log)) (sym e) tt)
 
 pub known_given_up : (log : Log) (d : Dialogue) (micros : ℕ) → Known log d → Known log (given_up d micros)
-known_given_up log d micros h = inl (refl, known_sound log d h)
+known_given_up log d micros h = none_known log (given_up d micros) refl
 
 -- ---- the channel's other events: what is open stays, or is closed
 
@@ -214,7 +214,7 @@ module _ (P : Dialogue → Type 0) (none : (d : Dialogue) → d.channel.transfer
 
   pub begun_has : (subject : Subject) (p : Progress) (micros : ℕ) → Has p → Has (begun subject p micros)
   unfolding begun
-  begun_has subject p micros h = either (begins_anew subject.limits p micros) _ _ (none _ refl) (either_dialogue (was_quiet subject.limits p micros) (interrupted p.dialogue micros) p.dialogue (none _ refl) h)
+  begun_has subject p micros h = either (begins_anew subject.limits p micros) _ _ (none _ refl) (either_dialogue (breaks_off subject.limits p micros) (interrupted p.dialogue micros) p.dialogue (none _ refl) h)
 
   command_has : (p : Progress) (service : NmtService) (own : Bool) (micros : ℕ) → Has p → Has (after_command p service own micros)
   unfolding after_command with_gap

@@ -23,7 +23,7 @@ use Rattle.conode_explain_transfers.specs.declared.kinds.Side.TheVariants.{Clien
 use Rattle.conode_compare_values.specs.declared.mismatch.Mismatch.{Mismatch}
 use Rattle.conode_compare_values.specs.declared.mismatch.Mismatch.TheVariants.{AboveLimit, BelowLimit, BeyondRoom, ConstText, ReadRefused, ReadServed, ValueConst, ValueLength, Written}
 use Rattle.conode_compare_values.specs.declared.rooms.Rooms.{Rooms}
-use Rattle.conode_compare_values.specs.SheetValues.{beyond_mismatch, constant_mismatch, denies, download_mismatch, has_limits, has_room, has_width, held_number, is_above, is_below, is_by_modules, is_comparable, is_held_text, is_number, is_other_text, is_other_value, is_read_only, is_readable, least_bytes, limit_mismatch, long_mismatch, mismatch_at, mismatch_by, over_room, read_mismatch, refused_mismatch, room_mismatch, room_of, row_mismatch, served_mismatch, shown_number, text_mismatch, text_with, unless_modules, value_by, value_mismatch, width_mismatch, written_bytes, written_mismatch}
+use Rattle.conode_compare_values.specs.SheetValues.{beyond_mismatch, constant_mismatch, denies, download_mismatch, has_limits, has_room, has_width, held_number, is_above, is_below, is_by_modules, is_closed, is_comparable, is_held_text, is_number, is_other_text, is_other_value, is_readable, is_stored, least_bytes, limit_mismatch, long_mismatch, mismatch_at, mismatch_by, over_room, read_mismatch, refused_mismatch, room_mismatch, room_of, row_mismatch, served_mismatch, shown_number, text_mismatch, text_with, unless_modules, value_by, value_mismatch, width_mismatch, written_bytes, written_mismatch}
 use Rattle.conode_compare_nmt.specs.declared.finding.Finding.{Finding}
 use Rattle.conode_compare_nmt.specs.declared.finding.Finding.TheVariants.{Value}
 use Rattle.conode_compare_nmt.specs.declared.limits.Subject.{Subject}
@@ -160,7 +160,7 @@ writes_only : (rooms : Rooms) (row : Row) (e : Ended) → AreOnly is_write (down
 writes_only rooms row e =
     let bytes : List ℕ = written_bytes row.data_type e.protocol e.first.items in
     or_only (written_mismatch row bytes) (room_mismatch rooms row e.protocol e.bytes)
-    (only_if is_write (is_read_only row.access) (Some (Written row.key)) (beyond_mismatch row bytes) refl (widened is_limit is_write limits_write (beyond_mismatch row bytes) (limits_only row bytes)))
+    (only_if is_write (is_closed row) (Some (Written row.key)) (beyond_mismatch row bytes) refl (widened is_limit is_write limits_write (beyond_mismatch row bytes) (limits_only row bytes)))
     (widened is_room is_write rooms_write (room_mismatch rooms row e.protocol e.bytes) (rooms_only rooms row e.protocol e.bytes))
 
 nothing_more : (b : Bool) → (b && false) ≡ false
@@ -198,10 +198,10 @@ module _ (only : Option Finding → List Finding) (nothing : only None ≡ []) w
   -- an entry that is write only is read
   read_none : (node : ℕ) (modular : Bool) (row : Row) (exact : Bool) (e : Ended) → Passes is_served → only (value_finding (value_mismatch node row exact e)) ≡ []
       → only (value_finding (read_mismatch node modular row exact e)) ≡ []
-  read_none node modular row exact e served h = by (is_readable row.access) modular
+  read_none node modular row exact e served h = by (is_readable row.access) (modular || is_stored row.key.index)
     where
-      by : (readable b : Bool) → only (value_finding (if readable then unless_modules b (value_mismatch node row exact e) else (if b then None else Some (ReadServed row.key)))) ≡ []
-      by true b = modules_none b (value_mismatch node row exact e) h
+      by : (readable b : Bool) → only (value_finding (if readable then unless_modules modular (value_mismatch node row exact e) else (if b then None else Some (ReadServed row.key)))) ≡ []
+      by true b = modules_none modular (value_mismatch node row exact e) h
       by false true = nothing
       by false false = served (ReadServed row.key) refl
 

@@ -23,7 +23,7 @@ use Rattle.conode_explain_transfers.specs.Digests.{counted}
 use Rattle.conode_explain_laws.specs.Downloads.{entry_bytes}
 use Rattle.conode_compare_values.specs.declared.mismatch.Mismatch.TheVariants.{AboveLimit, BelowLimit, BeyondRoom, ConstText, ReadRefused, ReadServed, ValueConst, ValueLength, Written}
 use Rattle.conode_compare_values.specs.declared.rooms.Rooms.{Rooms}
-use Rattle.conode_compare_values.specs.SheetValues.{beyond_mismatch, default_length, download_mismatch, is_read_only, least_bytes, over_room, room_by, room_mismatch, room_of, written_bytes, written_mismatch}
+use Rattle.conode_compare_values.specs.SheetValues.{beyond_mismatch, default_length, download_mismatch, is_closed, is_read_only, least_bytes, over_room, room_by, room_mismatch, room_of, written_bytes, written_mismatch}
 use Rattle.conode_compare_nmt.specs.declared.finding.Finding.{Finding}
 use Rattle.conode_compare_nmt.specs.declared.finding.Finding.TheVariants.{Value}
 use Rattle.conode_compare_nmt.specs.declared.limits.Subject.{Subject}
@@ -85,17 +85,17 @@ ample_room rooms row a = by (nat_le 0x2000 row.key.index && not (is_read_only ro
 
 -- ---- how many bytes count at least
 
-rest_few : (count : ℕ) → (if nat_lt count 4 then count else 1) ≤ 4
+rest_few : (count : ℕ) → (if nat_lt count 4 then count else 0) ≤ 4
 rest_few count = by (nat_lt count 4) refl
   where
-    by : (b : Bool) → nat_lt count 4 ≡ b → (if b then count else 1) ≤ 4
+    by : (b : Bool) → nat_lt count 4 ≡ b → (if b then count else 0) ≤ 4
     by true e = grind (arith, nat_tests)
     by false e = omega arith
 
-rest_most : (count : ℕ) → (if nat_lt count 4 then count else 1) ≤ count
+rest_most : (count : ℕ) → (if nat_lt count 4 then count else 0) ≤ count
 rest_most count = by (nat_lt count 4) refl
   where
-    by : (b : Bool) → nat_lt count 4 ≡ b → (if b then count else 1) ≤ count
+    by : (b : Bool) → nat_lt count 4 ≡ b → (if b then count else 0) ≤ count
     by true e = omega arith
     by false e = grind (arith, nat_tests)
 
@@ -147,7 +147,7 @@ module _ (plan : Plan) (subject : Subject) (are : AreRoomsOf plan.limits subject
     room_row =
         let bytes : List ℕ = written_bytes row.data_type e.protocol e.first.items in
         or_none of_rooms refl (written_mismatch row bytes) (room_mismatch subject.rooms row e.protocol e.bytes)
-        (if_none of_rooms refl (is_read_only row.access) (Some (Written row.key)) (beyond_mismatch row bytes) (λ on. refl) (λ off. passed of_rooms refl is_limit rooms_limits (beyond_mismatch row bytes) (limits_only row bytes)))
+        (if_none of_rooms refl (is_closed row) (Some (Written row.key)) (beyond_mismatch row bytes) (λ on. refl) (λ off. passed of_rooms refl is_limit rooms_limits (beyond_mismatch row bytes) (limits_only row bytes)))
         (by (room_of subject.rooms row) (room_is plan.limits subject.rooms row are) (ample_room subject.rooms row ample))
       where
         by : (o : Option ℕ) → IfSome o (λ room. room ≡ capacity_of plan.limits row) → IfSome o (λ room. 4 ≤ room) → of_rooms (value_finding (option_and_then (over_room row e.protocol e.bytes) o)) ≡ []

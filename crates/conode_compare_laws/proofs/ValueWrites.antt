@@ -1,7 +1,7 @@
 -- Of a device that is built from a data sheet no download is done that this sheet forbids: of an entry that can't be written, or of a number
 -- beyond its limits.
 use Rattle.std.proofs.Common.{◌≡◌, ℕ, ◌≤◌, Bool, true, false, List, [], ◌∷◌, length, take, Option, Some, None, refl, sym, ap, ◌∙◌, ◌⊎◌, inl, inr, subst, arith}
-use Rattle.std.specs.Prelude.{◌&&◌, ◌==◌, if◌then◌else◌, nat_le, nat_lt, is_some, unwrap_or}
+use Rattle.std.specs.Prelude.{not, ◌&&◌, ◌==◌, if◌then◌else◌, nat_le, nat_lt, is_some, unwrap_or}
 use Rattle.std.specs.Option.{option_map_or}
 use Rattle.std.proofs.lemmas.Bool.{and_parts, eqb-true, false≢true}
 use Rattle.std.proofs.lemmas.Bool.Decides.{nat_tests}
@@ -35,7 +35,7 @@ use Rattle.conode_explain_transfers.specs.declared.kinds.Protocol.TheVariants.{E
 use Rattle.conode_explain_laws.specs.Downloads.{entry_bytes, write_said}
 use Rattle.conode_compare_values.specs.declared.mismatch.Mismatch.TheVariants.{AboveLimit, BelowLimit, BeyondRoom, ConstText, ReadRefused, ReadServed, ValueConst, ValueLength, Written}
 use Rattle.conode_compare_values.specs.declared.rooms.Rooms.{Rooms}
-use Rattle.conode_compare_values.specs.SheetValues.{beyond_mismatch, download_mismatch, first_bytes, has_limits, is_above, is_below, is_number, is_read_only, limit_mismatch, room_mismatch, written_bytes, written_mismatch}
+use Rattle.conode_compare_values.specs.SheetValues.{beyond_mismatch, download_mismatch, first_bytes, has_limits, is_above, is_below, is_closed, is_error_count, is_number, is_read_only, limit_mismatch, room_mismatch, written_bytes, written_mismatch}
 use Rattle.conode_compare_nmt.specs.declared.finding.Finding.{Finding}
 use Rattle.conode_compare_nmt.specs.declared.finding.Finding.TheVariants.{Value}
 use Rattle.conode_compare_nmt.specs.declared.limits.Subject.{Subject}
@@ -220,7 +220,7 @@ module _ (plan : Plan) (subject : Subject) where
   write_row rooms row e free =
       let bytes : List ℕ = written_bytes row.data_type e.protocol e.first.items in
       or_none of_writes refl (written_mismatch row bytes) (room_mismatch rooms row e.protocol e.bytes)
-      (if_none of_writes refl (is_read_only row.access) (Some (Written row.key)) (beyond_mismatch row bytes) (λ on. absurd (false≢true (sym free ∙ on))) (λ off. passed of_writes refl is_limit writes_limits (beyond_mismatch row bytes) (limits_only row bytes)))
+      (if_none of_writes refl (is_closed row) (Some (Written row.key)) (beyond_mismatch row bytes) (λ on. absurd (false≢true (sym free ∙ (and_parts (is_read_only row.access) (not (is_error_count row.key)) on).0))) (λ off. passed of_writes refl is_limit writes_limits (beyond_mismatch row bytes) (limits_only row bytes)))
       (passed of_writes refl is_room writes_rooms (room_mismatch rooms row e.protocol e.bytes) (rooms_only rooms row e.protocol e.bytes))
 
   -- `access-write`
@@ -237,7 +237,7 @@ module _ (plan : Plan) (subject : Subject) where
   limit_row rooms row e within =
       let bytes : List ℕ = written_bytes row.data_type e.protocol e.first.items in
       or_none of_limits refl (written_mismatch row bytes) (room_mismatch rooms row e.protocol e.bytes)
-      (if_none of_limits refl (is_read_only row.access) (Some (Written row.key)) (beyond_mismatch row bytes) (λ on. refl)
+      (if_none of_limits refl (is_closed row) (Some (Written row.key)) (beyond_mismatch row bytes) (λ on. refl)
       (λ off. if_none of_limits refl (has_limits row && is_number row bytes) (limit_mismatch row (number_of row.data_type bytes)) None
       (λ on. let i : IsInside row (number_of row.data_type bytes) = within (and_parts (has_limits row) (is_number row bytes) on).1 in
       if_none of_limits refl (is_above row.high (number_of row.data_type bytes)) (Some (AboveLimit row.key)) _ (λ above. absurd (false≢true (sym i.above ∙ above)))

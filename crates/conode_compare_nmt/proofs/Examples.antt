@@ -13,9 +13,10 @@ use Rattle.conode_explain_transfers.specs.declared.kinds.Direction.TheVariants.{
 use Rattle.conode_explain_transfers.specs.declared.kinds.Protocol.{Protocol}
 use Rattle.conode_explain_transfers.specs.declared.kinds.Protocol.TheVariants.{Expedited, Segmented}
 use Rattle.conode_compare_nmt.specs.declared.entries.Entries.{Entries}
-use Rattle.conode_compare_nmt.specs.declared.finding.Finding.TheVariants.{HeartbeatLate}
+use Rattle.conode_compare_nmt.specs.declared.finding.Finding.TheVariants.{HeartbeatLate, LateAfterBootUp, LateAfterTransfer}
 use Rattle.conode_compare_nmt.specs.declared.finding.Remark.TheVariants.{EarlyHeartbeat}
 use Rattle.conode_compare_nmt.specs.declared.heartbeats.Heartbeats.{Heartbeats}
+use Rattle.conode_compare_nmt.specs.declared.heartbeats.Since.TheVariants.{Heartbeat, BootUp, Transfer}
 use Rattle.conode_compare_nmt.specs.declared.limits.Limits.{Limits}
 use Rattle.conode_compare_nmt.specs.EntriesInForce.{ended_entries, shown_inhibit, shown_period}
 use Rattle.conode_compare_nmt.specs.Heartbeats.{after_byte, after_transfer, early_remark, follows_closely, late_finding, overdue_by, is_gap}
@@ -27,7 +28,7 @@ limits = record { tolerance = 10; drift = 1; answer = 1000; boot = 10000; time =
 -- ---- heartbeats
 
 abbrev pub pulse : Heartbeats
-pulse = record { guarded = false; since = Some 5; sent = Some 4; shown = None; slow = None; former = None; answered = None; asked = None }
+pulse = record { guarded = false; since = Some 5; awaited = Heartbeat; sent = Some 4; shown = None; slow = None; former = None; answered = None; asked = None }
 
 -- late after 1000 ms, 10 ms and 1 %
 in_time : late_finding limits (Some 1000) pulse 1020005 1020005 ≡ None
@@ -37,6 +38,12 @@ in_time = refl
 late : late_finding limits (Some 1000) pulse 1020006 1020006 ≡ Some (HeartbeatLate 1020001 1000)
 unfolding late_finding overdue_by
 late = refl
+
+-- since the boot-up, and since a transfer of 1017:00
+late_since_others : map (λ awaited. late_finding limits (Some 1000) (record pulse { awaited = awaited }) 1020006 1020006) (BootUp ∷ Transfer ∷ [])
+    ≡ Some (LateAfterBootUp 1020001 1000) ∷ Some (LateAfterTransfer 1020001 1000) ∷ []
+unfolding late_finding overdue_by
+late_since_others = refl
 
 -- by when the bus was free last
 waits_for_bus : late_finding limits (Some 1000) pulse 1020005 1050000 ≡ None
@@ -102,7 +109,7 @@ unfolding early_remark
 toggled = refl
 
 -- one that waited counts from when the bus was free
-waited : after_byte pulse 1000 2000 5 ≡ record { guarded = false; since = Some 2000; sent = Some 1000; shown = None; slow = None; former = None; answered = None; asked = None }
+waited : after_byte pulse 1000 2000 5 ≡ record { guarded = false; since = Some 2000; awaited = Heartbeat; sent = Some 1000; shown = None; slow = None; former = None; answered = None; asked = None }
 waited = refl
 
 -- more than three periods without a frame are a gap
@@ -180,11 +187,11 @@ other_written = refl
 abbrev after_period : Direction → Heartbeats
 after_period direction = after_transfer pulse (Some (record (transferred (key 0x1017 0) Expedited) { direction = direction })) 90
 
-begun_anew : after_period Download ≡ record { guarded = false; since = Some 90; sent = Some 1; shown = None; slow = None; former = None; answered = None; asked = None }
+begun_anew : after_period Download ≡ record { guarded = false; since = Some 90; awaited = Transfer; sent = Some 1; shown = None; slow = None; former = None; answered = None; asked = None }
 unfolding shown_period
 begun_anew = refl
 
-read_period : after_period Upload ≡ record { guarded = false; since = Some 90; sent = Some 4; shown = None; slow = None; former = None; answered = None; asked = None }
+read_period : after_period Upload ≡ record { guarded = false; since = Some 90; awaited = Transfer; sent = Some 4; shown = None; slow = None; former = None; answered = None; asked = None }
 unfolding shown_period
 read_period = refl
 

@@ -12,10 +12,12 @@ use Rattle.conode_explain_transfers.specs.declared.kinds.Side.TheVariants.{Clien
 use Rattle.conode_compare_transfers.specs.Breaches.{byte_at, key_in}
 use Rattle.conode_compare_transfers.specs.Dialogues.{asks_to_write}
 use Rattle.conode_compare_nmt.specs.declared.finding.Finding.{Finding}
-use Rattle.conode_compare_nmt.specs.declared.finding.Finding.TheVariants.{HeartbeatLate}
+use Rattle.conode_compare_nmt.specs.declared.finding.Finding.TheVariants.{HeartbeatLate, LateAfterBootUp, LateAfterTransfer}
 use Rattle.conode_compare_nmt.specs.declared.finding.Remark.{Remark}
 use Rattle.conode_compare_nmt.specs.declared.finding.Remark.TheVariants.{EarlyHeartbeat}
 use Rattle.conode_compare_nmt.specs.declared.heartbeats.Heartbeats.{Heartbeats}
+use Rattle.conode_compare_nmt.specs.declared.heartbeats.Since.{Since}
+use Rattle.conode_compare_nmt.specs.declared.heartbeats.Since.TheVariants.{Heartbeat, BootUp, Transfer}
 use Rattle.conode_compare_nmt.specs.declared.limits.Limits.{Limits}
 use Rattle.conode_compare_nmt.specs.EntriesInForce.{shown_period}
 use Rattle.conode_compare_nmt.specs.OtherClients.{is_channel}
@@ -30,7 +32,7 @@ longest_period = 65535
 
 -- No heartbeat came. What was written to 1017:00 before the recording isn't known, so any period may run.
 abbrev pub no_heartbeat : Heartbeats
-no_heartbeat = record { guarded = false; since = None; sent = None; shown = None; slow = None; former = Some longest_period; answered = None; asked = None }
+no_heartbeat = record { guarded = false; since = None; awaited = Heartbeat; sent = None; shown = None; slow = None; former = Some longest_period; answered = None; asked = None }
 
 -- A heartbeat came, or an answer of node guarding. It may have waited since the bus was free last,
 -- `free`.
@@ -38,6 +40,7 @@ abbrev pub after_byte : Heartbeats → ℕ → ℕ → ℕ → Heartbeats
 after_byte heartbeats free micros byte = record {
   guarded = heartbeats.guarded || is_guarded_state byte;
   since = Some micros;
+  awaited = Heartbeat;
   sent = Some free;
   shown = heartbeats.shown;
   slow = heartbeats.slow;
@@ -56,6 +59,7 @@ abbrev pub after_ended : Heartbeats → Ended → ℕ → Heartbeats
 after_ended heartbeats ended micros =
     if is_some (shown_period ended) then record heartbeats {
       since = Some micros;
+      awaited = Transfer;
       sent = sent_after ended.direction ended heartbeats.sent;
       slow = None;
     }
@@ -175,10 +179,16 @@ unfoldable pub overdue_by : Limits → Option ℕ → Heartbeats → ℕ → ℕ
 overdue_by limits period heartbeats free micros =
     if runs_still limits heartbeats.former heartbeats.answered free then None else overdue_with limits period heartbeats free micros
 
+-- it is awaited since the last one, since the boot-up, or since a transfer of 1017:00 ended
+abbrev pub late_since : Since → ℕ × ℕ → Finding
+late_since Heartbeat late = HeartbeatLate late.0 late.1
+late_since BootUp late = LateAfterBootUp late.0 late.1
+late_since Transfer late = LateAfterTransfer late.0 late.1
+
 -- `heartbeat-late`: the device sends, and its next heartbeat is late
 unfoldable pub late_finding : Limits → Option ℕ → Heartbeats → ℕ → ℕ → Option Finding
 late_finding limits period heartbeats free micros =
-    option_map (λ late. HeartbeatLate late.0 late.1) (overdue_by limits period heartbeats free micros)
+    option_map (late_since heartbeats.awaited) (overdue_by limits period heartbeats free micros)
 
 -- An EMCY or a TPDO showed that the device sends while its heartbeat was late, `shown`: the first one
 -- since that heartbeat is awaited.
@@ -228,6 +238,22 @@ is_late_again limits None heartbeats free = false
 is_late_again limits (Some period) heartbeats free =
     is_as_slow limits period heartbeats.slow (time_taken heartbeats free)
 
+-- One that took more than two periods is a pause: only those that take about as long go on with its row, by the
+-- tolerance and by how much the clocks may differ.
+abbrev pub is_of_row : Limits → ℕ → Option ℕ → Option ℕ → Bool
+is_of_row limits period None taken = true
+is_of_row limits period (Some slow) None = true
+is_of_row limits period (Some slow) (Some taken) = nat_le slow (2 * micros_of period) || nat_le (slow - taken) (leeway limits period)
+
+abbrev pub stays_in_row : Limits → Option ℕ → Heartbeats → ℕ → Bool
+stays_in_row limits None heartbeats free = false
+stays_in_row limits (Some period) heartbeats free = is_of_row limits period heartbeats.slow (time_taken heartbeats free)
+
+-- a heartbeat that comes late is the same mistake as those before it
+abbrev pub comes_again : Limits → Option ℕ → Heartbeats → ℕ → Bool
+comes_again limits period heartbeats free =
+    is_late_again limits period heartbeats free && stays_in_row limits period heartbeats free
+
 abbrev pub longer : Option ℕ → Option ℕ → Option ℕ
 longer None taken = taken
 longer (Some slow) None = Some slow
@@ -238,17 +264,17 @@ abbrev pub comes_late : Limits → Option ℕ → Heartbeats → ℕ → ℕ →
 comes_late limits period heartbeats free micros =
     not (is_some heartbeats.since) || is_some (overdue_by limits period heartbeats free micros)
 
--- one that takes more than two periods is a pause, and says nothing of those after it
-abbrev pub unless_pause : Option ℕ → Option ℕ → Option ℕ
-unless_pause None slow = None
-unless_pause (Some period) None = None
-unless_pause (Some period) (Some slow) = if nat_le slow (2 * micros_of period) then Some slow else None
+-- a row goes on, or begins anew with the heartbeat; where the period isn't known, there is none
+abbrev pub row_after : Limits → Option ℕ → Heartbeats → ℕ → Option ℕ
+row_after limits None heartbeats free = None
+row_after limits (Some period) heartbeats free =
+    if is_of_row limits period heartbeats.slow (time_taken heartbeats free)
+    then longer heartbeats.slow (time_taken heartbeats free) else time_taken heartbeats free
 
 -- the longest time of the row, after a heartbeat: one that comes in time ends it
 abbrev pub slow_after : Limits → Option ℕ → Heartbeats → ℕ → ℕ → Option ℕ
 slow_after limits period heartbeats free micros =
-    if comes_late limits period heartbeats free micros
-    then unless_pause period (longer heartbeats.slow (time_taken heartbeats free)) else None
+    if comes_late limits period heartbeats free micros then row_after limits period heartbeats free else None
 
 -- ---- early ones
 

@@ -139,6 +139,7 @@ impl Heartbeats {
         Heartbeats {
             guarded: self.guarded,
             since: self.since,
+            awaited: self.awaited,
             sent: self.sent,
             shown: self.shown,
             slow: self.slow,

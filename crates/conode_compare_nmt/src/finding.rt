@@ -49,6 +49,10 @@ pub enum Finding {
     TwoStates(NmtState, NmtState),
     /// `heartbeat-late`: so many microseconds since the last heartbeat, and 1017:00 has so many ms.
     HeartbeatLate(u64, u16),
+    /// `heartbeat-late`: so many microseconds since the boot-up.
+    LateAfterBootUp(u64, u16),
+    /// `heartbeat-late`: so many microseconds since a transfer of 1017:00 ended.
+    LateAfterTransfer(u64, u16),
     /// `emcy-length`: an EMCY of so many bytes, not of eight.
     EmergencyLength(u8),
     /// `emcy-state`: an EMCY while stopped.

@@ -10,19 +10,23 @@ ghost use Rattle.conode_compare_nmt.specs.Heartbeats.{
   no_heartbeat,
   overdue_by,
   overdue_with,
+  comes_again,
   comes_late,
   is_as_slow,
   is_gap,
   is_late_again,
   is_missing,
+  is_of_row,
   is_shown,
+  late_since,
   leeway,
   longer,
   missing_after,
+  row_after,
   shown_after,
   slow_after,
+  stays_in_row,
   time_taken,
-  unless_pause,
   with_shown,
   follows_closely,
 };
@@ -37,6 +41,17 @@ use conode_explain_transfers::{Direction, Ended};
 /// The longest period, in ms: 1017:00 has 16 bits (CiA 301, 7.5.2.20).
 pub const LONGEST_PERIOD: u16 = 65535;
 
+/// From what on the next heartbeat is awaited.
+#[derive(Clone, Copy)]
+pub enum Since {
+    /// The last one, or another frame of error control.
+    Heartbeat,
+    /// The boot-up.
+    BootUp,
+    /// The end of a transfer of 1017:00.
+    Transfer,
+}
+
 /// What a recording shows of a device's heartbeats: stamps in microseconds, periods in ms.
 #[derive(Clone, Copy)]
 pub struct Heartbeats {
@@ -44,6 +59,8 @@ pub struct Heartbeats {
     pub guarded: bool,
     /// Since when the next one is awaited.
     pub since: Option<u64>,
+    /// What came then.
+    pub awaited: Since,
     /// When the bus was free before the newest one or the boot-up, or 1017:00 was asked to be
     /// written: from then on the device counts its period, or from later.
     pub sent: Option<u64>,
@@ -99,13 +116,28 @@ pub fn follows_closely(newest: u64, micros: u64) -> bool
     micros.saturating_sub(newest) <= FRAME_TIME
 }
 
-// one that takes more than two periods is a pause, and says nothing of those after it
-fn unless_pause(period: Option<u16>, slow: Option<u64>) -> Option<u64>
-    ensures { result ≡ unless_pause period slow }
+// Whether a heartbeat goes on with the row of late ones before it: with that of one that took more
+// than two periods, a pause, only where it takes about as long.
+fn is_of_row(limits: &Limits, period: u16, slow: Option<u64>, taken: Option<u64>) -> bool
+    ensures { result ≡ is_of_row limits.now period slow taken }
 {
-    match (period, slow) {
-        (Some(period), Some(slow)) if slow <= 2 * micros_of(period as u32) => Some(slow),
-        _ => None,
+    match (slow, taken) {
+        (Some(slow), Some(taken)) => {
+            slow <= 2 * micros_of(period as u32)
+                || slow.saturating_sub(taken) <= leeway(limits, period)
+        }
+        _ => true,
+    }
+}
+
+// a heartbeat is late by so many microseconds since this came; 1017:00 has so many ms
+fn late_since(awaited: Since, passed: u64, period: u16) -> Finding
+    ensures { result ≡ late_since awaited (passed, period) }
+{
+    match awaited {
+        Since::Heartbeat => Finding::HeartbeatLate(passed, period),
+        Since::BootUp => Finding::LateAfterBootUp(passed, period),
+        Since::Transfer => Finding::LateAfterTransfer(passed, period),
     }
 }
 
@@ -128,6 +160,7 @@ impl Heartbeats {
         Heartbeats {
             guarded: false,
             since: None,
+            awaited: Since::Heartbeat,
             sent: None,
             shown: None,
             slow: None,
@@ -145,6 +178,7 @@ impl Heartbeats {
         Heartbeats {
             guarded: self.guarded || is_guarded_state(byte),
             since: Some(micros),
+            awaited: Since::Heartbeat,
             sent: Some(free),
             shown: self.shown,
             slow: self.slow,
@@ -163,6 +197,7 @@ impl Heartbeats {
             Some(ended) if shown_period(ended).is_some() => Heartbeats {
                 guarded: self.guarded,
                 since: Some(micros),
+                awaited: Since::Transfer,
                 sent: match ended.direction {
                     Direction::Download => Some(ended.begun),
                     Direction::Upload => self.sent,
@@ -297,7 +332,7 @@ impl Heartbeats {
         ensures { result ≡ late_finding limits.now entries.now.period self.now free micros }
     {
         match self.overdue_by(limits, entries, free, micros) {
-            Some((passed, period)) => Some(Finding::HeartbeatLate(passed, period)),
+            Some((passed, period)) => Some(late_since(self.awaited, passed, period)),
             None => None,
         }
     }
@@ -312,8 +347,8 @@ impl Heartbeats {
         }
     }
 
-    /// Whether the next heartbeat, where it is late, takes no longer than the last ones, which came
-    /// late, too; the bus was free last at this stamp in microseconds.
+    /// Whether the next heartbeat, where it is late, takes no longer so far than the last ones, which
+    /// came late, too; the bus was free last at this stamp in microseconds.
     pub fn is_late_again(&self, limits: &Limits, entries: &Entries, free: u64) -> bool
         ensures { result ≡ is_late_again limits.now entries.now.period self.now free }
     {
@@ -322,6 +357,39 @@ impl Heartbeats {
                 taken.saturating_sub(slow) <= leeway(limits, period)
             }
             _ => false,
+        }
+    }
+
+    // whether it goes on with their row
+    fn stays_in_row(&self, limits: &Limits, entries: &Entries, free: u64) -> bool
+        ensures { result ≡ stays_in_row limits.now entries.now.period self.now free }
+    {
+        match entries.period {
+            Some(period) => is_of_row(limits, period, self.slow, self.time_taken(free)),
+            None => false,
+        }
+    }
+
+    /// Whether a heartbeat that comes, where it is late, is the same mistake as the last ones, which
+    /// came late, too; the bus was free last at this stamp in microseconds.
+    pub fn comes_again(&self, limits: &Limits, entries: &Entries, free: u64) -> bool
+        ensures { result ≡ comes_again limits.now entries.now.period self.now free }
+    {
+        self.is_late_again(limits, entries, free) && self.stays_in_row(limits, entries, free)
+    }
+
+    // the longest time of the row once a heartbeat comes late, with which it goes on or begins anew
+    fn row_after(&self, limits: &Limits, entries: &Entries, free: u64) -> Option<u64>
+        ensures { result ≡ row_after limits.now entries.now.period self.now free }
+    {
+        if entries.period.is_none() {
+            return None;
+        }
+        let taken = self.time_taken(free);
+        if self.stays_in_row(limits, entries, free) {
+            longer(self.slow, taken)
+        } else {
+            taken
         }
     }
 
@@ -339,6 +407,6 @@ impl Heartbeats {
         if self.since.is_some() && self.overdue_by(limits, entries, free, micros).is_none() {
             return None;
         }
-        unless_pause(entries.period, longer(self.slow, self.time_taken(free)))
+        self.row_after(limits, entries, free)
     }
 }

@@ -19,7 +19,7 @@ pub use clients::{OtherClients, is_channel};
 pub use entries::{Entries, Facts, facts_of, shares_id};
 pub use finding::{Finding, NmtState, Remark};
 pub use followed::is_idle;
-pub use heartbeats::{Heartbeats, LONGEST_PERIOD, follows_closely, is_gap};
+pub use heartbeats::{Heartbeats, LONGEST_PERIOD, Since, follows_closely, is_gap};
 pub use leaving::Leaving;
 pub use limits::{Limits, Subject, drift_of};
 pub use nmt::{Commanded, Nmt, is_reset};

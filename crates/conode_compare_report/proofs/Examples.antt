@@ -384,6 +384,16 @@ read_write_only : after 0x2002 Upload Expedited done ≡ AccessRead ∷ []
 unfolding ended_passed upload_passed counts_passed
 read_write_only = refl
 
+-- 1010:00 as write only is read, and 1003:00 as read only is written: CiA 301 lets a client do so
+read_what_is_stored : map (λ index. shown (ended_passed false (row index Wo None ∷ []) (ended index Upload Expedited done) no_counts)) (0x1010 ∷ 0x1011 ∷ 0x1012 ∷ [])
+    ≡ [] ∷ [] ∷ (AccessRead ∷ []) ∷ []
+unfolding ended_passed upload_passed counts_passed
+read_what_is_stored = refl
+
+written_count : map (λ index. shown (ended_passed false (row index Ro None ∷ []) (ended index Download Expedited done) no_counts)) (0x1003 ∷ 0x1004 ∷ []) ≡ [] ∷ (AccessWrite ∷ []) ∷ []
+unfolding ended_passed upload_passed counts_passed
+written_count = refl
+
 read_unlisted : after 0x3000 Upload Expedited done ≡ []
 unfolding ended_passed upload_passed counts_passed
 read_unlisted = refl

@@ -18,7 +18,7 @@ use Rattle.conode_explain_transfers.specs.declared.kinds.Side.TheVariants.{Clien
 use Rattle.conode_explain_transfers.specs.declared.kinds.What.{What}
 use Rattle.conode_explain_transfers.specs.declared.kinds.What.TheVariants.{Segment, OutOfSequence}
 use Rattle.conode_compare_pdos.specs.declared.parameters.Parameters.{Parameters}
-use Rattle.conode_compare_values.specs.SheetValues.{has_limits, is_held, is_read_only, is_readable}
+use Rattle.conode_compare_values.specs.SheetValues.{has_limits, is_closed, is_held, is_readable, is_stored}
 use Rattle.conode_compare_nmt.specs.declared.finding.NmtState.{NmtState}
 use Rattle.conode_compare_nmt.specs.declared.finding.NmtState.TheVariants.{Initialising, Stopped}
 use Rattle.conode_compare_rules.specs.declared.kind.FrameKind.{FrameKind}
@@ -196,12 +196,16 @@ shows_value row done = done && is_readable row.access
 abbrev pub is_compared : Bool → Row → Bool
 is_compared modular row = is_held row && not (modular && (row.key.index == device_type))
 
--- An upload; of an entry that the data sheet doesn't have no value is compared. Which entries a modular
--- device has, and who may read them, its modules decide.
+-- Whether an entry may be read is compared. Of a modular device its modules decide that, and of 1010h and 1011h CiA 301,
+-- where the data sheet has them as write only.
+abbrev pub is_access_compared : Bool → Row → Bool
+is_access_compared modular row = not modular && (is_readable row.access || not (is_stored row.key.index))
+
+-- An upload; of an entry that the data sheet doesn't have no value is compared.
 abbrev pub entry_of_upload : Bool → Option Row → Bool → List Counted → List Counted
 entry_of_upload modular None done counts = counts
 entry_of_upload modular (Some row) done counts =
-    counts_passed (not modular) AccessRead
+    counts_passed (is_access_compared modular row) AccessRead
     (counts_passed (shows_value row done && is_compared modular row) ValueConst (counts_passed (shows_value row done) ValueLength counts))
 
 unfoldable pub upload_passed : Bool → Option Row → Bool → Protocol → List Counted → List Counted
@@ -213,7 +217,7 @@ upload_passed modular row done protocol counts =
 abbrev pub download_passed : Option Row → List Counted → List Counted
 download_passed None counts = counts
 download_passed (Some row) counts =
-    counts_passed (has_limits row) AccessLimits (counts_passed (is_read_only row.access) AccessWrite counts)
+    counts_passed (has_limits row) AccessLimits (counts_passed (is_closed row) AccessWrite counts)
 
 abbrev pub way_passed : Direction → Bool → Option Row → Bool → Protocol → List Counted → List Counted
 way_passed Upload modular row done protocol counts = upload_passed modular row done protocol counts

@@ -204,7 +204,9 @@ impl Kind {
             }
             Finding::HeartbeatLength(_) => Kind::HeartbeatLength,
             Finding::NoState(_) | Finding::WrongState(_, _) => Kind::HeartbeatState,
-            Finding::HeartbeatLate(_, _) => Kind::HeartbeatLate,
+            Finding::HeartbeatLate(_, _)
+            | Finding::LateAfterBootUp(_, _)
+            | Finding::LateAfterTransfer(_, _) => Kind::HeartbeatLate,
             Finding::EmergencyLength(_) => Kind::EmergencyLength,
             Finding::EmergencyStopped => Kind::EmergencyState,
             Finding::EmergencyRegister(_, _) => Kind::EmergencyRegister,

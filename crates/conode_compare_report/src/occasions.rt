@@ -21,6 +21,7 @@ ghost use Rattle.conode_compare_report.specs.Occasions.{
   has_segment,
   has_toggle,
   if_ended_passed,
+  is_access_compared,
   is_block,
   is_booting,
   is_by_event,
@@ -50,7 +51,7 @@ use co_sheet::EntryRow;
 use co_sheet_changes::row_at;
 use conode_compare_nmt::NmtState;
 use conode_compare_rules::{FrameKind, Verdict};
-use conode_compare_values::{has_limits, is_held, is_read_only, is_readable};
+use conode_compare_values::{has_limits, is_closed, is_held, is_readable, is_stored};
 use conode_explain_transfers::{Direction, Ended, Ending, Heard, Protocol, Side, What};
 use std::alloc::{AllocError, Global};
 
@@ -343,8 +344,15 @@ fn is_compared(modular: bool, row: &EntryRow<'_>) -> bool
     is_held(row) && !(modular && row.key.index == DEVICE_TYPE)
 }
 
-// an upload of an entry; which entries a modular device has, and who may read them, its modules
-// decide
+// whether it is compared whether an entry may be read: of a modular device its modules decide that,
+// of 1010h and 1011h CiA 301, where the data sheet has them as write only
+fn is_access_compared(modular: bool, row: &EntryRow<'_>) -> bool
+    ensures { result ≡ is_access_compared modular (row_view row.now) }
+{
+    !modular && (is_readable(row.access) || !is_stored(row.key.index))
+}
+
+// an upload of an entry
 fn pass_entry(counts: &mut [Counted], modular: bool, row: Option<&EntryRow<'_>>, done: bool)
     ensures { counts.new
         ≡ entry_of_upload modular (option_map row_view (option_copied row.entry)) done counts.old }
@@ -356,7 +364,7 @@ fn pass_entry(counts: &mut [Counted], modular: bool, row: Option<&EntryRow<'_>>,
             &[
                 (shows, Kind::ValueLength),
                 (shows && is_compared(modular, row), Kind::ValueConst),
-                (!modular, Kind::AccessRead),
+                (is_access_compared(modular, row), Kind::AccessRead),
             ],
         );
     }
@@ -392,7 +400,7 @@ fn pass_download(counts: &mut [Counted], row: Option<&EntryRow<'_>>)
         pass_all(
             counts,
             &[
-                (is_read_only(row.access), Kind::AccessWrite),
+                (is_closed(row), Kind::AccessWrite),
                 (has_limits(row), Kind::AccessLimits),
             ],
         );

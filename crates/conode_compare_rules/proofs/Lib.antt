@@ -9,3 +9,4 @@ mod RestartExamples
 mod SilenceExamples
 mod StateExamples
 mod TurnExamples
+mod WrongAnswerExamples

@@ -10,6 +10,7 @@ use Rattle.conode_compare_nmt.specs.declared.entries.Entries.{Entries}
 use Rattle.conode_compare_nmt.specs.declared.entries.Facts.{Facts}
 use Rattle.conode_compare_nmt.specs.declared.finding.Finding.{Finding}
 use Rattle.conode_compare_nmt.specs.declared.finding.Finding.TheVariants.{HeartbeatLate}
+use Rattle.conode_compare_nmt.specs.declared.heartbeats.Since.TheVariants.{Heartbeat}
 use Rattle.conode_compare_nmt.specs.declared.finding.NmtState.TheVariants.{Operational, Unknown}
 use Rattle.conode_compare_rules.specs.declared.kind.FrameKind.{FrameKind}
 use Rattle.conode_compare_rules.specs.declared.kind.FrameKind.TheVariants.{Control, Emergency, OddEmergency, Other, Process, Sdo}
@@ -56,7 +57,7 @@ waiting = record (before_recording subject) {
   newest = Some 1000000;
   free = 1000000;
   nmt = record nothing_commanded { state = Operational };
-  heartbeats = record { guarded = false; since = Some 5; sent = Some 5; shown = None; slow = None; former = None; answered = None; asked = None };
+  heartbeats = record { guarded = false; since = Some 5; awaited = Heartbeat; sent = Some 5; shown = None; slow = None; former = None; answered = None; asked = None };
   pdos = pdos;
 }
 

@@ -10,7 +10,7 @@ use Rattle.conode_compare_pdos.specs.Deviations.{deviation_at, time_deviation}
 use Rattle.conode_compare_pdos.specs.Tpdos.{booted_tpdo}
 use Rattle.conode_compare_nmt.specs.declared.entries.Entries.{Entries}
 use Rattle.conode_compare_nmt.specs.declared.finding.Finding.{Finding}
-use Rattle.conode_compare_nmt.specs.declared.finding.Finding.TheVariants.{EmergencyStopped, HeartbeatLate, HeartbeatLength, NoState, Pdo as PdoFinding, TwoStates, WrongState}
+use Rattle.conode_compare_nmt.specs.declared.finding.Finding.TheVariants.{EmergencyStopped, HeartbeatLate, HeartbeatLength, LateAfterBootUp, NoState, Pdo as PdoFinding, TwoStates, WrongState}
 use Rattle.conode_compare_nmt.specs.declared.finding.NmtState.TheVariants.{PreOperational, Operational, Stopped}
 use Rattle.conode_compare_rules.specs.declared.kind.FrameKind.{FrameKind}
 use Rattle.conode_compare_rules.specs.declared.kind.FrameKind.TheVariants.{Command, Control, Emergency, OddControl, Process}
@@ -20,7 +20,7 @@ use Rattle.conode_compare_rules.specs.declared.verdict.Verdict.{Verdict}
 use Rattle.conode_compare_rules.specs.declared.verdict.Verdict.TheVariants.{Unjudged}
 use Rattle.conode_compare_rules.specs.Answers.{silence_finding}
 use Rattle.conode_compare_rules.specs.EmergencyRules.{emergency_finding, inhibit_finding, after_emergency, emergency_findings}
-use Rattle.conode_compare_nmt.specs.Heartbeats.{early_remark, late_finding, overdue_by}
+use Rattle.conode_compare_nmt.specs.Heartbeats.{early_remark, is_missing, late_finding, overdue_by}
 use Rattle.conode_compare_rules.specs.NmtFrames as nmt_frames
 use Rattle.conode_compare_rules.specs.Gaps.{before_recording, begun}
 use Rattle.conode_compare_rules.specs.NmtFrames.{after_odd_control, booted, control_findings, control_judged, heartbeat_findings}
@@ -223,7 +223,7 @@ length_between = refl
 abbrev late_once : List (ℕ × FrameKind)
 late_once = (0, Control 0) ∷ (1100000, Control 127) ∷ []
 
-late_first : last_late ((0, Control 0) ∷ []) 1100000 (Control 127) ≡ Some (HeartbeatLate 1100000 1000)
+late_first : last_late ((0, Control 0) ∷ []) 1100000 (Control 127) ≡ Some (LateAfterBootUp 1100000 1000)
 unfolding findings_at progress_with begun booted found control_findings heartbeat_findings late_finding overdue_by
 late_first = refl
 
@@ -245,6 +245,35 @@ after_pause : map (λ pause. last_late ((0, Control 0) ∷ (pause, Control 127) 
     ≡ None ∷ Some (HeartbeatLate 1100000 1000) ∷ []
 unfolding findings_at progress_with begun booted found control_findings heartbeat_findings nmt_frames.after_control late_finding overdue_by
 after_pause = refl
+
+-- one that comes each 2500 ms is said once, up to 20 ms longer or shorter; so is one that comes each 2500 ms after one each 1100 ms
+abbrev pauses : List (ℕ × FrameKind)
+pauses = (0, Control 0) ∷ (2500000, Control 127) ∷ []
+
+other_pause : map (λ taken. last_late pauses (2500000 + taken) (Control 127)) (2479999 ∷ 2480000 ∷ 2520000 ∷ 2520001 ∷ [])
+    ≡ Some (HeartbeatLate 2479999 1000) ∷ None ∷ None ∷ Some (HeartbeatLate 2520001 1000) ∷ []
+unfolding findings_at progress_with begun booted found control_findings heartbeat_findings nmt_frames.after_control late_finding overdue_by
+other_pause = refl
+
+pause_in_row : map (λ later. last_late ((0, Control 0) ∷ (1100000, Control 127) ∷ (3600000, Control 127) ∷ []) (3600000 + later) (Control 127)) (1100000 ∷ 2500000 ∷ [])
+    ≡ Some (HeartbeatLate 1100000 1000) ∷ None ∷ []
+unfolding findings_at progress_with begun booted found control_findings heartbeat_findings nmt_frames.after_control late_finding overdue_by
+pause_in_row = refl
+
+-- with a shorter one the row begins anew
+after_shorter : last_late (pauses ++ (3600000, Control 127) ∷ []) 4700000 (Control 127) ∷ last_late (pauses ++ (3600000, Control 127) ∷ []) 6100000 (Control 127) ∷ []
+    ≡ None ∷ Some (HeartbeatLate 2500000 1000) ∷ []
+unfolding findings_at progress_with begun booted found control_findings heartbeat_findings nmt_frames.after_control late_finding overdue_by
+after_shorter = refl
+
+-- before it comes an EMCY doesn't show that it is missing, as long as the last one took; the first one shows it
+abbrev emergency : FrameKind
+emergency = Emergency 0x8130 0x11
+
+missing_in_row : last_late ((0, Control 0) ∷ (1100000, emergency) ∷ []) 2200000 emergency ∷ last_late (pauses ++ (3600000, emergency) ∷ []) 4900000 emergency ∷ []
+    ≡ Some (LateAfterBootUp 2200000 1000) ∷ None ∷ []
+unfolding findings_at progress_with begun booted found control_findings heartbeat_findings nmt_frames.after_control after_emergency emergency_findings late_finding overdue_by is_missing
+missing_in_row = refl
 
 -- one in time ends the row
 in_time : last_late (late_once ++ (2100000, Control 127) ∷ []) 3200000 (Control 127) ≡ Some (HeartbeatLate 1100000 1000)

@@ -8,7 +8,7 @@ use Rattle.conode_explain_transfers.specs.declared.ended.Ended.{Ended}
 use Rattle.conode_explain_transfers.specs.declared.kinds.Side.{Side}
 use Rattle.conode_explain_transfers.specs.declared.kinds.Side.TheVariants.{Client, Server}
 use Rattle.conode_explain_transfers.specs.declared.kinds.What.{What}
-use Rattle.conode_explain_transfers.specs.declared.kinds.What.TheVariants.{Part}
+use Rattle.conode_explain_transfers.specs.declared.kinds.What.TheVariants.{Part, Overtaken, Unexpected}
 use Rattle.conode_compare_pdos.specs.declared.pdos.Pdos.{Pdos}
 use Rattle.conode_compare_pdos.specs.Followed as tpdos
 use Rattle.conode_compare_rules.specs.declared.progress.Progress.{Progress}
@@ -153,6 +153,17 @@ abbrev pub left_open : Side → Bool → Dialogue → Dialogue
 left_open Client misses next = record next { sub_block = misses || next.sub_block }
 left_open Server misses next = next
 
+-- A wrong answer to a request: of another entry, or none that its protocol has. It was owed, and no earlier request can
+-- be answered, so that is said.
+abbrev pub is_other_answer : What → Bool
+is_other_answer Overtaken = true
+is_other_answer Unexpected = true
+is_other_answer what = false
+
+abbrev pub is_wrong : Side → Exchange → Bool
+is_wrong Client exchange = false
+is_wrong Server exchange = exchange.certain && (exchange.owed && is_other_answer exchange.heard.what)
+
 unfoldable pub channel_heard : Subject → Progress → ℕ → Side → FrameContent → Progress
 channel_heard subject progress micros side frame =
     let next = dialogue_heard subject.limits.answer progress.started progress.dialogue micros side frame in
@@ -168,6 +179,7 @@ channel_heard subject progress micros side frame =
       pdos = pdos_by side frame (pdos_heard beside shown next.asked micros) micros;
       dialogue = left_open side (may_miss_end progress.nmt micros frame) next;
       asked_at = asked_then (asks_for_profile side frame) progress.asked_at micros;
+      wrong = is_wrong side (exchange_at subject progress micros side frame);
     }
 
 -- what the frame is, and what was written to the entries that are held

@@ -1,5 +1,5 @@
 -- The begin of a recording, and gaps in it: where the recorder may have missed frames.
-use Rattle.std.specs.Prelude.{ℕ, nat_lt, Bool, true, false, ◌&&◌, ◌||◌, if◌then◌else◌, Option, Some, None, is_some, option_map, unwrap_or}
+use Rattle.std.specs.Prelude.{ℕ, nat_lt, Bool, true, false, not, ◌&&◌, ◌||◌, if◌then◌else◌, Option, Some, None, is_some, option_map, unwrap_or}
 use Rattle.std.specs.Option.{option_map_or, option_or}
 use Rattle.conode_compare_pdos.specs.declared.pdos.Pdos.{Pdos}
 use Rattle.conode_compare_pdos.specs.Followed as tpdos
@@ -32,6 +32,7 @@ before_recording subject = record {
   asked_at = None;
   written = nothing_written;
   exchange = None;
+  wrong = false;
   remark = None;
 }
 
@@ -48,8 +49,17 @@ begins_anew limits progress micros = anew_after limits progress.entries.period p
 abbrev pub was_quiet : Limits → Progress → ℕ → Bool
 was_quiet limits progress micros = option_map_or (λ newest. is_past newest limits.answer micros) progress.newest false
 
+-- a frame comes later than the newest one
+abbrev pub is_later : Option ℕ → ℕ → Bool
+is_later newest micros = option_map_or (λ newest. nat_lt newest micros) newest false
+
+-- Then no request is known. Nor is one after a wrong answer, which was said: with the next frame, where that comes later, its
+-- transfer isn't followed any more.
+abbrev pub breaks_off : Limits → Progress → ℕ → Bool
+breaks_off limits progress micros = was_quiet limits progress micros || (progress.wrong && is_later progress.newest micros)
+
 abbrev pub with_quiet : Limits → Progress → ℕ → Dialogue
-with_quiet limits progress micros = if was_quiet limits progress micros then interrupted progress.dialogue micros else progress.dialogue
+with_quiet limits progress micros = if breaks_off limits progress micros then interrupted progress.dialogue micros else progress.dialogue
 
 -- when the bus was free last: before the first of the frames that follow one another closely
 abbrev pub free_at : Option ℕ → ℕ → ℕ → ℕ
@@ -122,6 +132,7 @@ begun subject progress micros =
       dialogue = with_quiet subject.limits progress micros;
       pdos = pdos_with_quiet subject.limits progress micros;
       exchange = None;
+      wrong = progress.wrong && not (is_later progress.newest micros);
       remark = None;
     }
 

@@ -10,6 +10,7 @@ use Rattle.conode_compare_nmt.specs.declared.finding.Finding.{Finding}
 use Rattle.conode_compare_nmt.specs.declared.finding.NmtState.{NmtState}
 use Rattle.conode_compare_nmt.specs.declared.finding.NmtState.TheVariants.{Unknown, Initialising}
 use Rattle.conode_compare_nmt.specs.declared.heartbeats.Heartbeats.{Heartbeats}
+use Rattle.conode_compare_nmt.specs.declared.heartbeats.Since.TheVariants.{Heartbeat, BootUp}
 use Rattle.conode_compare_nmt.specs.declared.limits.Subject.{Subject}
 use Rattle.conode_compare_nmt.specs.declared.repeated.Odd.TheVariants.{Length}
 use Rattle.conode_compare_rules.specs.declared.verdict.Findings.{Findings}
@@ -17,6 +18,7 @@ use Rattle.conode_compare_rules.specs.Answers.{silence_finding}
 use Rattle.conode_compare_transfers.specs.Dialogues.{given_up, interrupted, nothing_left}
 use Rattle.conode_compare_values.specs.HeldNumbers.{nothing_written}
 use Rattle.conode_compare_nmt.specs.EntriesInForce.{reset_entries}
+use Rattle.conode_compare_nmt.specs.Heartbeats as beats
 use Rattle.conode_compare_nmt.specs.Heartbeats.{after_byte, early_remark, former_after, late_finding, longest_period, may_be_of_change, is_late_again, is_missing, overdue_with, slow_after, with_shown}
 use Rattle.conode_compare_nmt.specs.States as states
 use Rattle.conode_compare_nmt.specs.States.{boot_finding, control_finding, is_reset, is_same_byte, is_same_length, is_settled, is_steady, after_turn, odd_after, odd_finding, restart_remark, with_odd}
@@ -78,7 +80,7 @@ booted_former subject progress = if may_be_written subject progress then Some lo
 unfoldable pub booted : Subject → Progress → ℕ → Progress
 booted subject progress micros = record progress {
   nmt = states.after_control subject.limits progress.started progress.nmt progress.free micros 0;
-  heartbeats = record progress.heartbeats { since = Some micros; sent = Some progress.free; slow = None; former = booted_former subject progress; asked = None };
+  heartbeats = record progress.heartbeats { since = Some micros; awaited = BootUp; sent = Some progress.free; slow = None; former = booted_former subject progress; asked = None };
   entries = booted_entries subject progress;
   emergency = None;
   dialogue = record (interrupted progress.dialogue micros) { slow = nothing_left; sub_block = false };
@@ -119,12 +121,21 @@ control_judged subject progress =
 abbrev pub late_alone : Subject → Progress → ℕ → Option Finding
 late_alone subject progress micros = late_finding subject.limits progress.entries.period progress.heartbeats progress.free micros
 
--- it takes no longer than the last ones, which were late, too
+-- it takes no longer so far than the last ones, which were late, too
 abbrev pub is_again : Subject → Progress → Bool
 is_again subject progress = is_late_again subject.limits progress.entries.period progress.heartbeats progress.free
 
+-- before it comes
 abbrev pub late_at : Subject → Progress → ℕ → Option Finding
 late_at subject progress micros = if is_again subject progress then None else late_alone subject progress micros
+
+-- it comes, and is the same mistake as the last ones
+abbrev pub comes_again : Subject → Progress → Bool
+comes_again subject progress = beats.comes_again subject.limits progress.entries.period progress.heartbeats progress.free
+
+-- as it comes
+abbrev pub late_coming : Subject → Progress → ℕ → Option Finding
+late_coming subject progress micros = if comes_again subject progress then None else late_alone subject progress micros
 
 abbrev pub is_missing_at : Subject → Progress → Bool
 is_missing_at subject progress = is_missing subject.limits progress.entries.period progress.heartbeats progress.free
@@ -156,12 +167,12 @@ byte_finding subject progress micros byte =
 -- were said of an earlier one, so it is unjudged.
 abbrev pub is_repeated : Subject → Progress → ℕ → ℕ → Bool
 is_repeated subject progress micros byte =
-    is_same_byte byte progress.nmt.odd || (is_again subject progress && is_some (late_alone subject progress micros))
+    is_same_byte byte progress.nmt.odd || (comes_again subject progress && is_some (late_alone subject progress micros))
 
 unfoldable pub heartbeat_findings : Subject → Progress → Option Finding → ℕ → ℕ → Findings
 heartbeat_findings subject progress answer micros byte =
     found (boot_finding subject.limits progress.nmt micros)
-    (late_at subject progress micros)
+    (late_coming subject progress micros)
     answer
     (byte_finding subject progress micros byte)
     (control_judged subject progress && not (is_repeated subject progress micros byte))
@@ -197,7 +208,7 @@ after_control subject progress micros byte = record progress {
 abbrev pub odd_control_findings : Subject → Progress → ℕ → ℕ → Findings
 odd_control_findings subject progress micros length =
     found (boot_finding subject.limits progress.nmt micros)
-    (late_at subject progress micros)
+    (late_coming subject progress micros)
     None
     (odd_finding progress.nmt length)
     (not (is_same_length length progress.nmt.odd))
@@ -205,7 +216,7 @@ odd_control_findings subject progress micros length =
 unfoldable pub after_odd_control : Subject → Progress → ℕ → Progress
 after_odd_control subject progress micros = record progress {
   nmt = states.after_other subject.limits progress.nmt micros;
-  heartbeats = record progress.heartbeats { since = Some micros; sent = None };
+  heartbeats = record progress.heartbeats { since = Some micros; awaited = Heartbeat; sent = None };
 }
 
 abbrev pub after_length : Subject → Progress → ℕ → ℕ → Progress

@@ -18,6 +18,8 @@ ghost use Rattle.conode_compare_rules.specs.Channels.{
   is_confirmation,
   is_judged,
   is_of_parameter,
+  is_other_answer,
+  is_wrong,
   answer_noted,
   asked_then,
   asks_for_profile,
@@ -208,6 +210,21 @@ fn leave_open(dialogue: &mut Dialogue, side: Side, misses: bool)
     }
 }
 
+// whether a frame of the device is a wrong answer to a request, which is said: of another entry, or
+// none that its protocol has
+fn is_wrong(side: Side, exchange: &Exchange) -> bool
+    ensures { result ≡ is_wrong side exchange.now }
+{
+    match side {
+        Side::Client => false,
+        Side::Server => {
+            exchange.certain
+                && exchange.owed
+                && matches!(exchange.heard.what, What::Overtaken | What::Unexpected)
+        }
+    }
+}
+
 impl Progress {
     // a frame of the SDO channel is heard
     #[tactic(auto, unfolding(crate::specs::Channels::exchange_at, crate::specs::Channels::channel_heard))]
@@ -260,6 +277,7 @@ impl Progress {
         let asks = asks_for_profile(side, frame);
         self.asked_at = asked_then(asks, self.asked_at, micros);
         leave_open(&mut self.dialogue, side, misses);
+        self.wrong = is_wrong(side, &exchange);
         exchange
     }
 

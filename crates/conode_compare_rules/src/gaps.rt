@@ -7,11 +7,13 @@ ghost use Rattle.conode_compare_rules.specs.Gaps.{
   asked_since,
   begins_anew,
   begun,
+  breaks_off,
   client_since,
   forgotten,
   former_begun,
   former_lost,
   free_at,
+  is_later,
   period_then,
   recent,
   was_quiet,
@@ -59,6 +61,24 @@ impl Progress {
             Some(newest) => is_past(newest, limits.answer, micros),
             None => false,
         }
+    }
+
+    // Whether a frame comes later than the newest one.
+    fn is_later(&self, micros: u64) -> bool
+        ensures { result ≡ is_later self.now.newest micros }
+    {
+        match self.newest {
+            Some(newest) => newest < micros,
+            None => false,
+        }
+    }
+
+    // Whether nothing is open any more with a frame: nothing was recorded for long, or the newest
+    // frame of the SDO channel was a wrong answer, which was said.
+    fn breaks_off(&self, limits: &Limits, micros: u64) -> bool
+        ensures { result ≡ breaks_off limits.now self.now micros }
+    {
+        self.was_quiet(limits, micros) || self.wrong && self.is_later(micros)
     }
 
     // When the bus was free last: frames that follow one another closely may have waited.
@@ -154,8 +174,8 @@ impl Progress {
     }
 
     /// A frame comes. Where the recording begins anew, nothing is known, but that an answer which
-    /// may take long is awaited, and that a sub-block may be open; where it was quiet, no request is
-    /// known. After a bad line a client may have asked to write until now. A command that came before
+    /// may take long is awaited, and that a sub-block may be open; where it was quiet, or after a wrong
+    /// answer, no request is known. After a bad line a client may have asked to write until now. A command that came before
     /// may still be followed.
     #[tactic(auto, unfolding(crate::specs::Gaps::begun))]
     pub(crate) fn begin(&mut self, subject: &Subject, micros: u64)
@@ -180,10 +200,14 @@ impl Progress {
             self.other_client = other_client;
         } else {
             self.begins = false;
-            if self.was_quiet(&subject.limits, micros) {
+            let was_quiet = self.was_quiet(&subject.limits, micros);
+            if self.breaks_off(&subject.limits, micros) {
                 self.dialogue.interrupt(micros);
+            }
+            if was_quiet {
                 self.pdos.interrupt();
             }
+            self.wrong = self.wrong && !self.is_later(micros);
         }
         self.free = self.free_at(micros);
         self.newest = Some(micros);

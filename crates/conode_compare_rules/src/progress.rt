@@ -15,6 +15,7 @@ ghost use Rattle.conode_compare_rules.specs.NmtFrames.{
   booted_former,
   booted_pdos,
   byte_finding,
+  comes_again,
   comes_early,
   control_findings,
   control_judged,
@@ -25,6 +26,7 @@ ghost use Rattle.conode_compare_rules.specs.NmtFrames.{
   late_alone,
   late_at,
   late_by,
+  late_coming,
   may_be_written,
   may_differ,
   odd_control_findings,
@@ -53,7 +55,8 @@ use crate::verdict::Findings;
 use co_frame::NmtService;
 use co_sheet::EntryRow;
 use conode_compare_nmt::{
-    Entries, Finding, Heartbeats, LONGEST_PERIOD, Nmt, NmtState, Odd, Remark, Subject, is_reset,
+    Entries, Finding, Heartbeats, LONGEST_PERIOD, Nmt, NmtState, Odd, Remark, Since, Subject,
+    is_reset,
 };
 use conode_compare_pdos::Pdos;
 use conode_compare_transfers::{Dialogue, Exchange, Left, is_past};
@@ -89,6 +92,9 @@ pub struct Progress {
     pub written: Written,
     /// What the newest frame is on its SDO channel, if it is of that.
     pub exchange: Option<Exchange>,
+    /// Whether the newest frame of the SDO channel is a wrong answer, which was said, and none came
+    /// later.
+    pub(crate) wrong: bool,
     /// What else the newest frame shows.
     pub remark: Option<Remark>,
 }
@@ -114,6 +120,7 @@ impl Progress {
             asked_at: None,
             written: Written::nothing(),
             exchange: None,
+            wrong: false,
             remark: None,
         }
     }
@@ -222,6 +229,7 @@ impl Progress {
         self.entries = self.booted_entries(subject);
         self.pdos = self.booted_pdos(subject);
         self.heartbeats.since = Some(micros);
+        self.heartbeats.awaited = Since::BootUp;
         self.heartbeats.sent = Some(self.free);
         self.heartbeats.former = self.booted_former(subject);
         self.heartbeats.asked = None;
@@ -271,7 +279,7 @@ impl Progress {
             .late_finding(&subject.limits, &self.entries, self.free, micros)
     }
 
-    // whether a heartbeat that is late takes no longer than the last ones, which were late, too
+    // whether a heartbeat that is late takes no longer so far than the last ones, which were late, too
     fn is_again(&self, subject: &Subject) -> bool
         ensures { result ≡ is_again subject.now self.now }
     {
@@ -279,11 +287,30 @@ impl Progress {
             .is_late_again(&subject.limits, &self.entries, self.free)
     }
 
-    /// The difference of a heartbeat that is late, where that isn't said already.
+    /// The difference of a heartbeat that is late, before it comes, where that isn't said already.
     pub(crate) fn late_at(&self, subject: &Subject, micros: u64) -> Option<Finding>
         ensures { result ≡ late_at subject.now self.now micros }
     {
         if self.is_again(subject) {
+            None
+        } else {
+            self.late_alone(subject, micros)
+        }
+    }
+
+    // whether a heartbeat that comes late is the same mistake as the last ones
+    fn comes_again(&self, subject: &Subject) -> bool
+        ensures { result ≡ comes_again subject.now self.now }
+    {
+        self.heartbeats
+            .comes_again(&subject.limits, &self.entries, self.free)
+    }
+
+    // the difference of a heartbeat that comes late, where that isn't said already
+    fn late_coming(&self, subject: &Subject, micros: u64) -> Option<Finding>
+        ensures { result ≡ late_coming subject.now self.now micros }
+    {
+        if self.comes_again(subject) {
             None
         } else {
             self.late_alone(subject, micros)
@@ -321,7 +348,7 @@ impl Progress {
         ensures { result ≡ is_repeated subject.now self.now micros byte }
     {
         self.nmt.is_same_byte(byte)
-            || self.is_again(subject) && self.late_alone(subject, micros).is_some()
+            || self.comes_again(subject) && self.late_alone(subject, micros).is_some()
     }
 
     // what is found at a heartbeat; `frame`: the difference of its byte
@@ -340,7 +367,7 @@ impl Progress {
         let is_repeated = self.is_repeated(subject, micros, byte);
         Findings::of(
             self.nmt.boot_finding(&subject.limits, micros),
-            self.late_at(subject, micros),
+            self.late_coming(subject, micros),
             answer,
             frame,
             self.control_judged(subject) && !is_repeated,
@@ -443,12 +470,13 @@ impl Progress {
     {
         let limits = &subject.limits;
         let boot = self.nmt.boot_finding(limits, micros);
-        let heartbeat = self.late_at(subject, micros);
+        let heartbeat = self.late_coming(subject, micros);
         let frame = self.nmt.odd_finding(length);
         let is_repeated = self.nmt.is_same_length(length);
         self.nmt = self.nmt.after_other(limits, micros);
         self.nmt.odd = Some(Odd::Length(length));
         self.heartbeats.since = Some(micros);
+        self.heartbeats.awaited = Since::Heartbeat;
         self.heartbeats.sent = None;
         Findings::of(boot, heartbeat, None, frame, !is_repeated)
     }

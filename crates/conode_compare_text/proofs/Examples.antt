@@ -12,7 +12,7 @@ use Rattle.conode_explain_values.specs.Values.{value_text}
 use Rattle.conode_compare_pdos.specs.declared.deviation.Deviation.TheVariants.{Length, NotOperational, WithoutSync, FewSyncs, Inhibit, Timer}
 use Rattle.conode_compare_transfers.specs.declared.breach.Breach.TheVariants.{Toggle, Form, AbortKey, Size, Crc, Early}
 use Rattle.conode_compare_values.specs.declared.mismatch.Mismatch.TheVariants.{ValueLength, ValueConst, ConstText, ReadRefused, ReadServed, Written, AboveLimit, BelowLimit, BeyondRoom}
-use Rattle.conode_compare_nmt.specs.declared.finding.Finding.TheVariants.{BootMissing, SecondBootUp, HeartbeatLength, NoState, WrongState, TwoStates, HeartbeatLate, EmergencyLength, EmergencyRegister, EmergencyInhibit, NoAnswer, AnswerKey, AnswerForm, AnswerStopped, Transfer, Value, Held, Pdo}
+use Rattle.conode_compare_nmt.specs.declared.finding.Finding.TheVariants.{BootMissing, SecondBootUp, HeartbeatLength, NoState, WrongState, TwoStates, HeartbeatLate, LateAfterBootUp, LateAfterTransfer, EmergencyLength, EmergencyRegister, EmergencyInhibit, NoAnswer, AnswerKey, AnswerForm, AnswerStopped, Transfer, Value, Held, Pdo}
 use Rattle.conode_compare_nmt.specs.declared.finding.NmtState.TheVariants.{PreOperational, Operational}
 use Rattle.conode_compare_rules.specs.declared.kind.FrameKind.TheVariants.{Control, Emergency, Fault, OddControl, OddEmergency, Process, Sdo}
 use Rattle.conode_compare_rules.specs.declared.verdict.Verdict.TheVariants.{Prescribed, Different, Unjudged}
@@ -55,6 +55,14 @@ came = refl
 late_line : finding_line (codes "r.log") 120 plain (HeartbeatLate 1020001 1000) ≡ codes "r.log:120: heartbeat-late: 1020.001 ms since the last one, 1017:00 has 1000 ms" ++ 10 ∷ []
 unfolding finding_line finding_text millis_text digits_text digits filled line_front
 late_line = refl
+
+late_after : finding_text plain (LateAfterBootUp 1020001 1000) ≡ codes "heartbeat-late: 1020.001 ms since the boot-up, 1017:00 has 1000 ms"
+unfolding finding_text millis_text digits_text digits filled
+late_after = refl
+
+late_after_transfer : finding_text plain (LateAfterTransfer 515001 500) ≡ codes "heartbeat-late: 515.001 ms since a transfer of 1017:00, which has 500 ms"
+unfolding finding_text millis_text digits_text digits filled
+late_after_transfer = refl
 
 boot_missing : finding_text plain (BootMissing 10000001) ≡ codes "boot-missing: no boot-up 10000.001 ms after the reset command"
 unfolding finding_text millis_text digits_text digits filled
@@ -216,7 +224,7 @@ pdo_state : finding_text plain (Pdo 2 NotOperational) ≡ codes "pdo-state: TPDO
 unfolding finding_text pdo_text digits filled
 pdo_state = refl
 
-pdo_sync : finding_text plain (Pdo 3 WithoutSync) ≡ codes "pdo-sync: TPDO3, and since its last one no SYNC came"
+pdo_sync : finding_text plain (Pdo 3 WithoutSync) ≡ codes "pdo-sync: TPDO3 without a SYNC that it may answer"
 unfolding finding_text pdo_text digits filled
 pdo_sync = refl
 

@@ -11,7 +11,7 @@ use Rattle.conode_compare_transfers.specs.declared.breach.Breach.TheVariants.{To
 use Rattle.conode_compare_values.specs.declared.mismatch.Mismatch.{Mismatch}
 use Rattle.conode_compare_values.specs.declared.mismatch.Mismatch.TheVariants.{ValueLength, ValueConst, ConstText, ReadRefused, ReadServed, Written, AboveLimit, BelowLimit, BeyondRoom}
 use Rattle.conode_compare_nmt.specs.declared.finding.Finding.{Finding}
-use Rattle.conode_compare_nmt.specs.declared.finding.Finding.TheVariants.{BootMissing, SecondBootUp, HeartbeatLength, NoState, WrongState, TwoStates, HeartbeatLate, EmergencyLength, EmergencyStopped, EmergencyRegister, EmergencyInhibit, NoAnswer, Unasked, AnswerKey, AnswerForm, AnswerStopped, Transfer, Value, Held, Pdo}
+use Rattle.conode_compare_nmt.specs.declared.finding.Finding.TheVariants.{BootMissing, SecondBootUp, HeartbeatLength, NoState, WrongState, TwoStates, HeartbeatLate, LateAfterBootUp, LateAfterTransfer, EmergencyLength, EmergencyStopped, EmergencyRegister, EmergencyInhibit, NoAnswer, Unasked, AnswerKey, AnswerForm, AnswerStopped, Transfer, Value, Held, Pdo}
 use Rattle.conode_compare_nmt.specs.declared.finding.NmtState.{NmtState}
 use Rattle.conode_compare_nmt.specs.declared.finding.NmtState.TheVariants.{Unknown, Initialising, PreOperational, Operational, Stopped}
 use Rattle.conode_text.specs.Filled.{filled}
@@ -43,7 +43,7 @@ pdo_text number (Length length mapped) =
 pdo_text number NotOperational =
     filled (codes "pdo-state: TPDO% while the device isn't operational") (decimal number ∷ [])
 pdo_text number WithoutSync =
-    filled (codes "pdo-sync: TPDO%, and since its last one no SYNC came") (decimal number ∷ [])
+    filled (codes "pdo-sync: TPDO% without a SYNC that it may answer") (decimal number ∷ [])
 pdo_text number (FewSyncs syncs kind) = few_text number syncs kind
 pdo_text number (Inhibit passed inhibit) =
     filled (codes "pdo-inhibit: TPDO% % since the last one, its inhibit time is %")
@@ -132,6 +132,12 @@ finding_text details (TwoStates shown held) =
     (state_name shown ∷ state_name held ∷ [])
 finding_text details (HeartbeatLate passed period) =
     filled (codes "heartbeat-late: % since the last one, 1017:00 has % ms")
+    (millis_text passed ∷ decimal period ∷ [])
+finding_text details (LateAfterBootUp passed period) =
+    filled (codes "heartbeat-late: % since the boot-up, 1017:00 has % ms")
+    (millis_text passed ∷ decimal period ∷ [])
+finding_text details (LateAfterTransfer passed period) =
+    filled (codes "heartbeat-late: % since a transfer of 1017:00, which has % ms")
     (millis_text passed ∷ decimal period ∷ [])
 finding_text details (EmergencyLength length) =
     filled (codes "emcy-length: %, not 8") (bytes_text length ∷ [])

@@ -74,7 +74,7 @@ fn pdo_said(number: u8, deviation: Deviation) -> Said
             Value::Number(number as u64),
         ),
         Deviation::WithoutSync => Said::One(
-            "pdo-sync: TPDO%, and since its last one no SYNC came",
+            "pdo-sync: TPDO% without a SYNC that it may answer",
             Value::Number(number as u64),
         ),
         Deviation::FewSyncs(syncs, kind) => few_said(number, syncs, kind),
@@ -249,6 +249,16 @@ fn finding_said(details: Details, finding: Finding) -> Said
         ),
         Finding::HeartbeatLate(passed, period) => Said::Two(
             "heartbeat-late: % since the last one, 1017:00 has % ms",
+            Value::Millis(passed),
+            Value::Number(period as u64),
+        ),
+        Finding::LateAfterBootUp(passed, period) => Said::Two(
+            "heartbeat-late: % since the boot-up, 1017:00 has % ms",
+            Value::Millis(passed),
+            Value::Number(period as u64),
+        ),
+        Finding::LateAfterTransfer(passed, period) => Said::Two(
+            "heartbeat-late: % since a transfer of 1017:00, which has % ms",
             Value::Millis(passed),
             Value::Number(period as u64),
         ),

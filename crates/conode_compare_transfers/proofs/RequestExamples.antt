@@ -22,7 +22,7 @@ use Rattle.conode_compare_transfers.specs.declared.dialogue.Exchange.{Exchange}
 use Rattle.conode_compare_transfers.specs.declared.left.Left.{Left}
 use Rattle.conode_compare_transfers.specs.declared.newest.Newest.TheVariants.{Acknowledge, AllAcknowledged, Answer, Data, LaterAcknowledge, LaterData, LastData, Request}
 use Rattle.conode_compare_transfers.specs.Breaches.{breach_at}
-use Rattle.conode_compare_transfers.specs.Dialogues.{asks_again, awaited_for, dialogue_heard, doubts_request, exchange_in, interrupted, is_certain, is_in_doubt, is_late_answer, is_timed, is_awaited, is_in_turn, leaves_block, leaves_slow, left_after, left_after_answer, may_switch, misses_request, nothing_asked, nothing_left, opens_sub_block, owes, sub_block_after, word_written}
+use Rattle.conode_compare_transfers.specs.Dialogues.{asks_again, awaited_for, dialogue_heard, doubts_request, exchange_in, given_up, interrupted, is_certain, is_in_doubt, is_late_answer, is_timed, is_awaited, is_in_turn, leaves_block, leaves_slow, left_after, left_after_answer, may_switch, misses_request, nothing_asked, nothing_left, opens_sub_block, owes, sub_block_after, word_written}
 use Rattle.conode_compare_transfers.specs.NewestFrames.{newest_after, newest_with}
 use Rattle.conode_compare_transfers.specs.Timeouts.{early_abort, is_late, resumed_after, served_key}
 
@@ -496,6 +496,35 @@ entry_kept : map (λ (d : Dialogue). d.entry) (nothing_asked ∷ given_up_first 
     ≡ None ∷ Some (record { index = 0x2000; sub = 1 }) ∷ Some (record { index = 0x2000; sub = 2 }) ∷ Some (record { index = 0x2000; sub = 1 }) ∷ []
 unfolding dialogue_heard is_certain newest_after newest_with request_row_in response_row_in
 entry_kept = refl
+
+-- ---- a request that isn't answered, which was said
+
+-- 2000:01 is asked for at 2 s, and given up at 3.5 s, as a download in blocks too; the next request doesn't leave it any more
+abbrev unanswered : Dialogue
+unanswered = given_up (sent nothing_asked 2000000 Client (0x40 ∷ 0 ∷ 0x20 ∷ 1 ∷ 0 ∷ 0 ∷ 0 ∷ 0 ∷ [])) 3500000
+
+abbrev asked_next : Dialogue → ℕ → Dialogue
+asked_next before micros = sent before micros Client (0x40 ∷ 0 ∷ 0x20 ∷ 1 ∷ 0 ∷ 0 ∷ 0 ∷ 0 ∷ [])
+
+-- within a second after that it is in doubt, later it isn't
+owed_next : map (λ micros. owes 1000 0 (asked_next unanswered micros)) (4500000 ∷ 4500001 ∷ []) ≡ false ∷ true ∷ []
+unfolding dialogue_heard is_certain newest_after newest_with request_row_in response_row_in
+owed_next = refl
+
+-- without that it is in doubt, however late it comes
+left_next : owes 1000 0 (asked_next (sent nothing_asked 2000000 Client (0x40 ∷ 0 ∷ 0x20 ∷ 1 ∷ 0 ∷ 0 ∷ 0 ∷ 0 ∷ [])) 9000000) ≡ false
+unfolding dialogue_heard is_certain newest_after newest_with request_row_in response_row_in
+left_next = refl
+
+-- the device may await segments of a block download
+block_next : (given_up begun_block 3500000).sub_block ∷ owes 1000 0 (asked_next (given_up begun_block 3500000) 9000000) ∷ [] ≡ true ∷ false ∷ []
+unfolding dialogue_heard is_certain newest_after newest_with request_row_in response_row_in
+block_next = refl
+
+-- its answer, which comes late, is none of an open transfer: later than a second after the request nothing is said of it
+late_answer_after : (exchange_in 1000 0 unanswered 4600000 Server (record { id = 0x585; bytes = 0x43 ∷ 0 ∷ 0x20 ∷ 1 ∷ 1 ∷ 0 ∷ 0 ∷ 0 ∷ [] })).certain ≡ false
+unfolding dialogue_heard exchange_in is_certain newest_after newest_with breach_at request_row_in response_row_in
+late_answer_after = refl
 
 -- ---- how long the client is awaited
 

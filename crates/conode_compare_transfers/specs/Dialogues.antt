@@ -380,10 +380,6 @@ dialogue_heard answer started dialogue micros side frame =
       requested = requested_after side micros dialogue.requested;
     }
 
--- the request wasn't answered in time
-abbrev pub given_up : Dialogue → ℕ → Dialogue
-given_up dialogue micros = record dialogue { asked = None; doubted = Some micros; newest = None }
-
 -- after a reset, a boot-up or an error frame nothing is open any more; what was may be answered all
 -- the same
 abbrev pub interrupted : Dialogue → ℕ → Dialogue
@@ -397,3 +393,8 @@ interrupted dialogue micros = record {
   newest = None;
   requested = dialogue.requested;
 }
+
+-- The request wasn't answered in time, which was said: its transfer isn't followed any more. It may be answered all the
+-- same.
+abbrev pub given_up : Dialogue → ℕ → Dialogue
+given_up dialogue micros = record (interrupted dialogue micros) { doubted = Some micros }

@@ -526,15 +526,6 @@ impl Dialogue {
         }
     }
 
-    /// The request wasn't answered in time, and may be answered later.
-    pub fn give_up(&mut self, micros: u64)
-        ensures { self.new ≡ given_up self.old micros }
-    {
-        self.asked = None;
-        self.doubted = Some(micros);
-        self.newest = None;
-    }
-
     /// The device is reset, booted up, or an error frame came: nothing is open any more. Where
     /// something was, it may be answered all the same.
     pub fn interrupt(&mut self, micros: u64)
@@ -549,5 +540,14 @@ impl Dialogue {
         self.sub_block = self.sub_block || leaves_block(false, &ended);
         self.asked = None;
         self.newest = None;
+    }
+
+    /// The request wasn't answered in time, which was said: its transfer isn't followed any more. It may
+    /// be answered later.
+    pub fn give_up(&mut self, micros: u64)
+        ensures { self.new ≡ given_up self.old micros }
+    {
+        self.interrupt(micros);
+        self.doubted = Some(micros);
     }
 }

@@ -266,6 +266,14 @@ of_modules = refl
 written : written_mismatch (row 0x2000 0 Unsigned8 Ro absent) (1 ∷ []) ≡ Some (Written (key 0x2000 0))
 written = refl
 
+-- 1003:00 can be written, whatever the sheet says; 1003:01, 1002:00 and 1004:00 can't
+errors_emptied : map (λ access. written_mismatch (row 0x1003 0 Unsigned8 access absent) (0 ∷ [])) (Ro ∷ Constant ∷ Rw ∷ []) ≡ None ∷ None ∷ None ∷ []
+errors_emptied = refl
+
+beside_errors : written_mismatch (row 0x1003 1 Unsigned32 Ro absent) (0 ∷ []) ∷ map (λ index. written_mismatch (row index 0 Unsigned8 Ro absent) (0 ∷ [])) (0x1002 ∷ 0x1004 ∷ [])
+    ≡ Some (Written (key 0x1003 1)) ∷ Some (Written (key 0x1002 0)) ∷ Some (Written (key 0x1004 0)) ∷ []
+beside_errors = refl
+
 writeable : written_mismatch (row 0x2000 0 Unsigned8 Rw absent) (1 ∷ []) ≡ None
 writeable = refl
 
@@ -394,6 +402,14 @@ others_read : served true Wo Expedited (Done false) ∷ served false Rw Expedite
 unfolding row_mismatch value_mismatch
 others_read = refl
 
+-- of 1010h and 1011h a client reads what can be stored, whatever the sheet says
+abbrev served_at : ℕ → Option Mismatch
+served_at index = row_mismatch 5 false (given None None) (row index 1 Unsigned32 Wo absent) true (transfer (row index 1 Unsigned32 Wo absent) Upload Expedited 4 (Done false))
+
+stored_read : map served_at (0x100F ∷ 0x1010 ∷ 0x1011 ∷ 0x1012 ∷ []) ≡ Some (ReadServed (key 0x100F 1)) ∷ None ∷ None ∷ Some (ReadServed (key 0x1012 1)) ∷ []
+unfolding row_mismatch value_mismatch
+stored_read = refl
+
 not_by_modules : read_of_modules true 0x1018 2 (0x92 ∷ 1 ∷ 0xF ∷ 0 ∷ []) ∷ read_of_modules true 0x1000 0 (0x91 ∷ 1 ∷ []) ∷ []
     ≡ Some (ValueConst (key 0x1018 2) 0xF0192 0xF0191) ∷ Some (ValueLength (key 0x1000 0) 2 4) ∷ []
 unfolding row_mismatch value_mismatch
@@ -446,13 +462,13 @@ all_four : put Unsigned40 Expedited (0 ∷ 1 ∷ 0 ∷ 0 ∷ []) ∷ put Unsigne
 unfolding row_mismatch
 all_four = refl
 
--- in one frame: of four bytes one counts at least
+-- in one frame: of four bytes none may count
 in_a_frame : map (write (given (Some 2) None) free_text Expedited) (2 ∷ 3 ∷ 4 ∷ []) ≡ None ∷ beyond 3 2 ∷ None ∷ []
 unfolding row_mismatch
 in_a_frame = refl
 
 no_room : map (write (given (Some 0) None) free_text Expedited) (1 ∷ 4 ∷ []) ∷ map (write (given (Some 0) None) free_text Segmented) (0 ∷ 1 ∷ []) ∷ []
-    ≡ (beyond 1 0 ∷ beyond 4 0 ∷ []) ∷ (None ∷ beyond 1 0 ∷ []) ∷ []
+    ≡ (beyond 1 0 ∷ None ∷ []) ∷ (None ∷ beyond 1 0 ∷ []) ∷ []
 unfolding row_mismatch
 no_room = refl
 

@@ -7,7 +7,7 @@ use Rattle.co_frame_aborts.specs.declared.abort_code.AbortCode.{AbortCode}
 use Rattle.co_frame_aborts.specs.AbortCodes.{write_only, object_missing, sub_index_missing}
 use Rattle.co_profile.specs.declared.access.Access.{Access}
 use Rattle.co_profile.specs.declared.access.Access.TheVariants.{Ro, Wo, Constant}
-use Rattle.co_profile.specs.Indices.{device_type, error_field, error_register, identity, sdo_server}
+use Rattle.co_profile.specs.Indices.{device_type, error_field, error_register, identity, restore_parameters, sdo_server, store_parameters}
 use Rattle.co_sheet.specs.Content.{Row}
 use Rattle.co_sheet.specs.Limits.{Default, text, pairs}
 use Rattle.co_value.specs.declared.data_type.DataType.{DataType}
@@ -224,9 +224,17 @@ is_within row bytes =
     is_number row bytes
     && not (is_above row.high (numbers.number_of row.data_type bytes) || is_below row.low (numbers.number_of row.data_type bytes))
 
--- `access-write`: the data sheet has the entry as read only
+-- 1003:00, which a client writes 0 to, to empty the list of errors (CiA 301, 7.5.2.4), whatever the sheet says
+abbrev pub is_error_count : Key → Bool
+is_error_count key = (key.index == error_field) && (key.sub == 0)
+
+-- the data sheet has the entry as read only, and CiA 301 has it so, or leaves it to the sheet
+abbrev pub is_closed : Row → Bool
+is_closed row = is_read_only row.access && not (is_error_count row.key)
+
+-- `access-write`
 abbrev pub written_mismatch : Row → List ℕ → Option Mismatch
-written_mismatch row bytes = if is_read_only row.access then Some (Written row.key) else beyond_mismatch row bytes
+written_mismatch row bytes = if is_closed row then Some (Written row.key) else beyond_mismatch row bytes
 
 -- ---- room
 
@@ -251,11 +259,11 @@ room_of rooms row =
     if nat_le 0x2000 row.key.index && not (is_read_only row.access) then room_by rooms row row.data_type else None
 
 -- So many bytes of a download count at least. A last segment with n = 0 has seven, of which up to six
--- may not; of four in one frame the size may not be indicated.
+-- may not; of four in one frame, where the size may not be indicated, none may.
 abbrev pub least_bytes : Protocol → ℕ → ℕ
 least_bytes Block count = count
 least_bytes Segmented count = if count % 7 == 0 then count - 6 else count
-least_bytes protocol count = if nat_lt count 4 then count else 1
+least_bytes protocol count = if nat_lt count 4 then count else 0
 
 -- `access-limits`: more bytes were written than there is room for
 abbrev pub over_room : Row → Protocol → ℕ → ℕ → Option Mismatch
@@ -283,9 +291,14 @@ abbrev pub unless_modules : Bool → Option Mismatch → Option Mismatch
 unless_modules modular None = None
 unless_modules modular (Some mismatch) = if modular && is_by_modules mismatch then None else Some mismatch
 
+-- 1010h and 1011h, of which a client reads what the device can store and restore (CiA 301, 7.5.2.13 and 7.5.2.14),
+-- whatever the sheet says
+abbrev pub is_stored : ℕ → Bool
+is_stored index = (index == store_parameters) || (index == restore_parameters)
+
 -- `access-read`: the data sheet has the entry as write only
 abbrev pub served_mismatch : Bool → Row → Option Mismatch
-served_mismatch modular row = if modular then None else Some (ReadServed row.key)
+served_mismatch modular row = if modular || is_stored row.key.index then None else Some (ReadServed row.key)
 
 -- of an upload that is done; whether the device is modular
 abbrev pub read_mismatch : ℕ → Bool → Row → Bool → Ended → Option Mismatch

@@ -16,7 +16,7 @@ pub use mismatch::Mismatch;
 pub use rooms::Rooms;
 pub use rpdo_writes::{Brought, RpdoValue, RpdoWrites, all_fit};
 pub use values::{
-    beyond_mismatch, has_limits, is_comparable, is_held, is_other_text, is_read_only, is_readable,
-    is_within, mismatch_at, profile_in, shown_number,
+    beyond_mismatch, has_limits, is_closed, is_comparable, is_held, is_other_text, is_read_only,
+    is_readable, is_stored, is_within, mismatch_at, profile_in, shown_number,
 };
 pub use written::{HeldMismatch, Written, differs, is_done, is_restricted, number_written};

@@ -51,7 +51,7 @@ fn least_bytes(protocol: Protocol, count: u64) -> u64
                 count
             }
         }
-        _ => { if count < 4 { count } else { 1 } }
+        _ => { if count < 4 { count } else { 0 } }
     }
 }
 

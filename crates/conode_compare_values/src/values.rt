@@ -21,7 +21,9 @@ ghost use Rattle.conode_compare_values.specs.SheetValues.{
   is_below,
   is_boolean,
   is_by_modules,
+  is_closed,
   is_comparable,
+  is_error_count,
   is_first,
   is_held,
   is_its_own,
@@ -34,6 +36,7 @@ ghost use Rattle.conode_compare_values.specs.SheetValues.{
   is_printed,
   is_readable,
   is_read_only,
+  is_stored,
   is_version,
   is_visible,
   is_within,
@@ -58,7 +61,10 @@ ghost use Rattle.conode_compare_values.specs.SheetValues.{
 use crate::mismatch::Mismatch;
 use crate::rooms::Rooms;
 use co_frame::AbortCode;
-use co_profile::{Access, DEVICE_TYPE, ERROR_FIELD, ERROR_REGISTER, IDENTITY, IndexRange};
+use co_profile::{
+    Access, DEVICE_TYPE, ERROR_FIELD, ERROR_REGISTER, IDENTITY, IndexRange, RESTORE_PARAMETERS,
+    STORE_PARAMETERS,
+};
 use co_sheet::EntryRow;
 use co_sheet_changes::row_at;
 use co_sheet_rows::Preset;
@@ -442,11 +448,25 @@ pub fn is_within(row: &EntryRow<'_>, bytes: &[u8]) -> bool
     }
 }
 
+// whether an entry is 1003:00, which a client writes 0 to, to empty the list of errors
+fn is_error_count(key: Key) -> bool
+    ensures { result ≡ is_error_count key }
+{
+    key.index == ERROR_FIELD && key.sub == 0
+}
+
+/// Whether the data sheet has an entry as read only, and CiA 301 doesn't let a client write it.
+pub fn is_closed(row: &EntryRow<'_>) -> bool
+    ensures { result ≡ is_closed (row_view row.now) }
+{
+    is_read_only(row.access) && !is_error_count(row.key)
+}
+
 // the difference of bytes that were downloaded
 fn written_mismatch(row: &EntryRow<'_>, bytes: &[u8]) -> Option<Mismatch>
     ensures { result ≡ written_mismatch (row_view row.now) bytes.now }
 {
-    if is_read_only(row.access) {
+    if is_closed(row) {
         Some(Mismatch::Written(row.key))
     } else {
         beyond_mismatch(row, bytes)
@@ -516,11 +536,19 @@ fn unless_modules(modular: bool, found: Option<Mismatch>) -> Option<Mismatch>
     }
 }
 
+/// Whether an object is 1010h or 1011h, of which a client reads what the device can store and
+/// restore, whatever the data sheet says.
+pub fn is_stored(index: u16) -> bool
+    ensures { result ≡ is_stored index }
+{
+    index == STORE_PARAMETERS || index == RESTORE_PARAMETERS
+}
+
 // the difference of an upload that is done, of an entry that is write only
 fn served_mismatch(modular: bool, row: &EntryRow<'_>) -> Option<Mismatch>
     ensures { result ≡ served_mismatch modular (row_view row.now) }
 {
-    if modular {
+    if modular || is_stored(row.key.index) {
         None
     } else {
         Some(Mismatch::ReadServed(row.key))
