@@ -87,6 +87,15 @@ not_early : early_remark limits (Some 1000) pulse 980004 5 ≡ None
 unfolding early_remark
 not_early = refl
 
+-- in a recording without stamps
+same_stamp : early_remark limits (Some 1000) pulse 4 5 ≡ None
+unfolding early_remark
+same_stamp = refl
+
+just_later : early_remark limits (Some 1000) pulse 5 5 ≡ Some (EarlyHeartbeat 1 1000)
+unfolding early_remark
+just_later = refl
+
 no_period : early_remark limits (Some 0) pulse 5 5 ≡ None
 unfolding early_remark
 no_period = refl

@@ -113,6 +113,15 @@ again : second_boot_up (Some 0) 1000001 ≡ None
 unfolding second_boot_up
 again = refl
 
+-- in a recording without stamps
+same_stamp : second_boot_up (Some 5) 5 ≡ None
+unfolding second_boot_up
+same_stamp = refl
+
+just_later : second_boot_up (Some 5) 6 ≡ Some (SecondBootUp 1)
+unfolding second_boot_up
+just_later = refl
+
 -- a boot-up without a reset
 restarted : restart_remark limits (record { state = Stopped; commanded = None; reset = Some 5; several = false; booted = None; due = Unknown; followed = None; changed = None; strayed = Unknown; mixed = false; odd = None; leaving = Nothing }) 9000000 ≡ Some Restarted
 unfolding restart_remark second_boot_up

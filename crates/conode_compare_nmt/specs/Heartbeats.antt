@@ -285,7 +285,7 @@ least_time limits period = micros_of period - micros_of limits.tolerance - drift
 
 abbrev pub early_after : Limits → Bool → ℕ → ℕ → Option Remark
 early_after limits guarded period passed =
-    if guarded || nat_le (least_time limits period) passed then None else Some (EarlyHeartbeat passed period)
+    if guarded || (passed == 0) || nat_le (least_time limits period) passed then None else Some (EarlyHeartbeat passed period)
 
 abbrev pub early_since : Limits → Bool → ℕ → Option ℕ → ℕ → Option Remark
 early_since limits guarded period None micros = None
@@ -296,7 +296,8 @@ early_with limits guarded None sent micros = None
 early_with limits guarded (Some period) sent micros = early_since limits guarded period sent micros
 
 -- `choice-heartbeat`: it comes sooner than its period after the last one, the boot-up, or the request
--- to write 1017:00; answers of node guarding aren't looked at
+-- to write 1017:00; answers of node guarding aren't looked at, nor a heartbeat with the stamp of the last one, as in a
+-- recording without stamps
 unfoldable pub early_remark : Limits → Option ℕ → Heartbeats → ℕ → ℕ → Option Remark
 early_remark limits period heartbeats micros byte =
     early_with limits (heartbeats.guarded || is_guarded_state byte) period heartbeats.sent micros

@@ -1,6 +1,6 @@
 -- The NMT state of a device, as commands and its own frames have it (CiA 301, 7.3.2.2), and what it
 -- does otherwise.
-use Rattle.std.specs.Prelude.{ℕ, ◌-◌, ◌==◌, Bool, true, false, not, ◌&&◌, ◌||◌, if◌then◌else◌, Option, Some, None, is_some, option_map, option_and_then}
+use Rattle.std.specs.Prelude.{ℕ, ◌-◌, ◌==◌, nat_le, Bool, true, false, not, ◌&&◌, ◌||◌, if◌then◌else◌, Option, Some, None, is_some, option_map, option_and_then}
 use Rattle.std.specs.Option.{option_map_or}
 use Rattle.co_frame.specs.declared.nmt.NmtService.{NmtService}
 use Rattle.co_frame.specs.declared.nmt.NmtService.TheVariants.{Start, Stop, EnterPreOperational, ResetNode, ResetCommunication}
@@ -132,10 +132,11 @@ boot_finding limits nmt micros = option_map (λ waited. BootMissing waited) (awa
 -- `second-sender`: another boot-up within a second, and only one was due. Between them came no reset
 -- command, and no heartbeat, answer or EMCY of the device; a PDO may be another node's. A device that
 -- is switched off and on by hand takes longer than a second, but perhaps not longer than a boot-up may
--- take.
+-- take. Two with one stamp, as in a recording without stamps, may be far apart.
 unfoldable pub second_boot_up : Option ℕ → ℕ → Option Finding
 second_boot_up None micros = None
-second_boot_up (Some booted) micros = if is_past booted 1000 micros then None else Some (SecondBootUp (micros - booted))
+second_boot_up (Some booted) micros =
+    if nat_le micros booted || is_past booted 1000 micros then None else Some (SecondBootUp (micros - booted))
 
 -- more than one boot-up may still come: the newest reset isn't so old that its boot-up would be
 -- overdue

@@ -231,7 +231,7 @@ impl Heartbeats {
         let least = micros_of(period as u32)
             .saturating_sub(micros_of(limits.tolerance))
             .saturating_sub(drift_of(limits, period));
-        if self.guarded || is_guarded_state(byte) || passed >= least {
+        if self.guarded || is_guarded_state(byte) || passed == 0 || passed >= least {
             return None;
         }
         Some(Remark::EarlyHeartbeat(passed, period))

@@ -350,10 +350,10 @@ impl Nmt {
         ensures { result ≡ second_boot_up self.now.booted micros }
     {
         match self.booted {
-            Some(booted) if !is_past(booted, SECOND_BOOT_UP, micros) => {
-                Some(Finding::SecondBootUp(micros.saturating_sub(booted)))
-            }
-            _ => None,
+            // (two with one stamp, as in a recording without stamps, may be far apart)
+            Some(booted) if micros <= booted || is_past(booted, SECOND_BOOT_UP, micros) => None,
+            Some(booted) => Some(Finding::SecondBootUp(micros.saturating_sub(booted))),
+            None => None,
         }
     }
 
