@@ -39,7 +39,7 @@
 extern "C" {
 #endif
 
-#define BAFOKUN_VERSION "0.34.0"
+#define BAFOKUN_VERSION "0.35.0"
 #define BAFOKUN_VERSION_MAJOR 0
 #define BAFOKUN_VERSION_MINOR 34
 #define BAFOKUN_VERSION_PATCH 0
