@@ -1,6 +1,6 @@
 -- What `explain` says in words of its own, where `decode` says it otherwise: SDO frames with a size, which is a number
 -- of bytes or that of the segments in a sub-block (CiA 301, 7.2.4.3), and NMT commands to all nodes (7.2.8.3.1).
-use Rattle.std.specs.Prelude.{ℕ, ◌-◌, ◌==◌, Bool, true, false, if◌then◌else◌, List, ◌++◌, codes, decimal, Option, Some, None, option_map, option_and_then}
+use Rattle.std.specs.Prelude.{ℕ, ◌-◌, ◌==◌, Bool, true, false, if◌then◌else◌, List, [], ◌++◌, codes, decimal, Option, Some, None, option_map, option_and_then}
 use Rattle.std.specs.Option.{option_or}
 use Rattle.co_value.specs.declared.key.Key.{Key}
 use Rattle.co_value.specs.KeyTexts.{key_text}
@@ -79,9 +79,16 @@ abbrev pub subject_key : Subject → Option Key
 subject_key (Entry key) = Some key
 subject_key (Segment number) = None
 
+-- a number between words
+unfoldable pub counted_text : List ℕ → ℕ → List ℕ → List ℕ
+counted_text front count end = front ++ decimal count ++ end
+
+abbrev pub bytes_words : ℕ → List ℕ
+bytes_words count = if count == 1 then codes " byte" else codes " bytes"
+
 abbrev pub size_text : FrameSize → List ℕ
-size_text (Bytes count) = codes " " ++ decimal count ++ (if count == 1 then codes " byte" else codes " bytes")
-size_text (Segments count) = codes " block size " ++ decimal count
+size_text (Bytes count) = counted_text (codes " ") count (bytes_words count)
+size_text (Segments count) = counted_text (codes " block size ") count []
 
 -- with the name of the entry
 unfoldable pub sized_text : Names → SizedFrame → List ℕ

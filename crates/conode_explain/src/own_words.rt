@@ -5,6 +5,8 @@ ghost use Rattle.std.specs.Prelude.{◌≡◌, [], ◌++◌, is_some, unwrap_or,
 ghost use Rattle.co_sheet_changes.specs.Names.{names_view};
 ghost use Rattle.conode_decode.specs.Names.{name_text};
 ghost use Rattle.conode_explain.specs.OwnWords.{
+  bytes_words,
+  counted_text,
   in_blocks,
   own_words,
   service_to_all,
@@ -240,19 +242,29 @@ fn subject_key(subject: Subject) -> Option<Key>
     }
 }
 
+// a number between words
+#[tactic(auto, unfolding(crate::specs::OwnWords::counted_text))]
+fn push_counted(said: &mut String, front: &str, count: u32, end: &str) -> Result<(), AllocError>
+    ensures { OnOk result (string_bytes said.new
+        ≡ string_bytes said.old ++ counted_text front.now count end.now) }
+{
+    attempt!(said.push_str(front));
+    attempt!(push_decimal(said, count as u64));
+    said.push_str(end)
+}
+
+fn bytes_words(count: u32) -> &'static str
+    ensures { result.now ≡ bytes_words count }
+{
+    if count == 1 { " byte" } else { " bytes" }
+}
+
 fn push_size(said: &mut String, size: FrameSize) -> Result<(), AllocError>
     ensures { OnOk result (string_bytes said.new ≡ string_bytes said.old ++ size_text size) }
 {
     match size {
-        FrameSize::Bytes(count) => {
-            attempt!(said.push_str(" "));
-            attempt!(push_decimal(said, count as u64));
-            said.push_str(if count == 1 { " byte" } else { " bytes" })
-        }
-        FrameSize::Segments(count) => {
-            attempt!(said.push_str(" block size "));
-            push_decimal(said, count as u64)
-        }
+        FrameSize::Bytes(count) => push_counted(said, " ", count, bytes_words(count)),
+        FrameSize::Segments(count) => push_counted(said, " block size ", count as u32, ""),
     }
 }
 
