@@ -1,12 +1,12 @@
 //! What no rule mends: the faults of a text that was rewritten, at the lines that they come from.
 
-use crate::origins::{at_source, lines_of};
+use crate::origins::{at_source, has_values, lines_of};
 use co_sheet_adapt::{Adapted, is_inconvertible};
 use co_sheet_changes::{
     AdaptFault, ChangeKind, Group, Line, Piece, Request, groups_in, is_preset, on_request,
 };
 use co_sheet_faults::{FaultKind, SheetFault, find_faults, fix_of, meaning_of, subject_of};
-use co_sheet_text::{number_in, same_name, trim};
+use co_sheet_text::{SectionKind, number_in, same_name, trim};
 use co_text::split_at_first;
 use conode_json::characters_of;
 use conode_lint_text::{About, Finding, Place, Severity, missing_section, push_finding, push_more};
@@ -138,25 +138,35 @@ fn group_around<'g, 's, 'a>(groups: &'g [Group<'s, 'a>], line: usize) -> Option<
     around
 }
 
-// appends a line for each value of a section that keeps its type, of this code, from being replaced
+// appends that a line's value keeps its type, of this code, from being replaced, if it does
 fn push_inconvertible(
     report: &mut String,
-    group: &Group<'_, '_>,
+    line: &Line<'_>,
     code: u64,
+    is_value: bool,
 ) -> Result<(), AllocError> {
-    for line in group.body {
-        match line.property() {
-            Some((name, value)) if is_preset(name) && is_inconvertible(code, value) => {
-                attempt!(push_filled(
-                    report,
-                    "  note: the value in line % can't be converted\n",
-                    &[Value::Number(line.number as u64)],
-                ));
+    match line.property() {
+        Some((name, value)) if (is_value || is_preset(name)) && is_inconvertible(code, value) => {
+            push_filled(
+                report,
+                "  note: the value in line % can't be converted\n",
+                &[Value::Number(line.number as u64)],
+            )
+        }
+        _ => Ok(()),
+    }
+}
+
+// the code of the type of the object whose values a section has, as `[2300Value]`
+fn type_of_values(groups: &[Group<'_, '_>], values: &Group<'_, '_>) -> Option<u64> {
+    for group in groups {
+        if let SectionKind::Object(index) = group.kind {
+            if has_values(values, index) {
+                return group.number(b"DataType");
             }
-            _ => {}
         }
     }
-    Ok(())
+    None
 }
 
 // a file whose faults are reported: its name, its lines and sections, and the lines of the limits
@@ -170,15 +180,34 @@ struct Source<'s, 'g, 'a> {
 }
 
 impl Source<'_, '_, '_> {
-    // appends what keeps the type in a line from being replaced
+    // appends the values that keep the type in a line from being replaced
     fn push_reasons(&self, report: &mut String, line: usize) -> Result<(), AllocError> {
         let Some(group) = group_around(self.groups, line) else {
             return Ok(());
         };
-        match group.number(b"DataType") {
-            Some(code) => push_inconvertible(report, group, code),
-            None => Ok(()),
+        let Some(code) = group.number(b"DataType") else {
+            return Ok(());
+        };
+        for line in group.body {
+            attempt!(push_inconvertible(report, line, code, false));
         }
+        Ok(())
+    }
+
+    // the same of a value of `[..Value]` in a line
+    fn push_value_reason(&self, report: &mut String, number: usize) -> Result<(), AllocError> {
+        let Some(group) = group_around(self.groups, number) else {
+            return Ok(());
+        };
+        let Some(code) = type_of_values(self.groups, group) else {
+            return Ok(());
+        };
+        for line in group.body {
+            if line.number == number {
+                return push_inconvertible(report, line, code, true);
+            }
+        }
+        Ok(())
     }
 
     fn is_forced(&self, line: usize) -> bool {
@@ -199,6 +228,9 @@ impl Source<'_, '_, '_> {
         }
         if fault.kind == FaultKind::LeftOutType {
             return self.push_reasons(report, fault.line);
+        }
+        if fault.kind == FaultKind::BadNumber {
+            attempt!(self.push_value_reason(report, fault.line));
         }
         if self.is_forced(fault.line) {
             return report.push_str("  note: --force makes this limit a comment\n");
