@@ -1,6 +1,6 @@
 -- A comment before a text: the same sections, one line later.
-use Rattle.std.proofs.Common.{◌≡◌, ℕ, suc, ◌+◌, ◌-◌, ◌<◌, Bool, true, false, ◌||◌, cond, true≢false, List, [], ◌∷◌, ◌++◌, length, reverse, take, map, refl, sym, ◌∙◌, ap, arith}
-use Rattle.std.specs.Prelude.{Option, Some, None, is_none, flat_map, option_map, filter_map, ◌==◌, nat_lt, if◌then◌else◌}
+use Rattle.std.proofs.Common.{◌≡◌, ℕ, suc, ◌+◌, ◌-◌, ◌<◌, Bool, true, false, ◌||◌, cond, true≢false, List, [], ◌∷◌, ◌++◌, length, reverse, take, drop, map, refl, sym, ◌∙◌, ap, arith}
+use Rattle.std.specs.Prelude.{Option, Some, None, is_none, flat_map, option_map, filter_map, ◌&&◌, ◌==◌, nat_lt, if◌then◌else◌}
 use Rattle.std.specs.List.{list_any, slice_split, onto_first, cons_option}
 use Rattle.std.specs.Str.Lines.{lines, lines_of_parts, strip_carriage_return}
 use Rattle.std.proofs.lemmas.Bool.Decides.{nat_tests}
@@ -15,7 +15,7 @@ use Rattle.co_sheet_rows.specs.declared.fault.SheetFault.{SheetFault}
 use Rattle.co_sheet.specs.Accepted.{first_fault, sections_in}
 use Rattle.co_sheet_changes.specs.Pieces.{written}
 use Rattle.co_sheet_adapt.specs.Pieces.{all_pieces}
-use Rattle.co_sheet_adapt.specs.Adapted.{adapted_text, shown_byte, comment_front, comment_end, comment_line, comment_text, commented, property_later, one_later}
+use Rattle.co_sheet_adapt.specs.Adapted.{adapted_text, shown_byte, comment_front, comment_end, comment_line, comment_text, commented, property_later, one_later, returns_first}
 use Rattle.co_sheet_changes.proofs.LineLemmas.{numbered}
 
 -- ---- lines one later
@@ -161,24 +161,41 @@ strip-skipped y ys =
 skipped-first : (form : LineForm) (n : ℕ) (body : List Line) → form ≡ skipped → section_begun form n body ≡ []
 skipped-first form n body e = ap (λ (f : LineForm). section_begun f n body) e
 
+-- a text after a line that is a comment
+front-later : (y : ℕ) (ys text : List ℕ) → list_any is_line_feed (59 ∷ y ∷ ys) ≡ false →
+    sections_in ((59 ∷ y ∷ ys) ++ 10 ∷ without_mark text) ≡ map one_later (sections_in text)
+front-later y ys text none =
+    let front = 59 ∷ y ∷ ys in
+    let rest = without_mark text in
+    let ls = lines rest in
+    let first : Line = record { number = 1; bytes = strip_carriage_return front } in
+    ap (λ (l : List (List ℕ)). sections_of (numbered 1 l)) (lines-front front rest none)
+    ∙ ap (λ (s : List TextSection). s ++ sections_of (numbered 2 ls))
+    (skipped-first (line_form first) 1 (body_of (numbered 2 ls)) (strip-skipped y ys))
+    ∙ ap sections_of (numbered-later 1 ls) ∙ sections-later (numbered 1 ls)
+
+-- with CR at its end
+returned-no-feed : (by : List ℕ) → list_any is_line_feed (comment_text by ++ 13 ∷ []) ≡ false
+returned-no-feed by =
+    list_any-append is_line_feed (comment_text by) (13 ∷ []) ∙ ap (λ (t : Bool). t || false) (comment-no-feed by)
+
+returned : (comment rest : List ℕ) → (comment ++ 13 ∷ 10 ∷ []) ++ rest ≡ (comment ++ 13 ∷ []) ++ 10 ∷ rest
+returned comment rest = append_assoc comment (13 ∷ 10 ∷ []) rest ∙ sym (append_assoc comment (13 ∷ []) (10 ∷ rest))
+
 pub commented-later : (by text : List ℕ) → sections_in (commented by text) ≡ map one_later (sections_in text)
 unfolding comment_front comment_end
 commented-later by text =
     let rest = without_mark text in
-    let ls = lines rest in
-    let first : Line = record { number = 1; bytes = strip_carriage_return (comment_text by) } in
-    let whole : commented by text ≡ comment_text by ++ 10 ∷ rest = append_assoc (comment_text by) (10 ∷ []) rest in
-    let cut : lines (without_mark (commented by text)) ≡ strip_carriage_return (comment_text by) ∷ ls =
-    ap lines whole ∙ lines-front (comment_text by) rest (comment-no-feed by) in
-    ap (λ (l : List (List ℕ)). sections_of (numbered 1 l)) cut
-    ∙ ap (λ (s : List TextSection). s ++ sections_of (numbered 2 ls))
-    (skipped-first (line_form first) 1 (body_of (numbered 2 ls)) (strip-skipped 32 (Rattle.std.specs.Prelude.drop 2 (comment_text by))))
-    ∙ ap sections_of (numbered-later 1 ls) ∙ sections-later (numbered 1 ls)
+    let tail = drop 2 (comment_text by) in
+    elim (returns_first text) as (λ b. sections_in (comment_line b by ++ rest) ≡ map one_later (sections_in text)) [
+      | true ↦ ap sections_in (returned (comment_text by) rest) ∙ front-later 32 (tail ++ 13 ∷ []) text (returned-no-feed by)
+      | false ↦ ap sections_in (append_assoc (comment_text by) (10 ∷ []) rest) ∙ front-later 32 tail text (comment-no-feed by)
+    ]
 
 -- a text that is accepted stays
 pub accepted-stays : (by text : List ℕ) → first_fault text ≡ None → adapted_text by text ≡ commented by text
 accepted-stays by text e =
-    ap (λ (o : Option SheetFault). comment_line by ++ (if is_none o then without_mark text else flat_map written (all_pieces (lines_of text)))) e
+    ap (λ (o : Option SheetFault). comment_line (is_none o && returns_first text) by ++ (if is_none o then without_mark text else flat_map written (all_pieces (lines_of text)))) e
 
 pub accepted-later : (by text : List ℕ) → first_fault text ≡ None → sections_in (adapted_text by text) ≡ map one_later (sections_in text)
 accepted-later by text e = ap sections_in (accepted-stays by text e) ∙ commented-later by text

@@ -9,7 +9,7 @@ use Rattle.co_sheet_text.specs.Text.{lines_of}
 use Rattle.co_sheet_changes.specs.declared.change.ChangeKind.{ChangeKind}
 use Rattle.co_sheet_changes.specs.declared.change.ChangeKind.TheVariants.{SectionName, ListKey, SubIndex0, DataType, RealLimit, RealValue, UnicodeValue, UnsignedLimit, SignExtended, OctetBlanks}
 use Rattle.co_sheet_adapt.specs.declared.left_out.LeftOut.TheVariants.{Real32, UnicodeString, TimeOfDay}
-use Rattle.co_sheet_adapt.specs.LeftOut.{left_out_with, real32_bits, real64_bits, value_in_place}
+use Rattle.co_sheet_adapt.specs.LeftOut.{is_inconvertible, left_out_with, real32_bits, real64_bits, value_in_place}
 use Rattle.co_sheet_changes.specs.Limits.{is_whole_unsigned}
 use Rattle.co_sheet_adapt.specs.Values.{sign_extended, pairs_without_blanks}
 use Rattle.co_sheet_adapt.specs.Named.{index_named, sub_named}
@@ -17,7 +17,7 @@ use Rattle.co_sheet_adapt.specs.Facts.{count_of}
 use Rattle.co_sheet_changes.specs.Pieces.{Piece, kept, changed}
 use Rattle.co_sheet_adapt.specs.Pieces.{is_padded, is_written_first, all_pieces}
 use Rattle.co_sheet_changes.specs.Pieces.{assigned}
-use Rattle.co_sheet_adapt.specs.Adapted.{comment_front, comment_end, comment_line}
+use Rattle.co_sheet_adapt.specs.Adapted.{comment_front, comment_end, comment_line, returns_first}
 
 abbrev pieces : List ℕ → List Piece
 pieces text = all_pieces (lines_of text)
@@ -27,9 +27,20 @@ change_at line why old new = changed (record { line = line; kind = why; old = ol
 
 -- ---- the first line
 
-comment : comment_line (codes "conode 1 from a\nb") ≡ codes "; adapted by conode 1 from a?b: not for configuration tools\n"
+comment : comment_line false (codes "conode 1 from a\nb") ≡ codes "; adapted by conode 1 from a?b: not for configuration tools\n"
 unfolding comment_front comment_end
 comment = refl
+
+comment_with_return : comment_line true (codes "conode 1") ≡ codes "; adapted by conode 1: not for configuration tools\r\n"
+unfolding comment_front comment_end
+comment_with_return = refl
+
+-- the first line's end
+returns : map returns_first (codes "a=1\r\nb" ∷ codes "\r\n" ∷ codes "a\r\r\n" ∷ []) ≡ true ∷ true ∷ true ∷ []
+returns = refl
+
+feeds : map returns_first (codes "" ∷ codes "a=1\r" ∷ codes "a=1\nb\r\n" ∷ codes "\n" ∷ codes "a\rb\n" ∷ []) ≡ false ∷ false ∷ false ∷ false ∷ false ∷ []
+feeds = refl
 
 -- ---- object lists
 
@@ -166,6 +177,13 @@ time = refl
 
 time_of_node : value_in_place TimeOfDay (codes "$NODEID") ≡ None
 time_of_node = refl
+
+kept_back : map (is_inconvertible 8) (codes "12,5" ∷ codes "12.5" ∷ codes "nan" ∷ codes "0x10" ∷ []) ≡ true ∷ false ∷ true ∷ true ∷ []
+unfolding fast_float_on_literals float_is_finite to_bits
+kept_back = refl
+
+kept_back_time : map (λ code. is_inconvertible code (codes "$NODEID")) (0x0B ∷ 0x0C ∷ 0x0D ∷ 0x0E ∷ 7 ∷ []) ≡ false ∷ true ∷ true ∷ false ∷ false ∷ []
+kept_back_time = refl
 
 left_out : map left_out_with (7 ∷ 8 ∷ 9 ∷ 0x0C ∷ []) ≡ None ∷ Some Real32 ∷ None ∷ Some TimeOfDay ∷ []
 left_out = refl

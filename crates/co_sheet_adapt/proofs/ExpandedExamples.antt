@@ -44,3 +44,11 @@ pdos : expanded (codes "[DeviceInfo]\nCompactPDO=3\nNrOfRXPDO=1\nNrOfTXPDO=0\n[O
     ++ codes "[1400sub2]\nParameterName=Transmission type\nDataType=0x0005\nAccessType=rw\nDefaultValue=255\n\n")
 unfolding expanded communication_text object_head keys_of first_section first_keys last_keys sub_head digits digits_text
 pdos = refl
+
+-- a section that is there already comes first, and so counts
+own_section : expanded (codes "[2301]\nObjectType=8\nDataType=5\nCompactSubObj=1\n[2301sub1]\nDataType=6")
+    ≡ Some (codes "[2301]\nObjectType=8\nDataType=5\nCompactSubObj=1\n[2301sub1]\nDataType=6\n"
+    ++ codes "[2301sub0]\nParameterName=Number of entries\nObjectType=0x7\nDataType=0x0005\nAccessType=ro\nDefaultValue=1\nPDOMapping=0\n\n"
+    ++ codes "[2301sub1]\nParameterName= 1\nObjectType=0x7\nDataType=5\n\n")
+unfolding expanded assigned digits digits_text sub_head written_as name_line value_line type_line sub_section compact_first first_keys last_keys first_section
+own_section = refl

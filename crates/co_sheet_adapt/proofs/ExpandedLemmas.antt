@@ -8,7 +8,7 @@ use Rattle.co_value.specs.declared.key.Key.{Key}
 use Rattle.co_sheet_changes.specs.Groups.{Group}
 use Rattle.co_sheet_adapt.specs.CompactPdo.{PdoForm, pdo_form}
 use Rattle.co_sheet_adapt.specs.Named.{text_in_groups}
-use Rattle.co_sheet_adapt.specs.Expanded.{compact_sections, given_by, if_fits}
+use Rattle.co_sheet_adapt.specs.Expanded.{compact_sections, given_by, if_fits, none_own}
 
 -- one more
 pub given_more : {X V Y : Type 0} (view : X → V) (f : V → List Y) (xs : List X) (i : ℕ) (d : X) (before after all : List Y) → i < length xs
@@ -42,10 +42,11 @@ Texts = Key → Option (List ℕ)
 abbrev texts_by : List ℕ → List Group → Texts
 texts_by word groups = λ k. text_in_groups word k groups
 
-pub by_tables : (P : List ℕ → Type 0) (gs : List Group) (names values : Texts) (pdos : Option PdoForm) →
-    names ≡ texts_by (codes "Name") gs → values ≡ texts_by (codes "Value") gs → pdos ≡ pdo_form gs
-    → P (flat_map (given_by names values pdos) gs) → P (compact_sections gs)
-by_tables P gs names values pdos n v p given =
-    subst (λ (o : Option PdoForm). P (flat_map (given_by (texts_by (codes "Name") gs) (texts_by (codes "Value") gs) o) gs)) p
-    (subst (λ (t : Texts). P (flat_map (given_by (texts_by (codes "Name") gs) t pdos) gs)) v
-    (subst (λ (t : Texts). P (flat_map (given_by t values pdos) gs)) n given))
+pub by_tables : (P : List ℕ → Type 0) (gs : List Group) (own names values : Texts) (pdos : Option PdoForm) →
+    own ≡ none_own → names ≡ texts_by (codes "Name") gs → values ≡ texts_by (codes "Value") gs → pdos ≡ pdo_form gs
+    → P (flat_map (given_by own names values pdos) gs) → P (compact_sections gs)
+by_tables P gs own names values pdos o n v p given =
+    subst (λ (f : Option PdoForm). P (flat_map (given_by none_own (texts_by (codes "Name") gs) (texts_by (codes "Value") gs) f) gs)) p
+    (subst (λ (t : Texts). P (flat_map (given_by none_own (texts_by (codes "Name") gs) t pdos) gs)) v
+    (subst (λ (t : Texts). P (flat_map (given_by none_own t values pdos) gs)) n
+    (subst (λ (t : Texts). P (flat_map (given_by t names values pdos) gs)) o given)))

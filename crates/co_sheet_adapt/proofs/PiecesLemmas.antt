@@ -6,7 +6,7 @@ use Rattle.co_value.specs.declared.key.Key.{Key}
 use Rattle.co_sheet_text.specs.Text.{Line}
 use Rattle.co_sheet_changes.specs.Groups.{Group, before_sections, groups_of}
 use Rattle.co_sheet_adapt.specs.CompactPdo.{PdoForm, pdo_form}
-use Rattle.co_sheet_adapt.specs.Named.{text_in_groups}
+use Rattle.co_sheet_adapt.specs.Named.{own_in_groups, text_in_groups}
 use Rattle.co_sheet_changes.specs.Pieces.{Piece, kept_piece}
 use Rattle.co_sheet_adapt.specs.Pieces.{group_pieces, sections_pieces, all_pieces}
 
@@ -17,13 +17,15 @@ abbrev given_by : List ℕ → List Group → Texts
 given_by word groups = λ k. text_in_groups word k groups
 
 -- what holds of the pieces by tables of the sections holds of those of the sections
-pub sections-put-together : (P : List Piece → Type 0) (gs : List Group) (names values : Texts) (pdos : Option PdoForm) →
-    names ≡ given_by (codes "Name") gs → values ≡ given_by (codes "Value") gs → pdos ≡ pdo_form gs
-    → P (flat_map (group_pieces names values pdos) gs) → P (sections_pieces gs)
-sections-put-together P gs names values pdos n v p given =
-    subst (λ (o : Option PdoForm). P (flat_map (group_pieces (given_by (codes "Name") gs) (given_by (codes "Value") gs) o) gs)) p
-    (subst (λ (t : Texts). P (flat_map (group_pieces (given_by (codes "Name") gs) t pdos) gs)) v
-    (subst (λ (t : Texts). P (flat_map (group_pieces t values pdos) gs)) n given))
+pub sections-put-together : (P : List Piece → Type 0) (gs : List Group) (own names values : Texts) (pdos : Option PdoForm) →
+    own ≡ (λ k. own_in_groups k gs) → names ≡ given_by (codes "Name") gs → values ≡ given_by (codes "Value") gs → pdos ≡ pdo_form gs
+    → P (flat_map (group_pieces own names values pdos) gs) → P (sections_pieces gs)
+sections-put-together P gs own names values pdos o n v p given =
+    let its : Texts = λ k. own_in_groups k gs in
+    subst (λ (f : Option PdoForm). P (flat_map (group_pieces its (given_by (codes "Name") gs) (given_by (codes "Value") gs) f) gs)) p
+    (subst (λ (t : Texts). P (flat_map (group_pieces its (given_by (codes "Name") gs) t pdos) gs)) v
+    (subst (λ (t : Texts). P (flat_map (group_pieces its t values pdos) gs)) n
+    (subst (λ (t : Texts). P (flat_map (group_pieces t names values pdos) gs)) o given)))
 
 pub put-together : (lines : List Line) (none first all : List Piece) {front : List Line} →
     none ≡ [] → front ≡ before_sections lines → first ≡ none ++ map kept_piece front

@@ -1,7 +1,7 @@
 -- What is written of a text: a comment that says who adapted it, then the text as it was where it
 -- is accepted, else its pieces.
-use Rattle.std.specs.Prelude.{ℕ, ◌+◌, nat_lt, is_none, if◌then◌else◌, List, [], ◌∷◌, ◌++◌, map, take, codes}
-use Rattle.std.specs.List.{flat_map}
+use Rattle.std.specs.Prelude.{ℕ, ◌+◌, ◌-◌, Bool, true, false, ◌&&◌, ◌==◌, nat_lt, is_none, length, slice_index, if◌then◌else◌, List, [], ◌∷◌, ◌++◌, map, take, codes}
+use Rattle.std.specs.List.{before_first, flat_map, list_any}
 use Rattle.co_sheet_text.specs.Text.{lines_of, without_mark}
 use Rattle.co_sheet_text.specs.Sections.{Property, TextSection}
 use Rattle.co_sheet.specs.Accepted.{first_fault}
@@ -22,8 +22,20 @@ comment_end = codes ": not for configuration tools"
 abbrev pub comment_text : List ℕ → List ℕ
 comment_text by = comment_front ++ map shown_byte (take 256 by) ++ comment_end
 
-abbrev pub comment_line : List ℕ → List ℕ
-comment_line by = comment_text by ++ 10 ∷ []
+-- LF ends a line, or CR and LF
+abbrev pub line_end : Bool → List ℕ
+line_end return = if return then 13 ∷ 10 ∷ [] else 10 ∷ []
+
+abbrev pub comment_line : Bool → List ℕ → List ℕ
+comment_line return by = comment_text by ++ line_end return
+
+-- whether the first line ends with CR and LF
+abbrev pub ends_in_return : List ℕ → Bool
+ends_in_return bytes = slice_index bytes (length bytes - 1) == 13
+
+abbrev pub returns_first : List ℕ → Bool
+returns_first text =
+    list_any (λ b. b == 10) text && ends_in_return (before_first (λ b. b == 10) text)
 
 -- a text that is accepted has no pieces: it stays as it is, but for its byte order mark
 abbrev pub pieces_in : List ℕ → List Piece
@@ -34,12 +46,14 @@ body_in text =
     if is_none (first_fault text) then without_mark text
     else flat_map written (all_pieces (lines_of text))
 
+-- the lines of a text that is rewritten end with LF; the comment of one that stays ends as its first
+-- line does
 abbrev pub adapted_text : List ℕ → List ℕ → List ℕ
-adapted_text by text = comment_line by ++ body_in text
+adapted_text by text = comment_line (is_none (first_fault text) && returns_first text) by ++ body_in text
 
 -- a text that stays, after the comment
 abbrev pub commented : List ℕ → List ℕ → List ℕ
-commented by text = comment_line by ++ without_mark text
+commented by text = comment_line (returns_first text) by ++ without_mark text
 
 -- a section, and each of its properties, one line later
 abbrev pub property_later : Property → Property

@@ -1,5 +1,5 @@
 -- The sub-indices of an object in compact form, each with a section of its own (CiA 306, compact
--- storage): sub-index 0 is an UNSIGNED8 with their number, but for what CiA 301 says of 1003h and of
+-- storage). A section that the sheet has stays. Of the others sub-index 0 is an UNSIGNED8 with their number, but for what CiA 301 says of 1003h and of
 -- mappings; the others are as the object's own keys say.
 use Rattle.std.specs.Prelude.{ℕ, zero, suc, Bool, false, ◌&&◌, ◌||◌, ◌==◌, nat_le, nat_lt, if◌then◌else◌, List, [], ◌∷◌, ◌++◌, flat_map, codes, decimal, Option, Some, None, is_some, unwrap_or}
 use Rattle.std.specs.Option.{option_map_or}
@@ -127,8 +127,17 @@ sub_sections section index zero = []
 sub_sections section index (suc sub) =
     sub_sections section index sub ++ section (record { index = index; sub = suc sub })
 
-abbrev pub compact_text : (Key → Option (List ℕ)) → (Key → Option (List ℕ)) → Facts → Group
-    → ℕ → ℕ → List ℕ
-compact_text names values facts g index count =
-    compact_first g index count
-    ++ sub_sections (sub_section names values facts g (copied_lines facts g)) index count
+-- a sub-index that has a section of its own gets none
+abbrev pub unless_own : (Key → Option (List ℕ)) → (Key → List ℕ) → Key → List ℕ
+unless_own own section key = if is_some (own key) then [] else section key
+
+abbrev pub first_unless_own : (Key → Option (List ℕ)) → Group → ℕ → ℕ → List ℕ
+first_unless_own own g index count =
+    if is_some (own (record { index = index; sub = 0 })) then [] else compact_first g index count
+
+abbrev pub compact_text : (Key → Option (List ℕ)) → (Key → Option (List ℕ))
+    → (Key → Option (List ℕ)) → Facts → Group → ℕ → ℕ → List ℕ
+compact_text own names values facts g index count =
+    first_unless_own own g index count
+    ++ sub_sections (unless_own own (sub_section names values facts g (copied_lines facts g))) index
+    count

@@ -30,8 +30,10 @@ abbrev pub compact_at : SectionKind → Option ℕ → (ℕ → ℕ → List ℕ
 compact_at (Object index) (Some count) text = text index count
 compact_at kind count text = []
 
-abbrev pub compact_of : (Key → Option (List ℕ)) → (Key → Option (List ℕ)) → Facts → Group → List ℕ
-compact_of names values facts g = compact_at g.kind facts.compact (compact_text names values facts g)
+abbrev pub compact_of : (Key → Option (List ℕ)) → (Key → Option (List ℕ)) → (Key → Option (List ℕ))
+    → Facts → Group → List ℕ
+compact_of own names values facts g =
+    compact_at g.kind facts.compact (compact_text own names values facts g)
 
 -- the sections of the objects of PDOs in compact form
 abbrev pub pdo_objects : Option PdoForm → SectionKind → List ℕ
@@ -39,14 +41,19 @@ pdo_objects (Some form) DeviceInfo = flat_map (object_text form.subs) form.absen
 pdo_objects form kind = []
 
 -- what a section gives
-abbrev pub given_by : (Key → Option (List ℕ)) → (Key → Option (List ℕ)) → Option PdoForm → Group → List ℕ
-given_by names values pdos g =
-    compact_of names values (facts_as_written g) g ++ pdo_objects pdos g.kind
+abbrev pub given_by : (Key → Option (List ℕ)) → (Key → Option (List ℕ)) → (Key → Option (List ℕ))
+    → Option PdoForm → Group → List ℕ
+given_by own names values pdos g =
+    compact_of own names values (facts_as_written g) g ++ pdo_objects pdos g.kind
+
+-- a section that the sheet has comes before those, so that it counts, and they are there all the same
+abbrev pub none_own : Key → Option (List ℕ)
+none_own key = None
 
 abbrev pub compact_sections : List Group → List ℕ
 compact_sections groups =
     flat_map
-    (given_by (λ k. text_in_groups (codes "Name") k groups)
+    (given_by none_own (λ k. text_in_groups (codes "Name") k groups)
     (λ k. text_in_groups (codes "Value") k groups) (pdo_form groups)) groups
 
 -- a text, if a data sheet may have as many bytes

@@ -1,6 +1,7 @@
 -- Data types that are left out, and the types of as many bytes that stand for them (CiA 301, data
 -- types).
-use Rattle.std.specs.Prelude.{ℕ, Bool, true, false, ◌==◌, nat_lt, if◌then◌else◌, List, ◌++◌, flat_map, codes, Option, Some, None, option_map, option_and_then, is_ok}
+use Rattle.std.specs.Prelude.{ℕ, Bool, true, false, not, ◌==◌, nat_lt, if◌then◌else◌, List, ◌++◌, flat_map, codes, Option, Some, None, option_map, option_and_then, is_some, is_ok}
+use Rattle.std.specs.Option.{option_map_or}
 use Rattle.std.specs.List.{list_all}
 use Rattle.std.specs.Float.{float_is_finite}
 use Rattle.std.specs.Float.Ieee.{Float, Format, binary32, binary64, to_bits}
@@ -76,3 +77,8 @@ value_in_place Real64 text = option_map (hexadecimal 16) (real64_bits text)
 value_in_place UnicodeString text = utf16_text text
 value_in_place TimeOfDay text = number_text text
 value_in_place TimeDifference text = number_text text
+
+-- a value that keeps the type of a code from being replaced; none where no other stands for the type
+abbrev pub is_inconvertible : ℕ → List ℕ → Bool
+is_inconvertible code value =
+    option_map_or (λ t. not (is_some (value_in_place t value))) (left_out_with code) false

@@ -1,9 +1,11 @@
--- The names and values of the sub-indices of objects in compact form (CiA 306, compact storage).
+-- The names and values of the sub-indices of objects in compact form (CiA 306, compact storage), and
+-- those that have a section of their own.
 use Rattle.std.specs.Prelude.{ℕ, ◌-◌, Bool, false, ◌&&◌, ◌==◌, nat_le, if◌then◌else◌, List, [], ◌∷◌, length, take, drop, Option, Some, None, option_and_then}
 use Rattle.std.specs.Option.{option_or, option_map_or}
 use Rattle.co_value.specs.declared.key.Key.{Key}
+use Rattle.co_value.specs.Keys.{same_key}
 use Rattle.co_sheet_text.specs.declared.section_kind.SectionKind.{SectionKind}
-use Rattle.co_sheet_text.specs.declared.section_kind.SectionKind.TheVariants.{Object}
+use Rattle.co_sheet_text.specs.declared.section_kind.SectionKind.TheVariants.{Object, SubIndex}
 use Rattle.co_sheet_text.specs.Names.{kind_of, number_in}
 use Rattle.co_sheet_text.specs.Numerals.{is_number_in}
 use Rattle.co_sheet_text.specs.Text.{Line, same_name}
@@ -53,3 +55,18 @@ abbrev pub text_in_groups : List ℕ → Key → List Group → Option (List ℕ
 text_in_groups word key [] = None
 text_in_groups word key (g ∷ groups) =
     option_or (text_in_group word key g) (text_in_groups word key groups)
+
+-- ---- sections of their own
+
+-- the name of a section, where it is that of a sub-index
+abbrev pub own_at : Key → SectionKind → List ℕ → Option (List ℕ)
+own_at key (SubIndex own) name = if same_key own key then Some name else None
+own_at key kind name = None
+
+abbrev pub own_in_group : Key → Group → Option (List ℕ)
+own_in_group key g = own_at key g.kind g.name
+
+-- that of the first section of a sub-index
+abbrev pub own_in_groups : Key → List Group → Option (List ℕ)
+own_in_groups key [] = None
+own_in_groups key (g ∷ groups) = option_or (own_in_group key g) (own_in_groups key groups)

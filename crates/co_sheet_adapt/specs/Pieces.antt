@@ -1,13 +1,15 @@
 -- A text in pieces: what each line becomes, and what is added (CiA 306, structure of an EDS, object
 -- lists, object description, compact storage). A line that isn't changed stays as it is.
-use Rattle.std.specs.Prelude.{ℕ, Bool, ◌&&◌, ◌||◌, not, ◌==◌, nat_lt, if◌then◌else◌, List, [], ◌∷◌, ◌++◌, length, map, flat_map, codes, Option, Some, None, is_none, option_and_then}
+use Rattle.std.specs.Prelude.{ℕ, ◌+◌, Bool, ◌&&◌, ◌||◌, not, ◌==◌, nat_lt, if◌then◌else◌, List, [], ◌∷◌, ◌++◌, length, map, flat_map, codes, decimal, Option, Some, None, is_none, option_and_then}
 use Rattle.std.specs.List.{list_all}
-use Rattle.std.specs.Option.{option_map_or, option_or}
+use Rattle.std.specs.Option.{option_or}
+use Rattle.std.specs.Result.{result_ok}
 use Rattle.std.specs.Char.{is_digit}
 use Rattle.co_value.specs.declared.key.Key.{Key}
 use Rattle.co_sheet_text.specs.declared.section_kind.SectionKind.{SectionKind}
 use Rattle.co_sheet_text.specs.declared.section_kind.SectionKind.TheVariants.{Object, SubIndex}
 use Rattle.co_sheet_text.specs.Names.{kind_of, is_read, is_list}
+use Rattle.co_sheet_text.specs.Numerals.{unsigned_number}
 use Rattle.co_sheet_text.specs.Text.{Line, is_empty, same_name}
 use Rattle.co_sheet.specs.ObjectLists.{is_one_of}
 use Rattle.co_sheet_changes.specs.declared.change.ChangeKind.{ChangeKind}
@@ -17,7 +19,7 @@ use Rattle.co_sheet_adapt.specs.declared.facts.Facts.{Facts}
 use Rattle.co_sheet_changes.specs.Groups.{Group, property_in, value_in, number_in_group, without_blanks, before_sections, groups_of}
 use Rattle.co_sheet_adapt.specs.Facts.{facts_of}
 use Rattle.co_sheet_adapt.specs.Entries.{entry_change}
-use Rattle.co_sheet_adapt.specs.Named.{text_in_groups}
+use Rattle.co_sheet_adapt.specs.Named.{own_in_groups, text_in_groups}
 use Rattle.co_sheet_adapt.specs.Compact.{compact_text, is_mapping}
 use Rattle.co_sheet_adapt.specs.CompactPdo.{PdoForm, pdo_form, pdo_change, pdo_added}
 
@@ -86,10 +88,16 @@ head_change g =
 
 -- ---- the other lines
 
-abbrev pub compact_change : ℕ → ℕ → List ℕ → Option Mended
-compact_change index count name =
+-- an object in compact form has no section of a sub-index to count, so SubNumber is 0
+abbrev pub is_zero : List ℕ → Bool
+is_zero value = is_one_of (0 ∷ []) (result_ok (unsigned_number value))
+
+abbrev pub compact_change : ℕ → ℕ → List ℕ → List ℕ → Option Mended
+compact_change index count name value =
     if same_name name (codes "CompactSubObj")
     then Some (mended (kind.CompactSubObj index count) (assigned name (codes "0")))
+    else if same_name name (codes "SubNumber") && is_zero value
+    then Some (mended (kind.CompactSubObj index count) (assigned name (decimal (count + 1))))
     else None
 
 -- of a list, of an entry, and of a section that is neither
@@ -99,11 +107,14 @@ other_change k facts name value =
     else if facts.is_entry then entry_change facts name value
     else None
 
+-- what an object in compact form says of its sub-indices is changed in its own section too
+abbrev pub form_change : SectionKind → Option ℕ → List ℕ → List ℕ → Option Mended
+form_change (Object index) (Some count) name value = compact_change index count name value
+form_change k count name value = None
+
 abbrev pub given_change : SectionKind → Facts → List ℕ → List ℕ → Option Mended
-given_change (Object index) facts name value =
-    option_map_or (λ count. compact_change index count name) facts.compact
-    (other_change (Object index) facts name value)
-given_change k facts name value = other_change k facts name value
+given_change k facts name value =
+    option_or (form_change k facts.compact name value) (other_change k facts name value)
 
 -- PDOs in compact form also change lines of two sections
 abbrev pub line_change : Option PdoForm → SectionKind → Facts → List ℕ → List ℕ → Option Mended
@@ -121,22 +132,23 @@ abbrev pub added_at : SectionKind → Option ℕ → (ℕ → ℕ → List ℕ) 
 added_at (Object index) (Some count) text line = added_lines line (text index count) ∷ []
 added_at k count text line = []
 
-abbrev pub added : (Key → Option (List ℕ)) → (Key → Option (List ℕ)) → Facts → Group → List Piece
-added names values facts g =
-    added_at g.kind facts.compact (compact_text names values facts g) g.head.number
+abbrev pub added : (Key → Option (List ℕ)) → (Key → Option (List ℕ)) → (Key → Option (List ℕ))
+    → Facts → Group → List Piece
+added own names values facts g =
+    added_at g.kind facts.compact (compact_text own names values facts g) g.head.number
 
 abbrev pub own_pieces : Option PdoForm → Facts → Group → List Piece
 own_pieces pdos facts g = piece_of g.head (head_change g) ∷ map (line_piece pdos g.kind facts) g.body
 
-abbrev pub group_pieces : (Key → Option (List ℕ)) → (Key → Option (List ℕ)) → Option PdoForm → Group
-    → List Piece
-group_pieces names values pdos g =
-    own_pieces pdos (facts_of g) g ++ added names values (facts_of g) g ++ pdo_added pdos g
+abbrev pub group_pieces : (Key → Option (List ℕ)) → (Key → Option (List ℕ))
+    → (Key → Option (List ℕ)) → Option PdoForm → Group → List Piece
+group_pieces own names values pdos g =
+    own_pieces pdos (facts_of g) g ++ added own names values (facts_of g) g ++ pdo_added pdos g
 
 abbrev pub sections_pieces : List Group → List Piece
 sections_pieces groups =
     flat_map
-    (group_pieces (λ k. text_in_groups (codes "Name") k groups)
+    (group_pieces (λ k. own_in_groups k groups) (λ k. text_in_groups (codes "Name") k groups)
     (λ k. text_in_groups (codes "Value") k groups) (pdo_form groups)) groups
 
 abbrev pub all_pieces : List Line → List Piece

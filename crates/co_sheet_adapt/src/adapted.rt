@@ -11,8 +11,10 @@ ghost use Rattle.co_sheet_adapt.specs.Adapted.{
   comment_end,
   comment_front,
   comment_line,
+  ends_in_return,
+  line_end,
+  returns_first,
   pieces_in,
-  body_in,
   adapted_text,
   commented,
   object_later,
@@ -25,6 +27,7 @@ use crate::pieces::pieces_of;
 use co_sheet::{FaultKind, GREATEST_SIZE, read};
 use co_sheet_changes::{AdaptFault, Piece, lines_in, push_pieces};
 use co_sheet_text::without_mark;
+use co_text::split_at_first;
 use std::alloc::{AllocError, Global};
 
 /// A text adapted.
@@ -92,14 +95,39 @@ fn comment_end() -> &'static [u8]
     b": not for configuration tools"
 }
 
+fn ends_in_return(bytes: &[u8]) -> bool
+    ensures { result ≡ ends_in_return bytes.now }
+{
+    match bytes.last() {
+        Some(byte) => *byte == b'\r',
+        None => false,
+    }
+}
+
+// whether the first line ends with CR and LF
+fn returns_first(text: &[u8]) -> bool
+    ensures { result ≡ returns_first text.now }
+{
+    match split_at_first(text, b'\n') {
+        Some((line, _)) => ends_in_return(line),
+        None => false,
+    }
+}
+
+fn line_end(returns: bool) -> &'static [u8]
+    ensures { result.now ≡ line_end returns }
+{
+    if returns { b"\r\n" } else { b"\n" }
+}
+
 // appends the first line: who adapted what
-fn push_comment(text: &mut Vec<u8>, by: &[u8]) -> Result<(), AllocError>
-    ensures { OnOk result (text.new.items ≡ text.old.items ++ comment_line by.now) }
+fn push_comment(text: &mut Vec<u8>, by: &[u8], returns: bool) -> Result<(), AllocError>
+    ensures { OnOk result (text.new.items ≡ text.old.items ++ comment_line returns by.now) }
 {
     attempt!(text.extend_from_slice(comment_front()));
     attempt!(push_shown(text, first_bytes(by)));
     attempt!(text.extend_from_slice(comment_end()));
-    text.extend_from_slice(b"\n")
+    text.extend_from_slice(line_end(returns))
 }
 
 // the pieces of a text that isn't accepted
@@ -112,30 +140,34 @@ fn rewritten<'a>(alloc: Global, text: &'a [u8]) -> Result<Vec<Piece<'a>>, AdaptF
     pieces_of(alloc, lines.as_slice())
 }
 
-// appends a text: as it is if it is accepted, else in its pieces; returns these, and whether it
-// stays
-fn push_body<'a>(
+// appends the first line and a text: as it is if it is accepted, else in its pieces; returns these,
+// and whether it stays
+fn push_adapted<'a>(
     alloc: Global,
     made: &mut Vec<u8>,
     text: &'a [u8],
+    by: &[u8],
 ) -> Result<(Vec<Piece<'a>>, bool), AdaptFault>
     requires { length text.now ≤ 1048576 }
     ensures pieces { IfOk result (λ body. map piece_view body.0.items ≡ pieces_in text.entry.now) }
     ensures stays { IfOk result (λ body. body.1 ≡ is_none (first_fault text.entry.now)) }
-    ensures text { OnOk result (made.new.items ≡ made.old.items ++ body_in text.entry.now) }
+    ensures text { OnOk result
+        (made.new.items ≡ made.old.items ++ adapted_text by.now text.entry.now) }
 {
     if attempt_in_memory!(is_accepted(alloc, text)) {
+        attempt_in_memory!(push_comment(made, by, returns_first(text)));
         attempt_in_memory!(made.extend_from_slice(without_mark(text)));
         return Ok((Vec::new(alloc), true));
     }
     let pieces = attempt!(rewritten(alloc, text));
+    attempt_in_memory!(push_comment(made, by, false));
     attempt_in_memory!(push_pieces(made, pieces.as_slice()));
     Ok((pieces, false))
 }
 
 /// Rewrites a data sheet (CiA 306) to one that is accepted, as far as there are rules for it; `by`
 /// says who adapts it and what it is made from. A text that is accepted stays as it is, after a
-/// first line that says so. Each line that is changed is a piece with its number and why; all
+/// first line that says so and ends as the first line of the text does. Each line that is changed is a piece with its number and why; all
 /// others stay. What is written is read again: if it isn't accepted, something remains that no rule
 /// changes.
 ///
@@ -152,8 +184,7 @@ pub fn adapt<'a>(alloc: Global, text: &'a [u8], by: &[u8]) -> Result<Adapted<'a>
         return Err(AdaptFault::TooLarge);
     }
     let mut made = Vec::new(alloc);
-    attempt_in_memory!(push_comment(&mut made, by));
-    let (pieces, stays) = attempt!(push_body(alloc, &mut made, text));
+    let (pieces, stays) = attempt!(push_adapted(alloc, &mut made, text, by));
     let is_accepted = attempt_in_memory!(is_accepted(alloc, made.as_slice()));
     Ok(Adapted {
         text: made,

@@ -16,6 +16,7 @@ ghost use Rattle.co_sheet_adapt.specs.Compact.{
   name_line,
   value_line,
   compact_first,
+  first_unless_own,
   count_at,
   first_keys,
   first_section,
@@ -29,6 +30,7 @@ ghost use Rattle.co_sheet_adapt.specs.Compact.{
   sub_section,
   sub_sections,
   compact_text,
+  unless_own,
   written_as,
 };
 ghost use Rattle.co_sheet_changes.specs.Pieces.{assigned};
@@ -225,6 +227,7 @@ fn count_at(index: u16, count: u8) -> u8
 /// What an object in compact form says of its sub-indices.
 #[derive(Clone, Copy)]
 pub(crate) struct Compact<'r, 's, 'a> {
+    pub(crate) own: &'r Texts<'a>,
     pub(crate) names: &'r Texts<'a>,
     pub(crate) values: &'r Texts<'a>,
     pub(crate) facts: &'r Facts,
@@ -233,12 +236,19 @@ pub(crate) struct Compact<'r, 's, 'a> {
 }
 
 impl Compact<'_, '_, '_> {
-    // appends the section of sub-index 0
+    // appends the section of sub-index 0, unless it has one
     #[tactic(auto, unfolding(crate::specs::Compact::compact_first))]
     fn push_first(&self, alloc: Global, text: &mut Vec<u8>, count: u8) -> Result<(), AllocError>
         ensures { OnOk result (text.new.items ≡ text.old.items
-            ++ compact_first (group_view self.now.group.now) self.now.index count) }
+            ++ first_unless_own (texts_at self.now.own.now) (group_view self.now.group.now)
+            self.now.index count) }
     {
+        if self.own.has(Key {
+            index: self.index,
+            sub: 0,
+        }) {
+            return Ok(());
+        }
         let is_written = is_count_written(self.index, self.group.value(b"AccessType"));
         push_first_section(
             alloc,
@@ -327,17 +337,39 @@ impl Compact<'_, '_, '_> {
         text.extend_from_slice(b"\n")
     }
 
-    /// The sections of sub-index 0 to this number.
+    // appends the section of a sub-index from 1 on, unless it has one
+    fn push_unless_own(
+        &self,
+        alloc: Global,
+        text: &mut Vec<u8>,
+        copied: &[u8],
+        sub: u8,
+    ) -> Result<(), AllocError>
+        ensures { OnOk result (text.new.items ≡ text.old.items
+            ++ unless_own (texts_at self.now.own.now) (sub_section (texts_at self.now.names.now)
+            (texts_at self.now.values.now) self.now.facts.now (group_view self.now.group.now)
+            copied.now) (record { index = self.now.index; sub = sub })) }
+    {
+        if self.own.has(Key {
+            index: self.index,
+            sub,
+        }) {
+            return Ok(());
+        }
+        self.push_sub_section(alloc, text, copied, sub)
+    }
+
+    /// The sections of sub-index 0 to this number, but for those that the sheet has.
     pub(crate) fn text(&self, alloc: Global, count: u8) -> Result<Vec<u8>, AllocError>
         ensures { IfOk result (λ made. made.items
-            ≡ compact_text (texts_at self.now.names.now) (texts_at self.now.values.now)
+            ≡ compact_text (texts_at self.now.own.now) (texts_at self.now.names.now) (texts_at self.now.values.now)
             self.now.facts.now (group_view self.now.group.now) self.now.index count) }
     {
         let copied = copied_lines(alloc, self.facts, self.group)?;
         let mut text = Vec::new(alloc);
         self.push_first(alloc, &mut text, count)?;
         for before in 0..count {
-            self.push_sub_section(alloc, &mut text, copied.as_slice(), before + 1)?;
+            self.push_unless_own(alloc, &mut text, copied.as_slice(), before + 1)?;
         }
         Ok(text)
     }

@@ -8,6 +8,7 @@ ghost use Rattle.co_sheet_adapt.specs.LeftOut.{
   left_out_code,
   code_in_place,
   hexadecimal,
+  is_inconvertible,
   is_real,
   number_text,
   real32_bits,
@@ -174,4 +175,15 @@ fn utf16(alloc: Global, text: &[u8]) -> Result<Option<Vec<u8>>, AllocError>
         attempt!(push_byte(&mut made, 0));
     }
     Ok(Some(made.into_bytes()))
+}
+
+/// Whether a value keeps the data type of a code from being replaced: it can't be written at the type
+/// that stands for it. No if none does.
+pub fn is_inconvertible(code: u64, value: &[u8]) -> bool
+    ensures { result ≡ is_inconvertible code value.now }
+{
+    match LeftOut::with(code) {
+        Some(left_out) => !left_out.converts(value),
+        None => false,
+    }
 }

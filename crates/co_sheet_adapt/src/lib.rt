@@ -35,4 +35,5 @@ mod values;
 mod whole;
 
 pub use adapted::{Adapted, accepted_text_stays, adapt};
+pub use left_out::is_inconvertible;
 pub use whole::expanded;

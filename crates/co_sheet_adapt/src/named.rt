@@ -1,12 +1,14 @@
 //! The names and values of the sub-indices of objects in compact form, `[2300Name]` and
-//! `[2300Value]` (CiA 306, compact storage).
+//! `[2300Value]` (CiA 306, compact storage), and the sub-indices that have a section of their own.
 
-ghost use Rattle.std.specs.Prelude.{◌≡◌, ℕ, Some, None, map, option_map, IfOk, OnOk, codes};
+ghost use Rattle.std.specs.Prelude.{◌≡◌, ℕ, Some, None, is_some, map, option_map, IfOk, OnOk, codes};
 ghost use Rattle.std.specs.Option.{option_copied, option_or};
 ghost use Rattle.indexmap.specs.IndexMap.{get};
 ghost use Rattle.co_value.specs.Keys.{same_key};
 ghost use Rattle.co_sheet_adapt.specs.Named.{
   index_named,
+  own_in_group,
+  own_in_groups,
   sub_named,
   text_in_group,
   text_in_groups,
@@ -45,7 +47,8 @@ fn sub_named(name: &[u8]) -> Option<u8>
     }
 }
 
-/// The names or values that sections give sub-indices, by key; if there are two, the first counts.
+/// The names or values that sections give sub-indices, or the names of their sections, by key; if
+/// there are two, the first counts.
 pub(crate) struct Texts<'a> {
     texts: IndexMap<Key, &'a [u8]>,
 }
@@ -112,6 +115,45 @@ impl<'a> Texts<'a> {
             attempt!(texts.add_named(group, word));
         }
         Ok(texts)
+    }
+
+    // adds the name of a section of a sub-index, unless there is one already
+    fn add_section(&mut self, group: &Group<'_, 'a>) -> Result<(), AllocError>
+        ensures { OnOk result ((k : _) → texts_at self.new k
+            ≡ option_or (texts_at self.old k) (own_in_group k (group_view group.now))) }
+    {
+        let SectionKind::SubIndex(key) = group.kind else {
+            return Ok(());
+        };
+        if self.texts.get(&key).is_some() {
+            return Ok(());
+        }
+        match self.texts.insert(key, group.name) {
+            Ok(_) => Ok(()),
+            Err(_) => Err(AllocError),
+        }
+    }
+
+    /// The names of the sections of sub-indices.
+    #[tactic(auto, using(crate::proofs::NamedLemmas::or_assoc))]
+    pub(crate) fn sections(alloc: Global, groups: &[Group<'_, 'a>]) -> Result<Texts<'a>, AllocError>
+        ensures { IfOk result (λ texts. (k : _) →
+            texts_at texts k ≡ own_in_groups k (map group_view groups.now)) }
+    {
+        let mut texts = Texts {
+            texts: IndexMap::new(alloc),
+        };
+        for group in groups {
+            attempt!(texts.add_section(group));
+        }
+        Ok(texts)
+    }
+
+    /// Whether there is something of a sub-index.
+    pub(crate) fn has(&self, key: Key) -> bool
+        ensures { result ≡ is_some (texts_at self.now key) }
+    {
+        self.texts.get(&key).is_some()
     }
 
     /// The name or value of a sub-index.

@@ -13,6 +13,9 @@ ghost use Rattle.co_sheet_adapt.specs.Pieces.{
   missing_lines,
   head_change,
   compact_change,
+  form_change,
+  is_zero,
+  other_change,
   given_change,
   line_change,
   line_piece,
@@ -22,7 +25,7 @@ ghost use Rattle.co_sheet_adapt.specs.Pieces.{
   sections_pieces,
   all_pieces,
 };
-ghost use Rattle.co_sheet_adapt.specs.Named.{text_in_groups};
+ghost use Rattle.co_sheet_adapt.specs.Named.{own_in_groups, text_in_groups};
 ghost use Rattle.co_sheet_changes.specs.Groups.{groups_of};
 ghost use Rattle.co_sheet_adapt.specs.private.Named.{texts_at, IsTablesOf};
 ghost use Rattle.co_sheet_adapt.specs.private.Pdos.{form_view};
@@ -39,7 +42,8 @@ use co_sheet_changes::{
     AdaptFault, ChangeKind, Group, Line, Mended, Piece, assigned, before_sections, groups_in,
     joined, piece_of, push_kept, without_blanks,
 };
-use co_sheet_text::{SectionKind, all_digits, same_name};
+use co_sheet_text::{SectionKind, all_digits, same_name, unsigned_number};
+use co_text::decimal_digits;
 use std::alloc::{AllocError, Global};
 
 // digits without leading zeros
@@ -151,22 +155,73 @@ fn head_change(alloc: Global, group: &Group) -> Result<Option<Mended>, AllocErro
     Ok(Some(Mended { kind, new }))
 }
 
+fn is_zero(value: &[u8]) -> bool
+    ensures { result ≡ is_zero value.now }
+{
+    matches!(unsigned_number(value).ok(), Some(0))
+}
+
 // a line of an object in compact form
 fn compact_change(
     alloc: Global,
     index: u16,
     count: u8,
     name: &[u8],
+    value: &[u8],
 ) -> Result<Option<Mended>, AllocError>
     ensures { IfOk result (λ made.
-        option_map mended_view made ≡ compact_change index count name.now) }
+        option_map mended_view made ≡ compact_change index count name.now value.now) }
 {
-    if !same_name(name, b"CompactSubObj") {
-        return Ok(None);
-    }
-    let new = attempt!(assigned(alloc, name, b"0"));
     let kind = ChangeKind::CompactSubObj { index, count };
-    Ok(Some(Mended { kind, new }))
+    if same_name(name, b"CompactSubObj") {
+        let new = attempt!(assigned(alloc, name, b"0"));
+        return Ok(Some(Mended { kind, new }));
+    }
+    if same_name(name, b"SubNumber") && is_zero(value) {
+        let number = decimal_digits(u64::from(count) + 1);
+        let new = attempt!(assigned(alloc, name, number.as_str().as_bytes()));
+        return Ok(Some(Mended { kind, new }));
+    }
+    Ok(None)
+}
+
+// the same, of an object that is in compact form
+fn form_change(
+    alloc: Global,
+    kind: SectionKind,
+    compact: Option<u8>,
+    name: &[u8],
+    value: &[u8],
+) -> Result<Option<Mended>, AllocError>
+    ensures { IfOk result (λ made.
+        option_map mended_view made ≡ form_change kind compact name.now value.now) }
+{
+    match (kind, compact) {
+        (SectionKind::Object(index), Some(count)) => {
+            compact_change(alloc, index, count, name, value)
+        }
+        _ => Ok(None),
+    }
+}
+
+// what a name and its value become in a list or an entry
+fn other_change(
+    alloc: Global,
+    kind: SectionKind,
+    facts: &Facts,
+    name: &[u8],
+    value: &[u8],
+) -> Result<Option<Mended>, AllocError>
+    ensures { IfOk result (λ made.
+        option_map mended_view made ≡ other_change kind facts.now name.now value.now) }
+{
+    if kind.is_list() {
+        list_change(alloc, name, value)
+    } else if facts.is_entry {
+        entry_change(alloc, facts, name, value)
+    } else {
+        Ok(None)
+    }
 }
 
 // what a name and its value become in a section
@@ -180,11 +235,9 @@ fn given_change(
     ensures { IfOk result (λ made.
         option_map mended_view made ≡ given_change kind facts.now name.now value.now) }
 {
-    match (kind, facts.compact) {
-        (SectionKind::Object(index), Some(count)) => compact_change(alloc, index, count, name),
-        _ if kind.is_list() => list_change(alloc, name, value),
-        _ if facts.is_entry => entry_change(alloc, facts, name, value),
-        _ => Ok(None),
+    match attempt!(form_change(alloc, kind, facts.compact, name, value)) {
+        Some(mended) => Ok(Some(mended)),
+        None => other_change(alloc, kind, facts, name, value),
     }
 }
 
@@ -239,23 +292,30 @@ fn push_line<'a>(
     push_piece(pieces, piece_of(line, mended))
 }
 
-/// The names and the values that the sections of a text give sub-indices, and what they say of PDOs
-/// in compact form.
+/// The names and the values that the sections of a text give sub-indices, the sub-indices that have
+/// a section of their own, and what the sections say of PDOs in compact form.
 #[derive(Drop)]
 pub(crate) struct Tables<'a> {
+    pub(crate) own: Texts<'a>,
     pub(crate) names: Texts<'a>,
     pub(crate) values: Texts<'a>,
     pub(crate) pdos: Option<PdoForm>,
 }
 
 impl<'a> Tables<'a> {
-    pub(crate) fn of(alloc: Global, groups: &[Group<'_, 'a>]) -> Result<Tables<'a>, AllocError>
-        ensures { IfOk result (IsTablesOf (map group_view groups.now)) }
+    /// What sections give; a sub-index with a section among `own` gets none.
+    pub(crate) fn of<'s>(
+        alloc: Global,
+        groups: &[Group<'s, 'a>],
+        own: &[Group<'s, 'a>],
+    ) -> Result<Tables<'a>, AllocError>
+        ensures { IfOk result (IsTablesOf (map group_view groups.now) (map group_view own.now)) }
     {
         Ok(Tables {
             pdos: PdoForm::of(alloc, groups)?,
             names: Texts::of(alloc, groups, b"Name")?,
             values: Texts::of(alloc, groups, b"Value")?,
+            own: Texts::sections(alloc, own)?,
         })
     }
 
@@ -268,13 +328,14 @@ impl<'a> Tables<'a> {
         group: &Group<'s, 'a>,
     ) -> Result<(), AllocError>
         ensures { OnOk result (map piece_view pieces.new.items
-            ≡ map piece_view pieces.old.items ++ added (texts_at self.now.names)
-            (texts_at self.now.values) facts.now (group_view group.now)) }
+            ≡ map piece_view pieces.old.items ++ added (texts_at self.now.own)
+            (texts_at self.now.names) (texts_at self.now.values) facts.now (group_view group.now)) }
     {
         let (SectionKind::Object(index), Some(count)) = (group.kind, facts.compact) else {
             return Ok(());
         };
         let compact = Compact {
+            own: &self.own,
             names: &self.names,
             values: &self.values,
             facts,
@@ -294,8 +355,8 @@ impl<'a> Tables<'a> {
         groups: &[Group<'s, 'a>],
     ) -> Result<(), AdaptFault>
         ensures { OnOk result (map piece_view pieces.new.items
-            ≡ map piece_view pieces.old.items ++ flat_map (group_pieces (texts_at self.now.names)
-            (texts_at self.now.values) (option_map form_view self.now.pdos))
+            ≡ map piece_view pieces.old.items ++ flat_map (group_pieces (texts_at self.now.own)
+            (texts_at self.now.names) (texts_at self.now.values) (option_map form_view self.now.pdos))
             (map group_view groups.now)) }
     {
         let mut size: usize = 0;
@@ -317,8 +378,8 @@ impl<'a> Tables<'a> {
         group: &Group<'s, 'a>,
     ) -> Result<(), AllocError>
         ensures { OnOk result (map piece_view pieces.new.items
-            ≡ map piece_view pieces.old.items ++ group_pieces (texts_at self.now.names)
-            (texts_at self.now.values) (option_map form_view self.now.pdos) (group_view group.now)) }
+            ≡ map piece_view pieces.old.items ++ group_pieces (texts_at self.now.own)
+            (texts_at self.now.names) (texts_at self.now.values) (option_map form_view self.now.pdos) (group_view group.now)) }
     {
         let pdos = self.pdos.as_ref();
         let facts = Facts::of(group);
@@ -382,7 +443,7 @@ fn push_sections<'a>(
 {
     let groups = attempt_in_memory!(groups_in(alloc, lines));
     let sections = groups.as_slice();
-    let tables = attempt_in_memory!(Tables::of(alloc, sections));
+    let tables = attempt_in_memory!(Tables::of(alloc, sections, sections));
     tables.push_groups(alloc, pieces, sections)
 }
 

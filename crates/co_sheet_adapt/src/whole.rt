@@ -37,12 +37,13 @@ impl<'a> Tables<'a> {
         group: &Group<'s, 'a>,
     ) -> Result<(), AllocError>
         ensures { OnOk result (text.new.items ≡ text.old.items ++ compact_of
-            (texts_at self.now.names) (texts_at self.now.values) facts.now (group_view group.now)) }
+            (texts_at self.now.own) (texts_at self.now.names) (texts_at self.now.values) facts.now (group_view group.now)) }
     {
         let (SectionKind::Object(index), Some(count)) = (group.kind, facts.compact) else {
             return Ok(());
         };
         let compact = Compact {
+            own: &self.own,
             names: &self.names,
             values: &self.values,
             facts,
@@ -61,7 +62,7 @@ impl<'a> Tables<'a> {
         group: &Group<'s, 'a>,
     ) -> Result<(), AllocError>
         ensures { OnOk result (text.new.items ≡ text.old.items ++ given_by
-            (texts_at self.now.names) (texts_at self.now.values)
+            (texts_at self.now.own) (texts_at self.now.names) (texts_at self.now.values)
             (option_map form_view self.now.pdos) (group_view group.now)) }
     {
         let facts = Facts::as_written(group);
@@ -76,7 +77,7 @@ impl<'a> Tables<'a> {
         groups: &[Group<'s, 'a>],
     ) -> Result<Option<Vec<u8>>, AllocError>
         ensures { IfOk result (λ made. option_map (λ v. v.items) made ≡ if_fits (flat_map
-            (given_by (texts_at self.now.names) (texts_at self.now.values)
+            (given_by (texts_at self.now.own) (texts_at self.now.names) (texts_at self.now.values)
             (option_map form_view self.now.pdos)) (map group_view groups.now))) }
     {
         let mut text = Vec::new(alloc);
@@ -95,7 +96,7 @@ fn compact_sections(alloc: Global, groups: &[Group]) -> Result<Option<Vec<u8>>, 
     ensures { IfOk result (λ made. option_map (λ v. v.items) made
         ≡ if_fits (compact_sections (map group_view groups.now))) }
 {
-    let tables = attempt!(Tables::of(alloc, groups));
+    let tables = attempt!(Tables::of(alloc, groups, &[]));
     tables.given(alloc, groups)
 }
 

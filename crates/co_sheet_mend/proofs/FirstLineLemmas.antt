@@ -1,6 +1,6 @@
 -- A text that begins with a comment, as `adapt` writes it, and after a round of mending still does.
 use Rattle.std.proofs.Common.{◌≡◌, ℕ, ◌-◌, ◌≤◌, Bool, true, false, cond, List, [], ◌∷◌, ◌++◌, codes, length, Option, Some, None, refl, sym, ap, ◌∙◌, subst, ◌⊎◌, inl, inr, take}
-use Rattle.std.specs.Prelude.{◌==◌}
+use Rattle.std.specs.Prelude.{◌==◌, ◌&&◌}
 use Rattle.std.specs.Str.Lines.{lines}
 use Rattle.std.proofs.lemmas.List.{append_assoc}
 use Rattle.co_sheet_rows.specs.declared.fault.FaultKind.{FaultKind}
@@ -12,11 +12,11 @@ use Rattle.co_sheet_text.specs.LinesAtFault.{emptied, emptied_form, lines_read, 
 use Rattle.co_sheet_text.specs.Sections.{LineForm, skipped, section_line, unclosed, name_value, malformed, first_broken, form_of, form_rules, line_form}
 use Rattle.co_sheet_text.specs.Text.{Line, lines_of, trim, without_mark}
 use Rattle.co_sheet_changes.proofs.LineLemmas.{numbered}
-use Rattle.co_sheet_adapt.specs.Adapted.{adapted_text, body_in, comment_end, comment_front, comment_text}
+use Rattle.co_sheet_adapt.specs.Adapted.{adapted_text, body_in, comment_end, comment_front, comment_line, comment_text, returns_first}
 use Rattle.co_sheet_faults.specs.AllFaults.{faults_in, faults_of}
 use Rattle.co_sheet_mend.specs.declared.repair.Repair.{Repair}
 use Rattle.co_sheet_mend.specs.NameLaws.{may_be_at}
-use Rattle.co_sheet_mend.specs.ReadableTexts.{mended}
+use Rattle.co_sheet_mend.specs.ReadableTexts.{is_accepted, mended}
 use Rattle.co_sheet_mend.specs.Repairs.{begins_mandatory, begun_list, counted_text, ended, ends_in_return, is_counted, key_at, line_as, line_end, mandatory_lines, mended_by, mended_lines, repair_at, with_mandatory}
 use Rattle.co_sheet_mend.proofs.ElementLemmas.{In}
 use Rattle.co_sheet_mend.proofs.EntryLineLemmas.{fault_at_read}
@@ -38,12 +38,13 @@ pub record IsCommented (text : List ℕ) : Type 0 where
 pub unmarked : (text : List ℕ) → IsCommented text → without_mark text ≡ text
 unmarked text of = subst (λ (t : List ℕ). without_mark t ≡ t) (sym of.cut) refl
 
-pub adapted-commented : (text : List ℕ) → IsCommented (adapted_text [] text)
+-- the comment before a text that isn't accepted ends with LF alone
+pub adapted-commented : (text : List ℕ) → is_accepted text ≡ false → IsCommented (adapted_text [] text)
 unfolding comment_front comment_end
-adapted-commented text = record {
+adapted-commented text fails = record {
   comment = codes " adapted by : not for configuration tools";
   rest = body_in text;
-  cut = append_assoc (comment_text []) (10 ∷ []) (body_in text);
+  cut = ap (λ (b : Bool). comment_line (b && returns_first text) [] ++ body_in text) fails ∙ append_assoc (comment_text []) (10 ∷ []) (body_in text);
   line = refl;
   ends = refl;
   short = refl;

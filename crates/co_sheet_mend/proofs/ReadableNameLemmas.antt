@@ -21,6 +21,10 @@ mended-text : (m : Option (List ℕ)) (made : ReadableText) → as_mended m ≡ 
 mended-text None made h = absurd (cc)
 mended-text (Some text) made h = let of : ReadableText = record { text = text; is_mended = true } in ap (λ t. Some t) (same-readable of made h)
 
+or-right : (t u : Bool) → (t || u) ≡ false → u ≡ false
+or-right true u h = absurd (cc)
+or-right false u h = h
+
 module _ (entry : SectionKind) (is : is_entry entry ≡ true) where
   round-cases : (text made : List ℕ) → IsCommented text → (large accepted : Bool) (more : Option (List ℕ)) → is_too_large text ≡ large → cond large None (cond accepted (Some (mended text)) more) ≡ Some made
       → (length text ≤ 1048576 → more ≡ Some made → name_read entry made ≡ name_read entry (mended text)) → name_read entry made ≡ name_read entry text
@@ -43,10 +47,11 @@ module _ (entry : SectionKind) (is : is_entry entry ≡ true) where
   rewritten-cases adapted made of_text true h = let of : ReadableText = record { text = adapted; is_mended = false } in ap (λ t. name_read entry t) (sym (same-readable of made h))
   rewritten-cases adapted made of_text false h = rounds-named 8 adapted made.text of_text (mended-text (mended_in 8 adapted) made h)
 
-  readable-cases : (text : List ℕ) (made : ReadableText) (stays : Bool) → cond stays None (rewritten text) ≡ Some made → name_read entry made.text ≡ name_read entry (adapted_text [] text)
+  readable-cases : (text : List ℕ) (made : ReadableText) (stays : Bool) → (is_too_large text || is_accepted text) ≡ stays → cond stays None (rewritten text) ≡ Some made → name_read entry made.text ≡ name_read entry (adapted_text [] text)
   unfolding rewritten
-  readable-cases text made true h = absurd (cc)
-  readable-cases text made false h = rewritten-cases (adapted_text [] text) made (adapted-commented text) (is_accepted (adapted_text [] text)) h
+  readable-cases text made true e h = absurd (cc)
+  readable-cases text made false e h =
+      rewritten-cases (adapted_text [] text) made (adapted-commented text (or-right (is_too_large text) (is_accepted text) e)) (is_accepted (adapted_text [] text)) h
 
 pub readable-named : (text : List ℕ) (made : ReadableText) (kind : SectionKind) → readable text ≡ Some made → is_entry kind ≡ true → name_read kind made.text ≡ name_read kind (adapted_text [] text)
-readable-named text made kind h is = readable-cases kind is text made (is_too_large text || is_accepted text) h
+readable-named text made kind h is = readable-cases kind is text made (is_too_large text || is_accepted text) refl h

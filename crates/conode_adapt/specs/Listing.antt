@@ -30,7 +30,8 @@ new_text lines = if is_empty lines then codes "dropped" else flat_map new_byte (
 -- the sections that an object in compact form is given
 abbrev pub sections_text : ℕ → ℕ → List ℕ
 sections_text index count =
-    codes ", [" ++ digits_text 16 4 index ++ codes "sub0] and " ++ decimal count ++ codes " more"
+    codes ", [" ++ digits_text 16 4 index ++ codes "sub0] and " ++ decimal count
+    ++ codes " more, unless they are there"
 
 -- a word, or nothing
 abbrev pub word_if : Bool → List ℕ → List ℕ

@@ -92,7 +92,7 @@ fn push_sections(words: &mut String, index: u16, count: u8) -> Result<(), AllocE
 {
     push_filled(
         words,
-        ", [%sub0] and % more",
+        ", [%sub0] and % more, unless they are there",
         &[Value::Short(index), Value::Number(count as u64)],
     )
 }

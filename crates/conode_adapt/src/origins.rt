@@ -72,7 +72,7 @@ fn line_of_sub(group: &Group<'_, '_>, sub: u8) -> Option<usize> {
 }
 
 // whether a section has the values of an object in compact form, as `[2300Value]`
-fn has_values(group: &Group<'_, '_>, index: u16) -> bool {
+pub(crate) fn has_values(group: &Group<'_, '_>, index: u16) -> bool {
     let (front, end) = group.name.split_at(group.name.len().saturating_sub(5));
     same_name(end, b"Value") && SectionKind::of_name(front) == SectionKind::Object(index)
 }

@@ -1,10 +1,12 @@
 //! What no rule mends: the faults of a text that was rewritten, at the lines that they come from.
 
-use crate::origins::{at_source, lines_of};
-use co_sheet_adapt::Adapted;
-use co_sheet_changes::{AdaptFault, ChangeKind, Line, Piece, Request, on_request};
+use crate::origins::{at_source, has_values, lines_of};
+use co_sheet_adapt::{Adapted, is_inconvertible};
+use co_sheet_changes::{
+    AdaptFault, ChangeKind, Group, Line, Piece, Request, groups_in, is_preset, on_request,
+};
 use co_sheet_faults::{FaultKind, SheetFault, find_faults, fix_of, meaning_of, subject_of};
-use co_sheet_text::{number_in, same_name, trim};
+use co_sheet_text::{SectionKind, number_in, same_name, trim};
 use co_text::split_at_first;
 use conode_json::characters_of;
 use conode_lint_text::{About, Finding, Place, Severity, missing_section, push_finding, push_more};
@@ -68,10 +70,10 @@ fn finding_of<'a>(fault: SheetFault, text: &'a [u8]) -> Finding<'a> {
     }
 }
 
-// the digits of a value with a leading zero: without `-`, and without `$NODEID` in a sum
-fn digits_of(line: &[u8]) -> &[u8] {
+// the sign and the digits of a value with a leading zero, without `$NODEID` in a sum
+fn digits_of(line: &[u8]) -> (&'static str, &[u8]) {
     let Some((_, value)) = split_at_first(line, b'=') else {
-        return &[];
+        return ("", &[]);
     };
     let part = match split_at_first(value, b'+') {
         Some((left, right)) if same_name(trim(left), b"$NODEID") => right,
@@ -79,19 +81,24 @@ fn digits_of(line: &[u8]) -> &[u8] {
         None => value,
     };
     match trim(part) {
-        [b'-', digits @ ..] => digits,
-        digits => digits,
+        [b'-', digits @ ..] => ("-", digits),
+        digits => ("", digits),
     }
 }
 
 // appends the two numbers that a value with a leading zero may mean
 fn push_both(report: &mut String, line: &[u8]) -> Result<(), AllocError> {
-    let digits = digits_of(line);
+    let (sign, digits) = digits_of(line);
     if let (Some(octal), Some(decimal)) = (number_in(8, digits), number_in(10, digits)) {
         return push_filled(
             report,
-            "  note: % in octal, % in decimal\n",
-            &[Value::Number(octal), Value::Number(decimal)],
+            "  note: %% in octal, %% in decimal\n",
+            &[
+                Value::Words(sign),
+                Value::Number(octal),
+                Value::Words(sign),
+                Value::Number(decimal),
+            ],
         );
     }
     Ok(())
@@ -119,16 +126,90 @@ fn forced_limits(alloc: Global, text: &[u8]) -> Result<Vec<usize>, AllocError> {
     }
 }
 
-// a file whose faults are reported: its name, its lines, and the lines of the limits that `--force`
-// makes comments
+// the section that a line is in
+fn group_around<'g, 's, 'a>(groups: &'g [Group<'s, 'a>], line: usize) -> Option<&'g Group<'s, 'a>> {
+    let mut around = None;
+    for group in groups {
+        if group.head.number > line {
+            return around;
+        }
+        around = Some(group);
+    }
+    around
+}
+
+// appends that a line's value keeps its type, of this code, from being replaced, if it does
+fn push_inconvertible(
+    report: &mut String,
+    line: &Line<'_>,
+    code: u64,
+    is_value: bool,
+) -> Result<(), AllocError> {
+    match line.property() {
+        Some((name, value)) if (is_value || is_preset(name)) && is_inconvertible(code, value) => {
+            push_filled(
+                report,
+                "  note: the value in line % can't be converted\n",
+                &[Value::Number(line.number as u64)],
+            )
+        }
+        _ => Ok(()),
+    }
+}
+
+// the code of the type of the object whose values a section has, as `[2300Value]`
+fn type_of_values(groups: &[Group<'_, '_>], values: &Group<'_, '_>) -> Option<u64> {
+    for group in groups {
+        if let SectionKind::Object(index) = group.kind {
+            if has_values(values, index) {
+                return group.number(b"DataType");
+            }
+        }
+    }
+    None
+}
+
+// a file whose faults are reported: its name, its lines and sections, and the lines of the limits
+// that `--force` makes comments
 #[derive(Clone, Copy)]
-struct Source<'s, 'a> {
+struct Source<'s, 'g, 'a> {
     file: &'s [char],
     lines: &'s [Line<'a>],
+    groups: &'s [Group<'g, 'a>],
     limits: &'s [usize],
 }
 
-impl Source<'_, '_> {
+impl Source<'_, '_, '_> {
+    // appends the values that keep the type in a line from being replaced
+    fn push_reasons(&self, report: &mut String, line: usize) -> Result<(), AllocError> {
+        let Some(group) = group_around(self.groups, line) else {
+            return Ok(());
+        };
+        let Some(code) = group.number(b"DataType") else {
+            return Ok(());
+        };
+        for line in group.body {
+            attempt!(push_inconvertible(report, line, code, false));
+        }
+        Ok(())
+    }
+
+    // the same of a value of `[..Value]` in a line
+    fn push_value_reason(&self, report: &mut String, number: usize) -> Result<(), AllocError> {
+        let Some(group) = group_around(self.groups, number) else {
+            return Ok(());
+        };
+        let Some(code) = type_of_values(self.groups, group) else {
+            return Ok(());
+        };
+        for line in group.body {
+            if line.number == number {
+                return push_inconvertible(report, line, code, true);
+            }
+        }
+        Ok(())
+    }
+
     fn is_forced(&self, line: usize) -> bool {
         self.limits.iter().any(|limit| *limit == line)
     }
@@ -144,6 +225,12 @@ impl Source<'_, '_> {
         attempt!(push_finding(alloc, report, false, self.file, &finding_of(fault, text)));
         if fault.kind == FaultKind::AmbiguousNumber {
             return push_both(report, text);
+        }
+        if fault.kind == FaultKind::LeftOutType {
+            return self.push_reasons(report, fault.line);
+        }
+        if fault.kind == FaultKind::BadNumber {
+            attempt!(self.push_value_reason(report, fault.line));
         }
         if self.is_forced(fault.line) {
             return report.push_str("  note: --force makes this limit a comment\n");
@@ -181,9 +268,11 @@ pub(crate) fn push_faults(
 ) -> Result<(), AllocError> {
     let file = attempt!(characters_of(alloc, name.as_bytes()));
     let lines = attempt!(lines_of(alloc, source));
+    let groups = attempt!(groups_in(alloc, lines.as_slice()));
     let source = Source {
         file: file.as_slice(),
         lines: lines.as_slice(),
+        groups: groups.as_slice(),
         limits,
     };
     source.push_all(alloc, report, faults)

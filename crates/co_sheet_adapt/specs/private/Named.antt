@@ -8,14 +8,16 @@ use Rattle.co_sheet_adapt.specs.declared.named.Texts.{Texts}
 use Rattle.co_sheet_adapt.specs.declared.pieces.Tables.{Tables}
 use Rattle.co_sheet_changes.specs.Groups.{Group}
 use Rattle.co_sheet_adapt.specs.CompactPdo.{pdo_form}
-use Rattle.co_sheet_adapt.specs.Named.{text_in_groups}
+use Rattle.co_sheet_adapt.specs.Named.{own_in_groups, text_in_groups}
 use Rattle.co_sheet_adapt.specs.private.Pdos.{form_view}
 
 abbrev pub texts_at : Texts → Key → Option (List ℕ)
 texts_at t key = option_copied (get same_key t.texts key)
 
--- the names, the values and the PDOs that sections give
-pub record IsTablesOf (groups : List Group) (t : Tables) : Type 0 where
+-- the names, the values and the PDOs that sections give, and the sub-indices that have one of these
+-- as their own
+pub record IsTablesOf (groups beside : List Group) (t : Tables) : Type 0 where
+  pub own : texts_at t.own ≡ (λ k. own_in_groups k beside)
   pub names : texts_at t.names ≡ (λ k. text_in_groups (codes "Name") k groups)
   pub values : texts_at t.values ≡ (λ k. text_in_groups (codes "Value") k groups)
   pub pdos : option_map form_view t.pdos ≡ pdo_form groups

@@ -12,4 +12,4 @@ returns c =
     let given : map group_view c.as_slice-sections.result.now ≡ groups_of (map line_view c.args.lines.now) = ap (map group_view) c.as_slice-sections.ensures.value ∙ c.in-Ok.ensures in
     subst (λ (gs : List Group). OnOk c.push_groups.result (map piece_view c.push_groups.new.pieces.items ≡ map piece_view c.args.pieces.now.items ++ sections_pieces gs)) given
     (sections-put-together (λ (ps : List Piece). OnOk c.push_groups.result (map piece_view c.push_groups.new.pieces.items ≡ map piece_view c.args.pieces.now.items ++ ps))
-    (map group_view c.as_slice-sections.result.now) _ _ _ c.in-Ok-of.ensures.names c.in-Ok-of.ensures.values c.in-Ok-of.ensures.pdos c.push_groups.ensures)
+    (map group_view c.as_slice-sections.result.now) _ _ _ _ c.in-Ok-of.ensures.own c.in-Ok-of.ensures.names c.in-Ok-of.ensures.values c.in-Ok-of.ensures.pdos c.push_groups.ensures)

@@ -8,4 +8,4 @@ use Rattle.co_sheet_adapt.proofs.whole.compact_sections.Goals as goal
 pub returns : goal.returns
 returns c =
     by_tables (λ (sections : List ℕ). IfOk c.given.result (λ made. option_map (λ v. v.items) made ≡ if_fits sections))
-    (map group_view c.args.groups.now) _ _ _ c.in-Ok.ensures.names c.in-Ok.ensures.values c.in-Ok.ensures.pdos c.given.ensures
+    (map group_view c.args.groups.now) _ _ _ _ c.in-Ok.ensures.own c.in-Ok.ensures.names c.in-Ok.ensures.values c.in-Ok.ensures.pdos c.given.ensures

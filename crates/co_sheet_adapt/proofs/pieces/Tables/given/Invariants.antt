@@ -10,7 +10,7 @@ use Rattle.co_sheet_adapt.proofs.pieces.Tables.given.Given as goal
 -- those so far, and after them those of the rest; they aren't too large
 abbrev pub invariant-loop-group : goal.invariant-loop-group
 invariant-loop-group l = record {
-  so_far : l.text.items ++ flat_map (given_by (texts_at l.self.names) (texts_at l.self.values) (option_map form_view l.self.pdos)) (map group_view (drop l.group-index l.groups))
-      ≡ flat_map (given_by (texts_at l.self.names) (texts_at l.self.values) (option_map form_view l.self.pdos)) (map group_view l.groups);
+  so_far : l.text.items ++ flat_map (given_by (texts_at l.self.own) (texts_at l.self.names) (texts_at l.self.values) (option_map form_view l.self.pdos)) (map group_view (drop l.group-index l.groups))
+      ≡ flat_map (given_by (texts_at l.self.own) (texts_at l.self.names) (texts_at l.self.values) (option_map form_view l.self.pdos)) (map group_view l.groups);
   small : length l.text.items ≤ 1048576;
 }

@@ -10,4 +10,4 @@ use Rattle.co_sheet_adapt.proofs.pieces.Tables.push_groups.Given as goal
 
 -- those so far
 abbrev pub invariant-loop-group : goal.invariant-loop-group
-invariant-loop-group l = map piece_view l.pieces.items ≡ map piece_view l.fn.pieces.items ++ flat_map (group_pieces (texts_at l.self.names) (texts_at l.self.values) (option_map form_view l.self.pdos)) (map group_view (take l.group-index l.groups))
+invariant-loop-group l = map piece_view l.pieces.items ≡ map piece_view l.fn.pieces.items ++ flat_map (group_pieces (texts_at l.self.own) (texts_at l.self.names) (texts_at l.self.values) (option_map form_view l.self.pdos)) (map group_view (take l.group-index l.groups))
