@@ -36,8 +36,8 @@ identifiers : map (λ value. option_and_then identifier_with (used_cob_id 5 fals
 identifiers = refl
 
 -- of TIME: received, sent, both, neither
-time_identifiers : map (λ value. option_and_then identifier_with (used_cob_id 5 true value)) (codes "0x80000100" ∷ codes "0x40000100" ∷ codes "0xC0000100" ∷ codes "0x100" ∷ codes "0x3FFFFFFF" ∷ codes "0x40000000" ∷ codes "0x80000000" ∷ codes "$NODEID+0x80000100" ∷ codes "$NODEID+0x3FFFFFFA" ∷ codes "$NODEID+0x3FFFFFFC" ∷ codes "0" ∷ codes "-1" ∷ codes "x" ∷ [])
-    ≡ Some 0x100 ∷ Some 0x100 ∷ Some 0x100 ∷ None ∷ None ∷ None ∷ None ∷ Some 0x105 ∷ None ∷ Some 1 ∷ None ∷ None ∷ None ∷ []
+time_identifiers : map (λ value. option_and_then identifier_with (used_cob_id 5 true value)) (codes "0x80000100" ∷ codes "0x40000100" ∷ codes "0xC0000100" ∷ codes "0x100" ∷ codes "0x3FFFFFFF" ∷ codes "0x40000000" ∷ codes "0x80000000" ∷ codes "$NODEID+0x80000100" ∷ codes "$NODEID+0x3FFFFFFA" ∷ codes "$NODEID+0x3FFFFFFC" ∷ codes "0xFFFFFFFF" ∷ codes "$NODEID+0xFFFFFFFA" ∷ codes "$NODEID+0xFFFFFFFB" ∷ codes "0" ∷ codes "-1" ∷ codes "x" ∷ [])
+    ≡ Some 0x100 ∷ Some 0x100 ∷ Some 0x100 ∷ None ∷ None ∷ None ∷ None ∷ Some 0x105 ∷ None ∷ Some 1 ∷ Some 0x3FFFFFFF ∷ Some 0x3FFFFFFF ∷ None ∷ None ∷ None ∷ None ∷ []
 time_identifiers = refl
 
 abbrev three_cob_ids : List ℕ → List ℕ → List ℕ → List (List ℕ)

@@ -74,7 +74,7 @@ is_time (Object index) = index == 0x1012
 is_time kind = false
 
 abbrev pub is_used : Bool → ℕ → Bool
-is_used true word = nat_le (2 ^ 30) word
+is_used true word = nat_le (2 ^ 30) word && nat_lt word (2 ^ 32)
 is_used false word = nat_lt word (2 ^ 31)
 
 abbrev pub if_used : Bool → ℕ → Option ℕ

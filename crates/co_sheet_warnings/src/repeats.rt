@@ -13,8 +13,9 @@ ghost use Rattle.std.specs.Prelude.{
   OnOk,
 };
 ghost use Rattle.std.specs.List.{list_any};
-ghost use Rattle.co_sheet_text.specs.Views.{section_view};
+ghost use Rattle.co_sheet_text.specs.Views.{property_view, section_view};
 ghost use Rattle.co_sheet_warnings.specs.Repeats.{
+  as_name,
   compared,
   compared_as,
   consumed_in,
@@ -23,6 +24,7 @@ ghost use Rattle.co_sheet_warnings.specs.Repeats.{
   first_passing,
   has_cob_id,
   identifier_name,
+  identifier_of,
   is_consumer,
   is_time,
   name_in,
@@ -46,7 +48,7 @@ ghost use Rattle.co_sheet_warnings.specs.private.Views.{
 use crate::communication::{is_used_word, node_of_word, word_of};
 use crate::sub_indices::value_in;
 use co_sheet::{Preset, numeric_default};
-use co_sheet_text::{SectionKind, TextSection};
+use co_sheet_text::{Property, SectionKind, TextSection};
 use co_sheet_text_warnings::{Warning, WarningKind, is_within};
 use co_value::DataType;
 use indexmap::IndexSet;
@@ -70,6 +72,8 @@ fn has_cob_id(kind: SectionKind) -> bool
 const DISABLED: i128 = 1 << 31;
 /// By this bit 1012h has that the device sends TIME.
 const SENT: i128 = 1 << 30;
+/// Above all COB-ID words.
+const WORDS: i128 = 1 << 32;
 
 fn is_time(kind: SectionKind) -> bool
     ensures { result ≡ is_time kind }
@@ -82,7 +86,7 @@ fn used_number(time: bool, number: i128) -> Option<u64>
     ensures { result ≡ used_number time number }
 {
     let is_used = if time {
-        SENT <= number
+        SENT <= number && number < WORDS
     } else {
         0 <= number && number < DISABLED
     };
@@ -120,18 +124,12 @@ pub(crate) struct PlacedName<'a> {
     pub(crate) line: usize,
 }
 
-// the identifier of an entry with a COB-ID, for a node
-fn identifier_in<'a>(node: u8, section: &TextSection<'_, 'a>) -> Option<PlacedName<'a>>
+// the identifier of a value, of TIME or of another, for a node
+fn identifier_of<'a>(node: u8, time: bool, given: &Property) -> Option<PlacedName<'a>>
     ensures { option_map name_view result
-        ≡ identifier_name node (section_view section.now) }
+        ≡ option_map as_name (identifier_of node time (property_view given.now)) }
 {
-    if !has_cob_id(section.kind) {
-        return None;
-    }
-    let Some(given) = value_in(section) else {
-        return None;
-    };
-    let Some(word) = used_cob_id(node, is_time(section.kind), given.value) else {
+    let Some(word) = used_cob_id(node, time, given.value) else {
         return None;
     };
     let scope = word % (1 << 30);
@@ -142,6 +140,20 @@ fn identifier_in<'a>(node: u8, section: &TextSection<'_, 'a>) -> Option<PlacedNa
         name: ScopedName { scope, text: b"" },
         line: given.line,
     })
+}
+
+// the identifier of an entry with a COB-ID, for a node
+fn identifier_in<'a>(node: u8, section: &TextSection<'_, 'a>) -> Option<PlacedName<'a>>
+    ensures { option_map name_view result
+        ≡ identifier_name node (section_view section.now) }
+{
+    if !has_cob_id(section.kind) {
+        return None;
+    }
+    match value_in(section) {
+        Some(given) => identifier_of(node, is_time(section.kind), &given),
+        None => None,
+    }
 }
 
 /// What should come once.

@@ -246,7 +246,8 @@ fn words_of(fact: Fact) -> &'static str
         }
         Fact::SubIndex0(_, _) => "sub-index 0 is %, and the highest sub-index of the object is %",
         Fact::DecimalName(_, _) => {
-            "sub-index 0 is %, and the highest sub-index of the object is %: the name sub% is hexadecimal"
+            "sub-index 0 is %, and the highest sub-index of the object is %: the name sub% is \
+            hexadecimal"
         }
         Fact::RpdoCount(_, _) => "NrOfRXPDO is %, and the number of the sheet's RPDOs is %",
         Fact::TpdoCount(_, _) => "NrOfTXPDO is %, and the number of the sheet's TPDOs is %",
