@@ -11,8 +11,9 @@ emcy : map has_default_cob_id (Object 0x1013 ∷ Object 0x1014 ∷ Object 0x1015
     ≡ false ∷ true ∷ false ∷ false ∷ false ∷ false ∷ []
 emcy = refl
 
-pdos : map has_default_cob_id (sub_index 0x13FF 1 ∷ sub_index 0x1400 0 ∷ sub_index 0x1400 1 ∷ sub_index 0x1400 2 ∷ sub_index 0x1403 1 ∷ sub_index 0x1404 1 ∷ sub_index 0x17FF 1 ∷ sub_index 0x1800 1 ∷ sub_index 0x1803 1 ∷ sub_index 0x1804 1 ∷ [])
-    ≡ false ∷ false ∷ true ∷ false ∷ true ∷ false ∷ false ∷ true ∷ true ∷ false ∷ []
+-- of TPDOs alone: any number of devices may receive a PDO
+pdos : map has_default_cob_id (sub_index 0x1400 1 ∷ sub_index 0x1403 1 ∷ sub_index 0x17FF 1 ∷ sub_index 0x1800 0 ∷ sub_index 0x1800 1 ∷ sub_index 0x1800 2 ∷ sub_index 0x1803 1 ∷ sub_index 0x1804 1 ∷ [])
+    ≡ false ∷ false ∷ false ∷ false ∷ true ∷ false ∷ true ∷ false ∷ []
 pdos = refl
 
 enabled : map is_enabled (0 ∷ 1 ∷ 0x185 ∷ 0x40000000 ∷ 0x40000185 ∷ 0x7FFFFFFF ∷ 0x80000000 ∷ 0x80000185 ∷ []) ≡ false ∷ true ∷ true ∷ false ∷ true ∷ true ∷ false ∷ false ∷ []

@@ -1,14 +1,14 @@
 -- Names that are kept, and what a contract sees of them.
 use Rattle.std.proofs.Common.{◌≡◌, ℕ, Bool, true, false, cond, ◌&&◌, ◌||◌, List, [], ◌∷◌, ◌++◌, nat_eq, map, not, refl, sym, ap, ◌∙◌, ◌+◌, ◌<◌, suc, length, get_or, drop, drop-cons, add-one, append_assoc}
-use Rattle.std.specs.Prelude.{Option, Some, None, filter_map, option_map}
+use Rattle.std.specs.Prelude.{Option, Some, None, filter_map, option_and_then, option_map}
 use Rattle.std.specs.List.{list_any, cons_option}
 use Rattle.std.proofs.lemmas.List.{map-append}
 use Rattle.std.specs.Str.{bytes_eq}
 use Rattle.co_sheet_warnings.specs.declared.repeats.ScopedName.{ScopedName}
-use Rattle.co_sheet_text.specs.Sections.{TextSection}
+use Rattle.co_sheet_text.specs.Sections.{Property, TextSection}
 use Rattle.co_sheet_warnings.specs.declared.repeats.Once.{Once}
 use Rattle.co_sheet_warnings.specs.declared.repeats.Once.TheVariants.{Identifiers, Consumed, Names}
-use Rattle.co_sheet_warnings.specs.Repeats.{Placed, as_name, id_name, identifier_in, identifiers_in, repeats, same_scoped}
+use Rattle.co_sheet_warnings.specs.Repeats.{Placed, as_name, has_cob_id, id_name, identifier_in, identifier_name, identifier_of, identifiers_in, is_time, repeats, same_scoped, value_in}
 use Rattle.co_sheet_warnings.specs.Repeats.{ScopedName as Scoped}
 use Rattle.co_sheet_text_warnings.specs.declared.warning.Warning.{Warning}
 use Rattle.co_sheet_text_warnings.specs.declared.warning.WarningKind.{WarningKind}
@@ -59,6 +59,15 @@ same_repeats before (x ∷ xs) =
     ∙ ap (λ (l : List Scoped). cond (list_any (nat_eq x.key) before) again (repeats same_scoped l (map as_name xs))) (one_more before x.key)
     ∙ ap (λ l. cond (list_any (nat_eq x.key) before) (x.line ∷ l) (repeats same_scoped (map id_name (before ++ x.key ∷ [])) (map as_name xs))) (same_repeats before xs)
     ∙ ap (λ l. cond (list_any (nat_eq x.key) before) (x.line ∷ repeats nat_eq before xs) l) (same_repeats (before ++ x.key ∷ []) xs)
+
+-- the identifier of an entry with a COB-ID and a value
+pub identifier_known : (node : ℕ) (s : TextSection) (time : Bool) (k : Property) (found : Option (Placed Scoped))
+    → true ≡ has_cob_id s.kind → Some k ≡ value_in s → time ≡ is_time s.kind → found ≡ option_map as_name (identifier_of node time k) → found ≡ identifier_name node s
+identifier_known node s time k found has given of_time is =
+    let of_value : Option Property → Option (Placed ℕ) = option_and_then (identifier_of node (is_time s.kind)) in
+    is ∙ ap (λ t. option_map as_name (identifier_of node t k)) of_time
+    ∙ ap (λ (o : Option Property). option_map as_name (of_value o)) given
+    ∙ ap (λ b. option_map as_name (cond b (of_value (value_in s)) None)) has
 
 named : (ids : TextSection → Option (Placed ℕ)) (sections : List TextSection) → filter_map (λ s. option_map as_name (ids s)) sections ≡ map as_name (filter_map ids sections)
 named ids [] = refl

@@ -6,9 +6,11 @@ use Rattle.std.specs.Prelude.{
   ◌%◌,
   ◌^◌,
   ◌==◌,
+  nat_le,
   nat_lt,
   nat_eq,
   Bool,
+  true,
   false,
   ◌&&◌,
   ◌||◌,
@@ -56,40 +58,50 @@ repeats same before (x ∷ xs) =
 
 -- ---- identifiers
 
--- the entries with the COB-ID of EMCY, of a PDO, or of one way of an SDO channel
+-- the entries with the COB-ID of SYNC, of TIME, of EMCY, of a PDO, or of one way of an SDO channel
 abbrev pub has_cob_id : SectionKind → Bool
-has_cob_id (Object index) = index == 0x1014
+has_cob_id (Object index) = (index == 0x1005) || (index == 0x1012) || (index == 0x1014)
 has_cob_id (SubIndex key) =
     ((key.sub == 1) && (is_within 0x1400 0x15FF key.index || is_within 0x1800 0x19FF key.index))
     || (((key.sub == 1) || (key.sub == 2)) && is_within 0x1200 0x12FF key.index)
 has_cob_id kind = false
 
--- a COB-ID whose bit 31, which disables it, isn't set
-abbrev pub if_enabled : ℕ → Option ℕ
-if_enabled word = if nat_lt word (2 ^ 31) then Some word else None
+-- the COB-ID of TIME is used where its bit 31 is set, by which the device receives TIME, or bit 30, by
+-- which it sends TIME; any other where bit 31, which disables it, isn't set (CiA 301, COB-ID time stamp
+-- object, COB-ID EMCY)
+abbrev pub is_time : SectionKind → Bool
+is_time (Object index) = index == 0x1012
+is_time kind = false
 
-abbrev pub enabled_number : ℤ → Option ℕ
-enabled_number (pos n) = if_enabled n
-enabled_number other = None
+abbrev pub is_used : Bool → ℕ → Bool
+is_used true word = nat_le (2 ^ 30) word && nat_lt word (2 ^ 32)
+is_used false word = nat_lt word (2 ^ 31)
 
--- the COB-ID that a value is for a node
-abbrev pub cob_id_for : ℕ → Default → Option ℕ
-cob_id_for node (number n) = enabled_number n
-cob_id_for node (node_id n) = if_enabled (n + node)
-cob_id_for node other = None
+abbrev pub if_used : Bool → ℕ → Option ℕ
+if_used time word = if is_used time word then Some word else None
 
-abbrev pub enabled_cob_id : ℕ → List ℕ → Option ℕ
-enabled_cob_id node value =
-    option_and_then (cob_id_for node) (result_ok (numeric_default Unsigned32 value))
+abbrev pub used_number : Bool → ℤ → Option ℕ
+used_number time (pos n) = if_used time n
+used_number time other = None
+
+-- the COB-ID that a value is for a node, of TIME or another
+abbrev pub cob_id_for : ℕ → Bool → Default → Option ℕ
+cob_id_for node time (number n) = used_number time n
+cob_id_for node time (node_id n) = if_used time (n + node)
+cob_id_for node time other = None
+
+abbrev pub used_cob_id : ℕ → Bool → List ℕ → Option ℕ
+used_cob_id node time value =
+    option_and_then (cob_id_for node time) (result_ok (numeric_default Unsigned32 value))
 
 -- its identifier, with bit 29, which tells 29 bits from 11; 0 is none
 abbrev pub identifier_with : ℕ → Option ℕ
 identifier_with word = if word % 2 ^ 30 == 0 then None else Some (word % 2 ^ 30)
 
-abbrev pub identifier_of : ℕ → Property → Option (Placed ℕ)
-identifier_of node k =
+abbrev pub identifier_of : ℕ → Bool → Property → Option (Placed ℕ)
+identifier_of node time k =
     option_map (λ n. record { key = n; line = k.line })
-    (option_and_then identifier_with (enabled_cob_id node k.value))
+    (option_and_then identifier_with (used_cob_id node time k.value))
 
 -- what states the value that an entry begins with: ParameterValue, or where it is absent
 -- DefaultValue
@@ -99,7 +111,8 @@ value_in s =
 
 abbrev pub identifier_in : ℕ → TextSection → Option (Placed ℕ)
 identifier_in node s =
-    if has_cob_id s.kind then option_and_then (identifier_of node) (value_in s) else None
+    if has_cob_id s.kind then option_and_then (identifier_of node (is_time s.kind)) (value_in s)
+    else None
 
 abbrev pub identifiers_in : ℕ → List TextSection → List (Placed ℕ)
 identifiers_in node sections = filter_map (identifier_in node) sections

@@ -13,23 +13,26 @@ ghost use Rattle.std.specs.Prelude.{
   OnOk,
 };
 ghost use Rattle.std.specs.List.{list_any};
-ghost use Rattle.co_sheet_text.specs.Views.{section_view};
+ghost use Rattle.co_sheet_text.specs.Views.{property_view, section_view};
 ghost use Rattle.co_sheet_warnings.specs.Repeats.{
+  as_name,
   compared,
   compared_as,
   consumed_in,
-  enabled_number,
   first_equal,
   first_line,
   first_passing,
   has_cob_id,
   identifier_name,
+  identifier_of,
   is_consumer,
-  enabled_cob_id,
+  is_time,
   name_in,
   passing,
   repeats,
   same_scoped,
+  used_cob_id,
+  used_number,
 };
 ghost use Rattle.co_sheet_text_warnings.specs.Places.{warnings_at};
 ghost use Rattle.co_sheet_warnings.specs.private.Views.{
@@ -45,7 +48,7 @@ ghost use Rattle.co_sheet_warnings.specs.private.Views.{
 use crate::communication::{is_used_word, node_of_word, word_of};
 use crate::sub_indices::value_in;
 use co_sheet::{Preset, numeric_default};
-use co_sheet_text::{SectionKind, TextSection};
+use co_sheet_text::{Property, SectionKind, TextSection};
 use co_sheet_text_warnings::{Warning, WarningKind, is_within};
 use co_value::DataType;
 use indexmap::IndexSet;
@@ -55,7 +58,7 @@ fn has_cob_id(kind: SectionKind) -> bool
     ensures { result ≡ has_cob_id kind }
 {
     match kind {
-        SectionKind::Object(index) => index == 0x1014,
+        SectionKind::Object(index) => index == 0x1005 || index == 0x1012 || index == 0x1014,
         SectionKind::SubIndex(key) => {
             (key.sub == 1
                 && (is_within(0x1400, 0x15FF, key.index) || is_within(0x1800, 0x19FF, key.index)))
@@ -65,27 +68,38 @@ fn has_cob_id(kind: SectionKind) -> bool
     }
 }
 
-/// This bit of a COB-ID word disables it.
-const DISABLED: u64 = 1 << 31;
+/// This bit of a COB-ID word disables it, but by it 1012h has that the device receives TIME.
+const DISABLED: i128 = 1 << 31;
+/// By this bit 1012h has that the device sends TIME.
+const SENT: i128 = 1 << 30;
+/// Above all COB-ID words.
+const WORDS: i128 = 1 << 32;
 
-// a number that is a COB-ID and isn't disabled
-fn enabled_number(number: i128) -> Option<u64>
-    ensures { result ≡ enabled_number number }
+fn is_time(kind: SectionKind) -> bool
+    ensures { result ≡ is_time kind }
 {
-    if 0 <= number && number < DISABLED as i128 {
-        Some(number as u64)
-    } else {
-        None
-    }
+    matches!(kind, SectionKind::Object(0x1012))
 }
 
-// the COB-ID of a text for a node; `None` where it is disabled
-fn enabled_cob_id(node: u8, value: &[u8]) -> Option<u64>
-    ensures { result ≡ enabled_cob_id node value.now }
+// a number that is a COB-ID in use, of TIME or of another
+fn used_number(time: bool, number: i128) -> Option<u64>
+    ensures { result ≡ used_number time number }
+{
+    let is_used = if time {
+        SENT <= number && number < WORDS
+    } else {
+        0 <= number && number < DISABLED
+    };
+    if is_used { Some(number as u64) } else { None }
+}
+
+// the COB-ID of a text for a node, of TIME or of another; `None` where it isn't used
+fn used_cob_id(node: u8, time: bool, value: &[u8]) -> Option<u64>
+    ensures { result ≡ used_cob_id node time value.now }
 {
     match numeric_default(DataType::Unsigned32, value) {
-        Ok(Preset::Number(number)) => enabled_number(number),
-        Ok(Preset::NodeId(addend)) => enabled_number(addend as i128 + node as i128),
+        Ok(Preset::Number(number)) => used_number(time, number),
+        Ok(Preset::NodeId(addend)) => used_number(time, addend as i128 + node as i128),
         _ => None,
     }
 }
@@ -110,18 +124,12 @@ pub(crate) struct PlacedName<'a> {
     pub(crate) line: usize,
 }
 
-// the identifier of an entry with a COB-ID, for a node
-fn identifier_in<'a>(node: u8, section: &TextSection<'_, 'a>) -> Option<PlacedName<'a>>
+// the identifier of a value, of TIME or of another, for a node
+fn identifier_of<'a>(node: u8, time: bool, given: &Property) -> Option<PlacedName<'a>>
     ensures { option_map name_view result
-        ≡ identifier_name node (section_view section.now) }
+        ≡ option_map as_name (identifier_of node time (property_view given.now)) }
 {
-    if !has_cob_id(section.kind) {
-        return None;
-    }
-    let Some(given) = value_in(section) else {
-        return None;
-    };
-    let Some(word) = enabled_cob_id(node, given.value) else {
+    let Some(word) = used_cob_id(node, time, given.value) else {
         return None;
     };
     let scope = word % (1 << 30);
@@ -134,10 +142,24 @@ fn identifier_in<'a>(node: u8, section: &TextSection<'_, 'a>) -> Option<PlacedNa
     })
 }
 
+// the identifier of an entry with a COB-ID, for a node
+fn identifier_in<'a>(node: u8, section: &TextSection<'_, 'a>) -> Option<PlacedName<'a>>
+    ensures { option_map name_view result
+        ≡ identifier_name node (section_view section.now) }
+{
+    if !has_cob_id(section.kind) {
+        return None;
+    }
+    match value_in(section) {
+        Some(given) => identifier_of(node, is_time(section.kind), &given),
+        None => None,
+    }
+}
+
 /// What should come once.
 #[derive(Clone, Copy)]
 pub(crate) enum Once {
-    /// The identifiers of EMCY, PDOs and SDO channels, for a node-ID.
+    /// The identifiers of SYNC, TIME, EMCY, PDOs and SDO channels, for a node-ID.
     Identifiers(u8),
     /// The node-IDs that 1016h consumes; a sum with `$NODEID` is for this node-ID.
     Consumed(Option<u8>),

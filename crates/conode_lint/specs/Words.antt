@@ -63,7 +63,9 @@ abbrev pub fault_about : List TextSection → ℕ → List ℕ → FaultKind →
 fault_about sections line text fault.TooLarge = facts.too_large line
 fault_about sections line text fault.MissingSection = facts.missing_section line text
 fault_about sections line text fault.MissingMandatory = facts.missing_mandatory sections
+fault_about sections line text fault.BadLine = facts.bad_line text
 fault_about sections line text fault.BadNumber = facts.bad_number text
+fault_about sections line text fault.AmbiguousNumber = facts.ambiguous_number text
 fault_about sections line text fault.BadAccess = facts.bad_access text
 fault_about sections line text fault.BadType = facts.bad_type line sections text
 fault_about sections line text fault.BadList = facts.bad_list line sections

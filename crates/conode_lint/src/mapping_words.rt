@@ -72,7 +72,7 @@ const FIXES: [&str; 12] = [
     "describe this sub-index",
     "give an entry to map, or lower the count",
     "list and describe that entry, or map another; an RPDO may map dummies 0002h to 0007h, sub-index 0, by DummyUsage, as Dummy0005=1",
-    "set PDOMapping=1 for that entry, or map another",
+    "set PDOMapping=1 for that entry, if its access fits: an RPDO maps rw, rww and wo, from 2000h on, a TPDO ro, rw, rwr and const; or map another",
     "map an entry of a numeric type",
     "map an entry from 2000h on; CiA 301 permits others too, but conode's node doesn't",
     "an RPDO maps rw, rww and wo, a TPDO ro, rw, rwr and const",

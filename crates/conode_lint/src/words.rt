@@ -27,10 +27,11 @@ use co_sheet_text_warnings::WarningKind;
 use co_sheet_warnings::first_equal;
 use conode_lint_marks::{Mark, Subject};
 use conode_lint_text::{
-    About, Place, Severity, bad_access, bad_default, bad_limits, bad_list, bad_number, bad_type,
-    device_info, duplicate_key, duplicate_section, file_info, first_at, identity_number,
-    listed_twice, missing_key, missing_mandatory, missing_section, misspelt_key, misspelt_section,
-    pdo_count, reserved_value, sub_index_0, sub_number, too_large, utf8, wrong_access, wrong_list,
+    About, Place, Severity, ambiguous_number, bad_access, bad_default, bad_limits, bad_line,
+    bad_list, bad_number, bad_type, device_info, duplicate_key, duplicate_section, file_info,
+    first_at, identity_number, listed_twice, missing_key, missing_mandatory, missing_section,
+    misspelt_key, misspelt_section, pdo_count, reserved_value, sub_index_0, sub_number, too_large,
+    utf8, wrong_access, wrong_list,
 };
 
 /// Its name, as `BadList`.
@@ -95,7 +96,9 @@ fn fault_about(sections: &[TextSection<'_, '_>], line: usize, text: &[u8], kind:
         FaultKind::TooLarge => too_large(line),
         FaultKind::MissingSection => missing_section(line, text),
         FaultKind::MissingMandatory => missing_mandatory(sections),
+        FaultKind::BadLine => bad_line(text),
         FaultKind::BadNumber => bad_number(text),
+        FaultKind::AmbiguousNumber => ambiguous_number(text),
         FaultKind::BadAccess => bad_access(text),
         FaultKind::BadType => bad_type(sections, line, text),
         FaultKind::BadList => bad_list(sections, line),

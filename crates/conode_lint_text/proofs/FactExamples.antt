@@ -14,14 +14,14 @@ use Rattle.conode_lint_text.specs.declared.finding.About.TheVariants.{Line, Firs
 use Rattle.conode_lint_text.specs.declared.fact.Fact.TheVariants as fact
 use Rattle.conode_lint_text.specs.declared.meant_section.MeantSection.TheVariants as meant
 use Rattle.conode_lint_text.specs.FactTexts.{fact_text, hexadecimal, missing_text, texts_of, words_of}
-use Rattle.conode_lint_text.specs.Facts.{bad_access, bad_list, bad_number, bad_type, count_fact, device_info, duplicate_key, duplicate_section, file_info, first_at, identity_number, list_fact, listed_twice, missing_key, missing_mandatory, missing_section, misspelt_key, misspelt_section, named_code, pdo_count, reserved_value, sub_index_0, sub_number, too_large, utf8, wrong_access, wrong_list}
+use Rattle.conode_lint_text.specs.Facts.{ambiguous_number, bad_access, bad_line, bad_list, bad_number, bad_type, count_fact, device_info, duplicate_key, duplicate_section, file_info, first_at, highest_fact, identity_number, list_fact, listed_twice, missing_key, missing_mandatory, missing_section, misspelt_key, misspelt_section, named_code, pdo_count, reserved_value, sub_index_0, sub_number, too_large, utf8, wrong_access, wrong_list}
 use Rattle.conode_lint_text.specs.Bounds.{bad_default, bad_limits}
 use Rattle.conode_lint_text.specs.Findings.{about_message, fix_with}
 
 -- ---- the sentences
 
 lists : fact_text fact.NoCount ∷ fact_text (fact.ListGap 7 6 3) ∷ fact_text (fact.ListCount 3 2) ∷ fact_text (fact.HighIndex 12) ∷ []
-    ≡ codes "the list has no SupportedObjects" ∷ codes "the list counts 7 objects and has 6: key 3 is missing"
+    ≡ codes "the list has no SupportedObjects" ∷ codes "the list has 6 of the keys 1 to 7 that it counts: key 3 is missing"
     ∷ codes "the list counts 3 objects and has 2 of the keys 1 to 3" ∷ codes "the index of line 12 is above 0xFFFF" ∷ []
 unfolding fact_text words_of texts_of filled digits
 lists = refl
@@ -159,8 +159,25 @@ listed_nowhere = refl
 
 -- 1000h is an UNSIGNED32, 1001h an UNSIGNED8; 1018:01 and 1400h have no type of their own, nor has a line of another key
 bad_types : bad_type 35 sections (codes "DataType=5") ∷ bad_type 45 sections (codes " datatype = 7") ∷ bad_type 75 sections (codes "DataType=5") ∷ bad_type 105 sections (codes "DataType=5") ∷ bad_type 35 sections (codes "ObjectType=5") ∷ bad_type 1 sections (codes "DataType=5") ∷ []
-    ≡ Fact (fact.FixedType 7) ∷ Fact (fact.FixedType 5) ∷ Line ∷ Line ∷ Line ∷ Line ∷ []
+    ≡ Fact (fact.FixedType 7) ∷ Fact (fact.FixedType 5) ∷ Line ∷ Line ∷ Fact fact.Unsupported ∷ Line ∷ []
 bad_types = refl
+
+-- the codes of CiA 301 that aren't supported, of an entry without a type of its own; DEFTYPE and DEFSTRUCT of an object, not of a sub-index; a line of another key
+other_types : map (λ text. bad_type 75 sections text) (codes "DataType=0x1F" ∷ codes "DataType=0x20" ∷ codes "DataType=0x25" ∷ codes "DataType=0x26" ∷ codes "DataType=0x3F" ∷ codes "DataType=0x40" ∷ codes "datatype=0x25F" ∷ codes "DataType=0x260" ∷ codes "DataType=x" ∷ [])
+    ≡ Line ∷ Fact fact.Unsupported ∷ Fact fact.Unsupported ∷ Line ∷ Line ∷ Fact fact.Unsupported ∷ Fact fact.Unsupported ∷ Line ∷ Line ∷ []
+other_types = refl
+
+definitions : map (λ text. bad_type 105 sections text) (codes "ObjectType=4" ∷ codes "ObjectType=5" ∷ codes "objecttype=0x06" ∷ codes "ObjectType=7" ∷ codes "ObjectType=x" ∷ [])
+    ≡ Line ∷ Fact fact.Unsupported ∷ Fact fact.Unsupported ∷ Line ∷ Line ∷ []
+definitions = refl
+
+sub_index_definition : bad_type 75 sections (codes "ObjectType=5") ∷ bad_type 1 sections (codes "ObjectType=5") ∷ [] ≡ Line ∷ Line ∷ []
+sub_index_definition = refl
+
+-- 1003h and the mappings of PDOs have sub-indices, whose types are fixed too; a sub-index has one type
+many_entries : map (λ kind. bad_type 2 (section 1 kind [] ∷ []) (codes "DataType=7")) (Object 0x1003 ∷ Object 0x1600 ∷ Object 0x1BFF ∷ Object 0x1001 ∷ Object 0x1019 ∷ SubIndex (record { index = 0x1003; sub = 0 }) ∷ [])
+    ≡ Fact fact.ManyEntries ∷ Fact fact.ManyEntries ∷ Fact fact.ManyEntries ∷ Fact (fact.FixedType 5) ∷ Fact (fact.FixedType 5) ∷ Fact (fact.FixedType 5) ∷ []
+many_entries = refl
 
 -- the type is that of CiA 301, so the object type is at fault, as 2 with another type than DOMAIN; a code of no type, and no number
 right_types : bad_type 35 sections (codes "DataType = 0x0007") ∷ bad_type 45 sections (codes "DataType=5") ∷ bad_type 35 sections (codes "DataType=0x70") ∷ bad_type 35 sections (codes "DataType=x") ∷ []
@@ -185,13 +202,35 @@ access_texts : map (λ access. about_message (Access access) (codes "m")) (ReadO
 unfolding about_message
 access_texts = refl
 
+-- a digit 8 or 9 anywhere in the value; not in the name of the key
+ambiguous_numbers : map ambiguous_number (codes "DefaultValue=08" ∷ codes "DefaultValue = -019" ∷ codes "1=0980" ∷ codes "DefaultValue=$NODEID+080" ∷ codes "DefaultValue=010" ∷ codes "8=017" ∷ codes "9=0" ∷ codes "8" ∷ [])
+    ≡ Fact fact.NotOctal ∷ Fact fact.NotOctal ∷ Fact fact.NotOctal ∷ Fact fact.NotOctal ∷ Line ∷ Line ∷ Line ∷ Line ∷ []
+ambiguous_numbers = refl
+
+bad_lines : map bad_line (codes "[2001" ∷ codes "  [2001 ; x" ∷ codes "2001]" ∷ codes "x" ∷ [] ∷ []) ≡ Fact fact.OpenSection ∷ Fact fact.OpenSection ∷ Line ∷ Line ∷ Line ∷ []
+bad_lines = refl
+
+slip_texts : map fact_text (fact.NoMapping ∷ fact.NotOctal ∷ fact.OpenSection ∷ fact.Unsupported ∷ fact.ManyEntries ∷ fact.DecimalName 10 16 ∷ [])
+    ≡ codes "PDOMapping is a number, and this is none" ∷ codes "a leading zero means octal, which has no digits 8 and 9" ∷ codes "the section line has no `]`" ∷ codes "CiA 301 defines this code, but it isn't supported"
+    ∷ codes "CiA 301 has an object with sub-indices here" ∷ codes "sub-index 0 is 10, and the highest sub-index of the object is 16: the name sub10 is hexadecimal" ∷ []
+unfolding fact_text words_of texts_of filled digits
+slip_texts = refl
+
+slip_fixes : map (λ about. fix_with about (codes "f")) (Fact fact.NoMapping ∷ Fact fact.NotOctal ∷ Fact fact.OpenSection ∷ Fact fact.Unsupported ∷ Fact fact.ManyEntries ∷ Fact (fact.DecimalName 10 16) ∷ Fact (fact.SubIndex0 10 16) ∷ [])
+    ≡ codes "write 1 if the entry may be mapped into a PDO, or else 0" ∷ codes "write the number without the zero, or try conode adapt --leading-zeros decimal"
+    ∷ codes "put `]` after the name; until then no section of this name is read, so a listed object lacks it" ∷ codes "take the object out of its list"
+    ∷ codes "describe its sub-indices, with ObjectType=8 of 1003h or ObjectType=9 of a mapping; or take the object out of its list"
+    ∷ codes "write the sub-index in hexadecimal in each section's name, as subA for 10; or give the highest sub-index" ∷ codes "f" ∷ []
+unfolding fix_with
+slip_fixes = refl
+
 bad_numbers : map bad_number (codes " defaultvalue = x" ∷ codes "ParameterValue=x" ∷ codes "LowLimit=x" ∷ codes "objecttype = VAR" ∷ codes "ObjectType=7 ; VAR" ∷ [])
     ≡ Fact fact.NoValue ∷ Fact fact.NoValue ∷ Line ∷ Fact fact.NoObjectType ∷ Fact fact.CommentInValue ∷ []
 bad_numbers = refl
 
 -- the name of a data type, in any case of letters, another name, and a name at another key
 type_names : map bad_number (codes "DataType=UNSIGNED8" ∷ codes " datatype = Real64 " ∷ codes "DataType=BYTE" ∷ codes "PDOMapping=UNSIGNED8" ∷ [])
-    ≡ Fact (fact.TypeName 5) ∷ Fact (fact.TypeName 0x11) ∷ Fact fact.NoDataType ∷ Line ∷ []
+    ≡ Fact (fact.TypeName 5) ∷ Fact (fact.TypeName 0x11) ∷ Fact fact.NoDataType ∷ Fact fact.NoMapping ∷ []
 unfolding named_code
 type_names = refl
 
@@ -308,6 +347,19 @@ listed = refl
 sub_indices : sub_number 55 sections (codes "SubNumber=3") ∷ sub_number 55 sections (codes "SubNumber=x") ∷ sub_number 65 sections (codes "SubNumber=3") ∷ sub_index_0 65 sections (codes "DefaultValue=4") ∷ []
     ≡ Fact (fact.SubNumber 3 4) ∷ Fact (fact.NoSubNumber 4) ∷ Line ∷ Fact (fact.SubIndex0 4 2) ∷ []
 sub_indices = refl
+
+-- 10h and 99h have the decimal digits of 10 and 99; 9 isn't sub-index 10h, nor is 1Ah of any number
+decimal_names : map (λ n. highest_fact n 0x10) (9 ∷ 10 ∷ 11 ∷ 16 ∷ []) ≡ Fact (fact.SubIndex0 9 16) ∷ Fact (fact.DecimalName 10 16) ∷ Fact (fact.SubIndex0 11 16) ∷ Fact (fact.SubIndex0 16 16) ∷ []
+decimal_names = refl
+
+other_names : highest_fact 99 0x99 ∷ highest_fact 12 0x12 ∷ highest_fact 20 0x1A ∷ highest_fact 100 0xA0 ∷ highest_fact 1 9 ∷ highest_fact 0 0 ∷ []
+    ≡ Fact (fact.DecimalName 99 0x99) ∷ Fact (fact.DecimalName 12 0x12) ∷ Fact (fact.SubIndex0 20 0x1A) ∷ Fact (fact.SubIndex0 100 0xA0) ∷ Fact (fact.SubIndex0 1 9) ∷ Fact (fact.SubIndex0 0 0) ∷ []
+other_names = refl
+
+-- sections named sub1 and sub10 in decimal
+decimal_sub : sub_index_0 2 (section 1 (SubIndex (record { index = 0x2005; sub = 0 })) [] ∷ section 9 (SubIndex (record { index = 0x2005; sub = 1 })) [] ∷ section 20 (SubIndex (record { index = 0x2005; sub = 16 })) [] ∷ []) (codes "DefaultValue=10")
+    ≡ Fact (fact.DecimalName 10 16)
+decimal_sub = refl
 
 -- 1400h and 15FFh; 1800h
 pdo_counts : pdo_count sections (codes "NrOfRxPdo=3") ∷ pdo_count sections (codes "NrOfTXPDO = 0x10") ∷ pdo_count sections (codes "NrOfTXPDO=4 ; four") ∷ pdo_count sections (codes "nrofrxpdo=08") ∷ []

@@ -12,7 +12,7 @@ use Rattle.conode_lint_text.specs.MeantSections.{meant_text}
 use Rattle.conode_lint_text.specs.declared.fact.Fact.{Fact}
 use Rattle.conode_lint_text.specs.declared.fact.Part.{Part}
 use Rattle.conode_lint_text.specs.declared.fact.Part.TheVariants.{Number, Code, Hexadecimal, Signed}
-use Rattle.conode_lint_text.specs.declared.fact.Fact.TheVariants.{NoCount, ListCount, ListGap, HighIndex, NoMandatoryList, NotListed, LargeText, NoValue, NoObjectType, NoDataType, TypeName, ReservedOfTpdo, ReservedOfRpdo, ReservedCounter, MeantSection, ByteOrderMark, CommentInValue, QuotedValue, NoPairs, DecimalIndex, LowDecimal, LowIndex, FixedType, NoType, NoAccess, NoTypeOrAccess, NoFileInfo, FileInfoLacks, NoDeviceInfo, DeviceInfoLacks, NoSubNumber, SubNumber, SubIndex0, RpdoCount, TpdoCount, NoRpdoCount, NoTpdoCount, Identity, NoIdentity, BelowLow, AboveHigh, AboveNegative, ValueOutside, LimitOutside, LimitsCrossed, NegativeHigh}
+use Rattle.conode_lint_text.specs.declared.fact.Fact.TheVariants.{NoCount, ListCount, ListGap, HighIndex, NoMandatoryList, NotListed, LargeText, NoValue, NoMapping, NotOctal, OpenSection, Unsupported, ManyEntries, NoObjectType, NoDataType, TypeName, ReservedOfTpdo, ReservedOfRpdo, ReservedCounter, MeantSection, ByteOrderMark, CommentInValue, QuotedValue, NoPairs, DecimalIndex, LowDecimal, LowIndex, FixedType, NoType, NoAccess, NoTypeOrAccess, NoFileInfo, FileInfoLacks, NoDeviceInfo, DeviceInfoLacks, NoSubNumber, SubNumber, SubIndex0, DecimalName, RpdoCount, TpdoCount, NoRpdoCount, NoTpdoCount, Identity, NoIdentity, BelowLow, AboveHigh, AboveNegative, ValueOutside, LimitOutside, LimitsCrossed, NegativeHigh}
 
 -- a number as sheets have it, in hexadecimal digits
 unfoldable pub hexadecimal : ℕ → List ℕ
@@ -48,12 +48,18 @@ unfoldable pub words_of : Fact → List ℕ
 words_of NoCount = codes "the list has no SupportedObjects"
 words_of (ListCount number other) = codes "the list counts % objects and has % of the keys 1 to %"
 words_of (ListGap number other third) =
-    codes "the list counts % objects and has %: key % is missing"
+    codes "the list has % of the keys 1 to % that it counts: key % is missing"
 words_of (HighIndex number) = codes "the index of line % is above 0xFFFF"
 words_of NoMandatoryList = codes "there is no section [MandatoryObjects]"
 words_of (NotListed device error identity) = not_listed device error identity
 words_of LargeText = codes "the text has more than 1,048,576 bytes"
 words_of NoValue = codes "the value is no whole number of at most 64 bits"
+words_of NoMapping = codes "PDOMapping is a number, and this is none"
+words_of NotOctal =
+    codes "a leading zero means octal, which has no digits 8 and 9"
+words_of OpenSection = codes "the section line has no `]`"
+words_of Unsupported = codes "CiA 301 defines this code, but it isn't supported"
+words_of ManyEntries = codes "CiA 301 has an object with sub-indices here"
 words_of NoObjectType = codes "ObjectType is a number, and this is none"
 words_of NoDataType = codes "DataType is a number, and this is none"
 words_of (TypeName code) = codes "DataType is a number: this name's is 0x%"
@@ -86,6 +92,8 @@ words_of (SubNumber number other) =
     codes "SubNumber is %, and the number of the object's sub-index sections is %"
 words_of (SubIndex0 number other) =
     codes "sub-index 0 is %, and the highest sub-index of the object is %"
+words_of (DecimalName number other) =
+    codes "sub-index 0 is %, and the highest sub-index of the object is %: the name sub% is hexadecimal"
 words_of (RpdoCount number other) = codes "NrOfRXPDO is %, and the number of the sheet's RPDOs is %"
 words_of (TpdoCount number other) = codes "NrOfTXPDO is %, and the number of the sheet's TPDOs is %"
 words_of (NoRpdoCount number) =
@@ -123,11 +131,12 @@ range_texts t =
 -- the texts in the places of a fact's words
 unfoldable pub texts_of : Fact → List (List ℕ)
 texts_of (ListCount counted has) = numbers counted has counted
-texts_of (ListGap counted has missing) = numbers counted has missing
+texts_of (ListGap counted has missing) = numbers has counted missing
 texts_of (SubNumber number has) = numbers number has 0
 texts_of (RpdoCount number has) = numbers number has 0
 texts_of (TpdoCount number has) = numbers number has 0
 texts_of (SubIndex0 number highest) = numbers number highest 0
+texts_of (DecimalName number highest) = numbers number highest number
 texts_of (NoSubNumber has) = numbers has 0 0
 texts_of (NoRpdoCount has) = numbers has 0 0
 texts_of (NoTpdoCount has) = numbers has 0 0

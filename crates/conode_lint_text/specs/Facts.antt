@@ -1,7 +1,7 @@
 -- What a sheet has where a finding is (CiA 306-1, structure of an EDS, object lists, object
 -- description, device information): its sections as they are read in spite of lines at fault, and
 -- the text of the finding's line.
-use Rattle.std.specs.Prelude.{ℕ, ◌+◌, ◌==◌, nat_lt, nat_le, max, fold, Bool, true, false, ◌&&◌, ◌||◌, if◌then◌else◌, List, [], ◌∷◌, drop, find, count_by, codes, Option, Some, None, is_some, is_none, option_and_then, option_map}
+use Rattle.std.specs.Prelude.{ℕ, ◌+◌, ◌*◌, ◌/◌, ◌%◌, ◌==◌, nat_lt, nat_le, max, fold, Bool, true, false, ◌&&◌, ◌||◌, if◌then◌else◌, List, [], ◌∷◌, drop, find, count_by, codes, Option, Some, None, is_some, is_none, option_and_then, option_map}
 use Rattle.std.specs.List.{list_any, before_first, after_first}
 use Rattle.std.specs.Option.{option_map_or, option_or}
 use Rattle.std.specs.Result.{result_ok}
@@ -241,10 +241,31 @@ number_fact name value =
     if is_value_key name then Fact fact.NoValue
     else if same_name name (codes "ObjectType") then Fact fact.NoObjectType
     else if same_name name (codes "DataType") then type_number (named_code value)
+    else if same_name name (codes "PDOMapping") then Fact fact.NoMapping
     else Line
 
 abbrev pub bad_number : List ℕ → About
 bad_number text = odd_value (key_value text) (number_fact (key_name text) (key_value text))
+
+-- of the AmbiguousNumber of a line: one with a digit 8 or 9 is no octal number
+abbrev pub is_eight : ℕ → Bool
+is_eight b = b == 56
+
+abbrev pub is_nine : ℕ → Bool
+is_nine b = b == 57
+
+abbrev pub ambiguous_number : List ℕ → About
+ambiguous_number text =
+    if list_any is_eight (key_value text) || list_any is_nine (key_value text)
+    then Fact fact.NotOctal else Line
+
+-- of the BadLine of a line: one that begins with `[` has no `]`
+abbrev pub is_open : List ℕ → Bool
+is_open [] = false
+is_open (b ∷ text) = b == 91
+
+abbrev pub bad_line : List ℕ → About
+bad_line text = if is_open (trim text) then Fact fact.OpenSection else Line
 
 -- of the BadAccess of a line
 abbrev pub bad_access : List ℕ → About
@@ -271,7 +292,8 @@ abbrev pub missing_key : ℕ → List TextSection → About
 missing_key line sections = option_map_or entry_fact (section_on line sections) Line
 
 -- of the BadType of a line: the type that CiA 301 has for the entry, if it has one. Where the line has
--- that type, its object type is at fault
+-- that type, its object type is at fault. Of an object whose sub-index 1 has such a type too, not its
+-- type is at fault, but that it has no sub-indices
 abbrev pub entry_key : SectionKind → Option Key
 entry_key (Object index) = Some (record { index = index; sub = 0 })
 entry_key (SubIndex key) = Some key
@@ -280,16 +302,42 @@ entry_key other = None
 abbrev pub fixed_code : SectionKind → Option ℕ
 fixed_code kind = option_map code_of (option_and_then fixed_type_of (entry_key kind))
 
-abbrev pub other_type : Option ℕ → ℕ → About
-other_type given code = if is_number code given then Line else Fact (fact.FixedType code)
+abbrev pub has_entries : SectionKind → Bool
+has_entries (Object index) = is_some (fixed_type_of (record { index = index; sub = 1 }))
+has_entries other = false
+
+abbrev pub entry_type_fact : SectionKind → ℕ → About
+entry_type_fact kind code =
+    if has_entries kind then Fact fact.ManyEntries else Fact (fact.FixedType code)
+
+abbrev pub other_type : Option ℕ → SectionKind → ℕ → About
+other_type given kind code = if is_number code given then Line else entry_type_fact kind code
+
+-- the codes of CiA 301 that aren't supported: the complex types, those of manufacturers and of device
+-- profiles (CiA 301, data types), and DEFTYPE and DEFSTRUCT of an object (CiA 301, object codes)
+abbrev pub is_other_type : ℕ → Bool
+is_other_type code =
+    (nat_le 0x20 code && nat_le code 0x25) || (nat_le 0x40 code && nat_le code 0x25F)
+
+abbrev pub is_definition : ℕ → Bool
+is_definition code = (code == 5) || (code == 6)
+
+abbrev pub code_fact : (ℕ → Bool) → Option ℕ → About
+code_fact test given = if option_map_or test given false then Fact fact.Unsupported else Line
 
 abbrev pub type_fact : Option ℕ → TextSection → About
-type_fact given s = option_map_or (other_type given) (fixed_code s.kind) Line
+type_fact given s =
+    option_map_or (other_type given s.kind) (fixed_code s.kind) (code_fact is_other_type given)
+
+abbrev pub object_type_fact : Option ℕ → TextSection → About
+object_type_fact given s =
+    if is_sub_index s.kind then Line else code_fact is_definition given
 
 abbrev pub bad_type : ℕ → List TextSection → List ℕ → About
 bad_type line sections text =
     if same_name (key_name text) (codes "DataType")
-    then option_map_or (type_fact (key_number text)) (section_before line sections) Line else Line
+    then option_map_or (type_fact (key_number text)) (section_before line sections) Line
+    else option_map_or (object_type_fact (key_number text)) (section_before line sections) Line
 
 -- of the WrongAccess of a line: the access that CiA 301 has for the entry
 abbrev pub access_fact : TextSection → About
@@ -392,10 +440,21 @@ highest_from index first sections =
 abbrev pub highest_of : ℕ → List TextSection → ℕ
 highest_of index sections = highest_from index 0 sections
 
--- of the SubIndex0 of a line
+-- of the SubIndex0 of a line. The sub-index in a section's name has hexadecimal digits: one whose
+-- digits are the number in decimal may have been meant so
+abbrev pub is_decimal_name : ℕ → ℕ → Bool
+is_decimal_name number highest =
+    nat_le 0x10 highest && nat_lt (highest / 16) 10 && nat_lt (highest % 16) 10
+    && (highest / 16 * 10 + highest % 16 == number)
+
+abbrev pub highest_fact : ℕ → ℕ → About
+highest_fact number highest =
+    if is_decimal_name number highest then Fact (fact.DecimalName number highest)
+    else Fact (fact.SubIndex0 number highest)
+
 abbrev pub sub_index_0_of : List TextSection → Option ℕ → SectionKind → About
 sub_index_0_of sections (Some number) (SubIndex key) =
-    Fact (fact.SubIndex0 number (highest_of key.index sections))
+    highest_fact number (highest_of key.index sections)
 sub_index_0_of sections number kind = Line
 
 abbrev pub sub_index_0 : ℕ → List TextSection → List ℕ → About

@@ -9,7 +9,7 @@ use Rattle.conode_text.specs.Filled.{filled}
 use Rattle.conode_json.specs.Characters.{characters_of}
 use Rattle.conode_lint_text.specs.Characters.{blanks}
 use Rattle.conode_lint_text.specs.FactTexts.{fact_text}
-use Rattle.conode_lint_text.specs.declared.fact.Fact.TheVariants.{HighIndex, NoMandatoryList, NotListed, LargeText, NoValue, NoObjectType, TypeName, ReservedOfTpdo, ReservedOfRpdo, ReservedCounter, FileInfoLacks, DeviceInfoLacks, ByteOrderMark, CommentInValue, QuotedValue, NoPairs, DecimalIndex, LowDecimal, LowIndex, FixedType, NoType, NoAccess, NoTypeOrAccess}
+use Rattle.conode_lint_text.specs.declared.fact.Fact.TheVariants.{HighIndex, NoMandatoryList, NotListed, LargeText, NoValue, NoMapping, NotOctal, OpenSection, Unsupported, ManyEntries, DecimalName, NoObjectType, TypeName, ReservedOfTpdo, ReservedOfRpdo, ReservedCounter, FileInfoLacks, DeviceInfoLacks, ByteOrderMark, CommentInValue, QuotedValue, NoPairs, DecimalIndex, LowDecimal, LowIndex, FixedType, NoType, NoAccess, NoTypeOrAccess}
 use Rattle.conode_lint_text.specs.declared.finding.About.{About}
 use Rattle.conode_lint_text.specs.declared.finding.About.TheVariants.{Line, Object, Entry, Sum, NoSum, Bits, FirstAt, Misspelt, MisspeltBeside, NoSection, Access, Fact}
 use Rattle.conode_lint_text.specs.declared.finding.Finding.{Finding}
@@ -87,6 +87,17 @@ fix_with (Fact (NotListed device error identity)) fix =
 fix_with (Fact LargeText) fix = codes "take out comments and sections that are passed over"
 fix_with (Fact NoValue) fix =
     codes "write decimal digits, 0x and hexadecimal digits, or a sum as $NODEID+0x180"
+fix_with (Fact NoMapping) fix =
+    codes "write 1 if the entry may be mapped into a PDO, or else 0"
+fix_with (Fact NotOctal) fix =
+    codes "write the number without the zero, or try conode adapt --leading-zeros decimal"
+fix_with (Fact OpenSection) fix =
+    codes "put `]` after the name; until then no section of this name is read, so a listed object lacks it"
+fix_with (Fact Unsupported) fix = codes "take the object out of its list"
+fix_with (Fact ManyEntries) fix =
+    codes "describe its sub-indices, with ObjectType=8 of 1003h or ObjectType=9 of a mapping; or take the object out of its list"
+fix_with (Fact (DecimalName number highest)) fix =
+    codes "write the sub-index in hexadecimal in each section's name, as subA for 10; or give the highest sub-index"
 fix_with (Fact NoObjectType) fix =
     codes "write 0x7 for a VAR, 0x8 for an ARRAY, 0x9 for a RECORD, 0x2 for a DOMAIN"
 fix_with (Fact (TypeName code)) fix = codes "write that number"

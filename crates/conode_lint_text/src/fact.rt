@@ -41,6 +41,16 @@ pub enum Fact {
     LargeText,
     /// A value that is no number.
     NoValue,
+    /// A PDOMapping that is no number.
+    NoMapping,
+    /// A number with a leading zero and a digit 8 or 9.
+    NotOctal,
+    /// A section line without `]`.
+    OpenSection,
+    /// A code of a type or of an object that CiA 301 defines, and that isn't supported.
+    Unsupported,
+    /// An entry where CiA 301 has an object with sub-indices.
+    ManyEntries,
     /// An ObjectType that is no number, as a name.
     NoObjectType,
     /// A DataType that is no number.
@@ -92,6 +102,8 @@ pub enum Fact {
     SubNumber(u64, usize),
     /// A sub-index 0, and the highest sub-index of its object.
     SubIndex0(u64, u8),
+    /// The same, where the hexadecimal digits of the highest one are the number in decimal.
+    DecimalName(u64, u8),
     /// NrOfRXPDO, and the number of RPDOs.
     RpdoCount(u64, usize),
     /// NrOfTXPDO, and the number of TPDOs.
@@ -183,12 +195,19 @@ fn words_of(fact: Fact) -> &'static str
     match fact {
         Fact::NoCount => "the list has no SupportedObjects",
         Fact::ListCount(_, _) => "the list counts % objects and has % of the keys 1 to %",
-        Fact::ListGap(_, _, _) => "the list counts % objects and has %: key % is missing",
+        Fact::ListGap(_, _, _) => {
+            "the list has % of the keys 1 to % that it counts: key % is missing"
+        }
         Fact::HighIndex(_) => "the index of line % is above 0xFFFF",
         Fact::NoMandatoryList => "there is no section [MandatoryObjects]",
         Fact::NotListed(device, error, identity) => not_listed(device, error, identity),
         Fact::LargeText => "the text has more than 1,048,576 bytes",
         Fact::NoValue => "the value is no whole number of at most 64 bits",
+        Fact::NoMapping => "PDOMapping is a number, and this is none",
+        Fact::NotOctal => "a leading zero means octal, which has no digits 8 and 9",
+        Fact::OpenSection => "the section line has no `]`",
+        Fact::Unsupported => "CiA 301 defines this code, but it isn't supported",
+        Fact::ManyEntries => "CiA 301 has an object with sub-indices here",
         Fact::NoObjectType => "ObjectType is a number, and this is none",
         Fact::NoDataType => "DataType is a number, and this is none",
         Fact::TypeName(_) => "DataType is a number: this name's is 0x%",
@@ -226,6 +245,10 @@ fn words_of(fact: Fact) -> &'static str
             "SubNumber is %, and the number of the object's sub-index sections is %"
         }
         Fact::SubIndex0(_, _) => "sub-index 0 is %, and the highest sub-index of the object is %",
+        Fact::DecimalName(_, _) => {
+            "sub-index 0 is %, and the highest sub-index of the object is %: the name sub% is \
+            hexadecimal"
+        }
         Fact::RpdoCount(_, _) => "NrOfRXPDO is %, and the number of the sheet's RPDOs is %",
         Fact::TpdoCount(_, _) => "NrOfTXPDO is %, and the number of the sheet's TPDOs is %",
         Fact::NoRpdoCount(_) => "NrOfRXPDO is no number, and the number of the sheet's RPDOs is %",
@@ -284,11 +307,12 @@ fn values_of(fact: Fact) -> [Part; 3]
 {
     match fact {
         Fact::ListCount(counted, has) => numbers(counted, has as u64, counted),
-        Fact::ListGap(counted, has, missing) => numbers(counted, has as u64, missing as u64),
+        Fact::ListGap(counted, has, missing) => numbers(has as u64, counted, missing as u64),
         Fact::SubNumber(number, has)
         | Fact::RpdoCount(number, has)
         | Fact::TpdoCount(number, has) => numbers(number, has as u64, 0),
         Fact::SubIndex0(number, highest) => numbers(number, highest as u64, 0),
+        Fact::DecimalName(number, highest) => numbers(number, highest as u64, number),
         Fact::NoSubNumber(number)
         | Fact::NoRpdoCount(number)
         | Fact::NoTpdoCount(number)

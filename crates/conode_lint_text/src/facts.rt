@@ -5,7 +5,9 @@ ghost use Rattle.std.specs.Option.{option_copied};
 ghost use Rattle.co_sheet_text.specs.Views.{section_view};
 ghost use Rattle.conode_lint_text.specs.Facts.{
   access_fact,
+  ambiguous_number,
   bad_access,
+  bad_line,
   bad_number,
   bad_type,
   beside,
@@ -14,12 +16,16 @@ ghost use Rattle.conode_lint_text.specs.Facts.{
   duplicate_section,
   entry_fact,
   entry_key,
+  entry_type_fact,
   file_info,
   first_at,
   first_key,
   first_section,
   fixed_code,
+  has_entries,
   is_decimal_index,
+  is_open,
+  is_other_type,
   is_quoted,
   is_sub_index,
   is_value_key,
@@ -35,6 +41,7 @@ ghost use Rattle.conode_lint_text.specs.Facts.{
   missing_section,
   named_code,
   number_fact,
+  object_type_fact,
   odd_value,
   other_type,
   reserved_fact,
@@ -299,6 +306,9 @@ fn number_fact(name: &[u8], value: &[u8]) -> About
     if same_name(name, b"DataType") {
         return type_number(named_code(value));
     }
+    if same_name(name, b"PDOMapping") {
+        return About::Fact(Fact::NoMapping);
+    }
     About::Line
 }
 
@@ -309,6 +319,33 @@ pub fn bad_number(text: &[u8]) -> About
 {
     let value = key_value(text);
     odd_value(value, number_fact(key_name(text), value))
+}
+
+/// Of the AmbiguousNumber of a line: one with a digit 8 or 9 is no octal number.
+pub fn ambiguous_number(text: &[u8]) -> About
+    ensures { result ≡ ambiguous_number text.now }
+{
+    let value = key_value(text);
+    if split_at_first(value, b'8').is_some() || split_at_first(value, b'9').is_some() {
+        return About::Fact(Fact::NotOctal);
+    }
+    About::Line
+}
+
+fn is_open(text: &[u8]) -> bool
+    ensures { result ≡ is_open text.now }
+{
+    matches!(text, [b'[', ..])
+}
+
+/// Of the BadLine of a line: one that begins with `[` has no `]`.
+pub fn bad_line(text: &[u8]) -> About
+    ensures { result ≡ bad_line text.now }
+{
+    if is_open(trim(text)) {
+        return About::Fact(Fact::OpenSection);
+    }
+    About::Line
 }
 
 /// Of the BadAccess of a line: quotes or a comment in its value.
@@ -424,37 +461,74 @@ fn fixed_code(kind: SectionKind) -> Option<u16>
     }
 }
 
+// whether CiA 301 has an object with sub-indices for a section, whose types are fixed
+fn has_entries(kind: SectionKind) -> bool
+    ensures { result ≡ has_entries kind }
+{
+    match kind {
+        SectionKind::Object(index) => fixed_type(Key { index, sub: 1 }).is_some(),
+        _ => false,
+    }
+}
+
+fn entry_type_fact(kind: SectionKind, code: u16) -> About
+    ensures { result ≡ entry_type_fact kind code }
+{
+    if has_entries(kind) {
+        return About::Fact(Fact::ManyEntries);
+    }
+    About::Fact(Fact::FixedType(code))
+}
+
 // the type that CiA 301 has for an entry, if the line gives it another one
-fn other_type(given: Option<u64>, code: u16) -> About
-    ensures { result ≡ other_type given code }
+fn other_type(given: Option<u64>, kind: SectionKind, code: u16) -> About
+    ensures { result ≡ other_type given kind code }
 {
     match given {
         Some(number) if number == u64::from(code) => About::Line,
-        _ => About::Fact(Fact::FixedType(code)),
+        _ => entry_type_fact(kind, code),
     }
+}
+
+// whether a code is that of a type of CiA 301 that isn't supported
+fn is_other_type(code: u64) -> bool
+    ensures { result ≡ is_other_type code }
+{
+    (0x20 <= code && code <= 0x25) || (0x40 <= code && code <= 0x25F)
 }
 
 fn type_fact(given: Option<u64>, section: &TextSection<'_, '_>) -> About
     ensures { result ≡ type_fact given (section_view section.now) }
 {
-    match fixed_code(section.kind) {
-        Some(code) => other_type(given, code),
-        None => About::Line,
+    match (fixed_code(section.kind), given) {
+        (Some(code), _) => other_type(given, section.kind, code),
+        (None, Some(code)) if is_other_type(code) => About::Fact(Fact::Unsupported),
+        (None, _) => About::Line,
+    }
+}
+
+fn object_type_fact(given: Option<u64>, section: &TextSection<'_, '_>) -> About
+    ensures { result ≡ object_type_fact given (section_view section.now) }
+{
+    match given {
+        Some(5 | 6) if !is_sub_index(section.kind) => About::Fact(Fact::Unsupported),
+        _ => About::Line,
     }
 }
 
 /// Of the BadType of a line: the type that CiA 301 has for the entry, if it has one, and another than
-/// the line's. Where it is the line's, the object type is at fault.
+/// the line's. Where it is the line's, the object type is at fault. Of other entries, and of an
+/// ObjectType, whether CiA 301 defines the code.
 pub fn bad_type(sections: &[TextSection<'_, '_>], line: usize, text: &[u8]) -> About
     ensures { result ≡ bad_type line (map section_view sections.now) text.now }
 {
-    if !same_name(key_name(text), b"DataType") {
+    let Some(section) = section_before(sections, line) else {
         return About::Line;
+    };
+    if same_name(key_name(text), b"DataType") {
+        return type_fact(key_number(text), section);
     }
-    match section_before(sections, line) {
-        Some(section) => type_fact(key_number(text), section),
-        None => About::Line,
-    }
+    object_type_fact(key_number(text), section)
 }
 
 fn access_fact(section: &TextSection<'_, '_>) -> About

@@ -4,10 +4,12 @@
 ghost use Rattle.std.specs.Prelude.{◌≡◌, map};
 ghost use Rattle.co_sheet_text.specs.Views.{section_view};
 ghost use Rattle.conode_lint_text.specs.Facts.{
+  highest_fact,
   highest_of,
   identity_at,
   identity_number,
   initial_number,
+  is_decimal_name,
   is_sub_index_of,
   no_pdo_fact,
   pdo_count,
@@ -95,12 +97,31 @@ fn highest_of(index: u16, sections: &[TextSection<'_, '_>]) -> u8
     highest
 }
 
+// whether the hexadecimal digits of the highest sub-index are the number in decimal
+fn is_decimal_name(number: u64, highest: u8) -> bool
+    ensures { result ≡ is_decimal_name number highest }
+{
+    0x10 <= highest
+        && highest / 16 < 10
+        && highest % 16 < 10
+        && (highest / 16 * 10 + highest % 16) as u64 == number
+}
+
+fn highest_fact(number: u64, highest: u8) -> About
+    ensures { result ≡ highest_fact number highest }
+{
+    if is_decimal_name(number, highest) {
+        return About::Fact(Fact::DecimalName(number, highest));
+    }
+    About::Fact(Fact::SubIndex0(number, highest))
+}
+
 fn sub_index_0_of(sections: &[TextSection<'_, '_>], number: Option<u64>, kind: SectionKind) -> About
     ensures { result ≡ sub_index_0_of (map section_view sections.now) number kind }
 {
     match (number, kind) {
         (Some(number), SectionKind::SubIndex(key)) => {
-            About::Fact(Fact::SubIndex0(number, highest_of(key.index, sections)))
+            highest_fact(number, highest_of(key.index, sections))
         }
         _ => About::Line,
     }

@@ -127,6 +127,23 @@ pub(crate) fn fix_of<'a>(finding: &Finding<'a>) -> &'a str
         About::Fact(Fact::NoValue) => {
             "write decimal digits, 0x and hexadecimal digits, or a sum as $NODEID+0x180"
         }
+        About::Fact(Fact::NoMapping) => "write 1 if the entry may be mapped into a PDO, or else 0",
+        About::Fact(Fact::NotOctal) => {
+            "write the number without the zero, or try conode adapt --leading-zeros decimal"
+        }
+        About::Fact(Fact::OpenSection) => {
+            "put `]` after the name; until then no section of this name is read, so a listed object \
+            lacks it"
+        }
+        About::Fact(Fact::Unsupported) => "take the object out of its list",
+        About::Fact(Fact::ManyEntries) => {
+            "describe its sub-indices, with ObjectType=8 of 1003h or ObjectType=9 of a mapping; or \
+            take the object out of its list"
+        }
+        About::Fact(Fact::DecimalName(_, _)) => {
+            "write the sub-index in hexadecimal in each section's name, as subA for 10; or give the \
+            highest sub-index"
+        }
         About::Fact(Fact::NoObjectType) => {
             "write 0x7 for a VAR, 0x8 for an ARRAY, 0x9 for a RECORD, 0x2 for a DOMAIN"
         }
