@@ -9,6 +9,7 @@ use Rattle.conode_text.specs.Filled.{filled}
 use Rattle.conode_json.specs.Characters.{characters_of}
 use Rattle.conode_lint_text.specs.Characters.{blanks}
 use Rattle.conode_lint_text.specs.FactTexts.{fact_text}
+use Rattle.conode_lint_text.specs.declared.fact.Fact.{Fact as SheetFact}
 use Rattle.conode_lint_text.specs.declared.fact.Fact.TheVariants.{HighIndex, NoMandatoryList, NotListed, LargeText, NoValue, NoMapping, NotOctal, OpenSection, Unsupported, ManyEntries, DecimalName, NoObjectType, TypeName, ReservedOfTpdo, ReservedOfRpdo, ReservedCounter, FileInfoLacks, DeviceInfoLacks, ByteOrderMark, CommentInValue, QuotedValue, NoPairs, DecimalIndex, LowDecimal, LowIndex, FixedType, NoType, NoAccess, NoTypeOrAccess}
 use Rattle.conode_lint_text.specs.declared.finding.About.{About}
 use Rattle.conode_lint_text.specs.declared.finding.About.TheVariants.{Line, Object, Entry, Sum, NoSum, Bits, FirstAt, Misspelt, MisspeltBeside, NoSection, Access, Fact}
@@ -131,6 +132,10 @@ fix_with (Fact (NoAccess false)) fix =
 fix_with (Fact (NoTypeOrAccess false)) fix =
     codes "add DataType and AccessType; to an ARRAY or a RECORD add ObjectType=8 or ObjectType=9"
 fix_with about fix = fix
+
+-- the same of a fact
+abbrev pub fact_fix : SheetFact → List ℕ → List ℕ
+fact_fix fact fix = fix_with (Fact fact) fix
 
 abbrev pub fix_of : Finding → List ℕ
 fix_of finding = fix_with finding.about finding.fix.now

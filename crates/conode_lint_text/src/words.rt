@@ -1,7 +1,7 @@
 //! The words of a finding.
 
 ghost use Rattle.std.specs.Prelude.{◌≡◌, ◌++◌, OnOk, string_bytes};
-ghost use Rattle.conode_lint_text.specs.Findings.{about_message, access_text, fix_of, help_of, message_of, severity_name};
+ghost use Rattle.conode_lint_text.specs.Findings.{about_message, access_text, fact_fix, fix_of, help_of, message_of, severity_name};
 
 use crate::fact::{Fact, push_fact};
 use crate::finding::{About, Finding, Severity};
@@ -113,75 +113,82 @@ pub(crate) fn push_message(text: &mut String, finding: &Finding<'_>) -> Result<(
     push_about(text, finding.about, finding.meaning)
 }
 
-/// How to fix it, where what the sheet has there says more than the kind. Without its type an ARRAY or
-/// a RECORD is taken for an entry.
+// how to fix it, where this fact says more than the kind. Without its type an ARRAY or a RECORD is taken
+// for an entry
+#[tactic(auto, unfolding(crate::specs::Findings::fix_with))]
+fn fact_fix(fact: Fact, fix: &str) -> &str
+    ensures { result.now ≡ fact_fix fact fix.now }
+{
+    match fact {
+        Fact::HighIndex(_) => "give an index of at most four hexadecimal digits",
+        Fact::NoMandatoryList => "add it, with 1000h, 1001h and 1018h",
+        Fact::NotListed(_, _, _) => "list what is missing, with its section",
+        Fact::LargeText => "take out comments and sections that are passed over",
+        Fact::NoValue => {
+            "write decimal digits, 0x and hexadecimal digits, or a sum as $NODEID+0x180"
+        }
+        Fact::NoMapping => "write 1 if the entry may be mapped into a PDO, or else 0",
+        Fact::NotOctal => {
+            "write the number without the zero, or try conode adapt --leading-zeros decimal"
+        }
+        Fact::OpenSection => {
+            "put `]` after the name; until then no section of this name is read, so a listed object \
+            lacks it"
+        }
+        Fact::Unsupported => "take the object out of its list",
+        Fact::ManyEntries => {
+            "describe its sub-indices, with ObjectType=8 of 1003h or ObjectType=9 of a mapping; or \
+            take the object out of its list"
+        }
+        Fact::DecimalName(_, _) => {
+            "write the sub-index in hexadecimal in each section's name, as subA for 10; or give the \
+            highest sub-index"
+        }
+        Fact::NoObjectType => {
+            "write 0x7 for a VAR, 0x8 for an ARRAY, 0x9 for a RECORD, 0x2 for a DOMAIN"
+        }
+        Fact::TypeName(_) => "write that number",
+        Fact::ReservedOfTpdo => "give 0 to 240, or from 252 on",
+        Fact::ReservedOfRpdo => "give 0 to 240, 254 or 255",
+        Fact::ReservedCounter => "give 0, or 2 to 240",
+        Fact::FileInfoLacks(_) | Fact::DeviceInfoLacks(_) => {
+            "add the missing keys, each with a value: one without it counts as missing"
+        }
+        Fact::ByteOrderMark => "save it without the mark",
+        Fact::CommentInValue => "put the comment on a line of its own",
+        Fact::QuotedValue => "take the quotes out",
+        Fact::NoPairs => "write pairs of hexadecimal digits without blanks, as 00A1FF",
+        Fact::DecimalIndex(_) => { "write the index in hexadecimal, after 0x; or add the section" }
+        Fact::LowDecimal(_) => "write the index in hexadecimal, after 0x",
+        Fact::LowIndex(_) => "take it out of the list",
+        Fact::FixedType(_) => {
+            "give that type, or take the object out of its list, unless it is mandatory"
+        }
+        Fact::NoType(true) => "add DataType",
+        Fact::NoAccess(true) => "add AccessType",
+        Fact::NoTypeOrAccess(true) => "add DataType and AccessType",
+        Fact::NoType(false) => {
+            "add DataType; to an ARRAY or a RECORD add ObjectType=8 or ObjectType=9"
+        }
+        Fact::NoAccess(false) => {
+            "add AccessType; to an ARRAY or a RECORD add ObjectType=8 or ObjectType=9"
+        }
+        Fact::NoTypeOrAccess(false) => {
+            "add DataType and AccessType; to an ARRAY or a RECORD add ObjectType=8 or ObjectType=9"
+        }
+        _ => fix,
+    }
+}
+
+/// How to fix it, where what the sheet has there says more than the kind.
 #[tactic(auto, unfolding(crate::specs::Findings::fix_with))]
 pub(crate) fn fix_of<'a>(finding: &Finding<'a>) -> &'a str
     ensures { result.now ≡ fix_of finding.now }
 {
     match finding.about {
-        About::Fact(Fact::HighIndex(_)) => "give an index of at most four hexadecimal digits",
-        About::Fact(Fact::NoMandatoryList) => "add it, with 1000h, 1001h and 1018h",
-        About::Fact(Fact::NotListed(_, _, _)) => "list what is missing, with its section",
-        About::Fact(Fact::LargeText) => "take out comments and sections that are passed over",
-        About::Fact(Fact::NoValue) => {
-            "write decimal digits, 0x and hexadecimal digits, or a sum as $NODEID+0x180"
-        }
-        About::Fact(Fact::NoMapping) => "write 1 if the entry may be mapped into a PDO, or else 0",
-        About::Fact(Fact::NotOctal) => {
-            "write the number without the zero, or try conode adapt --leading-zeros decimal"
-        }
-        About::Fact(Fact::OpenSection) => {
-            "put `]` after the name; until then no section of this name is read, so a listed object \
-            lacks it"
-        }
-        About::Fact(Fact::Unsupported) => "take the object out of its list",
-        About::Fact(Fact::ManyEntries) => {
-            "describe its sub-indices, with ObjectType=8 of 1003h or ObjectType=9 of a mapping; or \
-            take the object out of its list"
-        }
-        About::Fact(Fact::DecimalName(_, _)) => {
-            "write the sub-index in hexadecimal in each section's name, as subA for 10; or give the \
-            highest sub-index"
-        }
-        About::Fact(Fact::NoObjectType) => {
-            "write 0x7 for a VAR, 0x8 for an ARRAY, 0x9 for a RECORD, 0x2 for a DOMAIN"
-        }
-        About::Fact(Fact::TypeName(_)) => "write that number",
-        About::Fact(Fact::ReservedOfTpdo) => "give 0 to 240, or from 252 on",
-        About::Fact(Fact::ReservedOfRpdo) => "give 0 to 240, 254 or 255",
-        About::Fact(Fact::ReservedCounter) => "give 0, or 2 to 240",
-        About::Fact(Fact::FileInfoLacks(_)) | About::Fact(Fact::DeviceInfoLacks(_)) => {
-            "add the missing keys, each with a value: one without it counts as missing"
-        }
-        About::Fact(Fact::ByteOrderMark) => "save it without the mark",
-        About::Fact(Fact::CommentInValue) => "put the comment on a line of its own",
-        About::Fact(Fact::QuotedValue) => "take the quotes out",
-        About::Fact(Fact::NoPairs) => "write pairs of hexadecimal digits without blanks, as 00A1FF",
-        About::Fact(Fact::DecimalIndex(_)) => {
-            "write the index in hexadecimal, after 0x; or add the section"
-        }
-        About::NoSection(_) => {
-            "add it; or take the object out of its list, unless it is mandatory"
-        }
-        About::Fact(Fact::LowDecimal(_)) => "write the index in hexadecimal, after 0x",
-        About::Fact(Fact::LowIndex(_)) => "take it out of the list",
+        About::Fact(fact) => fact_fix(fact, finding.fix),
+        About::NoSection(_) => "add it; or take the object out of its list, unless it is mandatory",
         About::MisspeltBeside(_) => "take it out",
-        About::Fact(Fact::FixedType(_)) => {
-            "give that type, or take the object out of its list, unless it is mandatory"
-        }
-        About::Fact(Fact::NoType(true)) => "add DataType",
-        About::Fact(Fact::NoAccess(true)) => "add AccessType",
-        About::Fact(Fact::NoTypeOrAccess(true)) => "add DataType and AccessType",
-        About::Fact(Fact::NoType(false)) => {
-            "add DataType; to an ARRAY or a RECORD add ObjectType=8 or ObjectType=9"
-        }
-        About::Fact(Fact::NoAccess(false)) => {
-            "add AccessType; to an ARRAY or a RECORD add ObjectType=8 or ObjectType=9"
-        }
-        About::Fact(Fact::NoTypeOrAccess(false)) => {
-            "add DataType and AccessType; to an ARRAY or a RECORD add ObjectType=8 or ObjectType=9"
-        }
         _ => finding.fix,
     }
 }
