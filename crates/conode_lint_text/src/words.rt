@@ -176,7 +176,29 @@ fn fact_fix(fact: Fact, fix: &str) -> &str
         Fact::NoTypeOrAccess(false) => {
             "add DataType and AccessType; to an ARRAY or a RECORD add ObjectType=8 or ObjectType=9"
         }
-        _ => fix,
+        Fact::NoCount
+        | Fact::ListCount(_, _)
+        | Fact::ListGap(_, _, _)
+        | Fact::NoDataType
+        | Fact::MeantSection(_)
+        | Fact::NoFileInfo(_)
+        | Fact::NoDeviceInfo(_)
+        | Fact::NoSubNumber(_)
+        | Fact::SubNumber(_, _)
+        | Fact::SubIndex0(_, _)
+        | Fact::RpdoCount(_, _)
+        | Fact::TpdoCount(_, _)
+        | Fact::NoRpdoCount(_)
+        | Fact::NoTpdoCount(_)
+        | Fact::Identity(_, _)
+        | Fact::NoIdentity(_)
+        | Fact::BelowLow(_, _)
+        | Fact::AboveHigh(_, _)
+        | Fact::AboveNegative(_, _)
+        | Fact::ValueOutside(_)
+        | Fact::LimitOutside(_)
+        | Fact::LimitsCrossed(_)
+        | Fact::NegativeHigh(_) => fix,
     }
 }
 
