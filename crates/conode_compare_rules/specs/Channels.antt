@@ -153,17 +153,6 @@ abbrev pub left_open : Side → Bool → Dialogue → Dialogue
 left_open Client misses next = record next { sub_block = misses || next.sub_block }
 left_open Server misses next = next
 
--- A wrong answer to a request: of another entry, or none that its protocol has. It was owed, and no earlier request can
--- be answered, so that is said.
-abbrev pub is_other_answer : What → Bool
-is_other_answer Overtaken = true
-is_other_answer Unexpected = true
-is_other_answer what = false
-
-abbrev pub is_wrong : Side → Exchange → Bool
-is_wrong Client exchange = false
-is_wrong Server exchange = exchange.certain && (exchange.owed && is_other_answer exchange.heard.what)
-
 unfoldable pub channel_heard : Subject → Progress → ℕ → Side → FrameContent → Progress
 channel_heard subject progress micros side frame =
     let next = dialogue_heard subject.limits.answer progress.started progress.dialogue micros side frame in
@@ -179,19 +168,30 @@ channel_heard subject progress micros side frame =
       pdos = pdos_by side frame (pdos_heard beside shown next.asked micros) micros;
       dialogue = left_open side (may_miss_end progress.nmt micros frame) next;
       asked_at = asked_then (asks_for_profile side frame) progress.asked_at micros;
-      wrong = is_wrong side (exchange_at subject progress micros side frame);
     }
 
--- what the frame is, and what was written to the entries that are held
-unfoldable pub exchange_noted : Subject → Progress → Exchange → Progress
-exchange_noted subject progress exchange = record progress {
+-- A wrong answer to a request: of another entry, or none that its protocol has. It was owed, and no earlier request can
+-- be answered, so that is said.
+abbrev pub is_other_answer : What → Bool
+is_other_answer Overtaken = true
+is_other_answer Unexpected = true
+is_other_answer what = false
+
+abbrev pub is_wrong : Side → Exchange → Bool
+is_wrong Client exchange = false
+is_wrong Server exchange = exchange.certain && (exchange.owed && is_other_answer exchange.heard.what)
+
+-- what the frame is, what was written to the entries that are held, and whether it is a wrong answer
+unfoldable pub exchange_noted : Subject → Side → Progress → Exchange → Progress
+exchange_noted subject side progress exchange = record progress {
   written = written_heard subject.held.entries.items progress.written exchange.certain exchange.heard.ended progress.dialogue.asked;
   exchange = Some exchange;
+  wrong = is_wrong side exchange;
 }
 
 abbrev pub after_sdo : Subject → Progress → ℕ → Side → FrameContent → Progress
 after_sdo subject progress micros side frame =
-    exchange_noted subject (channel_heard subject progress micros side frame) (exchange_at subject progress micros side frame)
+    exchange_noted subject side (channel_heard subject progress micros side frame) (exchange_at subject progress micros side frame)
 
 -- an answer comes, by which a heartbeat may be missing
 unfoldable pub late_noted : Subject → Progress → Heartbeats → ℕ → Progress

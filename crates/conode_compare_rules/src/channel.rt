@@ -277,15 +277,16 @@ impl Progress {
         let asks = asks_for_profile(side, frame);
         self.asked_at = asked_then(asks, self.asked_at, micros);
         leave_open(&mut self.dialogue, side, misses);
-        self.wrong = is_wrong(side, &exchange);
         exchange
     }
 
-    // what a frame is that was heard, and what was written to the entries that are held
+    // what a frame is that was heard, what was written to the entries that are held, and whether it is a
+    // wrong answer
     #[tactic(auto, unfolding(crate::specs::Channels::exchange_noted))]
-    fn note_exchange(&mut self, subject: &Subject, exchange: Exchange)
-        ensures { self.new ≡ exchange_noted subject.now self.old exchange }
+    fn note_exchange(&mut self, subject: &Subject, side: Side, exchange: Exchange)
+        ensures { self.new ≡ exchange_noted subject.now side self.old exchange }
     {
+        self.wrong = is_wrong(side, &exchange);
         let (certain, asked) = (exchange.certain, self.dialogue.asked);
         self.written
             .hear(&subject.held, certain, &exchange.heard.ended, asked);
@@ -337,7 +338,7 @@ impl Progress {
             answer_finding(subject, rows, micros, &nmt, &exchange, frame).or(held),
         );
         let judged = is_judged(newest, &exchange, frame);
-        self.note_exchange(subject, exchange);
+        self.note_exchange(subject, Side::Server, exchange);
         Findings::of(boot, heartbeat, None, difference, judged)
     }
 
@@ -358,7 +359,7 @@ impl Progress {
         let written = self.written;
         let exchange = self.hear(subject, micros, Side::Client, frame);
         let finding = confirmed_finding(subject, rows, &written, &exchange, frame);
-        self.note_exchange(subject, exchange);
+        self.note_exchange(subject, Side::Client, exchange);
         match finding {
             Some(finding) => Findings::of(None, None, None, Some(finding), false),
             None => Findings::none(),
