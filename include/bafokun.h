@@ -41,7 +41,7 @@ extern "C" {
 
 #define BAFOKUN_VERSION "0.35.0"
 #define BAFOKUN_VERSION_MAJOR 0
-#define BAFOKUN_VERSION_MINOR 34
+#define BAFOKUN_VERSION_MINOR 35
 #define BAFOKUN_VERSION_PATCH 0
 
 /* No input gives more frames: an array of so many has room for all. */
