@@ -236,7 +236,10 @@ class Node:
     # ---- the application
 
     def write(self, index: int, sub_index: int, data: bytes) -> None:
-        """Writes all bytes of an entry, also of one that a client may only read, and sends no TPDO. Refused: why not."""
+        """Writes all bytes of an entry, also of one that a client may only read, and sends no TPDO.
+
+        Refused: why not, as an entry of access const, or a parameter of an SDO channel.
+        """
         data = octets("data", data)
         self._event("write", integer("index", index, 0xFFFF), integer("sub_index", sub_index, 0xFF), data, len(data))
 
@@ -250,13 +253,13 @@ class Node:
         self._event("changed", integer("index", index, 0xFFFF), integer("sub_index", sub_index, 0xFF))
 
     def event(self, tpdo: int) -> None:
-        """An event on a TPDO; 0 is the one of 1800h."""
+        """An event on a TPDO; 0 is the one of 1800h. Outside operational, or at types 1 to 240, it has no effect."""
         self._event("event", integer("tpdo", tpdo, 0xFFFF))
 
     def raise_error(self, code: int, bits: Optional[int] = None, manufacturer: bytes = bytes(5)) -> None:
         """An error: its emergency error code, the bits of the error register besides bit 0, five bytes of the manufacturer.
 
-        Without bits it is that of the code's kind: current, voltage, temperature, communication, the manufacturer's.
+        Each call sends an emergency; at most eight wait, and a ninth overwrites the oldest. Without bits it is that of the code's kind: current, voltage, temperature, communication, the manufacturer's.
         """
         code, manufacturer = integer("code", code, 0xFFFF), octets("manufacturer", manufacturer)
         if len(manufacturer) != 5:
@@ -265,12 +268,14 @@ class Node:
         self._event("raise", code, kind, manufacturer)
 
     def clear_errors(self, bits: int = 0xFF) -> None:
-        """Errors have ended: these bits of the error register are cleared."""
+        """Errors have ended: these bits of the error register are cleared, and an emergency of code 0 is sent, at each call."""
         self._event("clear", integer("bits", bits, 0xFF))
 
     def bus_changed(self, change: BusChange) -> None:
-        """The CAN controller changed. PASSIVE raises the error 8120h, RECOVERED 8140h; ACTIVE clears them.
+        """The CAN controller changed. PASSIVE raises the error 8120h, RECOVERED 8140h; ACTIVE clears bit 4, and bit 0 if it is left.
 
+        If another error that has bit 4 lasts, as 8130h, call clear_errors(0) in place of ACTIVE; if only one that has
+        bit 0 alone, clear_errors(0x10).
         OFF leaves operational or stops, by the error behaviour of 1029:01, as a lost heartbeat does.
         """
         self._input("bus", BusChange(change))
@@ -309,7 +314,7 @@ class Node:
         )
 
     def held(self, channel: int) -> int:
-        """How many bytes are held for the transfer of an SDO channel."""
+        """How many bytes are held for the transfer of an SDO channel; 0 is that of 1200h."""
         return int(self._call("held", integer("channel", channel, 0xFF)))
 
     def read(self, index: int, sub_index: int) -> bytes:

@@ -252,6 +252,13 @@ class Entries(unittest.TestCase):
         node["Date of the last calibration"] = "9" * 300
         self.assertEqual(node["Date of the last calibration"].raw, "9" * 300)
 
+    def test_constant(self):
+        """Not even the application writes an entry of access const."""
+        node = bafokun.Node.from_sheet(MODULE, 8)
+        self.assertEqual(node[0x1008].access, "const")
+        with self.assertRaisesRegex(bafokun.Refused, "06010002"):
+            node[0x1008] = "CIO-41"
+
     def test_read_and_written_by_key(self):
         node = bafokun.Node.from_sheet(SENSOR, 5)
         node.write(0x7130, 1, b"\xd7\0")
