@@ -46,6 +46,15 @@ extern "C" {
 #define BAFOKUN_VERSION_MINOR 35
 #define BAFOKUN_VERSION_PATCH 0
 
+/* The version as a number: a byte for each of the three, the last in the lowest byte. */
+#define BAFOKUN_VERSION_NUMBER (BAFOKUN_VERSION_MAJOR << 16 | BAFOKUN_VERSION_MINOR << 8 | BAFOKUN_VERSION_PATCH)
+
+/*
+ * That of the library: another one than the header's if a program runs with a libbafokun.so that it
+ * wasn't compiled for.
+ */
+uint32_t bafokun_version(void);
+
 /* No input gives more frames: an array of so many has room for all. */
 #define BAFOKUN_MOST_FRAMES 514
 

@@ -962,6 +962,7 @@ int main(int argc, char **argv)
     check(sizeof(bafokun_fault) == 16, "layout", "fault");
     check(sizeof(bafokun_entry_info) == 8 + 2 * sizeof(size_t), "layout", "entry");
     check(sizeof(bafokun_events) == 390, "layout", "events");
+    check(bafokun_version() == BAFOKUN_VERSION_NUMBER, "version", "that of the header");
     run("boot-up", "", boot_up);
     run("expedited upload", "", expedited_upload);
     run("segmented download", "", segmented_download);

@@ -51,9 +51,10 @@ class _Sender:
 def run(node: Node, bus: can.BusABC, *, seconds: Optional[float] = None, stop: Optional[threading.Event] = None) -> None:
     """Puts a node on a bus, its boot-up first, for so many seconds or until stop is set; else for ever.
 
-    A node boots up once: one whose boot-up was sent before, by `run` or `boot`, goes on as it is, and for it no time
-    passed in between. Each ms of the clock is a tick; those that a late wake-up missed come at once. In the meantime other threads may do
+    Each ms of the clock is a tick; those that a late wake-up missed come at once. In the meantime other threads may do
     what the application does. CanError: the bus takes no frame for a second, or can't be read any more.
+
+    A node boots up once: after another `run`, or after `boot`, it goes on as it is, and for it no time passed in between.
     """
     sender = _Sender(bus)
     if not node._has_booted:

@@ -259,7 +259,8 @@ class Node:
     def raise_error(self, code: int, bits: Optional[int] = None, manufacturer: bytes = bytes(5)) -> None:
         """An error: its emergency error code, the bits of the error register besides bit 0, five bytes of the manufacturer.
 
-        Each call sends an emergency; at most eight wait, and a ninth overwrites the oldest. Without bits it is that of the code's kind: current, voltage, temperature, communication, the manufacturer's.
+        Without bits it is that of the code's kind: current, voltage, temperature, communication, the manufacturer's. Each
+        call sends an emergency; at most eight wait, as while the node is stopped, and a ninth overwrites the oldest.
         """
         code, manufacturer = integer("code", code, 0xFFFF), octets("manufacturer", manufacturer)
         if len(manufacturer) != 5:
@@ -268,14 +269,15 @@ class Node:
         self._event("raise", code, kind, manufacturer)
 
     def clear_errors(self, bits: int = 0xFF) -> None:
-        """Errors have ended: these bits of the error register are cleared, and an emergency of code 0 is sent, at each call."""
+        """Errors have ended: these bits of the error register are cleared. Each call sends an emergency of code 0."""
         self._event("clear", integer("bits", bits, 0xFF))
 
     def bus_changed(self, change: BusChange) -> None:
-        """The CAN controller changed. PASSIVE raises the error 8120h, RECOVERED 8140h; ACTIVE clears bit 4, and bit 0 if it is left.
+        """The CAN controller changed. PASSIVE raises the error 8120h, RECOVERED 8140h; ACTIVE clears their bits.
 
-        If another error that has bit 4 lasts, as 8130h, call clear_errors(0) in place of ACTIVE; if only one that has
-        bit 0 alone, clear_errors(0x10).
+        These are bit 4, and bit 0 if no other is left, whichever error set them. If another error that has bit 4 lasts, as
+        8130h, call clear_errors(0) in place of ACTIVE; if only one that has bit 0 alone, clear_errors(0x10).
+
         OFF leaves operational or stops, by the error behaviour of 1029:01, as a lost heartbeat does.
         """
         self._input("bus", BusChange(change))

@@ -15,6 +15,7 @@ mod parts;
 mod questions;
 mod seal;
 mod texts;
+mod version;
 
 pub use build::{Fault, Settings, bafokun_build};
 pub use bus::bus_off_as_lost_heartbeat;
@@ -32,3 +33,4 @@ pub use questions::{
     bafokun_sent, bafokun_state, bafokun_value, bafokun_value_at, idle_ticks_elapse,
 };
 pub use texts::{bafokun_abort_text, bafokun_fault_fix, bafokun_fault_text};
+pub use version::bafokun_version;

@@ -120,22 +120,32 @@ fn name_at<'a>(lines: &[Line<'a>], line: usize) -> Option<&'a [u8]> {
     }
 }
 
-// a source and what became of it
+// the lines and sections of what became of a source
 #[derive(Clone, Copy)]
-struct Texts<'t, 's, 'a> {
-    // for each line of what became of it, the line of the source, or the section that it is added to
-    sources: &'t [usize],
+struct Made<'t, 's, 'a> {
+    lines: &'t [Line<'a>],
     groups: &'t [Group<'s, 'a>],
-    made_lines: &'t [Line<'a>],
-    made_groups: &'t [Group<'s, 'a>],
 }
 
-impl Texts<'_, '_, '_> {
+// the sections of a source
+#[derive(Clone, Copy)]
+struct Source<'n, 't, 's, 'a> {
+    // for each line of what became of it, the line of the source, or the section that it is added to
+    lines: &'n [usize],
+    groups: &'t [Group<'s, 'a>],
+}
+
+impl Source<'_, '_, '_, '_> {
     // the line that an added line was made of: of an object in compact form its value in `[..Value]`
     // or the key that each sub-index has
-    fn copied_from(&self, object: &Group<'_, '_>, line: usize) -> Option<usize> {
-        let name = name_at(self.made_lines, line)?;
-        match kind_around(self.made_groups, line) {
+    fn copied_from(
+        &self,
+        made: &Made<'_, '_, '_>,
+        object: &Group<'_, '_>,
+        line: usize,
+    ) -> Option<usize> {
+        let name = name_at(made.lines, line)?;
+        match kind_around(made.groups, line) {
             SectionKind::SubIndex(key) if same_name(name, b"ParameterValue") => {
                 value_line(self.groups, key.index, key.sub)
             }
@@ -144,24 +154,29 @@ impl Texts<'_, '_, '_> {
     }
 
     // the line of the source that a line comes from; 0 if it has none
-    fn origin_of(&self, line: usize) -> usize {
+    fn origin_of(&self, made: &Made<'_, '_, '_>, line: usize) -> usize {
         let source = match line.checked_sub(1) {
-            Some(place) => self.sources.get(place).copied().unwrap_or(0),
+            Some(place) => self.lines.get(place).copied().unwrap_or(0),
             None => 0,
         };
         match group_at(self.groups, source) {
-            Some(object) => self.copied_from(object, line).unwrap_or(source),
+            Some(object) => self.copied_from(made, object, line).unwrap_or(source),
             None => source,
         }
     }
 
     // the faults at the lines of the source
-    fn moved(&self, alloc: Global, faults: &[SheetFault]) -> Result<Vec<SheetFault>, AllocError> {
+    fn moved(
+        &self,
+        alloc: Global,
+        made: &Made<'_, '_, '_>,
+        faults: &[SheetFault],
+    ) -> Result<Vec<SheetFault>, AllocError> {
         let mut moved = Vec::new(alloc);
         for fault in faults {
             moved.push(SheetFault {
                 kind: fault.kind,
-                line: self.origin_of(fault.line),
+                line: self.origin_of(made, fault.line),
             })?;
         }
         attempt!(moved.sort_by_key(|fault| (fault.line, fault.kind.number())));
@@ -181,13 +196,15 @@ fn moved(
     let groups = attempt!(groups_in(alloc, lines.as_slice()));
     let made_lines = attempt!(lines_of(alloc, made));
     let made_groups = attempt!(groups_in(alloc, made_lines.as_slice()));
-    let texts = Texts {
-        sources,
-        groups: groups.as_slice(),
-        made_lines: made_lines.as_slice(),
-        made_groups: made_groups.as_slice(),
+    let made = Made {
+        lines: made_lines.as_slice(),
+        groups: made_groups.as_slice(),
     };
-    texts.moved(alloc, faults)
+    let source = Source {
+        lines: sources,
+        groups: groups.as_slice(),
+    };
+    source.moved(alloc, &made, faults)
 }
 
 // faults that are sorted, each of them once

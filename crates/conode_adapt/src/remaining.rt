@@ -172,14 +172,14 @@ fn type_of_values(groups: &[Group<'_, '_>], values: &Group<'_, '_>) -> Option<u6
 // a file whose faults are reported: its name, its lines and sections, and the lines of the limits
 // that `--force` makes comments
 #[derive(Clone, Copy)]
-struct Source<'s, 'g, 'a> {
+struct Source<'s, 'g, 'a, 'l> {
     file: &'s [char],
     lines: &'s [Line<'a>],
     groups: &'s [Group<'g, 'a>],
-    limits: &'s [usize],
+    limits: &'l [usize],
 }
 
-impl Source<'_, '_, '_> {
+impl Source<'_, '_, '_, '_> {
     // appends the values that keep the type in a line from being replaced
     fn push_reasons(&self, report: &mut String, line: usize) -> Result<(), AllocError> {
         let Some(group) = group_around(self.groups, line) else {

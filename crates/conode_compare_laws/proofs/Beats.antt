@@ -24,6 +24,7 @@ use Rattle.conode_compare_pdos.specs.declared.pdos.Sighting.{Sighting}
 use Rattle.conode_compare_nmt.specs.declared.entries.Entries.{Entries}
 use Rattle.conode_compare_nmt.specs.declared.finding.Finding.{Finding}
 use Rattle.conode_compare_nmt.specs.declared.heartbeats.Heartbeats.{Heartbeats}
+use Rattle.conode_compare_nmt.specs.declared.heartbeats.Since.TheVariants.{Transfer}
 use Rattle.conode_compare_rules.specs.declared.kind.FrameKind.{FrameKind}
 use Rattle.conode_compare_rules.specs.declared.kind.FrameKind.TheVariants.{Command, CommandToAll, LongCommand, Control, Emergency as Emcy, OddEmergency, Other, Process, Sdo}
 use Rattle.conode_compare_nmt.specs.declared.limits.Limits.{Limits}
@@ -276,7 +277,7 @@ ended_since : (beats : Heartbeats) (o : Option Ended) (micros ago : ℕ) → IfS
 ended_since beats None micros ago h = h
 ended_since beats (Some e) micros ago h = by (is_some (shown_period e))
   where
-    by : (b : Bool) → IfSome (if b then record beats { since = Some micros; sent = sent_after e.direction e beats.sent; slow = None } else beats).since (λ last. micros ≤ last + ago)
+    by : (b : Bool) → IfSome (if b then record beats { since = Some micros; awaited = Transfer; sent = sent_after e.direction e beats.sent; slow = None } else beats).since (λ last. micros ≤ last + ago)
     by true = omega arith
     by false = h
 
@@ -286,7 +287,7 @@ shown_since true beats o micros ago = tt
 shown_since false beats None micros ago = tt
 shown_since false beats (Some e) micros ago = by (shown_period e)
   where
-    by : (shown : Option ℕ) → IfSome shown (IsRecent micros ago (if is_some shown then record beats { since = Some micros; sent = sent_after e.direction e beats.sent; slow = None } else beats).since)
+    by : (shown : Option ℕ) → IfSome shown (IsRecent micros ago (if is_some shown then record beats { since = Some micros; awaited = Transfer; sent = sent_after e.direction e beats.sent; slow = None } else beats).since)
     by None = tt
     by (Some n) = inr (omega arith)
 

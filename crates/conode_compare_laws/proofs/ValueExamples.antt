@@ -160,13 +160,13 @@ unfolding findings_at progress_with begun booted found states.after_control afte
     request_findings confirmed_finding answer_findings answer_finding stopped_finding held_finding what_finding held_mismatch dialogue_heard exchange_in is_certain newest_with newest_after breach_at shown_period shown_inhibit asked_to_write mismatch_at row_mismatch value_mismatch request_row_in response_row_in late_finding overdue_by is_missing
 enough = refl
 
--- of four without a size one counts at least, but where there is room for none
+-- of four without a size none has to count
 one_counts : differences_in room_differences (of_room 1) string (answered 0x2200_2000_4142_4344 0x6000_2000_0000_0000) ≡ []
 unfolding findings_at progress_with begun booted found states.after_control after_boot_up after_other awaits_boot_up is_settled nmt_frames.after_control control_findings heartbeat_findings silence_finding channel_heard exchange_at exchange_noted late_noted
     request_findings confirmed_finding answer_findings answer_finding stopped_finding held_finding what_finding held_mismatch dialogue_heard exchange_in is_certain newest_with newest_after breach_at shown_period shown_inhibit asked_to_write mismatch_at row_mismatch value_mismatch request_row_in response_row_in late_finding overdue_by is_missing
 one_counts = refl
 
-none_counts : differences_in room_differences (of_room 0) string (answered 0x2200_2000_4142_4344 0x6000_2000_0000_0000) ≡ Value (BeyondRoom entry 4 0) ∷ []
+none_counts : differences_in room_differences (of_room 0) string (answered 0x2200_2000_4142_4344 0x6000_2000_0000_0000) ≡ []
 unfolding findings_at progress_with begun booted found states.after_control after_boot_up after_other awaits_boot_up is_settled nmt_frames.after_control control_findings heartbeat_findings silence_finding channel_heard exchange_at exchange_noted late_noted
     request_findings confirmed_finding answer_findings answer_finding stopped_finding held_finding what_finding held_mismatch dialogue_heard exchange_in is_certain newest_with newest_after breach_at shown_period shown_inhibit asked_to_write mismatch_at row_mismatch value_mismatch request_row_in response_row_in late_finding overdue_by is_missing
 none_counts = refl
