@@ -39,7 +39,7 @@ def frame_of(frame: AnyFrame) -> Optional[Frame]:
     if isinstance(frame, tuple) and len(frame) == 2:
         identifier, data = integer("a frame's identifier", frame[0], 0x7FF), octets("a frame's data", frame[1])
         if len(data) > 8:
-            raise ValueError(f"a frame's data are more than 8 bytes: {data!r}")
+            raise ValueError(f"a frame's data isn't at most 8 bytes: {data!r}")
         return Frame(identifier, data)
     if not hasattr(frame, "is_extended_id"):
         raise TypeError(f"a frame is a pair (identifier, data) or a message of python-can, not {frame!r}")
