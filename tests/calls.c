@@ -401,6 +401,60 @@ static const char *const bus[] = {
     NULL
 };
 
+/* What ends error passive where another error lasts: one with bit 0 alone, then 8130h. */
+static const char *const bus_and_others[] = {
+    "raise 1000 00 = 085#0010010000000000",
+    "bus 1 = 085#2081110000000000",
+    "clear 10 = 085#0000010000000000",
+    "clear 01 = 085#0000000000000000",
+    "605#2316100164000700 = 585#6016100100000000",
+    "707#05",
+    "ticks 100 = 085#3081110000000000",
+    "bus 1 = 085#2081110000000000",
+    "clear 00 = 085#0000110000000000",
+    "value 1001:00 11",
+    "clear 11 = 085#0000000000000000",
+    /* each call sends one, and bit 0 is cleared where it is named */
+    "raise 3210 04 = 085#1032050000000000",
+    "raise 3210 04 = 085#1032050000000000",
+    "clear 04 = 085#0000010000000000",
+    "clear 04 = 085#0000010000000000",
+    NULL
+};
+static const char *const nine_errors[] = {
+    "000#0205",
+    "raise 5001 00", "raise 5002 00", "raise 5003 00", "raise 5004 00", "raise 5005 00", "raise 5006 00", "raise 5007 00",
+    "raise 5008 00", "raise 5009 00",
+    "done",
+    "000#0105 = 085#0250010000000000",
+    "ticks 1 = 085#0350010000000000",
+    "ticks 1 = 085#0450010000000000",
+    "ticks 1 = 085#0550010000000000",
+    "ticks 1 = 085#0650010000000000",
+    "ticks 1 = 085#0750010000000000",
+    "ticks 1 = 085#0850010000000000",
+    "ticks 1 = 085#0950010000000000",
+    "ticks 10",
+    NULL
+};
+static const char *const without_effect[] = {
+    "event 0",
+    "done",
+    "000#0105",
+    "boot = 705#00",
+    "state 5",
+    "event 0",
+    "done",
+    "080#",
+    "080#",
+    "080# = 185#00000000",
+    "write 1201:01 681",
+    "refused 06010002",
+    "boot = 705#00",
+    "refused 06010002",
+    NULL
+};
+
 /* ---- faults, small arrays, empty places */
 
 static bool is_fault(const bafokun_fault *fault, uint64_t line, int stage, int number, int index, int sub_index)
@@ -760,6 +814,12 @@ static void test_happened(void)
         { "000#0105", " state 5" },
         { "000#0105", "-" },
         { "205#01020304", " rpdo" },
+        /* errors that the device finds (CiA 301, 7.2.7.1), and that the program clears */
+        { "205#010203 = 085#1082110000000000", " rpdo" },
+        { "205#0102030405 = 085#2082110000000000", " rpdo" },
+        { "080#01 = 085#4082110000000000", " sync" },
+        { "205#01020304", " rpdo" },
+        { "clear 11 = 085#0000000000000000", "-" },
         { "write 2003:00 1E8", "-" },
         { "000#0205", " state 4" },
         { "080#", "-" },
@@ -913,6 +973,9 @@ int main(int argc, char **argv)
     run("SYNC length and reset", "", sync_and_reset);
     run("application", "", application);
     run("bus", "", bus);
+    run("bus and other errors", "", bus_and_others);
+    run("nine errors", "", nine_errors);
+    run("without effect", "1800sub2=3", without_effect);
     run("idle", "", idle);
     run("idle, an event timer", "1800sub5=50", idle_event_timer);
     run("idle, an inhibit time", "1800sub3=1000", idle_inhibit_time);

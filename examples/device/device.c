@@ -110,6 +110,7 @@ static int run_lines(void)
 /* ---- a bus */
 
 #ifdef WITH_CAN
+/* The queue of an interface may have 10 places. While it is full the frame is tried again each millisecond. */
 static bool send_frames(int bus, size_t count)
 {
     size_t i;
@@ -119,7 +120,10 @@ static bool send_frames(int bus, size_t count)
         out.can_id = frames[i].id;
         out.can_dlc = (uint8_t)frames[i].length;
         memcpy(out.data, frames[i].bytes, frames[i].length);
-        if (write(bus, &out, sizeof out) != (ssize_t)sizeof out && errno != ENOBUFS) return false;
+        while (write(bus, &out, sizeof out) != (ssize_t)sizeof out) {
+            if (errno != ENOBUFS) return false;
+            poll(NULL, 0, 1);
+        }
     }
     return true;
 }
@@ -141,6 +145,7 @@ static bool take_ticks(int bus, int timer)
     static int tenths = 215, step = 1, wait = 1000;
     uint64_t count;
     if (read(timer, &count, sizeof count) != (ssize_t)sizeof count) return false;
+    if (count > 1000) count = 1000; /* more are missed only if the bus took nothing for so long */
     for (; count > 0; count--) {
         if (!send_frames(bus, bafokun_tick(&node, frames, BAFOKUN_MOST_FRAMES))) return false;
         if (--wait > 0) continue;

@@ -34,12 +34,15 @@ class _Sender:
 
     def send(self, frames: Iterable[Frame]) -> None:
         """Sends these after those that wait. CanError: the bus has taken none for so long."""
+        if not self._waiting:
+            # none has waited until now
+            self._taken = time.monotonic()
         self._waiting.extend(frames)
         try:
             while self._waiting:
                 self._bus.send(self._waiting[0].message())
                 self._waiting.popleft()
-            self._taken = time.monotonic()
+                self._taken = time.monotonic()
         except self._error:
             if time.monotonic() - self._taken > PATIENCE:
                 raise
@@ -50,9 +53,12 @@ def run(node: Node, bus: can.BusABC, *, seconds: Optional[float] = None, stop: O
 
     Each ms of the clock is a tick; those that a late wake-up missed come at once. In the meantime other threads may do
     what the application does. CanError: the bus takes no frame for a second, or can't be read any more.
+
+    A node boots up once: after another `run`, or after `boot`, it goes on as it is, and for it no time passed in between.
     """
     sender = _Sender(bus)
-    sender.send(node.boot())
+    if not node._has_booted:
+        sender.send(node.boot())
     begin = time.monotonic_ns()
     ticks = 0
     while not (stop and stop.is_set()):

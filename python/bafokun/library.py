@@ -143,11 +143,14 @@ def _open() -> ctypes.CDLL:
 def load() -> Any:
     """The library: that of BAFOKUN_LIBRARY, else the one beside the package, of the clone, or installed.
 
-    OSError: there is none.
+    OSError: there is none, or it is another library.
     """
     library = _open()
     for name, (gives, *takes) in _CALLS.items():
-        call = getattr(library, f"bafokun_{name}")
+        try:
+            call = getattr(library, f"bafokun_{name}")
+        except AttributeError:
+            raise OSError(f"{library._name} isn't libbafokun.so of this version: it has no bafokun_{name}") from None
         call.restype = gives
         call.argtypes = takes
     return library

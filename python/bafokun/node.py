@@ -11,6 +11,7 @@ from pathlib import Path
 from typing import Any, Dict, FrozenSet, Iterator, List, NamedTuple, Optional, Tuple, Union
 
 from . import library as c
+from .arguments import integer, octets
 from .entry import Entry
 from .faults import BuildFault, Refused, SheetFault
 from .frame import AnyFrame, Frame, frame_of
@@ -72,13 +73,6 @@ def _nodes(marks: Any) -> FrozenSet[int]:
     return frozenset(node for node, mark in enumerate(marks) if mark)
 
 
-def _checked(name: str, value: int, most: int) -> int:
-    # ctypes would cut it off
-    if not 0 <= value <= most:
-        raise ValueError(f"{name} isn't 0 to {most}: {value}")
-    return value
-
-
 class Node:
     """A device made from a data sheet. It begins in state pre-operational, and knows no bus and no clock.
 
@@ -98,27 +92,31 @@ class Node:
         sdo_timeout: int = 1000,
         path: str = "",
     ):
-        """Of a sheet's text, at a node-ID, 1 to 127, or that of the sheet where it is a device configuration file.
+        """Of a sheet's text as bytes, at a node-ID, 1 to 127, or that of the sheet where it is a device configuration file.
 
         strings and domains are the room of strings and domains in bytes, sdo_timeout is in ms, 0 for none, path is for
         messages. SheetFault, BuildFault: why there is no device. OSError: there is no library.
         """
+        if isinstance(sheet, str):
+            raise TypeError("a sheet's text is wanted as bytes, not as str; Node.from_sheet reads a file")
+        sheet = octets("a sheet's text", sheet)
         self._lock = threading.RLock()
         self._library: Any = c.load()
         self._handle = c.CNode()
         self._room = (c.CFrame * c.MOST_FRAMES)()
         self._waiting: List[Frame] = []
+        self._has_booted = False
         if node_id is None:
             # where there is none, the library says so, or what else is wrong
             node_id = node_id_of(sheet) or 0
         config = c.CConfig(
-            _checked("strings", strings, 0xFFFF),
-            _checked("domains", domains, 0xFFFF),
-            _checked("sdo_timeout", sdo_timeout, 0xFFFF),
+            integer("strings", strings, 0xFFFF),
+            integer("domains", domains, 0xFFFF),
+            integer("sdo_timeout", sdo_timeout, 0xFFFF),
         )
         fault = c.CFault()
         build = self._library.bafokun_build
-        if not build(self._handle, sheet, len(sheet), _checked("node_id", node_id, 0xFF), config, fault):
+        if not build(self._handle, sheet, len(sheet), integer("node_id", node_id, 0xFF), config, fault):
             if fault.stage == c.SHEET_FAULT:
                 raise SheetFault(fault.number, fault.line, path)
             raise BuildFault(fault.number, fault.index, fault.sub_index, path)
@@ -210,8 +208,9 @@ class Node:
             return frames
 
     def boot(self) -> List[Frame]:
-        """The boot-up, to be sent once after the build."""
+        """The boot-up, to be sent once after the build. Another call gives it again, and changes nothing."""
         with self._lock:
+            self._has_booted = True
             self._input("boot")
             return self.frames()
 
@@ -226,7 +225,7 @@ class Node:
 
     def tick(self, ms: int = 1) -> List[Frame]:
         """So many ms elapsed, at most a day."""
-        left, elapsed = _checked("ms", ms, _DAY), ctypes.c_uint32()
+        left, elapsed = integer("ms", ms, _DAY), ctypes.c_uint32()
         with self._lock:
             while left:
                 # these end with the first one that sends frames
@@ -237,40 +236,47 @@ class Node:
     # ---- the application
 
     def write(self, index: int, sub_index: int, data: bytes) -> None:
-        """Writes all bytes of an entry, also of one that a client may only read, and sends no TPDO. Refused: why not."""
-        # (of what isn't bytes this makes a TypeError)
-        data = memoryview(data).tobytes()
-        self._event("write", _checked("index", index, 0xFFFF), _checked("sub_index", sub_index, 0xFF), data, len(data))
+        """Writes all bytes of an entry, also of one that a client may only read, and sends no TPDO.
+
+        Refused: why not, as an entry of access const, or a parameter of an SDO channel.
+        """
+        data = octets("data", data)
+        self._event("write", integer("index", index, 0xFFFF), integer("sub_index", sub_index, 0xFF), data, len(data))
 
     def _write_at(self, number: int, data: bytes) -> None:
         """The same of an entry by the library's number."""
-        data = memoryview(data).tobytes()
+        data = octets("data", data)
         self._event("write_at", number, data, len(data))
 
     def changed(self, index: int, sub_index: int) -> None:
         """The value of an entry changed: an event on each active TPDO that maps it."""
-        self._event("changed", _checked("index", index, 0xFFFF), _checked("sub_index", sub_index, 0xFF))
+        self._event("changed", integer("index", index, 0xFFFF), integer("sub_index", sub_index, 0xFF))
 
     def event(self, tpdo: int) -> None:
-        """An event on a TPDO; 0 is the one of 1800h."""
-        self._event("event", _checked("tpdo", tpdo, 0xFFFF))
+        """An event on a TPDO; 0 is the one of 1800h. Outside operational, or at types 1 to 240, it has no effect."""
+        self._event("event", integer("tpdo", tpdo, 0xFFFF))
 
     def raise_error(self, code: int, bits: Optional[int] = None, manufacturer: bytes = bytes(5)) -> None:
         """An error: its emergency error code, the bits of the error register besides bit 0, five bytes of the manufacturer.
 
-        Without bits it is that of the code's kind: current, voltage, temperature, communication, the manufacturer's.
+        Without bits it is that of the code's kind: current, voltage, temperature, communication, the manufacturer's. Each
+        call sends an emergency; at most eight wait, as while the node is stopped, and a ninth overwrites the oldest.
         """
+        code, manufacturer = integer("code", code, 0xFFFF), octets("manufacturer", manufacturer)
         if len(manufacturer) != 5:
-            raise ValueError(f"these are no five bytes: {manufacturer!r}")
-        kind = _KINDS.get(_checked("code", code, 0xFFFF) >> 12, 0) if bits is None else _checked("bits", bits, 0xFF)
-        self._event("raise", code, kind, bytes(manufacturer))
+            raise ValueError(f"manufacturer isn't five bytes: {manufacturer!r}")
+        kind = _KINDS.get(code >> 12, 0) if bits is None else integer("bits", bits, 0xFF)
+        self._event("raise", code, kind, manufacturer)
 
     def clear_errors(self, bits: int = 0xFF) -> None:
-        """Errors have ended: these bits of the error register are cleared."""
-        self._event("clear", _checked("bits", bits, 0xFF))
+        """Errors have ended: these bits of the error register are cleared. Each call sends an emergency of code 0."""
+        self._event("clear", integer("bits", bits, 0xFF))
 
     def bus_changed(self, change: BusChange) -> None:
-        """The CAN controller changed. PASSIVE raises the error 8120h, RECOVERED 8140h; ACTIVE clears them.
+        """The CAN controller changed. PASSIVE raises the error 8120h, RECOVERED 8140h; ACTIVE clears their bits.
+
+        These are bit 4, and bit 0 if no other is left, whichever error set them. If another error that has bit 4 lasts, as
+        8130h, call clear_errors(0) in place of ACTIVE; if only one that has bit 0 alone, clear_errors(0x10).
 
         OFF leaves operational or stops, by the error behaviour of 1029:01, as a lost heartbeat does.
         """
@@ -310,13 +316,12 @@ class Node:
         )
 
     def held(self, channel: int) -> int:
-        """How many bytes are held for the transfer of an SDO channel."""
-        return int(self._call("held", _checked("channel", channel, 0xFF)))
+        """How many bytes are held for the transfer of an SDO channel; 0 is that of 1200h."""
+        return int(self._call("held", integer("channel", channel, 0xFF)))
 
     def read(self, index: int, sub_index: int) -> bytes:
         """The bytes of an entry, least significant first. KeyError: there is none."""
-        _checked("index", index, 0xFFFF)
-        _checked("sub_index", sub_index, 0xFF)
+        index, sub_index = integer("index", index, 0xFFFF), integer("sub_index", sub_index, 0xFF)
         return self._read(f"{index:04X}:{sub_index:02X}", "value", index, sub_index)
 
     def _read_at(self, number: int) -> bytes:

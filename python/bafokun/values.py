@@ -78,7 +78,7 @@ def bytes_of(kind: DataType, value: Value) -> bytes:
     if kind in _REALS and isinstance(value, (int, float)):
         try:
             return struct.pack(_REALS[kind], value)
-        except OverflowError:
+        except (OverflowError, struct.error):
             raise ValueError(f"{value} is outside {kind.name}") from None
     if kind not in _REALS and isinstance(value, (bytes, bytearray, memoryview)):
         return bytes(value)

@@ -14,6 +14,7 @@ except ImportError:
 
 ROOT = Path(__file__).resolve().parents[2]
 SENSOR = ROOT / "examples" / "temperature-sensor.eds"
+MODULE = ROOT / "examples" / "io-module.eds"
 
 
 @unittest.skipUnless(can, "python-can isn't installed")
@@ -73,7 +74,26 @@ class Bus(unittest.TestCase):
         stop = threading.Event()
         stop.set()
         bafokun.run(self.node, self.bus, stop=stop)
-        self.assertEqual([self.next(), self.next()], ["705#00", "705#00"])
+        self.assertEqual(self.next(), "705#00")
+
+    def test_run_again(self):
+        """A node boots up once: then it goes on as it is, with what waits, until it is reset (CiA 301, 7.3.2)."""
+        node = bafokun.Node.from_sheet(MODULE, 8)
+        bafokun.run(node, self.bus, seconds=0.02)
+        self.assertEqual(self.next(), "708#00")
+        node.take((0, b"\x01\x08"))
+        node.raise_error(0x4200)
+        with bafokun.running(node, self.bus):
+            self.assertEqual(self.next(), "088#0042090000000000")
+            self.assertEqual(node.state, bafokun.State.OPERATIONAL)
+            self.send(0, "8108")
+            self.assertEqual(self.next(), "708#00")
+            self.assertEqual(node.state, bafokun.State.PRE_OPERATIONAL)
+        # also where the boot-up was somewhere else
+        node = bafokun.Node.from_sheet(MODULE, 8)
+        node.boot()
+        bafokun.run(node, self.bus, seconds=0.02)
+        self.assertIsNone(self.tool.recv(0.1))
 
     def test_own_frames(self):
         """A bus that gives what it sent itself: a node doesn't hear that."""
@@ -99,10 +119,24 @@ class Bus(unittest.TestCase):
         with bafokun.running(self.node, self.bus):
             self.send(0x605, "4000100000000000")
             self.assertEqual([self.next(), self.next()], ["705#00", "585#4300100094010200"])
+        # one that takes each second time has no pause of a second, though some frame always waits
+        node, sends = bafokun.Node.from_sheet(SENSOR, 5), [0, 0]
+        node["Producer heartbeat time"] = 1
+
+        def slow(message):
+            sends[0] += 1
+            if sends[0] % 2:
+                raise can.CanError("queue is full")
+            sends[1] += 1
+
+        self.bus.send = slow
+        bafokun.run(node, self.bus, seconds=1.5)
+        self.assertGreater(sends[1], 100)
+        self.bus.send = busy
         refusals[0] = 1 << 30
         begin = time.monotonic()
         with self.assertRaisesRegex(can.CanError, "full"):
-            bafokun.run(self.node, self.bus, seconds=10)
+            bafokun.run(bafokun.Node.from_sheet(SENSOR, 5), self.bus, seconds=10)
         self.assertGreater(time.monotonic() - begin, 1)
 
 

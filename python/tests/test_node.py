@@ -178,6 +178,14 @@ class Entries(unittest.TestCase):
                     node[0x2000] = foreign
                 self.assertEqual(node[0x2000].raw, value)
 
+    def test_reals_out_of_range(self):
+        """Also integers that no float has are outside."""
+        for kind in (0x08, 0x11):
+            node = bafokun.Node(sheet(var(0x07 if kind == 8 else 0x1B, OriginalDataType=f"0x{kind:04X}")), 5)
+            for value in (10**400, -(10**400)):
+                with self.assertRaisesRegex(ValueError, "is outside REAL"):
+                    node[0x2000] = value
+
     def test_original_types(self):
         """What an adapted sheet has of types that the library doesn't know."""
         for original, kind, value, data in [
@@ -243,6 +251,13 @@ class Entries(unittest.TestCase):
         node = bafokun.Node.from_sheet(SENSOR, 5, strings=300)
         node["Date of the last calibration"] = "9" * 300
         self.assertEqual(node["Date of the last calibration"].raw, "9" * 300)
+
+    def test_constant(self):
+        """Not even the application writes an entry of access const."""
+        node = bafokun.Node.from_sheet(MODULE, 8)
+        self.assertEqual(node[0x1008].access, "const")
+        with self.assertRaisesRegex(bafokun.Refused, "06010002"):
+            node[0x1008] = "CIO-41"
 
     def test_read_and_written_by_key(self):
         node = bafokun.Node.from_sheet(SENSOR, 5)
@@ -369,6 +384,47 @@ class Inputs(unittest.TestCase):
             with self.assertRaises(ValueError):
                 call()
 
+    def test_words_of_other_types(self):
+        """Each is said by a TypeError, which has what is wanted."""
+        text, node = SENSOR.read_bytes(), bafokun.Node.from_sheet(SENSOR, 5)
+        for call, words in (
+            (lambda: bafokun.Node(str(SENSOR), 5), "bytes, not as str; Node.from_sheet reads a file"),
+            (lambda: bafokun.Node(text.decode()), "bytes, not as str"),
+            (lambda: bafokun.Node(None, 5), "a sheet's text isn't bytes: None"),
+            (lambda: bafokun.Node(text, 5.0), "node_id isn't an int: 5.0"),
+            (lambda: bafokun.Node(text, "5"), "node_id isn't an int: '5'"),
+            (lambda: bafokun.Node(text, 5, domains=8.0), "domains isn't an int: 8.0"),
+            (lambda: node.tick(1.5), "ms isn't an int: 1.5"),
+            (lambda: node.take([0x605, b""]), "pair .* or a message of python-can, not \\[1541, b''\\]"),
+            (lambda: node.take((0x605, b"", 0)), "pair .* or a message"),
+            (lambda: node.take(None), "pair .* or a message of python-can, not None"),
+            (lambda: node.take("605#40"), "pair .* or a message"),
+            (lambda: node.take((605.0, b"")), "identifier isn't an int: 605.0"),
+            (lambda: node.take((0x605, "40")), "data isn't bytes: '40'"),
+            (lambda: node.take((0x605, 8)), "data isn't bytes: 8"),
+            (lambda: node.write(0x7130, 1, "00"), "data isn't bytes: '00'"),
+            (lambda: node.write(0x7130, 1.0, b"\0\0"), "sub_index isn't an int: 1.0"),
+            (lambda: setattr(node[0x7130, 1], "bytes", 2), "data isn't bytes: 2"),
+            (lambda: node.read("7130", 1), "index isn't an int: '7130'"),
+            (lambda: node.event(0.0), "tpdo isn't an int: 0.0"),
+            (lambda: node.raise_error("4200"), "code isn't an int: '4200'"),
+            (lambda: node.raise_error(0x4200, 8, "12345"), "manufacturer isn't bytes: '12345'"),
+        ):
+            with self.assertRaisesRegex(TypeError, words):
+                call()
+
+    def test_like_bytes(self):
+        """A bytearray and a memoryview are taken as bytes."""
+        for like in (bytearray, memoryview):
+            node = bafokun.Node(like(SENSOR.read_bytes()), 5)
+            node.write(0x7130, 1, like(b"\x01\x02"))
+            self.assertEqual(node.read(0x7130, 1), b"\x01\x02")
+            (response,) = node.take((0x605, like(bytes.fromhex("4030710100000000"))))
+            self.assertEqual(str(response), "585#4B30710101020000")
+            node = bafokun.Node(like(MODULE.read_bytes()), 8)
+            node.raise_error(0x4200, manufacturer=like(b"abcde"))
+            self.assertEqual(node.frames(), [(0x88, b"\x00\x42\x09abcde")])
+
     def test_closed(self):
         with bafokun.Node.from_sheet(SENSOR, 5) as node:
             entry = node[0x1000]
@@ -454,6 +510,20 @@ class Package(unittest.TestCase):
         try:
             os.environ["BAFOKUN_LIBRARY"] = str(ROOT / "include" / "bafokun.h")
             with self.assertRaises(OSError):
+                bafokun.Node.from_sheet(SENSOR, 5)
+        finally:
+            del os.environ["BAFOKUN_LIBRARY"]
+            if chosen:
+                os.environ["BAFOKUN_LIBRARY"] = chosen
+            bafokun.library.load.cache_clear()
+
+    def test_another_library(self):
+        """Also a library that isn't this one is an OSError."""
+        bafokun.library.load.cache_clear()
+        chosen = os.environ.get("BAFOKUN_LIBRARY")
+        try:
+            os.environ["BAFOKUN_LIBRARY"] = "libc.so.6"
+            with self.assertRaisesRegex(OSError, "libc.so.6 isn't libbafokun.so of this version: it has no bafokun_build"):
                 bafokun.Node.from_sheet(SENSOR, 5)
         finally:
             del os.environ["BAFOKUN_LIBRARY"]
