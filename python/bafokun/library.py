@@ -9,6 +9,8 @@ from functools import lru_cache
 from pathlib import Path
 from typing import Any, Iterator
 
+from .version import __version__
+
 MOST_FRAMES = 514
 """No input gives more frames."""
 
@@ -112,6 +114,7 @@ _CALLS = {
     "answer": (c_uint8, _NODE, POINTER(c_uint32)),
     "held": (c_size_t, _NODE, c_uint8),
     "idle": (c_uint32, _NODE),
+    "version": (c_uint32,),
 }
 
 
@@ -143,7 +146,7 @@ def _open() -> ctypes.CDLL:
 def load() -> Any:
     """The library: that of BAFOKUN_LIBRARY, else the one beside the package, of the clone, or installed.
 
-    OSError: there is none, or it is another library.
+    OSError: there is none, it is another library, or its version has another first or second number than the package's.
     """
     library = _open()
     for name, (gives, *takes) in _CALLS.items():
@@ -153,4 +156,8 @@ def load() -> Any:
             raise OSError(f"{library._name} isn't libbafokun.so of this version: it has no bafokun_{name}") from None
         call.restype = gives
         call.argtypes = takes
+    numbers = [str(byte) for byte in library.bafokun_version().to_bytes(4, "big")[1:]]
+    if numbers[:2] != __version__.split(".")[:2]:
+        version = ".".join(numbers)
+        raise OSError(f"{library._name} has version {version}, this package {__version__}: take both from one release")
     return library

@@ -6,6 +6,7 @@ import re
 import threading
 import unittest
 from pathlib import Path
+from unittest import mock
 
 import bafokun
 from bafokun.faults import _ABORTS, _BUILD, _SHEET
@@ -515,6 +516,20 @@ class Package(unittest.TestCase):
             del os.environ["BAFOKUN_LIBRARY"]
             if chosen:
                 os.environ["BAFOKUN_LIBRARY"] = chosen
+            bafokun.library.load.cache_clear()
+
+    def test_another_version(self):
+        """So is one of another version, but for the third number."""
+        bafokun.library.load.cache_clear()
+        major, minor, _ = bafokun.__version__.split(".")
+        try:
+            with mock.patch("bafokun.library.__version__", f"{major}.{minor}.255"):
+                self.assertEqual(bafokun.Node.from_sheet(SENSOR, 5).node_id, 5)
+            bafokun.library.load.cache_clear()
+            with mock.patch("bafokun.library.__version__", f"{major}.255.0"):
+                with self.assertRaisesRegex(OSError, f"has version {major}.{minor}.[0-9]+, this package {major}.255.0: take both from one"):
+                    bafokun.Node.from_sheet(SENSOR, 5)
+        finally:
             bafokun.library.load.cache_clear()
 
     def test_another_library(self):
