@@ -2,6 +2,7 @@
 
 use co_stream::ReadFault;
 use conode_io::CmdFault;
+use conode_logs::{Form, Log};
 use std::io::Write;
 
 /// What is wrong with a line that has more than 512 bytes.
@@ -11,6 +12,29 @@ pub const TOO_LONG: &str = "it has more than 512 bytes";
 /// shows it.
 pub fn name_bad_line<E: Write>(number: u64, words: &str, err: &mut E) {
     let _ = writeln!(err, "line {number}: {words}");
+}
+
+/// What is said of a stamp that steps back in what candump shows on a screen.
+const STEPS_BACK: &str =
+    "the stamp steps back; a log of candump -t d is read with --log screen-delta";
+
+/// Says so of the first line whose stamp is before the last one, in what candump shows on a screen:
+/// there `-t d` looks as `-t z` does. `clock` is that of the log before the line; `is_said` is whether
+/// it was said.
+pub fn name_step_back<E: Write>(
+    is_said: &mut bool,
+    clock: u64,
+    log: Log,
+    number: u64,
+    err: &mut E,
+) {
+    if *is_said || log.clock >= clock {
+        return;
+    }
+    if let Form::Screen = log.form {
+        name_bad_line(number, STEPS_BACK, err);
+        *is_said = true;
+    }
 }
 
 /// Why the next line can't be read.

@@ -19,7 +19,7 @@ mod log_file;
 mod step;
 mod text;
 
-pub use bad_lines::{TOO_LONG, name_bad_line, read_fault};
+pub use bad_lines::{TOO_LONG, name_bad_line, name_step_back, read_fault};
 pub use conode_logs::Form;
 pub use converted::convert;
 pub use cut_off::name_cut;

@@ -10,7 +10,7 @@ ghost use Rattle.conode_convert.specs.Converted.{at_start, faults_in, written_of
 ghost use Rattle.conode_convert.specs.Printed.{line_text};
 ghost use Rattle.conode_convert.specs.Taking.{Takes};
 
-use crate::bad_lines::{TOO_LONG, name_bad_line, read_fault};
+use crate::bad_lines::{TOO_LONG, name_bad_line, name_step_back, read_fault};
 use crate::cut_off::name_cut;
 use crate::text::add_line;
 use co_stream::{BoundedLines, Found};
@@ -25,6 +25,8 @@ pub(crate) struct Converting {
     lines: BoundedLines,
     log: Log,
     room: Vec<u8>,
+    // whether a stamp that steps back was named
+    is_step_said: bool,
 }
 
 // Writes the line of a frame. `room` is scratch space.
@@ -104,6 +106,7 @@ impl Converting {
             lines: BoundedLines::new(),
             log: Log { form, clock: 0 },
             room: Vec::new(alloc),
+            is_step_said: false,
         }
     }
 
@@ -143,7 +146,9 @@ impl Converting {
             }
             Ok(Found::Line) => {
                 let line = self.lines.line();
+                let clock = self.log.clock;
                 let bad = convert_line(&mut self.room, &mut self.log, number, line, out, err)?;
+                name_step_back(&mut self.is_step_said, clock, self.log, number, err);
                 Ok(Some(bad))
             }
             Ok(Found::Last) => {

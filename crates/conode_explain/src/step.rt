@@ -37,7 +37,7 @@ use crate::progress::Progress;
 use crate::settings::Settings;
 use crate::writes::{Room, write_frame};
 use co_stream::{BoundedLines, Found};
-use conode_convert::{TOO_LONG, add_frame, name_bad_line, name_cut, read_fault};
+use conode_convert::{TOO_LONG, add_frame, name_bad_line, name_cut, name_step_back, read_fault};
 use conode_explain_cob_ids::Claim;
 use conode_io::{CmdFault, flush};
 use conode_logs::{Form, Log};
@@ -56,6 +56,8 @@ pub(crate) struct Explaining {
     frame: Vec<u8>,
     claims: Vec<Claim>,
     no_channel: NoChannel,
+    // whether a stamp that steps back was named
+    is_step_said: bool,
 }
 
 // Takes a line in the form of `candump -L`, and writes the line of its frame, if it has one. Returns
@@ -175,6 +177,7 @@ impl Explaining {
             frame: Vec::new(alloc),
             claims: Vec::new(alloc),
             no_channel: NoChannel::new(),
+            is_step_said: false,
         }
     }
 
@@ -262,6 +265,7 @@ impl Explaining {
         ensures progress_kept { IfOk result
             (λ next. IfNone next (self.new.progress ≡ self.old.progress)) }
     {
+        let clock = self.log.clock;
         match self.lines.advance(reader) {
             Ok(Found::End) => Ok(None),
             Ok(Found::TooLong) => {
@@ -269,7 +273,10 @@ impl Explaining {
                 Ok(Some(1))
             }
             Ok(Found::Line) => match self.explain_line(settings, out) {
-                Ok(wrong) => Ok(Some(name_wrong(number, wrong, err))),
+                Ok(wrong) => {
+                    name_step_back(&mut self.is_step_said, clock, self.log, number, err);
+                    Ok(Some(name_wrong(number, wrong, err)))
+                }
                 Err(fault) => Err(fault),
             },
             Ok(Found::Last) => match self.explain_line(settings, out) {

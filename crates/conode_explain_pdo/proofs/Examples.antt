@@ -33,7 +33,7 @@ use Rattle.conode_explain_pdo.specs.CobIdWords.{cob_id_words, has_cob_id}
 use Rattle.conode_explain_pdo.specs.EntryBits.{assumed_bits, entry_bits, place_from, shown_bits}
 use Rattle.conode_explain_pdo.specs.InForce.{assumed_text, data_in_force, is_count, mapping_in_force, raw_text, shown_text, words_in_force}
 use Rattle.conode_explain_pdo.specs.KnownEntries.{known_text}
-use Rattle.conode_explain_pdo.specs.Mappings.{addressed_text, addressing_word, bits_at, data_text, mapped_text, missing_text, more_parts, more_text, multiplexed_data, multiplexed_text, part_bytes, part_text, parts_text, short_text, with_bits}
+use Rattle.conode_explain_pdo.specs.Mappings.{addressed_text, addressing_word, all_text, bits_at, data_text, mapped_text, missing_text, more_parts, more_text, multiplexed_data, multiplexed_text, part_bytes, part_text, parts_text, short_text, with_bits}
 use Rattle.conode_explain_pdo.specs.Pdos.{more_pdos, pdo_by, pdo_front, pdo_text, pdos_text}
 
 -- ---- the bits at an offset
@@ -240,6 +240,19 @@ destination = refl
 source : counted 0xFF (0x7F ∷ 0x01 ∷ 0x20 ∷ 0x02 ∷ 0xE8 ∷ 0x03 ∷ 0 ∷ 0 ∷ []) ≡ codes ": source node 127 2001:02 E8030000"
 unfolding data_text multiplexed_data multiplexed_text addressed_text filled addressing_word digits digits_text
 source = refl
+
+-- the destination 0 is all nodes, a source 0 is none
+to_all : counted 0xFF (0x80 ∷ 0x01 ∷ 0x20 ∷ 0x02 ∷ 0xE8 ∷ 0x03 ∷ 0 ∷ 0 ∷ []) ≡ codes ": destination all nodes 2001:02 E8030000"
+unfolding data_text multiplexed_data multiplexed_text all_text filled digits digits_text
+to_all = refl
+
+to_first : counted 0xFF (0x81 ∷ 0x01 ∷ 0x20 ∷ 0x02 ∷ 0xE8 ∷ 0x03 ∷ 0 ∷ 0 ∷ []) ≡ codes ": destination node 1 2001:02 E8030000"
+unfolding data_text multiplexed_data multiplexed_text addressed_text filled addressing_word digits digits_text
+to_first = refl
+
+of_none : counted 0xFE (0x00 ∷ 0x01 ∷ 0x20 ∷ 0x02 ∷ 0xE8 ∷ 0x03 ∷ 0 ∷ 0 ∷ []) ≡ codes ": source node 0 2001:02 E8030000"
+unfolding data_text multiplexed_data multiplexed_text addressed_text filled addressing_word digits digits_text
+of_none = refl
 
 short_multiplexed : counted 0xFF (0x85 ∷ 0x01 ∷ []) ≡ codes ": 2 bytes, mapping has 8"
 unfolding data_text multiplexed_data short_text filled digits

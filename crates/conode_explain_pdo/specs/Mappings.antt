@@ -99,7 +99,7 @@ mapped_text device node words bytes =
     if nat_lt (length bytes) (bytes_for (total_bits words)) then short_text (length bytes) (bytes_for (total_bits words))
     else parts_text device node bytes words ++ more_text (length bytes) (bytes_for (total_bits words))
 
--- a multiplexed PDO: its destination or source, the node, the key, four bytes (CiA 301, 7.2.3)
+-- a multiplexed PDO: its destination or source, the node, the key, four bytes (CiA 301, 7.2.2.5)
 abbrev pub multiplexed_key : List ℕ → Key
 multiplexed_key bytes = record { index = unsigned_of (take 2 (drop 1 bytes)); sub = slice_index bytes 3 }
 
@@ -111,10 +111,15 @@ addressing_word byte = if nat_lt byte 128 then codes "source" else codes "destin
 unfoldable pub addressed_text : List ℕ → ℕ → Key → List ℕ
 addressed_text word node key = filled (codes "% node % % ") (word ∷ decimal node ∷ key_text key ∷ [])
 
+-- the destination 0 is all nodes
+unfoldable pub all_text : Key → List ℕ
+all_text key = filled (codes "destination all nodes % ") (key_text key ∷ [])
+
+abbrev pub address_text : ℕ → Key → List ℕ
+address_text byte key = if byte == 128 then all_text key else addressed_text (addressing_word byte) (byte % 128) key
+
 unfoldable pub multiplexed_text : List ℕ → List ℕ
-multiplexed_text bytes =
-    addressed_text (addressing_word (slice_index bytes 0)) (slice_index bytes 0 % 128) (multiplexed_key bytes)
-    ++ flat_map byte_text (drop 4 bytes)
+multiplexed_text bytes = address_text (slice_index bytes 0) (multiplexed_key bytes) ++ flat_map byte_text (drop 4 bytes)
 
 -- the data of one
 unfoldable pub multiplexed_data : List ℕ → List ℕ

@@ -6,8 +6,10 @@ ghost use Rattle.co_value.specs.Numbers.{low_bytes, unsigned_of};
 ghost use Rattle.conode_explain_cob_ids.specs.Devices.{device_view};
 ghost use Rattle.conode_explain_values.specs.Values.{HasBits};
 ghost use Rattle.conode_explain_pdo.specs.Mappings.{
+  address_text,
   addressed_text,
   addressing_word,
+  all_text,
   bits_text,
   data_text,
   is_gap,
@@ -337,18 +339,31 @@ fn push_addressed(text: &mut String, word: &str, node: u8, key: Key) -> Result<(
     )
 }
 
+#[tactic(auto, unfolding(crate::specs::Mappings::all_text))]
+fn push_all(text: &mut String, key: Key) -> Result<(), AllocError>
+    ensures { OnOk result (string_bytes text.new ≡ string_bytes text.old ++ all_text key) }
+{
+    push_filled(text, "destination all nodes % ", &[Value::Key(key)])
+}
+
+// the destination or the source, by the first byte, and the key
+fn push_address(text: &mut String, byte: u8, key: Key) -> Result<(), AllocError>
+    ensures { OnOk result
+        (string_bytes text.new ≡ string_bytes text.old ++ address_text byte key) }
+{
+    if byte == 128 {
+        return push_all(text, key);
+    }
+    push_addressed(text, addressing_word(byte), byte % 128, key)
+}
+
 #[tactic(auto, unfolding(crate::specs::Mappings::multiplexed_text))]
 fn push_multiplexed(text: &mut String, bytes: &[u8]) -> Result<(), AllocError>
     requires { length bytes.now ≡ 8 }
     ensures { OnOk result
         (string_bytes text.new ≡ string_bytes text.old ++ multiplexed_text bytes.now) }
 {
-    attempt!(push_addressed(
-        text,
-        addressing_word(bytes[0]),
-        bytes[0] % 128,
-        multiplexed_key(bytes),
-    ));
+    attempt!(push_address(text, bytes[0], multiplexed_key(bytes)));
     push_bytes(text, &bytes[4..])
 }
 

@@ -10,9 +10,10 @@ use Rattle.conode_explain_services.specs.declared.nmt_state.KnownState.TheVarian
 use Rattle.conode_explain_services.specs.declared.last.Last.{Last}
 use Rattle.conode_explain_services.specs.Codes.{class_for, class_words, code_words, drive_class_words, drive_code_words, known_class, single_words}
 use Rattle.conode_explain_services.specs.Emergencies.{emergency_words}
-use Rattle.conode_explain_services.specs.Guardings.{guarding_answer_words, guarding_request_words, state_words}
+use Rattle.conode_explain_services.specs.Guardings.{guarding_answer_words, guarding_request_words, no_state_words, state_words}
 use Rattle.conode_explain_services.specs.Lengths.{fixed_at, odd_length}
 use Rattle.conode_explain_services.specs.Lss.{answer_parameter, answer_words, lss_answer_words, lss_request_words, lss_text, failure_text, mode_words, node_failure, outcome_text, parameter_text, part_text, part_words, rate_words, request_parameter, request_words, scan_text, store_failure, timing_failure, timing_text}
+use Rattle.conode_explain_services.specs.NmtStates.{command_name, long_for_all, long_for_one}
 use Rattle.conode_explain_services.specs.Nodes.{nothing_seen}
 use Rattle.conode_explain_services.specs.Registers.{bit_text, bit_word, bits_text, register_text}
 use Rattle.conode_explain_services.specs.Reserved.{is_reserved, reserved_words}
@@ -199,20 +200,38 @@ short_emergency = refl
 
 -- ---- node guarding
 
--- the states with the toggle bit; 0 and other numbers are none
-toggled : map (λ byte. says nothing_seen 0x705 (byte ∷ [])) (0x84 ∷ 0x85 ∷ 0xFF ∷ 0x80 ∷ 0x83 ∷ 0x86 ∷ 0xFE ∷ [])
+abbrev guarded : Guarding → Last
+guarded guarding = record { register = None; guarding = guarding; state = Unknown }
+
+-- the states with the toggle bit
+toggled : map (λ byte. says nothing_seen 0x705 (byte ∷ [])) (0x84 ∷ 0x85 ∷ 0xFF ∷ [])
     ≡ Some (codes "guarding answer node 5 stopped toggle 1") ∷ Some (codes "guarding answer node 5 operational toggle 1")
-    ∷ Some (codes "guarding answer node 5 pre-operational toggle 1") ∷ None ∷ None ∷ None ∷ None ∷ []
+    ∷ Some (codes "guarding answer node 5 pre-operational toggle 1") ∷ []
 unfolding service_words fixed_at guarding_answer_words state_words digits filled
 toggled = refl
+
+-- numbers beside the states are none, without the toggle bit and with it; 0 is the boot-up, with the toggle bit it is none
+stateless : map (λ byte. says nothing_seen 0x77F (byte ∷ [])) (0x01 ∷ 0x03 ∷ 0x06 ∷ 0x7E ∷ 0x80 ∷ 0x83 ∷ 0xFE ∷ [])
+    ≡ Some (codes "error control node 127 state 1 (CiA 301 has no such state)") ∷ Some (codes "error control node 127 state 3 (CiA 301 has no such state)")
+    ∷ Some (codes "error control node 127 state 6 (CiA 301 has no such state)") ∷ Some (codes "error control node 127 state 126 (CiA 301 has no such state)")
+    ∷ Some (codes "error control node 127 state 0 toggle 1 (CiA 301 has no such state)") ∷ Some (codes "error control node 127 state 3 toggle 1 (CiA 301 has no such state)")
+    ∷ Some (codes "error control node 127 state 126 toggle 1 (CiA 301 has no such state)") ∷ []
+unfolding service_words no_state_words fixed_at digits filled
+stateless = refl
+
+-- of a node that is guarded too, and beside error control
+stateless_answer : says (guarded (Requested (Some true))) 0x701 (0x03 ∷ []) ≡ Some (codes "error control node 1 state 3 (CiA 301 has no such state)")
+unfolding service_words no_state_words fixed_at digits filled
+stateless_answer = refl
+
+stateless_beside : says nothing_seen 0x700 (0x03 ∷ []) ≡ None
+unfolding service_words fixed_at
+stateless_beside = refl
 
 -- without it they are heartbeats, unless the node is guarded
 heartbeats : map (λ byte. says nothing_seen 0x705 (byte ∷ [])) (0x00 ∷ 0x04 ∷ 0x05 ∷ 0x7F ∷ []) ≡ None ∷ None ∷ None ∷ None ∷ []
 unfolding service_words fixed_at
 heartbeats = refl
-
-abbrev guarded : Guarding → Last
-guarded guarding = record { register = None; guarding = guarding; state = Unknown }
 
 answers : map (λ byte. says (guarded (Requested None)) 0x77F (byte ∷ [])) (0x00 ∷ 0x04 ∷ 0x85 ∷ [])
     ≡ None ∷ Some (codes "guarding answer node 127 stopped toggle 0") ∷ Some (codes "guarding answer node 127 operational toggle 1") ∷ []
@@ -435,6 +454,22 @@ syncs = refl
 commands : map (odd 0x000) (1 ∷ 2 ∷ 3 ∷ []) ≡ Some (codes "NMT (length 1 in place of 2)") ∷ None ∷ Some (codes "NMT (length 3 in place of 2)") ∷ []
 unfolding service_words fixed_at odd_length digits
 commands = refl
+
+-- a command in more than two bytes, to one node and to all; no command, no node, and no more than two bytes
+abbrev commands_of : List (List ℕ) → List (Option (List ℕ))
+commands_of frames = map (λ bytes. says nothing_seen 0x000 bytes) frames
+
+long_commands : commands_of ((1 ∷ 5 ∷ 0 ∷ []) ∷ (2 ∷ 127 ∷ zeros 6) ∷ (128 ∷ 5 ∷ zeros 6) ∷ (129 ∷ 0 ∷ zeros 6) ∷ (130 ∷ 0 ∷ 0 ∷ 0 ∷ []) ∷ [])
+    ≡ Some (codes "NMT start 5 (length 3 in place of 2)") ∷ Some (codes "NMT stop 127 (length 8 in place of 2)")
+    ∷ Some (codes "NMT pre-operational 5 (length 8 in place of 2)") ∷ Some (codes "NMT reset-node all nodes (length 8 in place of 2)")
+    ∷ Some (codes "NMT reset-communication all nodes (length 4 in place of 2)") ∷ []
+unfolding service_words fixed_at long_for_all long_for_one command_name digits filled
+long_commands = refl
+
+no_commands : commands_of ((3 ∷ 5 ∷ 0 ∷ []) ∷ (1 ∷ 128 ∷ 0 ∷ []) ∷ (1 ∷ 5 ∷ []) ∷ (1 ∷ []) ∷ [])
+    ≡ Some (codes "NMT (length 3 in place of 2)") ∷ Some (codes "NMT (length 3 in place of 2)") ∷ None ∷ Some (codes "NMT (length 1 in place of 2)") ∷ []
+unfolding service_words fixed_at odd_length digits
+no_commands = refl
 
 control : map (odd 0x77F) (0 ∷ 1 ∷ 2 ∷ []) ≡ Some (codes "error control node 127 (length 0 in place of 1)") ∷ None ∷ Some (codes "error control node 127 (length 2 in place of 1)") ∷ []
 unfolding service_words fixed_at odd_length digits

@@ -6,7 +6,7 @@ use Rattle.conode_explain_services.specs.declared.nmt_state.KnownState.{KnownSta
 use Rattle.conode_explain_services.specs.declared.nmt_state.KnownState.TheVariants.{Unknown, Seen, Commanded, CommandedOfAll}
 use Rattle.conode_explain_services.specs.declared.guarding.Guarding.TheVariants.{NotSeen}
 use Rattle.conode_explain_services.specs.Nodes.{last_in, new_node, nodes_after, nodes_commanded, noted, nothing_seen}
-use Rattle.conode_explain_services.specs.NmtStates.{found_words, is_command, of_all, shown_words, state_after, state_at, state_commanded}
+use Rattle.conode_explain_services.specs.NmtStates.{found_words, is_command, is_long_command, of_all, shown_words, state_after, state_at, state_commanded}
 use Rattle.conode_explain_services.specs.Services.{state_words}
 
 states : map state_at (0 ∷ 1 ∷ 3 ∷ 4 ∷ 5 ∷ 6 ∷ 126 ∷ 127 ∷ 128 ∷ 132 ∷ 133 ∷ 255 ∷ [])
@@ -27,6 +27,15 @@ are_commands : map (λ bytes. is_command (record { id = 0; bytes = bytes }))
     ((1 ∷ 5 ∷ []) ∷ (1 ∷ 127 ∷ []) ∷ (1 ∷ 128 ∷ []) ∷ (3 ∷ 5 ∷ []) ∷ (127 ∷ 5 ∷ []) ∷ (131 ∷ 5 ∷ []) ∷ (1 ∷ []) ∷ (1 ∷ 5 ∷ 0 ∷ []) ∷ [])
     ≡ true ∷ true ∷ false ∷ false ∷ false ∷ false ∷ false ∷ false ∷ []
 are_commands = refl
+
+-- the same in more than two bytes
+are_long : map (λ bytes. is_long_command (record { id = 0; bytes = bytes }))
+    ((1 ∷ 5 ∷ 0 ∷ []) ∷ (130 ∷ 127 ∷ 0 ∷ 0 ∷ 0 ∷ 0 ∷ 0 ∷ 0 ∷ []) ∷ (2 ∷ 0 ∷ 1 ∷ []) ∷ (1 ∷ 128 ∷ 0 ∷ []) ∷ (3 ∷ 5 ∷ 0 ∷ []) ∷ (1 ∷ 5 ∷ []) ∷ (1 ∷ []) ∷ [])
+    ≡ true ∷ true ∷ true ∷ false ∷ false ∷ false ∷ false ∷ []
+are_long = refl
+
+is_long_beside : is_long_command (record { id = 1; bytes = 1 ∷ 5 ∷ 0 ∷ [] }) ≡ false
+is_long_beside = refl
 
 found : map found_words (Unknown ∷ Seen PreOperational ∷ Commanded Stopped ∷ CommandedOfAll Stopped ∷ [])
     ≡ codes " (state ?)" ∷ codes " (pre-operational seen)" ∷ codes " (stopped commanded)" ∷ codes " (stopped commanded)" ∷ []
@@ -63,6 +72,20 @@ to_one : nodes_after [] (codes "a") (record { id = 0; bytes = 2 ∷ 5 ∷ [] })
     ≡ new_node (codes "a") 5 (record { register = None; guarding = NotSeen; state = Commanded Stopped }) ∷ []
 unfolding nodes_after nodes_commanded noted last_in state_commanded
 to_one = refl
+
+-- after one of more than two bytes nothing is known of its node, or of all
+long_to_one : nodes_after (new_node (codes "a") 5 (record { register = None; guarding = NotSeen; state = Commanded Stopped }) ∷ new_node (codes "a") 6 (record { register = None; guarding = NotSeen; state = Seen Stopped }) ∷ [])
+    (codes "a") (record { id = 0; bytes = 1 ∷ 5 ∷ 0 ∷ [] })
+    ≡ new_node (codes "a") 5 nothing_seen ∷ new_node (codes "a") 6 (record { register = None; guarding = NotSeen; state = Seen Stopped }) ∷ []
+unfolding nodes_after nodes_commanded noted last_in state_commanded
+long_to_one = refl
+
+long_to_all : nodes_after (new_node (codes "a") 5 (record { register = Some 1; guarding = NotSeen; state = Commanded Stopped }) ∷ new_node (codes "b") 5 (record { register = None; guarding = NotSeen; state = Commanded Stopped }) ∷ [])
+    (codes "a") (record { id = 0; bytes = 1 ∷ 0 ∷ 0 ∷ 0 ∷ 0 ∷ 0 ∷ 0 ∷ 0 ∷ [] })
+    ≡ new_node (codes "a") 5 (record { register = Some 1; guarding = NotSeen; state = Unknown }) ∷ new_node (codes "b") 5 (record { register = None; guarding = NotSeen; state = Commanded Stopped })
+    ∷ new_node (codes "a") 0 nothing_seen ∷ []
+unfolding nodes_after nodes_commanded noted last_in state_commanded
+long_to_all = refl
 
 -- where its node's last frames had this
 abbrev says : KnownState → ℕ → List ℕ → List ℕ

@@ -16,6 +16,10 @@ state_words byte = words_in ((4, codes "stopped") ∷ (5, codes "operational") �
 abbrev pub is_state : ℕ → Bool
 is_state byte = (byte % 128 == 4) || ((byte % 128 == 5) || (byte % 128 == 127))
 
+-- neither a boot-up nor a state, as 0 with the toggle bit
+abbrev pub is_no_state : ℕ → Bool
+is_no_state byte = not (byte == 0) && not (is_state byte)
+
 -- the toggle bit that the node's next answer has; after a boot-up it is 0
 abbrev pub awaited_of : Guarding → Option Bool
 awaited_of NotSeen = None
@@ -60,6 +64,15 @@ unfoldable pub guarding_answer_words : ℕ → Guarding → ℕ → List ℕ
 guarding_answer_words node guarding byte =
     filled (codes "guarding answer node % % toggle %%")
     (decimal node ∷ state_words byte ∷ toggle_text (toggle_of byte) ∷ awaited_text (awaited_of guarding) (toggle_of byte) ∷ [])
+
+-- where the toggle bit is set
+abbrev pub set_toggle_text : Bool → List ℕ
+set_toggle_text toggle = if toggle then codes " toggle 1" else []
+
+unfoldable pub no_state_words : ℕ → ℕ → List ℕ
+no_state_words node byte =
+    filled (codes "error control node % state %% (CiA 301 has no such state)")
+    (decimal node ∷ decimal (byte % 128) ∷ set_toggle_text (toggle_of byte) ∷ [])
 
 unfoldable pub guarding_request_words : ℕ → List ℕ
 guarding_request_words node = filled (codes "guarding request node %") (decimal node ∷ [])

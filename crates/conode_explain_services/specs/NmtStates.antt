@@ -1,12 +1,14 @@
 -- The NMT states of nodes, as a recording shows them (CiA 301, 7.3.2.2): by frames of error control,
 -- and by commands.
-use Rattle.std.specs.Prelude.{ℕ, ◌%◌, ◌==◌, nat_lt, Bool, true, false, ◌&&◌, ◌||◌, if◌then◌else◌, List, [], ◌++◌, codes, length, slice_index, Option, Some, None}
+use Rattle.std.specs.Prelude.{ℕ, ◌%◌, ◌==◌, nat_lt, Bool, true, false, ◌&&◌, ◌||◌, if◌then◌else◌, List, [], ◌∷◌, ◌++◌, codes, decimal, length, slice_index, Option, Some, None}
 use Rattle.std.specs.Option.{option_map_or}
 use Rattle.co_frame.specs.FrameContent.{FrameContent}
+use Rattle.conode_text.specs.Filled.{filled}
 use Rattle.conode_explain_services.specs.declared.nmt_state.NmtState.{NmtState}
 use Rattle.conode_explain_services.specs.declared.nmt_state.NmtState.TheVariants.{Stopped, Operational, PreOperational}
 use Rattle.conode_explain_services.specs.declared.nmt_state.KnownState.{KnownState}
 use Rattle.conode_explain_services.specs.declared.nmt_state.KnownState.TheVariants.{Unknown, Seen, Commanded, CommandedOfAll}
+use Rattle.conode_explain_services.specs.Parts.{words_in}
 
 -- ---- by frames
 
@@ -36,6 +38,11 @@ abbrev pub is_command : FrameContent → Bool
 is_command frame =
     (frame.id == 0) && ((length frame.bytes == 2) && (is_service (slice_index frame.bytes 0) && nat_lt (slice_index frame.bytes 1) 128))
 
+-- the same in more than two bytes, which some devices take and others don't
+abbrev pub is_long_command : FrameContent → Bool
+is_long_command frame =
+    (frame.id == 0) && (nat_lt 2 (length frame.bytes) && (is_service (slice_index frame.bytes 0) && nat_lt (slice_index frame.bytes 1) 128))
+
 -- what is known after a command: a reset leads to the boot-up, which isn't due at once
 unfoldable pub state_commanded : KnownState → ℕ → KnownState
 state_commanded known command =
@@ -44,6 +51,10 @@ state_commanded known command =
     else (if command == 128 then Commanded PreOperational
     else (if command == 129 then Unknown
     else (if command == 130 then Unknown else known))))
+
+-- after one of more than two bytes nothing is known, as after a reset
+abbrev pub doubtful_command : ℕ
+doubtful_command = 129
 
 -- of a node of which nothing is kept: what was commanded of all nodes
 abbrev pub of_all : KnownState → KnownState
@@ -87,3 +98,18 @@ unfoldable pub shown_words : KnownState → ℕ → List ℕ
 shown_words (Commanded state) byte = other_words state byte
 shown_words (CommandedOfAll state) byte = if byte == 0 then [] else other_words state byte
 shown_words known byte = []
+
+-- the name of a command
+unfoldable pub command_name : ℕ → List ℕ
+command_name command =
+    words_in ((1, codes "start") ∷ (2, codes "stop") ∷ (128, codes "pre-operational") ∷ (129, codes "reset-node") ∷ (130, codes "reset-communication") ∷ []) command
+
+-- a command of so many bytes, more than two: for all nodes, for one, for any of these
+unfoldable pub long_for_all : ℕ → ℕ → List ℕ
+long_for_all command count = filled (codes "NMT % all nodes (length % in place of 2)") (command_name command ∷ decimal count ∷ [])
+
+unfoldable pub long_for_one : ℕ → ℕ → ℕ → List ℕ
+long_for_one command node count = filled (codes "NMT % % (length % in place of 2)") (command_name command ∷ decimal node ∷ decimal count ∷ [])
+
+abbrev pub long_words : ℕ → ℕ → ℕ → List ℕ
+long_words command node count = if node == 0 then long_for_all command count else long_for_one command node count

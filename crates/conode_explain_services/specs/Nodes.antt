@@ -11,7 +11,7 @@ use Rattle.conode_explain_services.specs.declared.node.Node.{Node}
 use Rattle.conode_explain_services.specs.Guardings.{guarding_after, guarding_asked}
 use Rattle.conode_explain_services.specs.declared.nmt_state.KnownState.{KnownState}
 use Rattle.conode_explain_services.specs.declared.nmt_state.KnownState.TheVariants.{Unknown}
-use Rattle.conode_explain_services.specs.NmtStates.{is_command, of_all, state_after, state_commanded}
+use Rattle.conode_explain_services.specs.NmtStates.{doubtful_command, is_command, is_long_command, of_all, state_after, state_commanded}
 
 -- at most so many nodes are kept: on each of 8 interfaces 127, and node 0, which stands for all
 abbrev pub most_nodes : ℕ
@@ -138,7 +138,8 @@ nodes_after nodes interface frame =
     if is_emergency frame then noted nodes interface (frame.id - 0x080) (Register (slice_index frame.bytes 2))
     else (if is_error_control frame then noted nodes interface (frame.id - 0x700) (State (slice_index frame.bytes 0))
     else (if is_command frame
-    then nodes_commanded nodes interface (slice_index frame.bytes 0) (slice_index frame.bytes 1) else nodes))
+    then nodes_commanded nodes interface (slice_index frame.bytes 0) (slice_index frame.bytes 1)
+    else (if is_long_command frame then nodes_commanded nodes interface doubtful_command (slice_index frame.bytes 1) else nodes)))
 
 -- the nodes after a remote frame
 unfoldable pub nodes_asked : List Node → List ℕ → ℕ → List Node

@@ -6,10 +6,10 @@ use Rattle.co_frame.specs.declared.emergency.Emergency.{Emergency}
 use Rattle.co_value.specs.Numbers.{unsigned_of}
 use Rattle.conode_explain_services.specs.declared.last.Last.{Last}
 use Rattle.conode_explain_services.specs.Emergencies.{emergency_words}
-use Rattle.conode_explain_services.specs.Guardings.{guarding_answer_words, guarding_request_words, is_answer}
+use Rattle.conode_explain_services.specs.Guardings.{guarding_answer_words, guarding_request_words, is_answer, is_no_state, no_state_words}
 use Rattle.conode_explain_services.specs.Lss.{lss_answer_words, lss_request_words}
 use Rattle.conode_explain_services.specs.Nodes.{is_emergency, is_error_control, is_error_control_id}
-use Rattle.conode_explain_services.specs.NmtStates.{found_words, is_command, shown_words}
+use Rattle.conode_explain_services.specs.NmtStates.{found_words, is_command, is_long_command, long_words, shown_words}
 use Rattle.conode_explain_services.specs.Lengths.{length_words}
 use Rattle.conode_explain_services.specs.Times.{time_words}
 use Rattle.conode_explain_services.specs.Reserved.{is_reserved, lss_answer_id, lss_request_id, reserved_words}
@@ -33,6 +33,10 @@ is_lss id frame = (frame.id == id) && (length frame.bytes == 8)
 abbrev pub is_guarding : Last → FrameContent → Bool
 is_guarding last frame = is_error_control frame && is_answer last.guarding (slice_index frame.bytes 0)
 
+-- error control that shows no state
+abbrev pub is_stateless : FrameContent → Bool
+is_stateless frame = is_error_control frame && is_no_state (slice_index frame.bytes 0)
+
 -- what a data frame says, where its node is a drive or isn't and its last frames had this; none where
 -- its text as `conode decode` has it stays
 unfoldable pub service_words : Bool → Last → FrameContent → Option (List ℕ)
@@ -43,7 +47,10 @@ service_words drive last frame =
     else (if is_time frame then Some (time_words frame.bytes)
     else (if is_lss lss_request_id frame then Some (lss_request_words frame.bytes)
     else (if is_lss lss_answer_id frame then Some (lss_answer_words frame.bytes)
-    else (if is_reserved frame.id then Some reserved_words else length_words frame)))))
+    else (if is_reserved frame.id then Some reserved_words
+    else (if is_stateless frame then Some (no_state_words (frame.id - 0x700) (slice_index frame.bytes 0))
+    else (if is_long_command frame
+    then Some (long_words (slice_index frame.bytes 0) (slice_index frame.bytes 1) (length frame.bytes)) else length_words frame)))))))
 
 -- a counter of SYNC is 1 to 240 (CiA 301, 7.2.5)
 abbrev pub is_odd_counter : ℕ → Bool

@@ -11,7 +11,10 @@ ghost use Rattle.conode_explain_services.specs.Guardings.{
   guarding_asked,
   guarding_request_words,
   is_answer,
+  is_no_state,
   is_state,
+  no_state_words,
+  set_toggle_text,
   state_words,
   toggle_text,
 };
@@ -26,6 +29,13 @@ fn is_state(byte: u8) -> bool
 {
     let state = byte % 128;
     state == 4 || state == 5 || state == 127
+}
+
+/// Whether the byte of a frame of error control is neither a boot-up nor a state.
+pub(crate) fn is_no_state(byte: u8) -> bool
+    ensures { result ≡ is_no_state byte }
+{
+    byte != 0 && !is_state(byte)
 }
 
 /// The states, by the lower seven bits of the byte.
@@ -137,6 +147,31 @@ pub(crate) fn push_answer(
             Value::Words(state_words(byte)),
             Value::Words(toggle_text(toggle)),
             Value::Words(awaited_text(awaited_of(guarding), toggle)),
+        ],
+    )
+}
+
+fn set_toggle_text(toggle: bool) -> &'static str
+    ensures { result.now ≡ set_toggle_text toggle }
+{
+    if toggle { " toggle 1" } else { "" }
+}
+
+/// Appends the number in a frame of error control that no state has, and its toggle bit, if that is
+/// set: `error control node 5 state 3 (CiA 301 has no such state)`. On an `Err` memory ran out, and a
+/// part of it may be there.
+#[tactic(auto, unfolding(crate::specs::Guardings::no_state_words))]
+pub(crate) fn push_no_state(text: &mut String, node: u8, byte: u8) -> Result<(), AllocError>
+    ensures { OnOk result
+        (string_bytes text.new ≡ string_bytes text.old ++ no_state_words node byte) }
+{
+    push_filled(
+        text,
+        "error control node % state %% (CiA 301 has no such state)",
+        &[
+            Value::Number(node as u64),
+            Value::Number((byte % 128) as u64),
+            Value::Words(set_toggle_text(byte > 127)),
         ],
     )
 }

@@ -2,10 +2,15 @@
 
 ghost use Rattle.std.specs.Prelude.{◌≡◌, ◌++◌, OnOk, string_bytes};
 ghost use Rattle.conode_explain_services.specs.NmtStates.{
+  command_name,
   commanded_words,
   found_words,
   is_command,
+  is_long_command,
   is_service,
+  long_for_all,
+  long_for_one,
+  long_words,
   of_all,
   other_words,
   same_state,
@@ -17,7 +22,9 @@ ghost use Rattle.conode_explain_services.specs.NmtStates.{
 };
 
 use crate::nmt_state::{KnownState, NmtState};
+use crate::texts::{Row, words_in};
 use co_frame::Frame;
+use conode_text::{Value, push_filled};
 use std::alloc::AllocError;
 
 #[tactic(auto, unfolding(crate::specs::NmtStates::state_at))]
@@ -58,6 +65,17 @@ pub(crate) fn is_command(frame: &Frame) -> bool
     let bytes = frame.bytes();
     frame.id() == 0 && bytes.len() == 2 && is_service(bytes[0]) && bytes[1] < 128
 }
+
+/// Whether a frame is an NMT command in more than two bytes, which some devices take and others don't.
+pub(crate) fn is_long_command(frame: &Frame) -> bool
+    ensures { result ≡ is_long_command frame.now }
+{
+    let bytes = frame.bytes();
+    frame.id() == 0 && bytes.len() > 2 && is_service(bytes[0]) && bytes[1] < 128
+}
+
+/// The command after which as little is known as after one of more than two bytes.
+pub(crate) const DOUBTFUL: u8 = 129;
 
 /// What is known of a node after a command that is for it.
 #[tactic(auto, unfolding(crate::specs::NmtStates::state_commanded))]
@@ -140,4 +158,73 @@ pub(crate) fn push_shown(text: &mut String, known: KnownState, byte: u8) -> Resu
         KnownState::CommandedOfAll(state) if byte != 0 => text.push_str(other_words(state, byte)),
         _ => Ok(()),
     }
+}
+
+/// The commands, by their numbers.
+const COMMANDS: [Row; 5] = [
+    Row(1, "start"),
+    Row(2, "stop"),
+    Row(128, "pre-operational"),
+    Row(129, "reset-node"),
+    Row(130, "reset-communication"),
+];
+
+#[tactic(auto, unfolding(crate::specs::NmtStates::command_name))]
+fn command_name(command: u8) -> &'static str
+    ensures { result.now ≡ command_name command }
+{
+    words_in(&COMMANDS, command as u16)
+}
+
+#[tactic(auto, unfolding(crate::specs::NmtStates::long_for_all))]
+fn push_long_for_all(text: &mut String, command: u8, count: usize) -> Result<(), AllocError>
+    ensures { OnOk result
+        (string_bytes text.new ≡ string_bytes text.old ++ long_for_all command count) }
+{
+    push_filled(
+        text,
+        "NMT % all nodes (length % in place of 2)",
+        &[
+            Value::Words(command_name(command)),
+            Value::Number(count as u64),
+        ],
+    )
+}
+
+#[tactic(auto, unfolding(crate::specs::NmtStates::long_for_one))]
+fn push_long_for_one(
+    text: &mut String,
+    command: u8,
+    node: u8,
+    count: usize,
+) -> Result<(), AllocError>
+    ensures { OnOk result
+        (string_bytes text.new ≡ string_bytes text.old ++ long_for_one command node count) }
+{
+    push_filled(
+        text,
+        "NMT % % (length % in place of 2)",
+        &[
+            Value::Words(command_name(command)),
+            Value::Number(node as u64),
+            Value::Number(count as u64),
+        ],
+    )
+}
+
+/// Appends an NMT command in so many bytes, more than two: `NMT start 5 (length 8 in place of 2)`. On
+/// an `Err` memory ran out, and a part of it may be there.
+pub(crate) fn push_long(
+    text: &mut String,
+    command: u8,
+    node: u8,
+    count: usize,
+) -> Result<(), AllocError>
+    ensures { OnOk result
+        (string_bytes text.new ≡ string_bytes text.old ++ long_words command node count) }
+{
+    if node == 0 {
+        return push_long_for_all(text, command, count);
+    }
+    push_long_for_one(text, command, node, count)
 }

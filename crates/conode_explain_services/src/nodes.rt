@@ -26,7 +26,9 @@ use crate::guarding::Guarding;
 use crate::guardings::{guarding_after, guarding_asked};
 use crate::last::{Last, Shown};
 use crate::nmt_state::KnownState;
-use crate::nmt_states::{is_command, of_all, state_after, state_commanded};
+use crate::nmt_states::{
+    DOUBTFUL, is_command, is_long_command, of_all, state_after, state_commanded,
+};
 use crate::node::Node;
 use co_frame::Frame;
 use std::alloc::{AllocError, Global};
@@ -226,6 +228,9 @@ impl Nodes {
         }
         if is_command(frame) {
             return self.command(interface, bytes[0], bytes[1]);
+        }
+        if is_long_command(frame) {
+            return self.command(interface, DOUBTFUL, bytes[1]);
         }
         Ok(())
     }

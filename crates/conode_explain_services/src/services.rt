@@ -6,6 +6,7 @@ ghost use Rattle.conode_explain_services.specs.Services.{
   is_lss,
   is_odd_counter,
   is_odd_sync,
+  is_stateless,
   is_time,
   remote_words,
   service_words,
@@ -13,11 +14,11 @@ ghost use Rattle.conode_explain_services.specs.Services.{
 };
 
 use crate::emergencies::push_emergency;
-use crate::guardings::{is_answer, push_answer, push_request};
+use crate::guardings::{is_answer, is_no_state, push_answer, push_no_state, push_request};
 use crate::last::Last;
 use crate::lengths::{has_odd_length, push_length};
 use crate::lss::{push_lss_answer, push_lss_request};
-use crate::nmt_states::{found_words, is_command, push_shown};
+use crate::nmt_states::{found_words, is_command, is_long_command, push_long, push_shown};
 use crate::nodes::{is_emergency, is_error_control, is_error_control_id};
 use crate::reserved::{LSS_ANSWER, LSS_REQUEST, is_reserved, reserved_words};
 use crate::times::push_time;
@@ -42,6 +43,12 @@ fn is_guarding(last: Last, frame: &Frame) -> bool
     is_error_control(frame) && is_answer(last.guarding, frame.bytes()[0])
 }
 
+fn is_stateless(frame: &Frame) -> bool
+    ensures { result ≡ is_stateless frame.now }
+{
+    is_error_control(frame) && is_no_state(frame.bytes()[0])
+}
+
 // whether a data frame says something by its service
 #[tactic(auto, unfolding(crate::specs::Services::service_words))]
 fn is_said(drive: bool, last: Last, frame: &Frame) -> bool
@@ -53,6 +60,8 @@ fn is_said(drive: bool, last: Last, frame: &Frame) -> bool
         || is_lss(LSS_REQUEST, frame)
         || is_lss(LSS_ANSWER, frame)
         || is_reserved(frame.id())
+        || is_stateless(frame)
+        || is_long_command(frame)
         || has_odd_length(frame)
 }
 
@@ -84,6 +93,12 @@ fn push_said(text: &mut String, drive: bool, last: Last, frame: &Frame) -> Resul
     }
     if is_reserved(frame.id()) {
         return text.push_str(reserved_words());
+    }
+    if is_stateless(frame) {
+        return push_no_state(text, (frame.id() - 0x700) as u8, bytes[0]);
+    }
+    if is_long_command(frame) {
+        return push_long(text, bytes[0], bytes[1], bytes.len());
     }
     push_length(text, frame)
 }

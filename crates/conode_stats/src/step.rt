@@ -13,7 +13,7 @@ ghost use Rattle.conode_stats.specs.Frames.{counts_after, faults_in, good, line_
 ghost use Rattle.conode_stats.specs.Taking.{Takes};
 
 use co_stream::{BoundedLines, Found};
-use conode_convert::{TOO_LONG, add_frame, name_bad_line, name_cut, read_fault};
+use conode_convert::{TOO_LONG, add_frame, name_bad_line, name_cut, name_step_back, read_fault};
 use conode_io::CmdFault;
 use conode_logs::{Form, Log};
 use conode_record::{BadLogLine, LogLine, RecordLine};
@@ -29,6 +29,8 @@ pub(crate) struct Counting {
     log: Log,
     counts: Counts,
     text: Vec<u8>,
+    // whether a stamp that steps back was named
+    is_step_said: bool,
 }
 
 // Counts the frame of a line as `candump -L` writes it, if it has one. Returns 1 and names the line
@@ -124,6 +126,7 @@ impl Counting {
             log: Log { form, clock: 0 },
             counts: Counts::new(alloc),
             text: Vec::new(alloc),
+            is_step_said: false,
         }
     }
 
@@ -136,6 +139,7 @@ impl Counting {
             log: _log,
             counts,
             text: _text,
+            is_step_said: _said,
         } = self;
         counts
     }
@@ -168,6 +172,7 @@ impl Counting {
             }
             Ok(Found::Line) => {
                 let line = self.lines.line();
+                let clock = self.log.clock;
                 let bad = count_line(
                     alloc,
                     &mut self.text,
@@ -177,6 +182,7 @@ impl Counting {
                     line,
                     err,
                 )?;
+                name_step_back(&mut self.is_step_said, clock, self.log, number, err);
                 Ok(Some(bad))
             }
             Ok(Found::Last) => {

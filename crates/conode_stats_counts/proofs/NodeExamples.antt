@@ -62,8 +62,21 @@ pre_operational_command = refl
 another_command : sign_as (Base 0x000) (Data (0x83 ∷ 5 ∷ [])) ≡ Other
 another_command = refl
 
-longer_command : sign_as (Base 0x000) (Data (0x81 ∷ 5 ∷ 0 ∷ [])) ≡ Other
+-- in more than two bytes some devices take it, in fewer it has no node
+longer_command : sign_as (Base 0x000) (Data (0x81 ∷ 5 ∷ 0 ∷ [])) ≡ Reset 5
 longer_command = refl
+
+longest_command : sign_as (Base 0x000) (Data (0x82 ∷ 0 ∷ 0 ∷ 0 ∷ 0 ∷ 0 ∷ 0 ∷ 0 ∷ [])) ≡ Reset 0
+longest_command = refl
+
+longer_to_no_node : sign_as (Base 0x000) (Data (0x81 ∷ 128 ∷ 0 ∷ [])) ≡ Other
+longer_to_no_node = refl
+
+longer_start : sign_as (Base 0x000) (Data (0x01 ∷ 5 ∷ 0 ∷ [])) ≡ Other
+longer_start = refl
+
+shorter_command : sign_as (Base 0x000) (Data (0x81 ∷ [])) ≡ Other
+shorter_command = refl
 
 first_control : sign_as (Base 0x701) (Data (0x05 ∷ [])) ≡ Shows 1 Operational
 first_control = refl

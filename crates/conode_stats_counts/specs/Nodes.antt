@@ -19,9 +19,10 @@ use Rattle.conode_stats_counts.specs.States.{NodeEvent, Commanded, Sent, Exchang
 
 -- ---- what a frame shows
 
--- a command to reset, command specifier 129 or 130, to a node, or 0 for all of them
+-- a command to reset, command specifier 129 or 130, to a node, or 0 for all of them: two bytes (CiA 301, 7.2.8.3.1), or more,
+-- which some devices take as well
 abbrev pub command_in : List ℕ → Sign
-command_in (command ∷ node ∷ []) =
+command_in (command ∷ node ∷ more) =
     if ((command == 129) || (command == 130)) && nat_lt node 128 then Reset node else Other
 command_in _ = Other
 

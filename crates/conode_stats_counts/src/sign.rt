@@ -18,7 +18,8 @@ use conode_record::{Content, Identifier};
 /// What a frame is to the nodes of its bus.
 #[derive(Clone, Copy)]
 pub(crate) enum Sign {
-    /// A command to reset a node or its communication (NMT, cs = 129, 130); of all nodes: 0.
+    /// A command to reset a node or its communication (NMT, cs = 129, 130); of all nodes: 0. It may have
+    /// more than its two bytes, since some devices take one that has.
     Reset(u8),
     /// A node's frame of error control shows this state.
     Shows(u8, NmtState),
@@ -40,7 +41,7 @@ fn command_in(bytes: &[u8]) -> Sign
     ensures { result ≡ command_in bytes.now }
 {
     match bytes {
-        [RESET_NODE | RESET_COMMUNICATION, node] if *node < 128 => Sign::Reset(*node),
+        [RESET_NODE | RESET_COMMUNICATION, node, ..] if *node < 128 => Sign::Reset(*node),
         _ => Sign::Other,
     }
 }

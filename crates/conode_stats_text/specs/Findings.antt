@@ -11,7 +11,7 @@ use Rattle.conode_stats_text.specs.declared.excerpt.Excerpt.{Excerpt}
 use Rattle.conode_stats_text.specs.declared.finding.Finding.{Finding}
 use Rattle.conode_stats_text.specs.declared.finding.Finding.TheVariants.{Silent, Late, Lost, Restarted, Failed, Open, Emergency, Counted}
 use Rattle.conode_stats_text.specs.declared.finding.Kind.{Kind}
-use Rattle.conode_stats_text.specs.declared.finding.Kind.TheVariants.{Silence as SilenceKind, Lateness, Loss, Restarts, Failures, Emergencies, StepsBack, ErrorFrames, MoreFailures, MoreEmergencies, MoreIdentifiers}
+use Rattle.conode_stats_text.specs.declared.finding.Kind.TheVariants.{Silence as SilenceKind, Lateness, Loss, Restarts, Failures, Emergencies, Pause, StepsBack, ErrorFrames, MoreFailures, MoreEmergencies, MoreIdentifiers}
 use Rattle.conode_stats_text.specs.declared.pace.Pace.{Pace}
 use Rattle.conode_stats_text.specs.declared.silence.Silence.{Silence}
 use Rattle.conode_stats_text.specs.FailureLines.{emergency_line, failure_line, is_waiting, open_line}
@@ -66,6 +66,7 @@ abbrev pub counted_in : Kind → ℕ → Option Finding
 counted_in kind count = if count == 0 then None else Some (Counted kind count)
 
 abbrev pub counted_words : Kind → List ℕ
+counted_words Pause = codes "longest time without a frame, in seconds"
 counted_words StepsBack = codes "stamps that step back"
 counted_words ErrorFrames = codes "error frames"
 counted_words MoreFailures = codes "SDO transfers that failed with further nodes and codes"

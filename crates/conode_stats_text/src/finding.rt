@@ -22,6 +22,9 @@ use conode_stats_counts::{Bus, FailureRow, Heartbeats, Node, Row, Tally};
 /// A transfer that is open at the end is named if it had no frame for so long, in microseconds.
 const ANSWER_TIME: u64 = 1_000_000;
 
+/// A time without a frame is named if it is longer, in seconds.
+const LONG_PAUSE: u64 = 3600;
+
 /// Bits 29 and 31 of the number of an identifier: an error frame, and one of 29 bits.
 const ERROR_FRAME: u32 = 0x2000_0000;
 
@@ -44,6 +47,8 @@ pub enum Kind {
     Waits,
     /// EMCY messages.
     Emergencies,
+    /// More than an hour without a frame.
+    Pause,
     /// Stamps that step back.
     StepsBack,
     /// Error frames.
@@ -73,7 +78,7 @@ pub(crate) enum Finding {
     Open(Key, u64),
     /// It sent EMCY messages.
     Emergency(FailureRow),
-    /// There are so many of a kind on the bus.
+    /// There are so many of a kind on the bus; of a pause so many seconds.
     Counted(Kind, u64),
 }
 
@@ -115,6 +120,16 @@ fn counted_in(kind: Kind, count: u64) -> Option<Finding>
         None
     } else {
         Some(Finding::Counted(kind, count))
+    }
+}
+
+// the longest time between two frames, in whole seconds, if it is more than an hour
+fn long_pause(all: &Tally) -> u64 {
+    let seconds = all.greatest / 1_000_000;
+    if all.greatest > LONG_PAUSE * 1_000_000 {
+        seconds
+    } else {
+        0
     }
 }
 
@@ -172,6 +187,7 @@ impl Kind {
     /// What a bus shows of this kind.
     pub(crate) fn of_bus(self, bus: &Bus) -> Option<Finding> {
         let count = match self {
+            Kind::Pause => long_pause(&bus.all()),
             Kind::StepsBack => bus.all().steps_back,
             Kind::ErrorFrames => error_frames(bus.rows()),
             Kind::MoreFailures => bus.transfers().left_out(),
@@ -187,6 +203,7 @@ impl Kind {
         ensures { result.now ≡ counted_words self }
     {
         match self {
+            Kind::Pause => "longest time without a frame, in seconds",
             Kind::StepsBack => "stamps that step back",
             Kind::ErrorFrames => "error frames",
             Kind::MoreFailures => "SDO transfers that failed with further nodes and codes",

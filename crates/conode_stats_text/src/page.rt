@@ -39,7 +39,7 @@ const NODE_HEAD: &str =
 const MORE_INTERFACES: &str = "frames of more than 16 interfaces, not counted";
 
 /// What looks wrong, in the order of the page.
-const KINDS: [Kind; 12] = [
+const KINDS: [Kind; 13] = [
     Kind::Silence,
     Kind::Lateness,
     Kind::Loss,
@@ -47,6 +47,7 @@ const KINDS: [Kind; 12] = [
     Kind::Failures,
     Kind::Waits,
     Kind::Emergencies,
+    Kind::Pause,
     Kind::StepsBack,
     Kind::ErrorFrames,
     Kind::MoreFailures,
