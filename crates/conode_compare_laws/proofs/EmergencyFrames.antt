@@ -42,7 +42,7 @@ use Rattle.conode_compare_nmt.specs.declared.limits.Subject.{Subject}
 use Rattle.conode_compare_rules.specs.declared.progress.Progress.{Progress}
 use Rattle.conode_compare_rules.specs.declared.verdict.Findings.{Findings}
 use Rattle.conode_compare_nmt.specs.States.{is_stopped, is_initialising, judged_state}
-use Rattle.conode_compare_rules.specs.EmergencyRules.{emergency_finding, fits_register, gap_finding, has_register, inhibit_finding, inhibit_with, is_in_force, is_inhibited, least_gap, may_wait, emergency_findings, may_be_restarted, may_have_waited}
+use Rattle.conode_compare_rules.specs.EmergencyRules.{emergency_finding, fits_register, gap_finding, has_register, inhibit_finding, inhibit_with, is_in_force, is_inhibited, least_gap, may_wait, emergency_findings, is_uncounted, may_have_waited}
 use Rattle.conode_compare_rules.specs.FrameKinds.{command_kind, command_to, control_kind, data_kind, emergency_kind, length_of, long_command_in}
 use Rattle.conode_compare_rules.specs.Gaps.{before_recording, begun}
 use Rattle.conode_compare_rules.specs.NmtFrames.{steady_when_free}
@@ -162,7 +162,7 @@ judged_none : (subject : Subject) (rows : List Row) (p : Progress) (micros code 
 unfolding emergency_findings found
 judged_none subject rows p micros code register up odd =
     let f : Option Finding = emergency_finding subject.limits p.entries (judged_state p.nmt) (steady_when_free subject p) (may_have_waited subject p micros) p.emergency micros code register in
-    restarted_none (is_inhibited f && may_be_restarted subject p micros) f
+    restarted_none (is_inhibited f && is_uncounted subject p micros) f
     (finding_none subject.limits p.entries (judged_state p.nmt) (steady_when_free subject p) (may_have_waited subject p micros) p.emergency micros code register (freer_running p.nmt.state p.nmt.due up) odd)
 
 -- its bytes are read as it is

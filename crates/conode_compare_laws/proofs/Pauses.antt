@@ -30,7 +30,7 @@ use Rattle.conode_compare_nmt.specs.declared.limits.Limits.{Limits}
 use Rattle.conode_compare_nmt.specs.declared.limits.Subject.{Subject}
 use Rattle.conode_compare_rules.specs.declared.progress.Progress.{Progress}
 use Rattle.conode_compare_nmt.specs.States.{is_stopped, is_initialising, judged_state}
-use Rattle.conode_compare_rules.specs.EmergencyRules.{emergency_finding, fits_register, gap_finding, inhibit_finding, inhibit_with, is_in_force, is_inhibited, least_gap, may_wait, after_emergency, emergency_findings, may_be_restarted, may_have_waited}
+use Rattle.conode_compare_rules.specs.EmergencyRules.{emergency_finding, fits_register, gap_finding, inhibit_finding, inhibit_with, is_in_force, is_inhibited, least_gap, may_wait, after_emergency, emergency_findings, is_uncounted, may_have_waited}
 use Rattle.conode_compare_nmt.specs.EntriesInForce.{asked_by, asked_to_write, done_word, overwritten, shown_inhibit, shown_period, with_inhibit, with_period}
 use Rattle.conode_compare_nmt.specs.OtherClients.{is_channel}
 use Rattle.conode_compare_rules.specs.FrameKinds.{command_kind, command_to, control_kind, data_kind, emergency_kind, emergency_with, length_of, long_command_in}
@@ -375,7 +375,7 @@ emergency_passes : (inhibit micros code register : ℕ) (sent : List Sending) (s
     → Passes inhibit micros (just_now inhibit ∷ sent) subject rows p (Emcy code register)
 unfolding emergency_findings found after_emergency
 emergency_passes inhibit micros code register sent subject rows p over h = record {
-  none = restarted_none (is_inhibited frame && may_be_restarted subject p micros) frame
+  none = restarted_none (is_inhibited frame && is_uncounted subject p micros) frame
       (finding_none subject.limits p.entries (judged_state p.nmt) (steady_when_free subject p) (may_have_waited subject p micros) p.emergency micros code register
       (inhibit_none subject.limits p.entries p.emergency micros inhibit sent h.known h.since over));
   calm = record { known = h.known; since = (let f : p.free ≤ micros = h.fresh in omega arith, refl); fresh = h.fresh };

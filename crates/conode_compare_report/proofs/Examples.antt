@@ -245,6 +245,12 @@ heartbeat_on_busy_bus : shown (control_passed (before Operational (Some 1000) No
 unfolding control_passed counts_passed
 heartbeat_on_busy_bus = refl
 
+-- nor does an answer of node guarding, with the toggle bit, show that, or a state
+guarded : map (λ byte. shown (control_passed (before Operational (Some 1000) None role.Other) true byte no_counts)) (0x7F ∷ 0x84 ∷ 0x85 ∷ 0xFF ∷ [])
+    ≡ (HeartbeatLate ∷ HeartbeatState ∷ HeartbeatLength ∷ []) ∷ (HeartbeatLength ∷ []) ∷ (HeartbeatLength ∷ []) ∷ (HeartbeatLength ∷ []) ∷ []
+unfolding control_passed counts_passed
+guarded = refl
+
 free_since : map (is_free_since (Some 1000)) (999 ∷ 1000 ∷ 1001 ∷ []) ∷ map (is_free_since None) (1001 ∷ []) ∷ [] ≡ (false ∷ false ∷ true ∷ []) ∷ (false ∷ []) ∷ []
 free_since = refl
 

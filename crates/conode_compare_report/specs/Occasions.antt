@@ -88,14 +88,16 @@ is_stopped other = false
 abbrev pub is_free_since : Option ℕ → ℕ → Bool
 is_free_since stamp free = option_map_or (λ stamp. nat_lt stamp free) stamp false
 
--- a boot-up, or a heartbeat; only where the bus was free since the last one it can be seen to be late
+-- A boot-up, or a heartbeat; only where the bus was free since the last one it can be seen to be late. With bit 7, the toggle bit,
+-- it is an answer of node guarding (CiA 301, 7.2.8).
 unfoldable pub control_passed : Before → Bool → ℕ → List Counted → List Counted
 control_passed before free byte counts =
     let is_boot_up = byte == 0 in
+    let is_heartbeat = not is_boot_up && nat_lt byte 0x80 in
     counts_passed (is_boot_up && is_booting before.state) BootMissing
     (counts_passed is_boot_up SecondSender
-    (counts_passed ((not is_boot_up && is_set before.entries.period) && free) HeartbeatLate
-    (counts_passed (not is_boot_up) HeartbeatState (counts_passed true HeartbeatLength counts))))
+    (counts_passed ((is_heartbeat && is_set before.entries.period) && free) HeartbeatLate
+    (counts_passed is_heartbeat HeartbeatState (counts_passed true HeartbeatLength counts))))
 
 unfoldable pub emergency_passed : Before → List Counted → List Counted
 emergency_passed before counts =

@@ -149,13 +149,14 @@ fn pass_control(counts: &mut [Counted], before: &Before, free: bool, byte: u8)
     ensures { counts.new ≡ control_passed before.now free byte counts.old }
 {
     let is_boot_up = byte == 0;
+    let is_heartbeat = !is_boot_up && byte < 0x80;
     pass_all(
         counts,
         &[
             (true, Kind::HeartbeatLength),
-            (!is_boot_up, Kind::HeartbeatState),
+            (is_heartbeat, Kind::HeartbeatState),
             (
-                !is_boot_up && is_set(before.entries.period) && free,
+                is_heartbeat && is_set(before.entries.period) && free,
                 Kind::HeartbeatLate,
             ),
             (is_boot_up, Kind::SecondSender),

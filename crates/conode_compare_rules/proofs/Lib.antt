@@ -9,4 +9,5 @@ mod RestartExamples
 mod SilenceExamples
 mod StateExamples
 mod TurnExamples
+mod WaitExamples
 mod WrongAnswerExamples

@@ -5,7 +5,7 @@ use Rattle.conode_compare_nmt.specs.declared.finding.Finding.{Finding}
 use Rattle.conode_compare_nmt.specs.declared.finding.Finding.TheVariants.{EmergencyInhibit, EmergencyRegister, EmergencyStopped}
 use Rattle.conode_compare_rules.specs.declared.kind.FrameKind.TheVariants.{Emergency}
 use Rattle.conode_compare_rules.specs.declared.progress.Progress.{Progress}
-use Rattle.conode_compare_rules.specs.EmergencyRules.{emergency_finding, inhibit_finding, unless_restarted, came_just_now, emergency_findings}
+use Rattle.conode_compare_rules.specs.EmergencyRules.{emergency_finding, inhibit_finding, unless_uncounted, came_just_now, emergency_findings}
 use Rattle.conode_compare_nmt.specs.Heartbeats.{late_finding, overdue_by}
 use Rattle.conode_compare_rules.specs.Gaps.{begun}
 use Rattle.conode_compare_rules.specs.Progresses.{findings_at}
@@ -20,11 +20,11 @@ none_before : came_just_now None 5 ≡ false
 none_before = refl
 
 -- then no other difference of an EMCY goes
-others : map (unless_restarted true) (None ∷ Some EmergencyStopped ∷ Some (EmergencyRegister 0x8130 0) ∷ Some (EmergencyInhibit 1 1000) ∷ [])
+others : map (unless_uncounted true) (None ∷ Some EmergencyStopped ∷ Some (EmergencyRegister 0x8130 0) ∷ Some (EmergencyInhibit 1 1000) ∷ [])
     ≡ None ∷ Some EmergencyStopped ∷ Some (EmergencyRegister 0x8130 0) ∷ None ∷ []
 others = refl
 
-runs_on : unless_restarted false (Some (EmergencyInhibit 1 1000)) ≡ Some (EmergencyInhibit 1 1000)
+runs_on : unless_uncounted false (Some (EmergencyInhibit 1 1000)) ≡ Some (EmergencyInhibit 1 1000)
 runs_on = refl
 
 -- 1015:00 has 5 s, 1017:00 has 1 s; its last EMCY and its last heartbeat came at these times

@@ -16,6 +16,7 @@ use Rattle.conode_compare_nmt.specs.declared.limits.Subject.{Subject}
 use Rattle.conode_compare_rules.specs.declared.verdict.Findings.{Findings}
 use Rattle.conode_compare_rules.specs.Verdicts.{found}
 use Rattle.conode_compare_rules.specs.NmtFrames.{is_overdue, steady_when_free, late_by, heartbeats_by}
+use Rattle.conode_compare_rules.specs.Waits.{was_held_up}
 
 -- bit 0 of the error register is set; or no bit is, and the code is one of "error reset or no
 -- error", 00xxh
@@ -58,14 +59,13 @@ unfoldable pub inhibit_finding : Limits → Entries → Option ℕ → ℕ → O
 inhibit_finding limits entries None micros = None
 inhibit_finding limits entries (Some last) micros = inhibit_with limits entries.inhibit entries.inhibit_shown last micros
 
--- A device that was switched off and on knows nothing of the EMCY that it sent before, so none of its new life comes too
--- soon.
+-- None comes too soon where no inhibit time counts from the last one.
 abbrev pub is_inhibited : Option Finding → Bool
 is_inhibited (Some (EmergencyInhibit passed inhibit)) = true
 is_inhibited finding = false
 
-abbrev pub unless_restarted : Bool → Option Finding → Option Finding
-unless_restarted restarted finding = if is_inhibited finding && restarted then None else finding
+abbrev pub unless_uncounted : Bool → Option Finding → Option Finding
+unless_uncounted uncounted finding = if is_inhibited finding && uncounted then None else finding
 
 -- `emcy-state`, once the state is settled, `emcy-register`, `emcy-inhibit`: the first of them. None
 -- where the identifier may not be that of its EMCY, and none while the boot-up is awaited. `waits`: it may have
@@ -98,16 +98,22 @@ abbrev pub has_just_booted : Subject → Progress → Bool
 has_just_booted subject progress =
     option_map_or (λ b. not (is_past b subject.limits.tolerance progress.free)) progress.nmt.booted false
 
--- A device sends none while it is stopped or boots up, and on a bus that isn't free it sends one later: the error may be
--- over by then.
+-- A device that was switched off and on knows nothing of the EMCY that it sent before. And the last one may have waited until
+-- the device could send again.
+abbrev pub is_uncounted : Subject → Progress → ℕ → Bool
+is_uncounted subject progress micros =
+    may_be_restarted subject progress micros || option_map_or (λ last. was_held_up subject progress last) progress.emergency false
+
+-- A device sends none while it is stopped or boots up, and on a bus that isn't free, or can't be used, it sends one later: the
+-- error may be over by then.
 abbrev pub may_have_waited : Subject → Progress → ℕ → Bool
 may_have_waited subject progress micros =
     (not (steady_when_free subject progress) || nat_lt progress.free micros)
-    || (was_stopped progress.nmt.leaving micros || has_just_booted subject progress)
+    || (was_stopped progress.nmt.leaving micros || (has_just_booted subject progress || was_held_up subject progress progress.free))
 
 abbrev pub emergency_difference : Subject → Progress → ℕ → ℕ → ℕ → Option Finding
 emergency_difference subject progress micros code register =
-    unless_restarted (may_be_restarted subject progress micros)
+    unless_uncounted (is_uncounted subject progress micros)
     (emergency_finding subject.limits progress.entries (judged_state progress.nmt) (steady_when_free subject progress) (may_have_waited subject progress micros) progress.emergency micros code register)
 
 unfoldable pub emergency_findings : Subject → Progress → ℕ → ℕ → ℕ → Findings

@@ -1,6 +1,7 @@
 pub mod Answers
 pub mod FrameKinds
 pub mod Gaps
+pub mod Waits
 pub mod NmtFrames
 pub mod EmergencyRules
 pub mod Channels

@@ -1,6 +1,5 @@
 -- PDOs and SYNCs of a recording.
 use Rattle.std.specs.Prelude.{ℕ, Bool, ◌&&◌, ◌||◌, if◌then◌else◌, Option, Some, None, is_some, option_map}
-use Rattle.std.specs.Option.{option_map_or}
 use Rattle.conode_compare_pdos.specs.declared.deviation.Moment.{Moment}
 use Rattle.conode_compare_pdos.specs.declared.pdos.Pdos.{Pdos}
 use Rattle.conode_compare_pdos.specs.declared.pdos.Sighting.{Sighting}
@@ -17,11 +16,8 @@ use Rattle.conode_compare_nmt.specs.EntriesInForce.{overwritten}
 use Rattle.conode_compare_nmt.specs.OtherClients.{may_send}
 use Rattle.conode_compare_nmt.specs.States.{has_followed, judged_state, with_followed, with_left, is_idle}
 use Rattle.conode_compare_rules.specs.Verdicts.{found, nothing_found}
+use Rattle.conode_compare_rules.specs.Waits.{counts_since}
 use Rattle.conode_compare_rules.specs.NmtFrames.{is_known, is_overdue, steady_when_free, late_by, heartbeats_by}
-
--- when the newest command came; else when the recording began
-abbrev pub newest_command : Progress → Option ℕ
-newest_command progress = Some (option_map_or (λ c. c.micros) progress.nmt.commanded progress.started)
 
 unfoldable pub moment_at : Subject → Progress → ℕ → Moment
 moment_at subject progress micros = record {
@@ -31,7 +27,7 @@ moment_at subject progress micros = record {
   drift = subject.limits.drift;
   idle = steady_when_free subject progress && is_idle subject.facts.starts_itself (judged_state progress.nmt);
   known = steady_when_free subject progress && is_known progress.nmt.state;
-  commanded = newest_command progress;
+  commanded = Some (counts_since progress);
 }
 
 abbrev pub sighting_findings : Option Finding → Option Sighting → Findings

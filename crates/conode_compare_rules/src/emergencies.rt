@@ -12,11 +12,12 @@ ghost use Rattle.conode_compare_rules.specs.EmergencyRules.{
   length_finding,
   least_gap,
   may_wait,
-  unless_restarted,
+  unless_uncounted,
   was_in_force,
   came_just_now,
   emergency_difference,
   has_just_booted,
+  is_uncounted,
   may_be_restarted,
   may_have_waited,
 };
@@ -139,12 +140,11 @@ fn emergency_finding(
     inhibit_finding(limits, entries, last, micros)
 }
 
-// the difference of an EMCY of a device that may have been switched off and on since its last one, of
-// which it knows nothing then
-fn unless_restarted(restarted: bool, finding: Option<Finding>) -> Option<Finding>
-    ensures { result ≡ unless_restarted restarted finding }
+// the difference of an EMCY, where perhaps no inhibit time counts from the last one
+fn unless_uncounted(uncounted: bool, finding: Option<Finding>) -> Option<Finding>
+    ensures { result ≡ unless_uncounted uncounted finding }
 {
-    if matches!(finding, Some(Finding::EmergencyInhibit(_, _))) && restarted {
+    if matches!(finding, Some(Finding::EmergencyInhibit(_, _))) && uncounted {
         None
     } else {
         finding
@@ -185,6 +185,20 @@ impl Progress {
                 || came_just_now(self.heartbeats.since, micros))
     }
 
+    // whether no inhibit time counts from the newest EMCY: the device may have been switched off and on
+    // since, or that may have waited until it could send again
+    fn is_uncounted(&self, subject: &Subject, micros: u64) -> bool
+        ensures { result ≡ is_uncounted subject.now self.now micros }
+    {
+        if self.may_be_restarted(subject, micros) {
+            return true;
+        }
+        match self.emergency {
+            Some(last) => self.was_held_up(subject, last),
+            None => false,
+        }
+    }
+
     // whether the tolerance since the boot-up wasn't over when the bus was free last
     fn has_just_booted(&self, subject: &Subject) -> bool
         ensures { result ≡ has_just_booted subject.now self.now }
@@ -195,7 +209,8 @@ impl Progress {
         }
     }
 
-    // whether an EMCY may have waited for the end of stopped, for the boot-up, or for the bus
+    // whether an EMCY may have waited for the end of stopped, for the boot-up, or for the bus, also one
+    // that couldn't be used
     fn may_have_waited(&self, subject: &Subject, micros: u64) -> bool
         ensures { result ≡ may_have_waited subject.now self.now micros }
     {
@@ -203,6 +218,7 @@ impl Progress {
             || self.free < micros
             || self.nmt.leaving.was_stopped(micros)
             || self.has_just_booted(subject)
+            || self.was_held_up(subject, self.free)
     }
 
     /// The difference of an EMCY of eight bytes.
@@ -226,6 +242,6 @@ impl Progress {
             code,
             register,
         );
-        unless_restarted(self.may_be_restarted(subject, micros), finding)
+        unless_uncounted(self.is_uncounted(subject, micros), finding)
     }
 }

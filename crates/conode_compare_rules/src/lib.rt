@@ -12,6 +12,7 @@ mod known;
 mod process;
 mod progress;
 mod verdict;
+mod waits;
 
 pub use kind::{FrameKind, kind_of};
 pub use progress::Progress;

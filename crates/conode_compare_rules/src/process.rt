@@ -4,7 +4,6 @@ ghost use Rattle.std.specs.Prelude.{◌≡◌, true};
 ghost use Rattle.conode_compare_rules.specs.Processes.{
   after_process,
   moment_at,
-  newest_command,
   process_findings,
   sighting_findings,
   unless_overdue,
@@ -48,16 +47,6 @@ fn sighting_findings(late: Option<Finding>, sighting: Option<Sighting>) -> Findi
 }
 
 impl Progress {
-    // when the newest command came; else when the recording began
-    fn newest_command(&self) -> Option<u64>
-        ensures { result ≡ newest_command self.now }
-    {
-        match self.nmt.commanded {
-            Some(commanded) => Some(commanded.micros),
-            None => Some(self.started),
-        }
-    }
-
     // how a PDO is judged that comes now: by whether the tolerance was over when the bus was free
     #[tactic(auto, unfolding(crate::specs::Processes::moment_at))]
     fn moment_at(&self, subject: &Subject, micros: u64) -> Moment
@@ -73,7 +62,7 @@ impl Progress {
             drift: subject.limits.drift,
             idle: steady && is_idle,
             known: steady && is_known,
-            commanded: self.newest_command(),
+            commanded: Some(self.counts_since()),
         }
     }
 
