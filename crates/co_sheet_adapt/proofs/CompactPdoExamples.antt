@@ -1,5 +1,6 @@
 -- PDOs in compact form, evaluated.
-use Rattle.std.proofs.Common.{◌≡◌, ℕ, List, [], ◌∷◌, ◌++◌, Option, Some, None, refl, codes, map}
+use Rattle.std.proofs.Common.{◌≡◌, ℕ, List, [], ◌∷◌, ◌++◌, Option, Some, None, true, false, refl, codes, map}
+use Rattle.std.specs.Prelude.{option_map}
 use Rattle.std.specs.Fmt.{digits}
 use Rattle.co_text.specs.Printed.{digits_text}
 use Rattle.co_sheet_text.specs.Text.{lines_of}
@@ -8,15 +9,41 @@ use Rattle.co_sheet_changes.specs.Groups.{groups_of}
 use Rattle.co_sheet_changes.specs.Pieces.{kept, changed, added_lines, assigned}
 use Rattle.co_sheet_adapt.specs.Pieces.{all_pieces}
 use Rattle.co_sheet_adapt.specs.Compact.{first_keys, first_section, last_keys, sub_head}
-use Rattle.co_sheet_adapt.specs.CompactPdo.{PdoForm, communication_text, highest_of, keys_of, object_head, pdo_form, subs_of}
+use Rattle.co_sheet_adapt.specs.CompactPdo.{PdoForm, communication_text, highest_of, is_counted, keys_of, list_change, object_head, pdo_form, subs_of}
 
 abbrev form_of : List ℕ → Option PdoForm
 form_of text = pdo_form (groups_of (lines_of text))
 
 -- the objects that are there stay
 some_there : form_of (codes "[DeviceInfo]\nCompactPDO=0x2F\nNrOfRXPDO=2\nNrOfTXPDO=1\n[OptionalObjects]\nSupportedObjects=4\n[1400]\n[1600]\n[1A00]\n")
-    ≡ Some (record { subs = 0x17; listed = 4; absent = 0x1401 ∷ 0x1601 ∷ 0x1800 ∷ [] })
+    ≡ Some (record { subs = 0x17; listed = 4; absent = 0x1401 ∷ 0x1601 ∷ 0x1800 ∷ []; unlisted = 0x1401 ∷ 0x1601 ∷ 0x1800 ∷ [] })
 some_there = refl
+
+-- an object that a list names and no section describes gets sections, but no second place; a key that
+-- the list doesn't count names nothing
+listed_already : map form_of (codes "[DeviceInfo]\nCompactPDO=3\nNrOfRXPDO=0\nNrOfTXPDO=1\n[OptionalObjects]\nSupportedObjects=2\n1=0x1800\n02=6656\n"
+    ∷ codes "[DeviceInfo]\nCompactPDO=3\nNrOfRXPDO=0\nNrOfTXPDO=1\n[OptionalObjects]\nSupportedObjects=0\n[ManufacturerObjects]\nSupportedObjects=1\n1=0x1A00\n2=0x1800\n" ∷ [])
+    ≡ Some (record { subs = 3; listed = 2; absent = 0x1800 ∷ 0x1A00 ∷ []; unlisted = [] })
+    ∷ Some (record { subs = 3; listed = 0; absent = 0x1800 ∷ 0x1A00 ∷ []; unlisted = 0x1800 ∷ [] }) ∷ []
+listed_already = refl
+
+-- keys on both sides of what a list counts
+counted : map (is_counted 2) (codes "0" ∷ codes "1" ∷ codes "2" ∷ codes "02" ∷ codes "3" ∷ codes "x" ∷ codes "SupportedObjects" ∷ [])
+    ≡ false ∷ true ∷ true ∷ true ∷ false ∷ false ∷ false ∷ []
+counted = refl
+
+-- keys that the list doesn't count are moved past the two objects that get a place
+abbrev moved : List ℕ → Option (List ℕ)
+moved name = option_map (λ m. m.new) (list_change (record { subs = 3; listed = 2; absent = 0x1800 ∷ 0x1A00 ∷ []; unlisted = 0x1800 ∷ 0x1A00 ∷ [] }) name (codes "0x1008"))
+
+keys_moved : map moved (codes "2" ∷ codes "3" ∷ codes "007" ∷ codes "4294967295" ∷ codes "4294967296" ∷ codes "x" ∷ codes "SupportedObjects" ∷ [])
+    ≡ None ∷ Some (codes "5=0x1008\n") ∷ Some (codes "9=0x1008\n") ∷ Some (codes "4294967297=0x1008\n") ∷ None ∷ None ∷ Some (codes "SupportedObjects=4\n") ∷ []
+unfolding assigned digits
+keys_moved = refl
+
+-- without such an object no key is moved
+none_moved : map (list_change (record { subs = 3; listed = 2; absent = 0x1800 ∷ []; unlisted = [] }) (codes "3")) (codes "0x1008" ∷ []) ≡ None ∷ []
+none_moved = refl
 
 without_form : map form_of (codes "[DeviceInfo]\nCompactPDO=0\nNrOfRXPDO=1\nNrOfTXPDO=1\n[OptionalObjects]\nSupportedObjects=0\n"
     ∷ codes "[DeviceInfo]\nCompactPDO=128\nNrOfRXPDO=1\nNrOfTXPDO=1\n[OptionalObjects]\nSupportedObjects=0\n"

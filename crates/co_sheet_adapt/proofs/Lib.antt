@@ -6,6 +6,7 @@ mod LaterLemmas
 mod Examples
 mod CompactExamples
 mod CompactPdoExamples
+mod MeantExamples
 mod LoopLemmas
 mod ExpandedLemmas
 mod ExpandedExamples

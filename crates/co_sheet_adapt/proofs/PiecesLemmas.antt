@@ -8,6 +8,7 @@ use Rattle.co_sheet_changes.specs.Groups.{Group, before_sections, groups_of}
 use Rattle.co_sheet_adapt.specs.CompactPdo.{PdoForm, pdo_form}
 use Rattle.co_sheet_adapt.specs.Named.{own_in_groups, text_in_groups}
 use Rattle.co_sheet_changes.specs.Pieces.{Piece, kept_piece}
+use Rattle.co_sheet_adapt.specs.Meant.{all_meant}
 use Rattle.co_sheet_adapt.specs.Pieces.{group_pieces, sections_pieces, all_pieces}
 
 abbrev Texts : Type 0
@@ -29,8 +30,8 @@ sections-put-together P gs own names values pdos o n v p given =
 
 pub put-together : (lines : List Line) (none first all : List Piece) {front : List Line} →
     none ≡ [] → front ≡ before_sections lines → first ≡ none ++ map kept_piece front
-    → all ≡ first ++ sections_pieces (groups_of lines) → all ≡ all_pieces lines
+    → all ≡ first ++ sections_pieces (all_meant (groups_of lines)) → all ≡ all_pieces lines
 put-together lines none first all {front} empty cut kept rest =
     rest
-    ∙ ap (λ (f : List Piece). f ++ sections_pieces (groups_of lines))
+    ∙ ap (λ (f : List Piece). f ++ sections_pieces (all_meant (groups_of lines)))
     (kept ∙ ap (λ (f : List Piece). f ++ map kept_piece front) empty ∙ ap (map kept_piece) cut)

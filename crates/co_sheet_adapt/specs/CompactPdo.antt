@@ -2,27 +2,33 @@
 -- section describes. By its bits CompactPDO says which sub-indices a communication object has; the
 -- sheet says no more, so the PDOs aren't valid, their timers are 0, and their mappings have no
 -- entries.
-use Rattle.std.specs.Prelude.{ℕ, ◌+◌, ◌%◌, ◌/◌, Bool, false, ◌&&◌, ◌||◌, not, ◌==◌, nat_le, nat_lt, if◌then◌else◌, List, [], ◌∷◌, ◌++◌, length, filter, find, flat_map, codes, decimal, Option, Some, None, option_and_then, option_map}
+use Rattle.std.specs.Prelude.{ℕ, ◌+◌, ◌%◌, ◌/◌, Bool, false, ◌&&◌, ◌||◌, not, ◌==◌, nat_le, nat_lt, if◌then◌else◌, List, [], ◌∷◌, ◌++◌, length, filter, find, flat_map, codes, decimal, Option, Some, None, option_and_then, option_map, unwrap_or}
 use Rattle.std.specs.List.{list_any, range_with_len}
+use Rattle.std.specs.Option.{option_map_or, option_or}
+use Rattle.std.specs.Result.{result_ok}
 use Rattle.co_text.specs.Printed.{digits_text}
 use Rattle.co_value.specs.declared.key.Key.{Key}
 use Rattle.co_sheet_text.specs.declared.section_kind.SectionKind.{SectionKind}
 use Rattle.co_sheet_text.specs.declared.section_kind.SectionKind.TheVariants.{DeviceInfo, Object, OptionalObjects}
-use Rattle.co_sheet_text.specs.Names.{same_kind}
-use Rattle.co_sheet_text.specs.Text.{is_empty, same_name}
+use Rattle.co_sheet_text.specs.Names.{is_list, number_in, same_kind}
+use Rattle.co_sheet_text.specs.Numerals.{is_number_in, unsigned_number}
+use Rattle.co_sheet_text.specs.Text.{Line, is_empty, same_name}
+use Rattle.co_sheet.specs.ObjectLists.{is_one_of}
 use Rattle.co_sheet_changes.specs.declared.change.ChangeKind.TheVariants.{CompactPdo, ListCount}
-use Rattle.co_sheet_changes.specs.Groups.{Group, number_in_group}
+use Rattle.co_sheet_changes.specs.Groups.{Given, Group, number_in_group, property_in}
 use Rattle.co_sheet_changes.specs.Pieces.{Mended, mended, assigned, Piece, added_lines}
 use Rattle.co_sheet_adapt.specs.declared.compact_pdo.Part.{Part}
 use Rattle.co_sheet_adapt.specs.declared.compact_pdo.Part.TheVariants.{Communication, Mapping, CobId, TransmissionType, InhibitTime, Reserved, EventTimer, SyncStart, MappingCount, MappingWord}
 use Rattle.co_sheet_adapt.specs.Compact.{first_section, sub_head, sub_sections}
 
 -- what sections say of PDOs: the sub-indices of their communication objects, bit 0 for sub-index 1,
--- the number of optional objects, and the objects that get sections
+-- the number of optional objects, the objects that get sections, and those of them that get a place
+-- in the list
 pub record PdoForm : Type 0 where
   pub subs : ℕ
   pub listed : ℕ
   pub absent : List ℕ
+  pub unlisted : List ℕ
 
 abbrev pub is_object_of : ℕ → Group → Bool
 is_object_of index g = same_kind g.kind (Object index)
@@ -48,6 +54,36 @@ absent_objects groups receive transmit =
     absent_of groups 0x1400 receive ++ absent_of groups 0x1600 receive
     ++ absent_of groups 0x1800 transmit ++ absent_of groups 0x1A00 transmit
 
+-- ---- which of them the object lists have
+
+-- the number of a key in decimal digits; zeros before a place of a list are taken out
+abbrev pub key_number : List ℕ → Option ℕ
+key_number name = if is_number_in 10 name then Some (number_in 10 name) else None
+
+-- a key that a list counts
+abbrev pub is_counted : ℕ → List ℕ → Bool
+is_counted count name =
+    option_map_or (λ n. nat_le 1 n && nat_le n count) (key_number name) false
+
+abbrev pub lists_given : ℕ → ℕ → Option Given → Bool
+lists_given count index None = false
+lists_given count index (Some given) =
+    is_counted count given.name && is_one_of (index ∷ []) (result_ok (unsigned_number given.value))
+
+abbrev pub lists_line : ℕ → ℕ → Line → Bool
+lists_line count index line = lists_given count index (property_in line)
+
+-- whether a section is an object list that names an index
+abbrev pub count_in : Group → ℕ
+count_in g = unwrap_or (number_in_group (codes "SupportedObjects") g) 0
+
+abbrev pub is_in_list : ℕ → Group → Bool
+is_in_list index g = is_list g.kind && list_any (lists_line (count_in g) index) g.body
+
+abbrev pub unlisted_of : List Group → List ℕ → List ℕ
+unlisted_of groups indices =
+    filter (λ index. not (list_any (is_in_list index) groups)) indices
+
 -- ---- the sub-indices of a communication object (CiA 301, 7.5.2.35 and 7.5.2.37)
 
 -- of bit 0 for sub-index 1 on: COB-ID and transmission type are there, and at most sub-index 6
@@ -67,6 +103,14 @@ subs_of bits =
     else if has_needed (bits / 2) then Some (bits / 2)
     else None
 
+abbrev pub form_with : List Group → ℕ → ℕ → List ℕ → PdoForm
+form_with groups subs listed absent = record {
+  subs = subs;
+  listed = listed;
+  absent = absent;
+  unlisted = unlisted_of groups absent;
+}
+
 -- there are 512 PDOs each way at most
 abbrev pub form_in : List Group → Group → Group → Option PdoForm
 form_in groups info list =
@@ -74,7 +118,7 @@ form_in groups info list =
     option_and_then (λ receive.
     option_and_then (λ transmit.
     option_map (λ listed.
-    record { subs = subs; listed = listed; absent = absent_objects groups receive transmit })
+    form_with groups subs listed (absent_objects groups receive transmit))
     (number_within 0 60000 (codes "SupportedObjects") list))
     (number_within 0 512 (codes "NrOfTXPDO") info))
     (number_within 0 512 (codes "NrOfRXPDO") info))
@@ -95,13 +139,28 @@ form_change form name =
 
 abbrev pub count_change : PdoForm → List ℕ → Option Mended
 count_change form name =
-    if same_name name (codes "SupportedObjects") && not (is_empty form.absent)
-    then Some (mended ListCount (assigned name (decimal (form.listed + length form.absent)))) else None
+    if same_name name (codes "SupportedObjects") && not (is_empty form.unlisted)
+    then Some (mended ListCount (assigned name (decimal (form.listed + length form.unlisted))))
+    else None
 
-abbrev pub pdo_change : Option PdoForm → SectionKind → List ℕ → Option Mended
-pdo_change (Some form) DeviceInfo name = form_change form name
-pdo_change (Some form) OptionalObjects name = count_change form name
-pdo_change form kind name = None
+-- a key that the list doesn't count gets a number past those that it counts now
+abbrev pub is_past : ℕ → ℕ → Bool
+is_past listed n = nat_lt listed n && nat_lt n 0x100000000
+
+abbrev pub key_moved : PdoForm → List ℕ → ℕ → Option Mended
+key_moved form value n =
+    if is_past form.listed n && not (is_empty form.unlisted)
+    then Some (mended ListCount (assigned (decimal (n + length form.unlisted)) value))
+    else None
+
+abbrev pub list_change : PdoForm → List ℕ → List ℕ → Option Mended
+list_change form name value =
+    option_or (count_change form name) (option_and_then (key_moved form value) (key_number name))
+
+abbrev pub pdo_change : Option PdoForm → SectionKind → List ℕ → List ℕ → Option Mended
+pdo_change (Some form) DeviceInfo name value = form_change form name
+pdo_change (Some form) OptionalObjects name value = list_change form name value
+pdo_change form kind name value = None
 
 -- ---- the sections of objects
 
@@ -175,7 +234,7 @@ places_from place (index ∷ indices) = place_line place index ++ places_from (p
 -- what is added to a section
 abbrev pub pdo_text : Option PdoForm → SectionKind → List ℕ
 pdo_text (Some form) DeviceInfo = flat_map (object_text form.subs) form.absent
-pdo_text (Some form) OptionalObjects = places_from (form.listed + 1) form.absent
+pdo_text (Some form) OptionalObjects = places_from (form.listed + 1) form.unlisted
 pdo_text form kind = []
 
 abbrev pub pdo_added : Option PdoForm → Group → List Piece

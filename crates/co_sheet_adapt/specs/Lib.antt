@@ -3,6 +3,7 @@ pub mod Values
 pub mod Facts
 pub mod Entries
 pub mod Named
+pub mod Meant
 pub mod Compact
 pub mod CompactPdo
 pub mod Pieces

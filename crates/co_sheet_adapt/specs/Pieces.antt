@@ -19,6 +19,7 @@ use Rattle.co_sheet_adapt.specs.declared.facts.Facts.{Facts}
 use Rattle.co_sheet_changes.specs.Groups.{Group, property_in, value_in, number_in_group, without_blanks, before_sections, groups_of}
 use Rattle.co_sheet_adapt.specs.Facts.{facts_of}
 use Rattle.co_sheet_adapt.specs.Entries.{entry_change}
+use Rattle.co_sheet_adapt.specs.Meant.{all_meant}
 use Rattle.co_sheet_adapt.specs.Named.{own_in_groups, text_in_groups}
 use Rattle.co_sheet_adapt.specs.Compact.{compact_text, is_mapping}
 use Rattle.co_sheet_adapt.specs.CompactPdo.{PdoForm, pdo_form, pdo_change, pdo_added}
@@ -119,7 +120,7 @@ given_change k facts name value =
 -- PDOs in compact form also change lines of two sections
 abbrev pub line_change : Option PdoForm → SectionKind → Facts → List ℕ → List ℕ → Option Mended
 line_change pdos k facts name value =
-    option_or (pdo_change pdos k name) (given_change k facts name value)
+    option_or (pdo_change pdos k name value) (given_change k facts name value)
 
 abbrev pub line_piece : Option PdoForm → SectionKind → Facts → Line → Piece
 line_piece pdos k facts line =
@@ -152,4 +153,5 @@ sections_pieces groups =
     (λ k. text_in_groups (codes "Value") k groups) (pdo_form groups)) groups
 
 abbrev pub all_pieces : List Line → List Piece
-all_pieces lines = map kept_piece (before_sections lines) ++ sections_pieces (groups_of lines)
+all_pieces lines =
+    map kept_piece (before_sections lines) ++ sections_pieces (all_meant (groups_of lines))

@@ -1,24 +1,33 @@
 //! PDOs in compact form (CiA 306, compact storage): the objects that no section describes.
 
-ghost use Rattle.std.specs.Prelude.{◌≡◌, ◌≤◌, ◌+◌, ◌++◌, ◌∷◌, [], codes, decimal, map, option_and_then, option_map, IfOk, IfSome, OnOk};
+ghost use Rattle.std.specs.Prelude.{◌≡◌, ◌≤◌, ◌+◌, ◌++◌, ◌∷◌, [], codes, decimal, map, option_and_then, option_map, unwrap_or, IfOk, IfSome, OnOk};
 ghost use Rattle.std.specs.List.{flat_map, list_any};
 ghost use Rattle.std.specs.Option.{option_copied};
 ghost use Rattle.co_text.specs.Printed.{digits_text};
 ghost use Rattle.co_sheet_changes.specs.Pieces.{mended_view, piece_view};
-ghost use Rattle.co_sheet_changes.specs.Views.{group_view};
+ghost use Rattle.co_sheet_changes.specs.Views.{group_view, line_view};
 ghost use Rattle.co_sheet_adapt.specs.Compact.{sub_head, sub_sections};
 ghost use Rattle.co_sheet_adapt.specs.CompactPdo.{
   absent_objects,
   absent_of,
   communication_text,
   count_change,
+  count_in,
   ends_reserved,
   form_change,
   form_in,
+  form_with,
   group_at,
   has_needed,
   highest_of,
+  is_counted,
+  is_in_list,
+  is_past,
+  key_moved,
+  key_number,
   keys_of,
+  list_change,
+  lists_line,
   is_communication,
   is_kind,
   is_object_of,
@@ -34,6 +43,7 @@ ghost use Rattle.co_sheet_adapt.specs.CompactPdo.{
   places_from,
   sub_if,
   subs_of,
+  unlisted_of,
   word_section,
 };
 ghost use Rattle.co_sheet_adapt.specs.Expanded.{pdo_objects};
@@ -41,8 +51,8 @@ ghost use Rattle.co_sheet_adapt.specs.private.Pdos.{form_view};
 
 use crate::compact::{push_first_section, push_head};
 use crate::pieces::push_piece;
-use co_sheet_changes::{ChangeKind, Group, Mended, Piece, assigned, push_number};
-use co_sheet_text::{SectionKind, same_name};
+use co_sheet_changes::{ChangeKind, Group, Line, Mended, Piece, assigned, push_number};
+use co_sheet_text::{SectionKind, number_in, same_name, unsigned_number};
 use co_text::{decimal_digits, word_digits};
 use co_value::Key;
 use std::alloc::{AllocError, Global};
@@ -56,6 +66,8 @@ pub(crate) struct PdoForm {
     pub(crate) listed: u16,
     /// The indices of the objects that get sections.
     pub(crate) absent: Vec<u16>,
+    /// Those of them that no object list names.
+    pub(crate) unlisted: Vec<u16>,
 }
 
 fn is_kind(kind: SectionKind, group: &Group) -> bool
@@ -106,6 +118,81 @@ fn push_absent(
 {
     let absent = attempt!(absent_of(alloc, groups, first, count));
     indices.extend_from_slice(absent.as_slice())
+}
+
+// the number of a key in decimal digits
+fn key_number(name: &[u8]) -> Option<u64>
+    ensures { result ≡ key_number name.now }
+{
+    number_in(10, name)
+}
+
+fn is_counted(count: u64, name: &[u8]) -> bool
+    ensures { result ≡ is_counted count name.now }
+{
+    match key_number(name) {
+        Some(number) => 1 <= number && number <= count,
+        None => false,
+    }
+}
+
+// whether a line of a list of so many objects names an index
+fn lists_line(count: u64, index: u16, line: &Line) -> bool
+    ensures { result ≡ lists_line count index (line_view line.now) }
+{
+    match line.property() {
+        Some((name, value)) if is_counted(count, name) => {
+            unsigned_number(value).ok() == Some(u64::from(index))
+        }
+        _ => false,
+    }
+}
+
+fn count_in(group: &Group) -> u64
+    ensures { result ≡ count_in (group_view group.now) }
+{
+    group.number(b"SupportedObjects").unwrap_or(0)
+}
+
+fn has_line(count: u64, index: u16, lines: &[Line]) -> bool
+    ensures { result ≡ list_any (lists_line count index) (map line_view lines.now) }
+{
+    for line in lines {
+        if lists_line(count, index, line) {
+            return true;
+        }
+    }
+    false
+}
+
+// whether a section is an object list that names an index
+fn is_in_list(index: u16, group: &Group) -> bool
+    ensures { result ≡ is_in_list index (group_view group.now) }
+{
+    group.kind.is_list() && has_line(count_in(group), index, group.body)
+}
+
+fn is_listed(groups: &[Group], index: u16) -> bool
+    ensures { result ≡ list_any (is_in_list index) (map group_view groups.now) }
+{
+    for group in groups {
+        if is_in_list(index, group) {
+            return true;
+        }
+    }
+    false
+}
+
+// of indices those that no object list names
+fn unlisted_of(alloc: Global, groups: &[Group], indices: &[u16]) -> Result<Vec<u16>, AllocError>
+    ensures { IfOk result (λ made.
+        made.items ≡ unlisted_of (map group_view groups.now) indices.now) }
+{
+    indices
+        .iter()
+        .copied()
+        .filter(|index| !is_listed(groups, *index))
+        .collect(alloc)
 }
 
 fn group_at<'g, 's, 'a>(kind: SectionKind, groups: &'g [Group<'s, 'a>]) -> Option<&'g Group<'s, 'a>>
@@ -177,6 +264,32 @@ fn push_absent_objects(
 }
 
 impl PdoForm {
+    // of this many PDOs each way
+    fn with(
+        alloc: Global,
+        groups: &[Group],
+        subs: u64,
+        listed: u16,
+        receive: u16,
+        transmit: u16,
+    ) -> Result<PdoForm, AllocError>
+        requires receive { receive ≤ 512 }
+        requires transmit { transmit ≤ 512 }
+        ensures { IfOk result (λ form. form_view form
+            ≡ form_with (map group_view groups.now) subs listed
+            (absent_objects (map group_view groups.now) receive transmit)) }
+    {
+        let mut absent = Vec::new(alloc);
+        attempt!(push_absent_objects(alloc, &mut absent, groups, receive, transmit));
+        let unlisted = attempt!(unlisted_of(alloc, groups, absent.as_slice()));
+        Ok(PdoForm {
+            subs,
+            listed,
+            absent,
+            unlisted,
+        })
+    }
+
     // by the section DeviceInfo and the list of optional objects
     fn within(
         alloc: Global,
@@ -198,13 +311,15 @@ impl PdoForm {
         let Some(subs) = subs_of(bits) else {
             return Ok(None);
         };
-        let mut absent = Vec::new(alloc);
-        attempt!(push_absent_objects(alloc, &mut absent, groups, receive as u16, transmit as u16,));
-        Ok(Some(PdoForm {
+        let form = PdoForm::with(
+            alloc,
+            groups,
             subs,
-            listed: listed as u16,
-            absent,
-        }))
+            listed as u16,
+            receive as u16,
+            transmit as u16,
+        );
+        Ok(Some(attempt!(form)))
     }
 
     /// What sections say; `None` where there is no compact form, or what it needs isn't there.
@@ -239,14 +354,58 @@ impl PdoForm {
         ensures { IfOk result (λ made.
             option_map mended_view made ≡ count_change (form_view self.now) name.now) }
     {
-        if !same_name(name, b"SupportedObjects") || self.absent.is_empty() {
+        if !same_name(name, b"SupportedObjects") || self.unlisted.is_empty() {
             return Ok(None);
         }
-        let count = u64::from(self.listed) + self.absent.len() as u64;
+        let count = u64::from(self.listed) + self.unlisted.len() as u64;
         let new = attempt!(assigned(alloc, name, decimal_digits(count).as_str().as_bytes()));
         let kind = ChangeKind::ListCount;
         Ok(Some(Mended { kind, new }))
     }
+
+    // a key that the list doesn't count, past those that it counts now
+    fn key_moved(
+        &self,
+        alloc: Global,
+        value: &[u8],
+        number: u64,
+    ) -> Result<Option<Mended>, AllocError>
+        ensures { IfOk result (λ made.
+            option_map mended_view made ≡ key_moved (form_view self.now) value.now number) }
+    {
+        if !is_past(u64::from(self.listed), number) || self.unlisted.is_empty() {
+            return Ok(None);
+        }
+        let moved = decimal_digits(number + self.unlisted.len() as u64);
+        let new = attempt!(assigned(alloc, moved.as_str().as_bytes(), value));
+        let kind = ChangeKind::ListCount;
+        Ok(Some(Mended { kind, new }))
+    }
+
+    fn list_change(
+        &self,
+        alloc: Global,
+        name: &[u8],
+        value: &[u8],
+    ) -> Result<Option<Mended>, AllocError>
+        ensures { IfOk result (λ made. option_map mended_view made
+            ≡ list_change (form_view self.now) name.now value.now) }
+    {
+        match attempt!(self.count_change(alloc, name)) {
+            Some(mended) => Ok(Some(mended)),
+            None => match key_number(name) {
+                Some(number) => self.key_moved(alloc, value, number),
+                None => Ok(None),
+            },
+        }
+    }
+}
+
+// whether a list of so many objects doesn't count a key
+fn is_past(listed: u64, number: u64) -> bool
+    ensures { result ≡ is_past listed number }
+{
+    listed < number && number < 0x1_0000_0000
 }
 
 /// What a line of DeviceInfo or of the list of optional objects becomes.
@@ -255,13 +414,14 @@ pub(crate) fn pdo_change(
     form: Option<&PdoForm>,
     kind: SectionKind,
     name: &[u8],
+    value: &[u8],
 ) -> Result<Option<Mended>, AllocError>
     ensures { IfOk result (λ made. option_map mended_view made
-        ≡ pdo_change (option_map (λ f. form_view f.now) form.entry) kind name.now) }
+        ≡ pdo_change (option_map (λ f. form_view f.now) form.entry) kind name.now value.now) }
 {
     match (form, kind) {
         (Some(form), SectionKind::DeviceInfo) => form.form_change(alloc, name),
-        (Some(form), SectionKind::OptionalObjects) => form.count_change(alloc, name),
+        (Some(form), SectionKind::OptionalObjects) => form.list_change(alloc, name, value),
         _ => Ok(None),
     }
 }
@@ -465,10 +625,10 @@ impl PdoForm {
     // their places in the list
     fn push_places(&self, alloc: Global, text: &mut Vec<u8>) -> Result<(), AllocError>
         ensures { OnOk result (text.new.items ≡ text.old.items
-            ++ places_from ((form_view self.now).listed + 1) (form_view self.now).absent) }
+            ++ places_from ((form_view self.now).listed + 1) (form_view self.now).unlisted) }
     {
         let mut place = u64::from(self.listed) + 1;
-        for index in &self.absent {
+        for index in &self.unlisted {
             attempt!(push_place(text, alloc, place, *index));
             place += 1;
         }

@@ -29,6 +29,7 @@ mod compact_pdo;
 mod entry;
 mod facts;
 mod left_out;
+mod meant;
 mod named;
 mod pieces;
 mod values;

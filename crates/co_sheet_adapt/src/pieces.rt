@@ -25,6 +25,7 @@ ghost use Rattle.co_sheet_adapt.specs.Pieces.{
   sections_pieces,
   all_pieces,
 };
+ghost use Rattle.co_sheet_adapt.specs.Meant.{all_meant};
 ghost use Rattle.co_sheet_adapt.specs.Named.{own_in_groups, text_in_groups};
 ghost use Rattle.co_sheet_changes.specs.Groups.{groups_of};
 ghost use Rattle.co_sheet_adapt.specs.private.Named.{texts_at, IsTablesOf};
@@ -36,6 +37,7 @@ use crate::compact::{Compact, is_mapping};
 use crate::compact_pdo::{PdoForm, pdo_change, push_pdos};
 use crate::entry::entry_change;
 use crate::facts::Facts;
+use crate::meant::all_meant;
 use crate::named::Texts;
 use co_sheet::GREATEST_SIZE;
 use co_sheet_changes::{
@@ -253,7 +255,7 @@ fn line_change(
     ensures { IfOk result (λ made. option_map mended_view made
         ≡ line_change (option_map (λ f. form_view f.now) pdos.entry) kind facts.now name.now value.now) }
 {
-    match attempt!(pdo_change(alloc, pdos, kind, name)) {
+    match attempt!(pdo_change(alloc, pdos, kind, name, value)) {
         Some(mended) => Ok(Some(mended)),
         None => given_change(alloc, kind, facts, name, value),
     }
@@ -432,6 +434,18 @@ fn added_bytes(pieces: &[Piece]) -> usize {
     }
 }
 
+// the sections of lines, as their names mean them
+fn groups_meant<'s, 'a>(
+    alloc: Global,
+    lines: &'s [Line<'a>],
+) -> Result<Vec<Group<'s, 'a>>, AllocError>
+    ensures { IfOk result (λ groups.
+        map group_view groups.items ≡ all_meant (groups_of (map line_view lines.entry.now))) }
+{
+    let groups = attempt!(groups_in(alloc, lines));
+    all_meant(alloc, groups.as_slice())
+}
+
 // adds the pieces of all sections
 fn push_sections<'a>(
     alloc: Global,
@@ -439,9 +453,10 @@ fn push_sections<'a>(
     lines: &[Line<'a>],
 ) -> Result<(), AdaptFault>
     ensures { OnOk result (map piece_view pieces.new.items
-        ≡ map piece_view pieces.old.items ++ sections_pieces (groups_of (map line_view lines.now))) }
+        ≡ map piece_view pieces.old.items
+        ++ sections_pieces (all_meant (groups_of (map line_view lines.now)))) }
 {
-    let groups = attempt_in_memory!(groups_in(alloc, lines));
+    let groups = attempt_in_memory!(groups_meant(alloc, lines));
     let sections = groups.as_slice();
     let tables = attempt_in_memory!(Tables::of(alloc, sections, sections));
     tables.push_groups(alloc, pieces, sections)

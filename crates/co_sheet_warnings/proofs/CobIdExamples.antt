@@ -16,6 +16,16 @@ pdos : map has_default_cob_id (sub_index 0x1400 1 ∷ sub_index 0x1403 1 ∷ sub
     ≡ false ∷ false ∷ false ∷ false ∷ true ∷ false ∷ true ∷ false ∷ []
 pdos = refl
 
+-- of the default SDO server both directions; the others are configured (CiA 301, SDO server parameter)
+sdo_servers : map has_default_cob_id (sub_index 0x1200 0 ∷ sub_index 0x1200 1 ∷ sub_index 0x1200 2 ∷ sub_index 0x1200 3 ∷ sub_index 0x1201 1 ∷ sub_index 0x11FF 1 ∷ sub_index 0x1280 1 ∷ [])
+    ≡ false ∷ true ∷ true ∷ false ∷ false ∷ false ∷ false ∷ []
+sdo_servers = refl
+
+of_server : map (λ line. places FixedCobId (codes "[1200sub1]" ∷ line ∷ [])) (codes "DefaultValue=0x600" ∷ codes "DefaultValue=$NODEID+0x600" ∷ codes "DataType=0x0007" ∷ [])
+    ≡ (2 ∷ []) ∷ [] ∷ [] ∷ []
+unfolding places_of few_places place_in_text places_in
+of_server = refl
+
 enabled : map is_enabled (0 ∷ 1 ∷ 0x185 ∷ 0x40000000 ∷ 0x40000185 ∷ 0x7FFFFFFF ∷ 0x80000000 ∷ 0x80000185 ∷ []) ≡ false ∷ true ∷ true ∷ false ∷ true ∷ true ∷ false ∷ false ∷ []
 enabled = refl
 

@@ -35,11 +35,13 @@ use Rattle.co_sheet.specs.Limits.{is_plus, is_node_id}
 use Rattle.co_sheet_text_warnings.specs.Ranges.{is_within}
 
 -- the COB-IDs by which a device sends, and which it has by its node-ID: of EMCY, and of the first four
--- TPDOs. Any number of devices may receive what one sends, so an RPDO may well have a number
+-- TPDOs. Any number of devices may receive what one sends, so an RPDO may well have a number. Of the
+-- default SDO server both, since a client asks one device
 abbrev pub has_default_cob_id : SectionKind → Bool
 has_default_cob_id (Object index) = index == 0x1014
 has_default_cob_id (SubIndex key) =
-    (key.sub == 1) && is_within 0x1800 0x1803 key.index
+    ((key.sub == 1) && is_within 0x1800 0x1803 key.index)
+    || ((key.index == 0x1200) && ((key.sub == 1) || (key.sub == 2)))
 has_default_cob_id kind = false
 
 -- a number without `$NODEID` and without bit 31, which disables a PDO and EMCY; without an identifier,

@@ -23,7 +23,10 @@ fn has_default_cob_id(kind: SectionKind) -> bool
 {
     match kind {
         SectionKind::Object(index) => index == 0x1014,
-        SectionKind::SubIndex(key) => { key.sub == 1 && is_within(0x1800, 0x1803, key.index) }
+        SectionKind::SubIndex(key) => {
+            (key.sub == 1 && is_within(0x1800, 0x1803, key.index))
+                || (key.index == 0x1200 && (key.sub == 1 || key.sub == 2))
+        }
         _ => false,
     }
 }
@@ -48,8 +51,8 @@ fn is_configured(text: &ReadText) -> bool
     }
 }
 
-/// The line of a COB-ID that is a fixed number, of what a device sends by its node-ID as default; not in
-/// a device configuration file.
+/// The line of a COB-ID that is a fixed number, of what a device sends by its node-ID as default, or of
+/// the default SDO server; not in a device configuration file.
 pub(crate) fn fixed_cob_id(text: &ReadText, section: &TextSection) -> Option<usize>
     ensures { option_to_list result
         ≡ fixed_cob_id text.now.sections (section_view section.now) }

@@ -1,8 +1,9 @@
 -- The changes of a text, a line each: `NAME:LINE: what changed: old -> new`.
-use Rattle.std.specs.Prelude.{ℕ, ◌+◌, ◌-◌, ◌/◌, ◌%◌, Bool, true, false, Option, Some, None, length, take, slice_index, ◌==◌, ◌||◌, nat_eq, nat_lt, if◌then◌else◌, List, [], ◌∷◌, ◌++◌, map, codes, decimal}
-use Rattle.std.specs.List.{flat_map, starts_with}
+use Rattle.std.specs.Prelude.{ℕ, ◌+◌, ◌-◌, ◌/◌, ◌%◌, Bool, true, false, ◌&&◌, Option, Some, None, length, take, slice_index, ◌==◌, ◌||◌, nat_eq, nat_lt, if◌then◌else◌, List, [], ◌∷◌, ◌++◌, map, codes, decimal}
+use Rattle.std.specs.List.{before_first, flat_map, list_any, starts_with}
 use Rattle.co_text.specs.Printed.{digits_text}
-use Rattle.co_sheet_text.specs.Text.{trim, is_empty}
+use Rattle.co_sheet_text.specs.Sections.{is_equals}
+use Rattle.co_sheet_text.specs.Text.{trim, is_empty, same_name}
 use Rattle.co_sheet_changes.specs.declared.change.ChangeKind.{ChangeKind}
 use Rattle.co_sheet_changes.specs.declared.change.ChangeKind.TheVariants.{CompactSubObj, CompactPdo}
 use Rattle.co_sheet_changes.specs.Pieces.{Change, Piece, changed}
@@ -50,13 +51,22 @@ invented = codes "; invented: not valid, type 255, timers 0, mappings of 0 entri
 -- the objects that PDOs in compact form are given
 abbrev pub objects_text : ℕ → ℕ → List ℕ
 objects_text count subs =
-    codes ", " ++ decimal count ++ codes " objects, sub-indices 0 1 2" ++ subs_text subs ++ invented
+    if count == 0 then codes ", no object is missing"
+    else codes ", " ++ decimal count ++ codes " objects, sub-indices 0 1 2" ++ subs_text subs ++ invented
 
 -- the sections or objects that a change adds
 unfoldable pub sub_indices_text : ChangeKind → List ℕ
 sub_indices_text (CompactSubObj index count) = sections_text index count
 sub_indices_text (CompactPdo count subs) = objects_text count subs
 sub_indices_text kind = []
+
+-- those sections are listed once, at CompactSubObj, not at the SubNumber that counts them
+abbrev pub is_sub_number : List ℕ → Bool
+is_sub_number old =
+    list_any is_equals old && same_name (trim (before_first is_equals old)) (codes "SubNumber")
+
+abbrev pub added_text : Change → List ℕ
+added_text c = if is_sub_number c.old then [] else sub_indices_text c.kind
 
 -- `NAME:LINE: `
 unfoldable pub place_text : List ℕ → ℕ → List ℕ
@@ -65,7 +75,7 @@ place_text name line = shown name ++ 58 ∷ [] ++ decimal line ++ codes ": "
 -- `old -> new`
 unfoldable pub old_and_new : Change → List ℕ
 old_and_new c =
-    shown (trim c.old) ++ codes " -> " ++ new_text c.new ++ sub_indices_text c.kind ++ 10 ∷ []
+    shown (trim c.old) ++ codes " -> " ++ new_text c.new ++ added_text c ++ 10 ∷ []
 
 unfoldable pub change_line : List ℕ → Change → List ℕ
 change_line name c = place_text name c.line ++ change_name c.kind ++ codes ": " ++ old_and_new c

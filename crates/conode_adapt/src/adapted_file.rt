@@ -19,11 +19,13 @@ ghost use Rattle.co_sheet.specs.Accepted.{first_fault};
 ghost use Rattle.conode_adapt.specs.NoSheet.{IsReason, no_sheet, reason_line};
 ghost use Rattle.conode_adapt.specs.Written.{changes_of, orders_view, sheet_of};
 
+use crate::large_forms::said_of_forms;
 use crate::mappings::mappings_at_fault;
 use crate::no_sheet::{no_sheet, reason_line};
 use crate::orders::Orders;
 use crate::outcome::{Outcome, outcome_of};
 use crate::remaining::push_faults;
+use co_sheet::GREATEST_SIZE;
 use co_sheet_changes::{AdaptFault, LeadingZeros};
 use co_sheet_faults::{FaultKind, SheetFault};
 use conode_io::{CmdFault, Message, flushed, hand_over, say};
@@ -40,6 +42,10 @@ fn said_of_large(alloc: Global, text: &[u8], name: &str) -> Result<String, Alloc
 {
     if let Some(why) = attempt!(no_sheet(alloc, text)) {
         return reason_line(alloc, why);
+    }
+    if text.len() <= GREATEST_SIZE {
+        let said = attempt!(said_of_forms(alloc, text, name));
+        return Ok(said);
     }
     let mut said = String::new(alloc);
     let faults = [SheetFault {

@@ -13,6 +13,7 @@ macro_rules! attempt {
 }
 
 mod adapted_file;
+mod large_forms;
 mod line_ends;
 mod listing;
 mod mappings;

@@ -10,6 +10,8 @@ ghost use Rattle.conode_adapt.specs.Listing.{
   new_byte,
   front_of,
   new_text,
+  added_text,
+  is_sub_number,
   objects_text,
   sections_text,
   sub_indices_text,
@@ -22,7 +24,8 @@ ghost use Rattle.conode_adapt.specs.Listing.{
 };
 
 use co_sheet_changes::{Change, ChangeKind, Piece, change_name, push_number};
-use co_sheet_text::trim;
+use co_sheet_text::{same_name, trim};
+use co_text::split_at_first;
 use conode_text::{Value, push_filled};
 use std::alloc::{AllocError, Global};
 
@@ -126,6 +129,9 @@ fn push_objects(words: &mut String, count: u64, subs: u64) -> Result<(), AllocEr
     ensures { OnOk result
         (string_bytes words.new ≡ string_bytes words.old ++ objects_text count subs) }
 {
+    if count == 0 {
+        return words.push_str(", no object is missing");
+    }
     attempt!(push_filled(
         words,
         ", % objects, sub-indices 0 1 2",
@@ -157,6 +163,27 @@ fn push_sub_indices(text: &mut Vec<u8>, alloc: Global, kind: ChangeKind) -> Resu
     text.extend_from_slice(words.as_bytes())
 }
 
+// whether a line is a SubNumber
+fn is_sub_number(old: &[u8]) -> bool
+    ensures { result ≡ is_sub_number old.now }
+{
+    match split_at_first(old, b'=') {
+        Some((name, _)) => same_name(trim(name), b"SubNumber"),
+        None => false,
+    }
+}
+
+// the sections or objects that a change adds, but at a SubNumber
+fn push_added(alloc: Global, text: &mut Vec<u8>, change: &Change<'_>) -> Result<(), AllocError>
+    ensures { OnOk result
+        (text.new.items ≡ text.old.items ++ added_text (change_view change.now)) }
+{
+    if is_sub_number(change.old) {
+        return Ok(());
+    }
+    push_sub_indices(text, alloc, change.kind)
+}
+
 // the place of a change
 #[tactic(auto, unfolding(crate::specs::Listing::place_text))]
 pub(crate) fn push_place(
@@ -186,7 +213,7 @@ fn push_old_and_new(
     attempt!(push_shown(text, trim(change.old)));
     attempt!(text.extend_from_slice(b" -> "));
     attempt!(push_new(text, change.new.as_slice()));
-    attempt!(push_sub_indices(text, alloc, change.kind));
+    attempt!(push_added(alloc, text, change));
     text.extend_from_slice(b"\n")
 }
 

@@ -9,7 +9,9 @@ use co_sheet_faults::{FaultKind, SheetFault, find_faults, fix_of, meaning_of, su
 use co_sheet_text::{SectionKind, number_in, same_name, trim};
 use co_text::split_at_first;
 use conode_json::characters_of;
-use conode_lint_text::{About, Finding, Place, Severity, missing_section, push_finding, push_more};
+use conode_lint_text::{
+    About, Finding, Place, Severity, bad_line, bad_number, missing_section, push_finding, push_more,
+};
 use conode_text::{Value, push_filled};
 use std::alloc::{AllocError, Global};
 
@@ -48,10 +50,13 @@ fn place_of(kind: FaultKind) -> Place {
     }
 }
 
-// what a fault is about, if its line doesn't show it: the section that is missing
+// what a fault is about, if its line doesn't show it: the section that is missing, or what a number or
+// a line that can't be read is
 fn about_of(fault: SheetFault, text: &[u8]) -> About {
     match fault.kind {
         FaultKind::MissingSection => missing_section(fault.line, text),
+        FaultKind::BadNumber => bad_number(text),
+        FaultKind::BadLine => bad_line(text),
         _ => About::Line,
     }
 }

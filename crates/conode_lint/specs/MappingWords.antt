@@ -39,11 +39,12 @@ mapping_fix Missing = codes "describe this sub-index"
 mapping_fix Zero = codes "give an entry to map, or lower the count"
 mapping_fix NoEntry =
     codes
-    "list and describe that entry, or map another; an RPDO may map dummies 0002h to 0007h, sub-index 0, by DummyUsage, as Dummy0005=1"
+    "list and describe that entry, or map another; an RPDO may map dummies 0002h to 0007h, sub-index 0, that DummyUsage allows, as Dummy0005=1; other dummies are legal, but conode's node takes whole bytes of these alone"
 mapping_fix NotMappable =
     codes
     "set PDOMapping=1 for that entry, if its access fits: an RPDO maps rw, rww and wo, from 2000h on, a TPDO ro, rw, rwr and const; or map another"
-mapping_fix NoNumber = codes "map an entry of a numeric type"
+mapping_fix NoNumber =
+    codes "a string of at most 8 bytes is legal, but conode's node maps numbers alone: map an entry of a numeric type"
 mapping_fix BelowProfile =
     codes "map an entry from 2000h on; CiA 301 permits others too, but conode's node doesn't"
 mapping_fix WrongAccess = codes "an RPDO maps rw, rww and wo, a TPDO ro, rw, rwr and const"

@@ -210,6 +210,30 @@ ambiguous_numbers = refl
 bad_lines : map bad_line (codes "[2001" ∷ codes "  [2001 ; x" ∷ codes "2001]" ∷ codes "x" ∷ [] ∷ []) ≡ Fact fact.OpenSection ∷ Fact fact.OpenSection ∷ Line ∷ Line ∷ Line ∷ []
 bad_lines = refl
 
+-- the end of a file of DOS, and NUL bytes, alone on a line
+end_marks : map bad_line ((0x1A ∷ []) ∷ (32 ∷ 0x1A ∷ 0x1A ∷ 9 ∷ []) ∷ (0 ∷ 0 ∷ []) ∷ (0x1A ∷ 65 ∷ []) ∷ (0x1B ∷ []) ∷ (1 ∷ []) ∷ [])
+    ≡ Fact fact.EndMark ∷ Fact fact.EndMark ∷ Fact fact.EndMark ∷ Line ∷ Line ∷ Line ∷ []
+end_marks = refl
+
+other_slip_texts : map fact_text (fact.EndMark ∷ fact.Truth ∷ fact.OtherNumber ∷ [])
+    ≡ codes "the line is a DOS end-of-file mark (1Ah) or NUL bytes" ∷ codes "TRUE and FALSE are no numbers" ∷ codes "this is no number of its type" ∷ []
+unfolding fact_text words_of texts_of filled
+other_slip_texts = refl
+
+other_slip_fixes : map (λ about. fix_with about (codes "f")) (Fact fact.EndMark ∷ Fact fact.Truth ∷ Fact fact.OtherNumber ∷ [])
+    ≡ codes "take these bytes out" ∷ codes "write 1 for TRUE, 0 for FALSE" ∷ codes "write a REAL as 1.5, not as its bits; of another type give a number within its range" ∷ []
+unfolding fix_with
+other_slip_fixes = refl
+
+-- words for 1 and 0; a number that isn't taken in a row of values, where a REAL is one as 1.5
+truths : map bad_number (codes "DefaultValue=TRUE" ∷ codes "lowlimit = False" ∷ codes "1=true" ∷ codes "DefaultValue=YES" ∷ codes "PDOMapping=TRUE" ∷ [])
+    ≡ Fact fact.Truth ∷ Fact fact.Truth ∷ Fact fact.Truth ∷ Fact fact.NoValue ∷ Fact fact.NoMapping ∷ []
+truths = refl
+
+rows_of_values : map bad_number (codes "1=0x3F800000" ∷ codes "12 = 5" ∷ codes "1=x" ∷ codes "x=5" ∷ codes "LowLimit=5" ∷ [])
+    ≡ Fact fact.OtherNumber ∷ Fact fact.OtherNumber ∷ Line ∷ Line ∷ Line ∷ []
+rows_of_values = refl
+
 slip_texts : map fact_text (fact.NoMapping ∷ fact.NotOctal ∷ fact.OpenSection ∷ fact.Unsupported ∷ fact.ManyEntries ∷ fact.DecimalName 10 16 ∷ [])
     ≡ codes "PDOMapping is a number, and this is none" ∷ codes "a leading zero means octal, which has no digits 8 and 9" ∷ codes "the section line has no `]`" ∷ codes "CiA 301 defines this code, but it isn't supported"
     ∷ codes "CiA 301 has an object with sub-indices here" ∷ codes "sub-index 0 is 10, and the highest sub-index of the object is 16: the name sub10 is hexadecimal" ∷ []

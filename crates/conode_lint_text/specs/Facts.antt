@@ -1,8 +1,8 @@
 -- What a sheet has where a finding is (CiA 306-1, structure of an EDS, object lists, object
 -- description, device information): its sections as they are read in spite of lines at fault, and
 -- the text of the finding's line.
-use Rattle.std.specs.Prelude.{ℕ, ◌+◌, ◌*◌, ◌/◌, ◌%◌, ◌==◌, nat_lt, nat_le, max, fold, Bool, true, false, ◌&&◌, ◌||◌, if◌then◌else◌, List, [], ◌∷◌, drop, find, count_by, codes, Option, Some, None, is_some, is_none, option_and_then, option_map}
-use Rattle.std.specs.List.{list_any, before_first, after_first}
+use Rattle.std.specs.Prelude.{ℕ, ◌+◌, ◌*◌, ◌/◌, ◌%◌, ◌==◌, nat_lt, nat_le, max, fold, Bool, true, false, ◌&&◌, ◌||◌, if◌then◌else◌, not, List, [], ◌∷◌, length, drop, find, count_by, codes, Option, Some, None, is_some, is_none, option_and_then, option_map}
+use Rattle.std.specs.List.{list_any, list_all, before_first, after_first}
 use Rattle.std.specs.Option.{option_map_or, option_or}
 use Rattle.std.specs.Result.{result_ok}
 use Rattle.co_value.specs.declared.key.Key.{Key}
@@ -236,13 +236,28 @@ abbrev pub type_number : Option ℕ → About
 type_number (Some code) = Fact (fact.TypeName code)
 type_number None = Fact fact.NoDataType
 
+-- the value of a BOOLEAN as a word
+abbrev pub is_truth : List ℕ → Bool
+is_truth value = same_name value (codes "TRUE") || same_name value (codes "FALSE")
+
+-- a number in a row of `[2300Value]`, as `1=0x3F800000`
+abbrev pub is_number_row : List ℕ → List ℕ → Bool
+is_number_row name value = is_number_in 10 name && is_some (result_ok (unsigned_number value))
+
+-- what is said of a value of any other key
+abbrev pub value_fact : List ℕ → List ℕ → About
+value_fact name value =
+    if is_truth value then Fact fact.Truth
+    else if is_value_key name then Fact fact.NoValue
+    else if is_number_row name value then Fact fact.OtherNumber
+    else Line
+
 abbrev pub number_fact : List ℕ → List ℕ → About
 number_fact name value =
-    if is_value_key name then Fact fact.NoValue
-    else if same_name name (codes "ObjectType") then Fact fact.NoObjectType
+    if same_name name (codes "ObjectType") then Fact fact.NoObjectType
     else if same_name name (codes "DataType") then type_number (named_code value)
     else if same_name name (codes "PDOMapping") then Fact fact.NoMapping
-    else Line
+    else value_fact name value
 
 abbrev pub bad_number : List ℕ → About
 bad_number text = odd_value (key_value text) (number_fact (key_name text) (key_value text))
@@ -264,8 +279,18 @@ abbrev pub is_open : List ℕ → Bool
 is_open [] = false
 is_open (b ∷ text) = b == 91
 
+-- or it has nothing but the end of a file of DOS, or NUL bytes
+abbrev pub is_end_byte : ℕ → Bool
+is_end_byte b = (b == 0x1A) || (b == 0)
+
+abbrev pub is_end_mark : List ℕ → Bool
+is_end_mark text = not (length text == 0) && list_all is_end_byte text
+
 abbrev pub bad_line : List ℕ → About
-bad_line text = if is_open (trim text) then Fact fact.OpenSection else Line
+bad_line text =
+    if is_open (trim text) then Fact fact.OpenSection
+    else if is_end_mark (trim text) then Fact fact.EndMark
+    else Line
 
 -- of the BadAccess of a line
 abbrev pub bad_access : List ℕ → About

@@ -10,7 +10,7 @@ use Rattle.conode_json.specs.Characters.{characters_of}
 use Rattle.conode_lint_text.specs.Characters.{blanks}
 use Rattle.conode_lint_text.specs.FactTexts.{fact_text}
 use Rattle.conode_lint_text.specs.declared.fact.Fact.{Fact as SheetFact}
-use Rattle.conode_lint_text.specs.declared.fact.Fact.TheVariants.{HighIndex, NoMandatoryList, NotListed, LargeText, NoValue, NoMapping, NotOctal, OpenSection, Unsupported, ManyEntries, DecimalName, NoObjectType, TypeName, ReservedOfTpdo, ReservedOfRpdo, ReservedCounter, FileInfoLacks, DeviceInfoLacks, ByteOrderMark, CommentInValue, QuotedValue, NoPairs, DecimalIndex, LowDecimal, LowIndex, FixedType, NoType, NoAccess, NoTypeOrAccess}
+use Rattle.conode_lint_text.specs.declared.fact.Fact.TheVariants.{HighIndex, NoMandatoryList, NotListed, LargeText, NoValue, NoMapping, NotOctal, OpenSection, Unsupported, ManyEntries, DecimalName, NoObjectType, TypeName, ReservedOfTpdo, ReservedOfRpdo, ReservedCounter, FileInfoLacks, DeviceInfoLacks, ByteOrderMark, CommentInValue, QuotedValue, NoPairs, EndMark, Truth, OtherNumber, DecimalIndex, LowDecimal, LowIndex, FixedType, NoType, NoAccess, NoTypeOrAccess}
 use Rattle.conode_lint_text.specs.declared.finding.About.{About}
 use Rattle.conode_lint_text.specs.declared.finding.About.TheVariants.{Line, Object, Entry, Sum, NoSum, Bits, FirstAt, Misspelt, MisspeltBeside, NoSection, Access, Fact}
 use Rattle.conode_lint_text.specs.declared.finding.Finding.{Finding}
@@ -112,6 +112,10 @@ fix_with (Fact (DeviceInfoLacks missing)) fix =
 fix_with (Fact ByteOrderMark) fix = codes "save it without the mark"
 fix_with (Fact CommentInValue) fix = codes "put the comment on a line of its own"
 fix_with (Fact QuotedValue) fix = codes "take the quotes out"
+fix_with (Fact EndMark) fix = codes "take these bytes out"
+fix_with (Fact Truth) fix = codes "write 1 for TRUE, 0 for FALSE"
+fix_with (Fact OtherNumber) fix =
+    codes "write a REAL as 1.5, not as its bits; of another type give a number within its range"
 fix_with (Fact NoPairs) fix = codes "write pairs of hexadecimal digits without blanks, as 00A1FF"
 fix_with (Fact (DecimalIndex index)) fix =
     codes "write the index in hexadecimal, after 0x; or add the section"

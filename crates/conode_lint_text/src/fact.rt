@@ -71,6 +71,12 @@ pub enum Fact {
     CommentInValue,
     /// A value that begins with a quote.
     QuotedValue,
+    /// A line of a DOS end-of-file mark or NUL bytes alone.
+    EndMark,
+    /// TRUE or FALSE where a number has to be.
+    Truth,
+    /// A number in a row of `[..Value]` that is none of its type.
+    OtherNumber,
     /// The value of an OCTET_STRING that is no pairs of digits.
     NoPairs,
     /// A listed index of an object without a section, in decimal digits.
@@ -222,6 +228,9 @@ fn words_of(fact: Fact) -> &'static str
             "`;` begins a comment only at the beginning of a line, so it belongs to the value"
         }
         Fact::QuotedValue => "the value is in quotes, which belong to it",
+        Fact::EndMark => "the line is a DOS end-of-file mark (1Ah) or NUL bytes",
+        Fact::Truth => "TRUE and FALSE are no numbers",
+        Fact::OtherNumber => "this is no number of its type",
         Fact::NoPairs => "an OCTET_STRING is pairs of hexadecimal digits",
         Fact::DecimalIndex(_) => {
             "the listed object % has no section: % is decimal, 0x% is hexadecimal"

@@ -1,6 +1,7 @@
 //! What a sheet has where a finding is: its sections as they are read, and the line's text.
 
 ghost use Rattle.std.specs.Prelude.{◌≡◌, map, option_map};
+ghost use Rattle.std.specs.List.{list_all};
 ghost use Rattle.std.specs.Option.{option_copied};
 ghost use Rattle.co_sheet_text.specs.Views.{section_view};
 ghost use Rattle.conode_lint_text.specs.Facts.{
@@ -24,10 +25,14 @@ ghost use Rattle.conode_lint_text.specs.Facts.{
   fixed_code,
   has_entries,
   is_decimal_index,
+  is_end_byte,
+  is_end_mark,
+  is_number_row,
   is_open,
   is_other_type,
   is_quoted,
   is_sub_index,
+  is_truth,
   is_value_key,
   key_fact,
   key_name,
@@ -55,6 +60,7 @@ ghost use Rattle.conode_lint_text.specs.Facts.{
   type_fact,
   type_number,
   utf8,
+  value_fact,
   wrong_access,
   wrong_list,
 };
@@ -293,13 +299,39 @@ fn type_number(code: Option<u16>) -> About
     }
 }
 
+fn is_truth(value: &[u8]) -> bool
+    ensures { result ≡ is_truth value.now }
+{
+    same_name(value, b"TRUE") || same_name(value, b"FALSE")
+}
+
+// whether a row of `[..Value]` has a number
+fn is_number_row(name: &[u8], value: &[u8]) -> bool
+    ensures { result ≡ is_number_row name.now value.now }
+{
+    number_in(10, name).is_some() && unsigned_number(value).is_ok()
+}
+
+// what is said of a value of any other key
+fn value_fact(name: &[u8], value: &[u8]) -> About
+    ensures { result ≡ value_fact name.now value.now }
+{
+    if is_truth(value) {
+        return About::Fact(Fact::Truth);
+    }
+    if is_value_key(name) {
+        return About::Fact(Fact::NoValue);
+    }
+    if is_number_row(name, value) {
+        return About::Fact(Fact::OtherNumber);
+    }
+    About::Line
+}
+
 // what is said of a key whose value is no number
 fn number_fact(name: &[u8], value: &[u8]) -> About
     ensures { result ≡ number_fact name.now value.now }
 {
-    if is_value_key(name) {
-        return About::Fact(Fact::NoValue);
-    }
     if same_name(name, b"ObjectType") {
         return About::Fact(Fact::NoObjectType);
     }
@@ -309,7 +341,7 @@ fn number_fact(name: &[u8], value: &[u8]) -> About
     if same_name(name, b"PDOMapping") {
         return About::Fact(Fact::NoMapping);
     }
-    About::Line
+    value_fact(name, value)
 }
 
 /// Of the BadNumber of a line: quotes or a comment in its value, which may be a sum with `$NODEID`;
@@ -338,12 +370,33 @@ fn is_open(text: &[u8]) -> bool
     matches!(text, [b'[', ..])
 }
 
-/// Of the BadLine of a line: one that begins with `[` has no `]`.
+fn is_end_mark(text: &[u8]) -> bool
+    ensures { result ≡ is_end_mark text.now }
+{
+    !text.is_empty() && has_end_bytes(text)
+}
+
+fn has_end_bytes(text: &[u8]) -> bool
+    ensures { result ≡ list_all is_end_byte text.now }
+{
+    text.iter().all(|byte| is_end_byte(*byte))
+}
+
+fn is_end_byte(byte: u8) -> bool
+    ensures { result ≡ is_end_byte byte }
+{
+    byte == 0x1A || byte == 0
+}
+
+/// Of the BadLine of a line: one that begins with `[` has no `]`, or has a mark of an end alone.
 pub fn bad_line(text: &[u8]) -> About
     ensures { result ≡ bad_line text.now }
 {
     if is_open(trim(text)) {
         return About::Fact(Fact::OpenSection);
+    }
+    if is_end_mark(trim(text)) {
+        return About::Fact(Fact::EndMark);
     }
     About::Line
 }

@@ -157,6 +157,11 @@ fn fact_fix(fact: Fact, fix: &str) -> &str
         Fact::ByteOrderMark => "save it without the mark",
         Fact::CommentInValue => "put the comment on a line of its own",
         Fact::QuotedValue => "take the quotes out",
+        Fact::EndMark => "take these bytes out",
+        Fact::Truth => "write 1 for TRUE, 0 for FALSE",
+        Fact::OtherNumber => {
+            "write a REAL as 1.5, not as its bits; of another type give a number within its range"
+        }
         Fact::NoPairs => "write pairs of hexadecimal digits without blanks, as 00A1FF",
         Fact::DecimalIndex(_) => { "write the index in hexadecimal, after 0x; or add the section" }
         Fact::LowDecimal(_) => "write the index in hexadecimal, after 0x",

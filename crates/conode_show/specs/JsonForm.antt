@@ -22,7 +22,7 @@ use Rattle.conode_show_text.specs.Entries.{compound_type, has_sub_indices, is_ma
 use Rattle.conode_show_text.specs.Meanings.{mapped_key, said}
 use Rattle.conode_show_text.specs.Pdos.{entry_section, has_inhibit_time, is_counted, is_pdo_cob_id, known_word, mapping_count, mapping_index, multiplexed_words, pdo_name, section_word, type_meaning}
 use Rattle.conode_show_text.specs.Services.{key_of, service_meaning, service_name, service_of}
-use Rattle.conode_show_text.specs.Values.{limit_number, type_of, value_number}
+use Rattle.conode_show_text.specs.Values.{limit_in_type, type_of, value_number}
 
 -- ---- members
 
@@ -47,7 +47,7 @@ value_member name node t property =
 
 unfoldable pub limit_member : List ℕ → Option DataType → Option Property → List Token
 limit_member name t limit =
-    option_map_or (λ k. quantity_member name (limit_number t k.value) k.value) limit []
+    option_map_or (λ k. quantity_member name (limit_in_type t k.value) k.value) limit []
 
 -- a text, left out if it is empty
 abbrev pub text_if : List ℕ → List ℕ → List Token

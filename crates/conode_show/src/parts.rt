@@ -28,7 +28,7 @@ use co_sheet_text::{SectionKind, TextSection};
 use co_value::Key;
 use conode_json::{HasTokens, JsonWriter};
 use conode_show_text::{
-    Content, Meaning, entry_section, limit_number, push_content, section_word, type_of,
+    Content, Meaning, entry_section, limit_in_type, push_content, section_word, type_of,
     value_number,
 };
 use std::alloc::{AllocError, Global};
@@ -145,7 +145,7 @@ fn put_limit(
 {
     match section.property(property) {
         Some(property) => {
-            let number = limit_number(type_of(section), property.value);
+            let number = limit_in_type(type_of(section), property.value);
             put_quantity(alloc, writer, member, number, property.value)
         }
         None => Ok(()),

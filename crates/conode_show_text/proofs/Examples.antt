@@ -15,7 +15,7 @@ use Rattle.conode_lint_text.specs.Characters.{shown}
 use Rattle.conode_show_text.specs.Texts.{plain_text}
 use Rattle.conode_show_text.specs.Layout.{Part, placed, line_of}
 use Rattle.conode_show_text.specs.declared.values.Word.{Word}
-use Rattle.conode_show_text.specs.Values.{sum_text, known_text, quoted, value_text, unnumbered_text, value_number, word_of}
+use Rattle.conode_show_text.specs.Values.{sum_text, known_text, quoted, value_text, unnumbered_text, value_number, limit_in_type, word_of}
 use Rattle.conode_show_text.specs.CobIds.{identifier_text, cob_id_text, pdo_cob_id_text, sync_text, time_cob_id_text}
 use Rattle.conode_show_text.specs.Meanings.{meaning_text, word_text, transmission_text, reception_text, counted_syncs, micros_text, millis_text, overflow_text, time_text, consumer_text, mapped_text}
 use Rattle.conode_show_text.specs.Pdos.{type_meaning}
@@ -78,6 +78,13 @@ signed_sums = refl
 truth_sums : map (λ node. value_text (Some node) (Some Boolean) (codes "$NODEID")) (1 ∷ 2 ∷ []) ≡ codes "$NODEID = 1" ∷ codes "$NODEID" ∷ []
 unfolding value_text known_text sum_text number_text in_parentheses hex_text digits
 truth_sums = refl
+
+-- of an INTEGER8, in both forms, and of an UNSIGNED8
+numbers_in_type : map (value_number None (Some Integer8)) (codes "127" ∷ codes "128" ∷ codes "-128" ∷ codes "-129" ∷ codes "0xFF" ∷ codes "0xFFFFFFFF" ∷ []) ≡ Some (pos 127) ∷ None ∷ Some (negsuc 127) ∷ None ∷ Some (negsuc 0) ∷ None ∷ []
+numbers_in_type = refl
+
+limits_in_type : map (limit_in_type (Some Unsigned8)) (codes "255" ∷ codes "256" ∷ codes "-1" ∷ codes "x" ∷ []) ∷ map (limit_in_type None) (codes "255" ∷ []) ∷ [] ≡ (Some (pos 255) ∷ None ∷ None ∷ None ∷ []) ∷ (None ∷ []) ∷ []
+limits_in_type = refl
 
 numbers_of_sums : value_number (Some 1) (Some Unsigned16) (codes "$NODEID+0xFFFE") ∷ value_number (Some 2) (Some Unsigned16) (codes "$NODEID+0xFFFE") ∷ value_number None (Some Unsigned16) (codes "$NODEID+0xFFFE") ∷ []
     ≡ Some (pos 65535) ∷ None ∷ None ∷ []

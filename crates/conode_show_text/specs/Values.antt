@@ -57,9 +57,13 @@ value_text given (Some t) value =
     option_map_or (λ width. known_text t given width value (numeric_value t value)) (width_of t)
     (unnumbered_text t value)
 
--- the number of a value; a sum with the node-ID needs the given node, and has to be one of the type
+-- a number, if it is one of the type
+abbrev pub if_in_type : DataType → ℤ → Option ℤ
+if_in_type t z = if is_in_type t z then Some z else None
+
+-- the number of a value of the type; a sum with the node-ID needs the given node, and has to be one of the type
 abbrev pub number_for : DataType → Option ℕ → Default → Option ℤ
-number_for t given (number z) = Some z
+number_for t given (number z) = if_in_type t z
 number_for t given (node_id addend) = sum_for t given addend
 number_for t given other = None
 
@@ -92,9 +96,13 @@ default_text node section =
     value_at node (codes "ParameterValue") section ++ (if has_both section then codes ", default " else [])
     ++ value_at node (codes "DefaultValue") section
 
--- the number of a limit of this type, if it is one
+-- the number of a limit as this type reads it, if it is a number; the same, if it is one of the type
 abbrev pub limit_number : Option DataType → List ℕ → Option ℤ
 limit_number t value = option_and_then (λ t. result_ok (number_at_type t value)) t
+
+abbrev pub limit_in_type : Option DataType → List ℕ → Option ℤ
+limit_in_type t value =
+    option_and_then (λ t. option_and_then (if_in_type t) (limit_number (Some t) value)) t
 
 unfoldable pub limit_text : Option DataType → Option Property → List ℕ
 limit_text t limit =

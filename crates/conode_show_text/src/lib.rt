@@ -53,4 +53,4 @@ pub use pdos::{
 };
 pub use sections::node_for;
 pub use service::{Service, key_of};
-pub use values::{Word, limit_number, type_of, value_number};
+pub use values::{Word, limit_in_type, type_of, value_number};

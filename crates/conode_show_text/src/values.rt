@@ -16,6 +16,8 @@ ghost use Rattle.conode_show_text.specs.Values.{
   default_text,
   has_both,
   known_text,
+  if_in_type,
+  limit_in_type,
   limit_number,
   limit_text,
   limits_text,
@@ -120,17 +122,28 @@ fn unnumbered<'p>(data_type: DataType, value: &'p [u8]) -> Phrase<'p>
     }
 }
 
+// a number, if it is one of the type
+fn if_in_type(data_type: DataType, number: i128) -> Option<i128>
+    ensures { result ≡ if_in_type data_type number }
+{
+    if is_in_type(data_type, number) {
+        Some(number)
+    } else {
+        None
+    }
+}
+
 fn number_for(data_type: DataType, node: Option<u8>, value: Preset<'static>) -> Option<i128>
     ensures { result ≡ number_for data_type node (default_view value.entry) }
 {
     match value {
-        Preset::Number(number) => Some(number),
+        Preset::Number(number) => if_in_type(data_type, number),
         Preset::NodeId(addend) => sum_for(data_type, node, addend),
         Preset::Absent | Preset::Text(_) | Preset::Pairs(_) => None,
     }
 }
 
-/// The number of a text, if the type is numeric; a sum with the node-ID needs the given node, and has
+/// The number of a text, if the type is numeric and it is one of the type; a sum with the node-ID needs the given node, and has
 /// to be one of the type.
 pub fn value_number(node: Option<u8>, data_type: Option<DataType>, value: &[u8]) -> Option<i128>
     ensures { result ≡ value_number node data_type value.now }
@@ -223,12 +236,22 @@ pub(crate) fn push_default(
     push_value(text, node, between, section, b"DefaultValue")
 }
 
-/// The number of a limit of this type, if it is one.
-pub fn limit_number(data_type: Option<DataType>, value: &[u8]) -> Option<i128>
+// the number of a limit as this type reads it, if it is a number
+fn limit_number(data_type: Option<DataType>, value: &[u8]) -> Option<i128>
     ensures { result ≡ limit_number data_type value.now }
 {
     match (signed_numeral(value), data_type) {
         (Ok(numeral), Some(data_type)) => Some(numeral.value_at(data_type)),
+        _ => None,
+    }
+}
+
+/// The number of a limit, if it is one of this type.
+pub fn limit_in_type(data_type: Option<DataType>, value: &[u8]) -> Option<i128>
+    ensures { result ≡ limit_in_type data_type value.now }
+{
+    match (limit_number(data_type, value), data_type) {
+        (Some(number), Some(data_type)) => if_in_type(data_type, number),
         _ => None,
     }
 }

@@ -3,4 +3,9 @@ use Rattle.co_sheet_adapt.specs.declared.compact_pdo.PdoForm.{PdoForm as CodeFor
 use Rattle.co_sheet_adapt.specs.CompactPdo.{PdoForm}
 
 abbrev pub form_view : CodeForm → PdoForm
-form_view f = record { subs = f.subs; listed = f.listed; absent = f.absent.items }
+form_view f = record {
+  subs = f.subs;
+  listed = f.listed;
+  absent = f.absent.items;
+  unlisted = f.unlisted.items;
+}
