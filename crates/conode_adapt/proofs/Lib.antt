@@ -1,3 +1,4 @@
+mod ListingExamples
 mod WrittenLemmas
 mod LoopLemmas
 mod NoSheetExamples
