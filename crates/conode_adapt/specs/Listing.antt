@@ -48,11 +48,14 @@ subs_text subs =
 unfoldable pub invented : List ℕ
 invented = codes "; invented: not valid, type 255, timers 0, mappings of 0 entries"
 
--- the objects that PDOs in compact form are given
+-- the objects that PDOs in compact form are given, if there are any
+abbrev pub given_objects : ℕ → ℕ → List ℕ
+given_objects count subs =
+    codes ", " ++ decimal count ++ codes " objects, sub-indices 0 1 2" ++ subs_text subs ++ invented
+
 abbrev pub objects_text : ℕ → ℕ → List ℕ
 objects_text count subs =
-    if count == 0 then codes ", no object is missing"
-    else codes ", " ++ decimal count ++ codes " objects, sub-indices 0 1 2" ++ subs_text subs ++ invented
+    if count == 0 then codes ", no object is missing" else given_objects count subs
 
 -- the sections or objects that a change adds
 unfoldable pub sub_indices_text : ChangeKind → List ℕ

@@ -12,6 +12,7 @@ ghost use Rattle.conode_adapt.specs.Listing.{
   new_text,
   added_text,
   is_sub_number,
+  given_objects,
   objects_text,
   sections_text,
   sub_indices_text,
@@ -125,13 +126,10 @@ fn push_subs(words: &mut String, subs: u64) -> Result<(), AllocError>
 
 // the objects that PDOs in compact form are given
 #[tactic(auto, unfolding(crate::specs::Listing::invented, conode_text::specs::Filled::filled))]
-fn push_objects(words: &mut String, count: u64, subs: u64) -> Result<(), AllocError>
+fn push_given_objects(words: &mut String, count: u64, subs: u64) -> Result<(), AllocError>
     ensures { OnOk result
-        (string_bytes words.new ≡ string_bytes words.old ++ objects_text count subs) }
+        (string_bytes words.new ≡ string_bytes words.old ++ given_objects count subs) }
 {
-    if count == 0 {
-        return words.push_str(", no object is missing");
-    }
     attempt!(push_filled(
         words,
         ", % objects, sub-indices 0 1 2",
@@ -139,6 +137,18 @@ fn push_objects(words: &mut String, count: u64, subs: u64) -> Result<(), AllocEr
     ));
     attempt!(push_subs(words, subs));
     words.push_str("; invented: not valid, type 255, timers 0, mappings of 0 entries")
+}
+
+// the same, if there are any
+fn push_objects(words: &mut String, count: u64, subs: u64) -> Result<(), AllocError>
+    ensures { OnOk result
+        (string_bytes words.new ≡ string_bytes words.old ++ objects_text count subs) }
+{
+    if count == 0 {
+        words.push_str(", no object is missing")
+    } else {
+        push_given_objects(words, count, subs)
+    }
 }
 
 // the sections or objects that a change adds, in words
