@@ -18,8 +18,10 @@
  * - No pointer is NULL, even if its count is 0. An array has as many elements as its count states.
  * - What a call writes (node, frames, bytes, length, fault, abort_code, elapsed, entry, events,
  *   number, text) overlaps no other argument.
- * - A node is in one call at a time, and no call comes from a signal handler.
- * - A node begins as BAFOKUN_EMPTY, and only the calls below write it. It may be moved, not copied.
+ * - A node is in one call at a time, and no call comes from a signal handler. Different nodes may be
+ *   used in different threads.
+ * - A node begins as BAFOKUN_EMPTY, all bytes 0, as static memory is, and only the calls below write
+ *   it. It may be moved, not copied.
  *   While it is empty, calls do nothing and return 0 or false; bafokun_idle returns BAFOKUN_FOREVER,
  *   and bafokun_ticks sets elapsed.
  * - Arguments stay the caller's; none is used after the call, the text of the EDS included.
@@ -170,7 +172,11 @@ void bafokun_free(bafokun_node *node);
  * input.
  */
 
-/* The boot-up (CiA 301, 7.2.8.3.3): one frame, to be sent once after the build. */
+/*
+ * The boot-up (CiA 301, 7.2.8.3.3): one frame, to be sent once after the build. Another call puts the
+ * same frame again, 700h + node-ID with a byte 0, and changes neither the NMT state nor the answer.
+ * The boot-up after a reset comes by itself.
+ */
 size_t bafokun_boot(bafokun_node *node, bafokun_frame *frames, size_t room);
 
 /*
@@ -196,7 +202,8 @@ size_t bafokun_ticks(bafokun_node *node, uint32_t most, uint32_t *elapsed, bafok
 
 /*
  * The application writes an entry, even if SDO clients may only read it: all its bytes, as many as
- * its type has. bafokun_answer returns whether it was done.
+ * its type has. bafokun_answer returns whether it was done: an entry that is BAFOKUN_CONST, or a
+ * parameter of an SDO channel (1200h to 127Fh), is refused with the SDO abort code 06010002h.
  */
 size_t bafokun_write(bafokun_node *node, uint16_t index, uint8_t sub_index, const uint8_t *bytes, size_t length,
                      bafokun_frame *frames, size_t room);
@@ -208,7 +215,12 @@ size_t bafokun_write(bafokun_node *node, uint16_t index, uint8_t sub_index, cons
 size_t bafokun_write_at(bafokun_node *node, size_t number, const uint8_t *bytes, size_t length,
                         bafokun_frame *frames, size_t room);
 
-/* An event of a TPDO: number 0 is that of 1800h. */
+/*
+ * An event of a TPDO: number 0 is that of 1800h. In state operational an active TPDO of transmission
+ * type 254 or 255 is sent, at once or when its inhibit time is over, and one of type 0 at the next
+ * SYNC. An event of any other TPDO has no effect, and is BAFOKUN_DONE too; if no TPDO has the
+ * number, it is refused with the SDO abort code 06020000h.
+ */
 size_t bafokun_event(bafokun_node *node, uint16_t tpdo, bafokun_frame *frames, size_t room);
 
 /* The value of an entry changed: an event of each active TPDO that maps it. */
@@ -217,22 +229,33 @@ size_t bafokun_changed(bafokun_node *node, uint16_t index, uint8_t sub_index, ba
 /*
  * An error is raised: its emergency error code, other than 0, the bits that it sets in the error
  * register (1001h) besides bit 0, and five manufacturer-specific bytes (CiA 301, 7.2.7). Code 0 is
- * refused.
+ * refused. Each call sends an emergency, also if the bits are set: call it once an error. At most
+ * eight emergencies wait, as while the device is stopped; a ninth overwrites the oldest, and the
+ * answer is BAFOKUN_DONE all the same.
  */
 size_t bafokun_raise(bafokun_node *node, uint16_t code, uint8_t bits, const uint8_t manufacturer[5],
                      bafokun_frame *frames, size_t room);
 
-/* Errors are gone: these bits of the error register are cleared. */
+/*
+ * Errors are gone: these bits of the error register are cleared, and no others. Add bit 0 when the
+ * last error ends. Each call sends an emergency of code 0 with the bits that are left, also if none
+ * changes, as with bits 0: call it once an error that ends. The device clears bits at a reset alone,
+ * so those of the errors that it finds itself (8130h, 8200h, 8210h, 8220h, 8240h) stay too: bits 0
+ * and 4.
+ */
 size_t bafokun_clear(bafokun_node *node, uint8_t bits, bafokun_frame *frames, size_t room);
 
 /*
  * The CAN controller changed. BAFOKUN_BUS_PASSIVE raises error 8120h, BAFOKUN_BUS_RECOVERED 8140h,
  * each with bit 4 of the error register, communication error. BAFOKUN_BUS_ACTIVE clears that bit,
- * and bit 0 if no other is left. BAFOKUN_BUS_OFF changes the NMT state by 1029:01, as a lost
- * heartbeat does: 0, or a missing entry, leaves operational for pre-operational, 2 enters stopped,
- * any other value changes nothing. A bus-off that changes nothing, and any other number of a change,
- * is no input: it sends nothing, bafokun_sent then returns no frame, and bafokun_answer still
- * returns the answer to the input before it.
+ * and bit 0 if no other is left, whichever error set them. If another error that has bit 4 lasts, as
+ * 8130h, call bafokun_clear with bits 0 in its place; if only one that has bit 0 alone, with 10h.
+ *
+ * BAFOKUN_BUS_OFF changes the NMT state by 1029:01, as a lost heartbeat does: 0, or a missing entry,
+ * leaves operational for pre-operational, 2 enters stopped, any other value changes nothing. A
+ * bus-off that changes nothing, and any other number of a change, is no input: it sends nothing,
+ * bafokun_sent then returns no frame, and bafokun_answer still returns the answer to the input
+ * before it.
  *
  * After bus-off come BAFOKUN_BUS_RECOVERED and BAFOKUN_BUS_ACTIVE. Call this only at a change: an
  * error that is raised again sends its emergency again.
@@ -245,7 +268,10 @@ size_t bafokun_bus(bafokun_node *node, uint8_t change, bafokun_frame *frames, si
  */
 size_t bafokun_sent(bafokun_node *node, size_t from, bafokun_frame *frames, size_t room);
 
-/* Questions: none changes the state of the device. */
+/*
+ * Questions: none changes the state of the device. bafokun_next_changed and bafokun_happened forget
+ * what they returned.
+ */
 
 /*
  * Gets the bytes of an entry: as many as there is room for are put into bytes, and length is how
@@ -309,17 +335,19 @@ uint8_t bafokun_state(bafokun_node *node);
  * During this many ms the device sends nothing, and its entries and its NMT state stay the same, if
  * it gets no other input: a lower bound, which any input may change. BAFOKUN_FOREVER: no timer runs,
  * so nothing becomes due however long nothing is received; also for an empty node. A program may wait
- * for a frame until one ms more has elapsed, and then pass these ms at once, by bafokun_ticks.
+ * for a frame until one ms more has elapsed, and then pass these ms at once, by bafokun_ticks, which
+ * takes time for each: so wait a minute at most.
  *
  *     idle = bafokun_idle(&node);
- *     poll(&bus, 1, idle < INT_MAX ? (int)idle + 1 : -1);
+ *     poll(&bus, 1, idle < 60000 ? (int)idle + 1 : 60000);
  */
 uint32_t bafokun_idle(bafokun_node *node);
 
 /*
  * Gets what happened to the device since the last result of this call, or since the build: what the
  * inputs did. Returns whether anything happened. If so, it is put into events, and is then forgotten,
- * but for silent; if not, nothing is written.
+ * but for silent; if not, nothing is written. Of the errors that the device finds itself, 8130h comes
+ * with heartbeat, the others with rpdo or sync; bafokun_value returns 1001h and 1003h.
  *
  *     if (bafokun_happened(&node, &events) && (events.reset_node || events.reset_communication))
  *         write the measurements anew
@@ -336,7 +364,7 @@ uint8_t bafokun_answer(bafokun_node *node, uint32_t *abort_code);
 
 /*
  * How many bytes are held for the transfer of an SDO channel: at most the capacity of the
- * transferred entry plus 889. 0 if there is no such channel.
+ * transferred entry plus 889. Channel 0 is that of 1200h. 0 if there is no such channel.
  */
 size_t bafokun_held(bafokun_node *node, uint8_t channel);
 
