@@ -1,6 +1,6 @@
 -- TPDOs and EMCY that may have waited until the device could send again: what is found at the next ones, on both sides of each
 -- edge.
-use Rattle.std.proofs.Common.{◌≡◌, ℕ, Bool, true, false, List, [], ◌∷◌, ◌++◌, map, Option, Some, None, refl}
+use Rattle.std.proofs.Common.{◌≡◌, ℕ, true, false, List, [], ◌∷◌, ◌++◌, map, Option, Some, None, refl}
 use Rattle.co_frame.specs.declared.nmt.NmtService.TheVariants.{Start}
 use Rattle.conode_compare_pdos.specs.declared.deviation.Deviation.TheVariants.{Inhibit}
 use Rattle.conode_compare_pdos.specs.declared.pdos.Pdos.{Pdos}
@@ -10,7 +10,6 @@ use Rattle.conode_compare_pdos.specs.Tpdos.{booted_tpdo}
 use Rattle.conode_compare_nmt.specs.declared.entries.Entries.{Entries}
 use Rattle.conode_compare_nmt.specs.declared.finding.Finding.{Finding}
 use Rattle.conode_compare_nmt.specs.declared.finding.Finding.TheVariants.{EmergencyInhibit, EmergencyRegister, Pdo as PdoFinding}
-use Rattle.conode_compare_nmt.specs.declared.finding.NmtState.TheVariants.{Operational}
 use Rattle.conode_compare_nmt.specs.declared.leaving.Leaving.TheVariants.{Nothing, Awaited, Shown}
 use Rattle.conode_compare_nmt.specs.declared.limits.Subject.{Subject}
 use Rattle.conode_compare_nmt.specs.declared.nmt.Nmt.{Nmt}
@@ -29,7 +28,7 @@ use Rattle.conode_compare_rules.specs.NmtFrames.{booted}
 use Rattle.conode_compare_rules.specs.Processes.{after_process, moment_at, process_findings}
 use Rattle.conode_compare_rules.specs.Progresses.{findings_at, progress_with}
 use Rattle.conode_compare_rules.specs.Verdicts.{found}
-use Rattle.conode_compare_rules.specs.Waits.{counts_since, ends_quiet, is_among_first, sends_first}
+use Rattle.conode_compare_rules.specs.Waits.{counts_since, is_among_first, sends_first}
 
 -- ---- node 5, whose first TPDO is on 185h, of four bytes and event-driven; both inhibit times are 100 ms; 1017:00 has 1000 ms
 
@@ -97,12 +96,6 @@ after_heartbeat : map (λ first. found_then ((2030000, Fault) ∷ (2045000, Cont
 unfolding findings_at progress_with begun booted found nmt_frames.after_control states.after_control after_boot_up after_other awaits_boot_up nmt_frames.after_command states.after_command after_process process_findings moment_at sighting framed deviation_at time_deviation is_settled overdue_by late_finding is_missing after_fault with_gap
 after_heartbeat = refl
 
--- nothing was recorded for longer than a second, and for a second
-after_quiet : map (λ first. last_of subject ((0, Control 0) ∷ (100000, Command Start) ∷ (1000000, Control 5) ∷ (first, tpdo) ∷ (2010000, Control 5) ∷ []) 2050000 tpdo) (2000000 ∷ 2000001 ∷ [])
-    ≡ Some (PdoFinding 1 (Inhibit 50000 1000)) ∷ None ∷ []
-unfolding findings_at progress_with begun booted found nmt_frames.after_control states.after_control after_boot_up after_other awaits_boot_up nmt_frames.after_command states.after_command after_process process_findings moment_at sighting framed deviation_at time_deviation is_settled overdue_by late_finding is_missing
-after_quiet = refl
-
 -- ---- EMCY
 
 emergency_too_soon : found_then ((2050000, emergency) ∷ []) 2100000 emergency ≡ Some (EmergencyInhibit 50000 1000)
@@ -119,24 +112,11 @@ emergency_after_first : map (λ second. found_then ((2030000, Fault) ∷ (205000
 unfolding findings_at progress_with begun booted found nmt_frames.after_control states.after_control after_boot_up after_other awaits_boot_up nmt_frames.after_command states.after_command after_emergency emergency_findings emergency_finding inhibit_finding is_settled overdue_by late_finding is_missing after_fault with_gap after_process process_findings moment_at sighting framed deviation_at time_deviation
 emergency_after_first = refl
 
-emergency_after_quiet : map (λ first. last_of subject ((0, Control 0) ∷ (100000, Command Start) ∷ (1000000, Control 5) ∷ (first, emergency) ∷ (2010000, Control 5) ∷ []) 2050000 emergency) (2000000 ∷ 2000001 ∷ [])
-    ≡ Some (EmergencyInhibit 50000 1000) ∷ None ∷ []
-unfolding findings_at progress_with begun booted found nmt_frames.after_control states.after_control after_boot_up after_other awaits_boot_up nmt_frames.after_command states.after_command after_emergency emergency_findings emergency_finding inhibit_finding is_settled overdue_by late_finding is_missing
-emergency_after_quiet = refl
-
 -- ---- its error register, where no inhibit time is
 
-abbrev register_found : List (ℕ × FrameKind) → ℕ → Option Finding
-register_found before micros = last_of (subject_with 0) ((0, Control 0) ∷ (100000, Command Start) ∷ (1000000, Control 5) ∷ before) micros (Emergency 0x8130 0)
-
-register_after_quiet : map (register_found []) (2000000 ∷ 2000001 ∷ []) ≡ Some (EmergencyRegister 0x8130 0) ∷ None ∷ []
-unfolding findings_at progress_with begun booted found nmt_frames.after_control states.after_control after_boot_up after_other awaits_boot_up nmt_frames.after_command states.after_command after_emergency emergency_findings emergency_finding inhibit_finding is_settled overdue_by late_finding is_missing
-register_after_quiet = refl
-
--- within the tolerance after another node's frame, with which that ended, and later
-register_after_other : map (register_found ((2000001, Process 0x1FF 0) ∷ [])) (2010001 ∷ 2010002 ∷ []) ≡ None ∷ Some (EmergencyRegister 0x8130 0) ∷ []
-unfolding findings_at progress_with begun booted found nmt_frames.after_control states.after_control after_boot_up after_other awaits_boot_up nmt_frames.after_command states.after_command after_emergency emergency_findings emergency_finding inhibit_finding is_settled overdue_by late_finding is_missing after_process process_findings moment_at sighting framed
-register_after_other = refl
+register_after_error : map (λ before. last_of (subject_with 0) (runs ++ before) 2050000 (Emergency 0x8130 0)) ([] ∷ ((2030000, Fault) ∷ []) ∷ []) ≡ Some (EmergencyRegister 0x8130 0) ∷ None ∷ []
+unfolding findings_at progress_with begun booted found nmt_frames.after_control states.after_control after_boot_up after_other awaits_boot_up nmt_frames.after_command states.after_command after_emergency emergency_findings emergency_finding inhibit_finding is_settled overdue_by late_finding is_missing after_fault with_gap
+register_after_error = refl
 
 -- ---- the definitions
 
@@ -152,15 +132,11 @@ awaited = record nothing_commanded { leaving = Awaited }
 commanded : sends_first limits awaited 200000 ∷ sends_first limits (record awaited { commanded = Some (record { service = Start; micros = 7 }) }) 200000 ∷ [] ≡ true ∷ false ∷ []
 commanded = refl
 
-quiet_until : ends_quiet limits None 5 ∷ map (ends_quiet limits (Some 5)) (4 ∷ 5 ∷ 10005 ∷ 10006 ∷ []) ≡ false ∷ false ∷ true ∷ true ∷ false ∷ []
-quiet_until = refl
-
-abbrev counted : Nmt → Option ℕ → ℕ
-counted nmt quiet = counts_since (record (before_recording subject) { started = 5; nmt = nmt; quiet = quiet })
+abbrev counted : Nmt → ℕ
+counted nmt = counts_since (record (before_recording subject) { started = 5; nmt = nmt })
 
 -- the newest of them
-times_since : counted nothing_commanded None ∷ counted (record awaited { leaving = Shown 7 }) None ∷ counted (record awaited { leaving = Shown 4 }) None
-    ∷ counted (record awaited { leaving = Shown 7; commanded = Some (record { service = Start; micros = 6 }) }) None
-    ∷ counted (record awaited { leaving = Shown 7 }) (Some 8) ∷ counted (record awaited { leaving = Shown 7 }) (Some 6) ∷ []
-    ≡ 5 ∷ 7 ∷ 5 ∷ 6 ∷ 8 ∷ 7 ∷ []
+times_since : counted nothing_commanded ∷ counted (record awaited { leaving = Shown 7 }) ∷ counted (record awaited { leaving = Shown 4 })
+    ∷ counted (record awaited { leaving = Shown 7; commanded = Some (record { service = Start; micros = 6 }) }) ∷ []
+    ≡ 5 ∷ 7 ∷ 5 ∷ 6 ∷ []
 times_since = refl

@@ -28,7 +28,6 @@ before_recording subject = record {
   emergency = None;
   dialogue = nothing_asked;
   pdos = tpdos.unknown_pdos;
-  quiet = None;
   other_client = false;
   asked_at = None;
   written = nothing_written;
@@ -69,10 +68,6 @@ free_at (Some newest) free micros = if follows_closely newest micros then free e
 
 abbrev pub pdos_with_quiet : Limits → Progress → ℕ → Pdos
 pdos_with_quiet limits progress micros = if was_quiet limits progress micros then tpdos.interrupted progress.pdos else progress.pdos
-
--- the first frame after that
-abbrev pub quiet_until : Limits → Progress → ℕ → Option ℕ
-quiet_until limits progress micros = if was_quiet limits progress micros then Some micros else progress.quiet
 
 -- an answer that may take long is awaited all the same, and a sub-block may still be open
 abbrev pub still_awaited : Dialogue → ℕ → Dialogue
@@ -136,7 +131,6 @@ begun subject progress micros =
       free = free_at progress.newest progress.free micros;
       dialogue = with_quiet subject.limits progress micros;
       pdos = pdos_with_quiet subject.limits progress micros;
-      quiet = quiet_until subject.limits progress micros;
       exchange = None;
       wrong = progress.wrong && not (is_later progress.newest micros);
       remark = None;

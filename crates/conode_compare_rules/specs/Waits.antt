@@ -1,7 +1,7 @@
 -- Frames that may have waited until the device could send again. CiA 301 counts an inhibit time (7.5.2.18, 7.5.2.37) from when
 -- a device has a frame sent, so after one that waited for a bus that couldn't be used the next one may come soon. A
--- recording shows such a moment by an error frame, and where nothing at all was recorded.
-use Rattle.std.specs.Prelude.{ℕ, nat_le, nat_lt, Bool, true, false, not, ◌&&◌, ◌||◌, if◌then◌else◌, Option, Some, None, is_some}
+-- recording shows such a moment by an error frame.
+use Rattle.std.specs.Prelude.{ℕ, nat_lt, Bool, true, false, not, ◌&&◌, if◌then◌else◌, Option, Some, None, is_some}
 use Rattle.std.specs.Option.{option_map_or}
 use Rattle.conode_compare_rules.specs.declared.progress.Progress.{Progress}
 use Rattle.conode_compare_nmt.specs.declared.leaving.Leaving.{Leaving}
@@ -22,15 +22,9 @@ is_among_first limits (Shown micros) free = not (is_past micros limits.tolerance
 abbrev pub sends_first : Limits → Nmt → ℕ → Bool
 sends_first limits nmt free = not (is_some nmt.commanded) && is_among_first limits nmt.leaving free
 
--- the frame is among the first ones after nothing was recorded for longer than an answer may take
-abbrev pub ends_quiet : Limits → Option ℕ → ℕ → Bool
-ends_quiet limits None free = false
-ends_quiet limits (Some quiet) free = nat_le quiet free && not (is_past quiet limits.tolerance free)
-
 -- a frame of the device may have waited so, by when the bus was free before it
 abbrev pub was_held_up : Subject → Progress → ℕ → Bool
-was_held_up subject progress free =
-    sends_first subject.limits progress.nmt free || ends_quiet subject.limits progress.quiet free
+was_held_up subject progress free = sends_first subject.limits progress.nmt free
 
 -- ---- since when times count
 
@@ -43,9 +37,6 @@ later stamp None = stamp
 later stamp (Some other) = if nat_lt stamp other then other else stamp
 
 -- The newest command came, with which a device may begin its times anew; where none did, the recording began, or the
--- device's first frame since. Or the bus was quiet until then.
+-- device's first frame since.
 abbrev pub counts_since : Progress → ℕ
-counts_since progress =
-    later
-    (option_map_or (λ c. c.micros) progress.nmt.commanded (later progress.started (first_shown progress.nmt.leaving)))
-    progress.quiet
+counts_since progress = option_map_or (λ c. c.micros) progress.nmt.commanded (later progress.started (first_shown progress.nmt.leaving))

@@ -206,7 +206,6 @@ impl Progress {
             }
             if was_quiet {
                 self.pdos.interrupt();
-                self.quiet = Some(micros);
             }
             self.wrong = self.wrong && !self.is_later(micros);
         }

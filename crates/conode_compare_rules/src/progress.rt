@@ -84,9 +84,6 @@ pub struct Progress {
     pub(crate) emergency: Option<u64>,
     pub(crate) dialogue: Dialogue,
     pub(crate) pdos: Pdos,
-    /// When the first frame came after nothing was recorded for longer than an answer may take, if
-    /// the recording didn't begin anew with it.
-    pub(crate) quiet: Option<u64>,
     /// Whether a frame came that may be of the client of another SDO channel.
     pub(crate) other_client: bool,
     /// When a client asked last to write an entry of the communication profile.
@@ -119,7 +116,6 @@ impl Progress {
             emergency: None,
             dialogue: Dialogue::new(),
             pdos: Pdos::unknown(),
-            quiet: None,
             other_client: false,
             asked_at: None,
             written: Written::nothing(),

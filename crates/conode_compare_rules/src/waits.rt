@@ -3,7 +3,6 @@
 ghost use Rattle.std.specs.Prelude.{◌≡◌};
 ghost use Rattle.conode_compare_rules.specs.Waits.{
   counts_since,
-  ends_quiet,
   first_shown,
   is_among_first,
   later,
@@ -33,17 +32,6 @@ fn sends_first(limits: &Limits, nmt: &Nmt, free: u64) -> bool
     nmt.commanded.is_none() && is_among_first(limits, nmt.leaving, free)
 }
 
-// whether a frame is among the first ones after nothing was recorded for longer than an answer may
-// take
-fn ends_quiet(limits: &Limits, quiet: Option<u64>, free: u64) -> bool
-    ensures { result ≡ ends_quiet limits.now quiet free }
-{
-    match quiet {
-        Some(quiet) => quiet <= free && !is_past(quiet, limits.tolerance, free),
-        None => false,
-    }
-}
-
 // when a frame showed first that the device isn't stopped
 fn first_shown(leaving: Leaving) -> Option<u64>
     ensures { result ≡ first_shown leaving }
@@ -70,19 +58,17 @@ impl Progress {
     pub(crate) fn was_held_up(&self, subject: &Subject, free: u64) -> bool
         ensures { result ≡ was_held_up subject.now self.now free }
     {
-        let limits = &subject.limits;
-        sends_first(limits, &self.nmt, free) || ends_quiet(limits, self.quiet, free)
+        sends_first(&subject.limits, &self.nmt, free)
     }
 
     /// Since when the times of TPDOs count: since the newest command, else since the first frame of the
-    /// device in the recording; or since the bus was quiet.
+    /// device in the recording.
     pub(crate) fn counts_since(&self) -> u64
         ensures { result ≡ counts_since self.now }
     {
-        let since = match self.nmt.commanded {
+        match self.nmt.commanded {
             Some(commanded) => commanded.micros,
             None => later(self.started, first_shown(self.nmt.leaving)),
-        };
-        later(since, self.quiet)
+        }
     }
 }
