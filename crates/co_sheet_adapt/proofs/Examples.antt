@@ -3,15 +3,13 @@ use Rattle.std.proofs.Common.{◌≡◌, ℕ, List, [], ◌∷◌, Some, None, t
 use Rattle.std.specs.Float.{float_is_finite}
 use Rattle.std.specs.Float.Ieee.{to_bits}
 use Rattle.fast_float.proofs.OnLiterals.{fast_float_on_literals}
-use Rattle.co_value.specs.declared.data_type.DataType.TheVariants.{Integer8, Integer16, Integer32, Integer64, Unsigned16}
 use Rattle.co_text.specs.Printed.{digits_text}
 use Rattle.co_sheet_text.specs.Text.{lines_of}
 use Rattle.co_sheet_changes.specs.declared.change.ChangeKind.{ChangeKind}
-use Rattle.co_sheet_changes.specs.declared.change.ChangeKind.TheVariants.{SectionName, ListKey, SubIndex0, DataType, RealLimit, RealValue, UnicodeValue, UnsignedLimit, SignExtended, OctetBlanks}
+use Rattle.co_sheet_changes.specs.declared.change.ChangeKind.TheVariants.{SectionName, ListKey, SubIndex0, DataType, RealLimit, RealValue, UnicodeValue, UnsignedLimit, SignExtended, OctetBlanks, EndMark}
 use Rattle.co_sheet_adapt.specs.declared.left_out.LeftOut.TheVariants.{Real32, UnicodeString, TimeOfDay}
 use Rattle.co_sheet_adapt.specs.LeftOut.{is_inconvertible, left_out_with, real32_bits, real64_bits, value_in_place}
-use Rattle.co_sheet_changes.specs.Limits.{is_whole_unsigned}
-use Rattle.co_sheet_adapt.specs.Values.{sign_extended, pairs_without_blanks}
+use Rattle.co_sheet_adapt.specs.Values.{pairs_without_blanks}
 use Rattle.co_sheet_adapt.specs.Named.{index_named, sub_named}
 use Rattle.co_sheet_adapt.specs.Facts.{count_of}
 use Rattle.co_sheet_changes.specs.Pieces.{Piece, kept, changed}
@@ -190,61 +188,44 @@ left_out = refl
 
 -- ---- values and limits at another type
 
-extended : sign_extended Integer16 (codes "0xFFFFFF9C") ≡ Some (codes "0xFF9C")
-unfolding digits_text
-extended = refl
-
-least_extended : sign_extended Integer16 (codes "0xffff8000") ≡ Some (codes "0x8000")
-unfolding digits_text
-least_extended = refl
-
-positive : sign_extended Integer16 (codes "0xFFFF7FFF") ≡ None
-positive = refl
-
-own_width : sign_extended Integer16 (codes "0xFF9C") ≡ None
-own_width = refl
-
-in_16_bits : sign_extended Integer8 (codes "0xFF80") ≡ Some (codes "0x80")
-unfolding digits_text
-in_16_bits = refl
-
-in_64_bits : sign_extended Integer32 (codes "0xFFFFFFFFFFFFFFFE") ≡ Some (codes "0xFFFFFFFE")
-unfolding digits_text
-in_64_bits = refl
-
-in_24_bits : sign_extended Integer8 (codes "0xFFFF80") ≡ None
-in_24_bits = refl
-
-widest : sign_extended Integer64 (codes "0xFFFFFFFFFFFFFFFE") ≡ None
-widest = refl
-
-unsigned : sign_extended Unsigned16 (codes "0xFFFFFF9C") ≡ None
-unsigned = refl
-
-decimal_value : sign_extended Integer16 (codes "4294967196") ≡ None
-decimal_value = refl
-
-limits : is_whole_unsigned Integer32 (Some 0) (Some 0xFFFFFFFF) ≡ true
-limits = refl
-
-other_limits : is_whole_unsigned Integer32 (Some 0) (Some 0x7FFFFFFF) ≡ false
-other_limits = refl
-
-low_limit : is_whole_unsigned Integer32 (Some 1) (Some 0xFFFFFFFF) ≡ false
-low_limit = refl
-
-one_limit : is_whole_unsigned Integer32 None (Some 0xFFFFFFFF) ≡ false
-one_limit = refl
-
-unsigned_limits : is_whole_unsigned Unsigned16 (Some 0) (Some 0xFFFF) ≡ false
-unsigned_limits = refl
-
 signed : pieces (codes "[2005]\nDataType=4\nLowLimit=0x0\nHighLimit=0xFFFFFFFF\nDefaultValue=0xFFFFFFFFFFFFFFFF\n")
     ≡ kept (codes "[2005]") ∷ kept (codes "DataType=4")
     ∷ change_at 3 UnsignedLimit (codes "LowLimit=0x0") [] ∷ change_at 4 UnsignedLimit (codes "HighLimit=0xFFFFFFFF") []
     ∷ change_at 5 SignExtended (codes "DefaultValue=0xFFFFFFFFFFFFFFFF") (codes "DefaultValue=0xFFFFFFFF\n") ∷ []
 unfolding assigned digits_text
 signed = refl
+
+-- HighLimit alone, which is the unsigned type's; it is dropped
+unsigned_alone : pieces (codes "[2005]\nDataType=3\nHighLimit=65535\n")
+    ≡ kept (codes "[2005]") ∷ kept (codes "DataType=3") ∷ change_at 3 UnsignedLimit (codes "HighLimit=65535") [] ∷ []
+unsigned_alone = refl
+
+-- a LowLimit that is no number isn't 0
+unread_low : pieces (codes "[2005]\nDataType=3\nLowLimit=x\nHighLimit=65535\n")
+    ≡ kept (codes "[2005]") ∷ kept (codes "DataType=3") ∷ kept (codes "LowLimit=x") ∷ kept (codes "HighLimit=65535") ∷ []
+unread_low = refl
+
+-- both limits with their signs extended
+signed_limits : pieces (codes "[2005]\nDataType=3\nLowLimit=0xFFFF8000\nHighLimit=0xFFFFFFFF\n")
+    ≡ kept (codes "[2005]") ∷ kept (codes "DataType=3")
+    ∷ change_at 3 SignExtended (codes "LowLimit=0xFFFF8000") (codes "LowLimit=0x8000\n")
+    ∷ change_at 4 SignExtended (codes "HighLimit=0xFFFFFFFF") (codes "HighLimit=0xFFFF\n") ∷ []
+unfolding assigned digits_text
+signed_limits = refl
+
+-- not a HighLimit that would be below LowLimit, nor one alone
+high_above_zero : pieces (codes "[2005]\nDataType=2\nLowLimit=0\nHighLimit=0xFFFFFFFF\n")
+    ≡ kept (codes "[2005]") ∷ kept (codes "DataType=2") ∷ kept (codes "LowLimit=0") ∷ kept (codes "HighLimit=0xFFFFFFFF") ∷ []
+high_above_zero = refl
+
+high_alone : pieces (codes "[2005]\nDataType=3\nHighLimit=0xFFFFFFFF\n")
+    ≡ kept (codes "[2005]") ∷ kept (codes "DataType=3") ∷ kept (codes "HighLimit=0xFFFFFFFF") ∷ []
+high_alone = refl
+
+-- a line of end marks alone, in a section
+end_mark : all_pieces (record { number = 1; bytes = codes "[2005]" } ∷ record { number = 2; bytes = 26 ∷ 26 ∷ [] } ∷ record { number = 3; bytes = 59 ∷ 26 ∷ [] } ∷ [])
+    ≡ kept (codes "[2005]") ∷ changed (record { line = 2; kind = EndMark; old = 26 ∷ 26 ∷ []; new = [] }) ∷ kept (59 ∷ 26 ∷ []) ∷ []
+end_mark = refl
 
 octets : pieces (codes "[2006]\nDataType=10\nLowLimit=0\nDefaultValue=00 A1\n")
     ≡ kept (codes "[2006]") ∷ kept (codes "DataType=10") ∷ kept (codes "LowLimit=0")

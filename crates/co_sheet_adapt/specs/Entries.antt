@@ -8,13 +8,14 @@ use Rattle.co_value.specs.Types.{code_of}
 use Rattle.co_sheet_text.specs.Text.{same_name}
 use Rattle.co_sheet_changes.specs.declared.change.ChangeKind.{ChangeKind}
 use Rattle.co_sheet_changes.specs.declared.change.ChangeKind.TheVariants as kind
+use Rattle.co_sheet_changes.specs.Extended.{is_extended_limit, sign_extended}
 use Rattle.co_sheet_changes.specs.Limits.{is_limit, is_preset}
 use Rattle.co_sheet_changes.specs.Pieces.{Mended, mended, assigned}
 use Rattle.co_sheet_adapt.specs.declared.left_out.LeftOut.{LeftOut}
 use Rattle.co_sheet_adapt.specs.declared.left_out.LeftOut.TheVariants.{Real32, UnicodeString, TimeOfDay, TimeDifference, Real64}
 use Rattle.co_sheet_adapt.specs.declared.facts.Facts.{Facts}
 use Rattle.co_sheet_adapt.specs.LeftOut.{left_out_code, code_in_place, is_real, hexadecimal, value_in_place}
-use Rattle.co_sheet_adapt.specs.Values.{sign_extended, pairs_without_blanks}
+use Rattle.co_sheet_adapt.specs.Values.{pairs_without_blanks}
 
 -- the code of the type that stands for the one that is left out, and that one's in a key of our own
 abbrev pub type_lines : LeftOut → List ℕ → List ℕ
@@ -48,21 +49,29 @@ in_place t name value =
 abbrev pub is_octets : DataType → Bool
 is_octets t = Rattle.std.specs.Prelude.nat_eq (code_of t) (code_of OctetString)
 
+abbrev pub extended_change : DataType → List ℕ → List ℕ → Option Mended
+extended_change t name value =
+    option_map (λ v. mended kind.SignExtended (assigned name v)) (sign_extended t value)
+
 abbrev pub preset_at_type : DataType → List ℕ → List ℕ → Option Mended
 preset_at_type t name value =
     if is_octets t
     then option_map (λ v. mended kind.OctetBlanks (assigned name v)) (pairs_without_blanks value)
-    else option_map (λ v. mended kind.SignExtended (assigned name v)) (sign_extended t value)
+    else extended_change t name value
 
-abbrev pub preset_of : Option DataType → List ℕ → List ℕ → Option Mended
-preset_of None name value = None
-preset_of (Some t) name value = if is_preset name then preset_at_type t name value else None
+-- a value, or a limit with its sign extended
+abbrev pub number_at_type : Bool → DataType → List ℕ → List ℕ → Option Mended
+number_at_type negative_low t name value =
+    if is_preset name then preset_at_type t name value
+    else if is_extended_limit negative_low t name value then extended_change t name value
+    else None
 
 -- a line of such an entry
 abbrev pub at_type : Facts → List ℕ → List ℕ → Option Mended
 at_type facts name value =
     if is_limit name && facts.has_unsigned_limits then Some (mended kind.UnsignedLimit [])
-    else preset_of facts.data_type name value
+    else option_and_then
+    (λ t. number_at_type facts.has_negative_low t name value) facts.data_type
 
 -- what a name and its value become; None: they stay as they are
 abbrev pub entry_change : Facts → List ℕ → List ℕ → Option Mended

@@ -16,7 +16,7 @@ use Rattle.co_sheet_changes.specs.declared.change.ChangeKind.{ChangeKind}
 use Rattle.co_sheet_changes.specs.declared.change.ChangeKind.TheVariants as kind
 use Rattle.co_sheet_changes.specs.Pieces.{Mended, mended, assigned, Piece, added_lines, piece_of, kept_piece}
 use Rattle.co_sheet_adapt.specs.declared.facts.Facts.{Facts}
-use Rattle.co_sheet_changes.specs.Groups.{Group, property_in, value_in, number_in_group, without_blanks, before_sections, groups_of}
+use Rattle.co_sheet_changes.specs.Groups.{Group, is_end_mark, property_in, value_in, number_in_group, without_blanks, before_sections, groups_of}
 use Rattle.co_sheet_adapt.specs.Facts.{facts_of}
 use Rattle.co_sheet_adapt.specs.Entries.{entry_change}
 use Rattle.co_sheet_adapt.specs.Meant.{all_meant}
@@ -122,10 +122,15 @@ abbrev pub line_change : Option PdoForm → SectionKind → Facts → List ℕ �
 line_change pdos k facts name value =
     option_or (pdo_change pdos k name value) (given_change k facts name value)
 
+abbrev pub property_change : Option PdoForm → SectionKind → Facts → Line → Option Mended
+property_change pdos k facts line =
+    option_and_then (λ given. line_change pdos k facts given.name given.value) (property_in line)
+
+-- a line that is nothing but an end mark of DOS is dropped
 abbrev pub line_piece : Option PdoForm → SectionKind → Facts → Line → Piece
 line_piece pdos k facts line =
     piece_of line
-    (option_and_then (λ given. line_change pdos k facts given.name given.value) (property_in line))
+    (if is_end_mark line then Some (mended kind.EndMark []) else property_change pdos k facts line)
 
 -- ---- sections, and all of them
 

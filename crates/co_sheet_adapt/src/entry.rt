@@ -7,14 +7,18 @@ ghost use Rattle.co_sheet_adapt.specs.Entries.{
   preset_in_place,
   in_place,
   preset_at_type,
+  extended_change,
+  number_at_type,
   entry_change,
 };
 ghost use Rattle.co_sheet_changes.specs.Pieces.{assigned, mended, mended_view};
 
 use crate::facts::Facts;
 use crate::left_out::LeftOut;
-use crate::values::{pairs_without_blanks, sign_extended};
-use co_sheet_changes::{ChangeKind, Mended, assigned, is_limit, is_preset, with_value};
+use crate::values::pairs_without_blanks;
+use co_sheet_changes::{
+    ChangeKind, Mended, assigned, is_extended_limit, is_limit, is_preset, sign_extended, with_value,
+};
 use co_sheet_text::same_name;
 use co_value::DataType;
 use std::alloc::{AllocError, Global};
@@ -91,6 +95,20 @@ fn in_place(
     }
 }
 
+// a number with its sign extended, in the bytes of its type
+fn extended_change(
+    alloc: Global,
+    data_type: DataType,
+    name: &[u8],
+    value: &[u8],
+) -> Result<Option<Mended>, AllocError>
+    ensures { IfOk result (λ made.
+        option_map mended_view made ≡ extended_change data_type name.now value.now) }
+{
+    let value = attempt!(sign_extended(alloc, data_type, value));
+    with_value(alloc, ChangeKind::SignExtended, name, value)
+}
+
 // a value of an entry of a supported type
 fn preset_at_type(
     alloc: Global,
@@ -105,8 +123,27 @@ fn preset_at_type(
         let value = attempt!(pairs_without_blanks(alloc, value));
         with_value(alloc, ChangeKind::OctetBlanks, name, value)
     } else {
-        let value = attempt!(sign_extended(alloc, data_type, value));
-        with_value(alloc, ChangeKind::SignExtended, name, value)
+        extended_change(alloc, data_type, name, value)
+    }
+}
+
+// the same, or a limit with its sign extended
+fn number_at_type(
+    alloc: Global,
+    has_negative_low: bool,
+    data_type: DataType,
+    name: &[u8],
+    value: &[u8],
+) -> Result<Option<Mended>, AllocError>
+    ensures { IfOk result (λ made. option_map mended_view made
+        ≡ number_at_type has_negative_low data_type name.now value.now) }
+{
+    if is_preset(name) {
+        preset_at_type(alloc, data_type, name, value)
+    } else if is_extended_limit(has_negative_low, data_type, name, value) {
+        extended_change(alloc, data_type, name, value)
+    } else {
+        Ok(None)
     }
 }
 
@@ -129,7 +166,7 @@ pub(crate) fn entry_change(
         return Ok(Some(Mended { kind, new }));
     }
     match facts.data_type {
-        Some(data_type) if is_preset(name) => preset_at_type(alloc, data_type, name, value),
-        _ => Ok(None),
+        Some(data_type) => number_at_type(alloc, facts.has_negative_low, data_type, name, value),
+        None => Ok(None),
     }
 }

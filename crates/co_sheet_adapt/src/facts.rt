@@ -14,7 +14,7 @@ ghost use Rattle.co_sheet_adapt.specs.Expanded.{facts_as_written};
 ghost use Rattle.co_sheet_changes.specs.Views.{group_view};
 
 use crate::left_out::LeftOut;
-use co_sheet_changes::{Group, data_type_of, has_unsigned_limits};
+use co_sheet_changes::{Group, data_type_of, has_negative_low, has_unsigned_limits};
 use co_sheet_text::{SectionKind, unsigned_number};
 use co_value::DataType;
 
@@ -31,6 +31,8 @@ pub(crate) struct Facts {
     pub(crate) data_type: Option<DataType>,
     /// Whether the limits of a signed number are those of the unsigned type.
     pub(crate) has_unsigned_limits: bool,
+    /// Whether its LowLimit is a negative number.
+    pub(crate) has_negative_low: bool,
 }
 
 fn object_code(group: &Group) -> Option<u64>
@@ -105,6 +107,7 @@ impl Facts {
             left_out: left_out_of(group),
             data_type: data_type_of(group),
             has_unsigned_limits: has_unsigned_limits(group),
+            has_negative_low: has_negative_low(group),
         }
     }
 
@@ -118,6 +121,7 @@ impl Facts {
             left_out: None,
             data_type: None,
             has_unsigned_limits: false,
+            has_negative_low: false,
         }
     }
 }

@@ -18,6 +18,7 @@ ghost use Rattle.co_sheet_adapt.specs.Pieces.{
   other_change,
   given_change,
   line_change,
+  property_change,
   line_piece,
   own_pieces,
   added,
@@ -274,6 +275,24 @@ pub(crate) fn push_piece<'a>(
     }
 }
 
+// what a line becomes by the name and the value that it gives a section
+fn property_change(
+    alloc: Global,
+    pdos: Option<&PdoForm>,
+    kind: SectionKind,
+    facts: &Facts,
+    line: &Line<'_>,
+) -> Result<Option<Mended>, AllocError>
+    ensures { IfOk result (λ made. option_map mended_view made
+        ≡ property_change (option_map (λ f. form_view f.now) pdos.entry) kind facts.now
+        (line_view line.now)) }
+{
+    match line.property() {
+        Some((name, value)) => line_change(alloc, pdos, kind, facts, name, value),
+        None => Ok(None),
+    }
+}
+
 // adds the piece of a line of a section
 fn push_line<'a>(
     alloc: Global,
@@ -287,10 +306,12 @@ fn push_line<'a>(
         ++ line_piece (option_map (λ f. form_view f.now) pdos.entry) kind facts.now
         (line_view line.now) ∷ []) }
 {
-    let mended = match line.property() {
-        Some((name, value)) => attempt!(line_change(alloc, pdos, kind, facts, name, value)),
-        None => None,
-    };
+    if line.is_end_mark() {
+        let new = Vec::new(alloc);
+        let kind = ChangeKind::EndMark;
+        return push_piece(pieces, piece_of(line, Some(Mended { kind, new })));
+    }
+    let mended = attempt!(property_change(alloc, pdos, kind, facts, line));
     push_piece(pieces, piece_of(line, mended))
 }
 

@@ -88,6 +88,21 @@ unsigned_limits : pieces (force_with []) (codes "[2000]\nDataType=2\nLowLimit=0\
     ≡ kept (codes "[2000]") ∷ kept (codes "DataType=2") ∷ kept (codes "LowLimit=0") ∷ kept (codes "HighLimit=255") ∷ []
 unsigned_limits = refl
 
+unsigned_alone : pieces (force_with []) (codes "[2000]\nDataType=2\nHighLimit=255\n")
+    ≡ kept (codes "[2000]") ∷ kept (codes "DataType=2") ∷ kept (codes "HighLimit=255") ∷ []
+unsigned_alone = refl
+
+-- so have those with their sign extended, but for a HighLimit that would be below LowLimit
+extended_limits : pieces (force_with []) (codes "[2000]\nDataType=3\nLowLimit=0xFFFF8000\nHighLimit=0xFFFFFFFF\n")
+    ≡ kept (codes "[2000]") ∷ kept (codes "DataType=3") ∷ kept (codes "LowLimit=0xFFFF8000") ∷ kept (codes "HighLimit=0xFFFFFFFF") ∷ []
+extended_limits = refl
+
+extended_alone : pieces (force_with []) (codes "[2000]\nDataType=3\nLowLimit=0\nHighLimit=0xFFFFFFFF\n")
+    ≡ kept (codes "[2000]") ∷ kept (codes "DataType=3") ∷ kept (codes "LowLimit=0")
+    ∷ change_at 4 ForcedLimit (codes "HighLimit=0xFFFFFFFF") (codes ";HighLimit=0xFFFFFFFF\n") ∷ []
+unfolding assigned
+extended_alone = refl
+
 forced_sync : pieces (force_with []) (codes "[1005]\nDefaultValue=0x40000080\n[1006]\nDefaultValue=0x40000080\n")
     ≡ kept (codes "[1005]") ∷ change_at 2 ForcedSync (codes "DefaultValue=0x40000080") (codes "DefaultValue=0x00000080\n")
     ∷ kept (codes "[1006]") ∷ kept (codes "DefaultValue=0x40000080") ∷ []
@@ -100,6 +115,18 @@ forced_mapping : pieces (force_with (0x1600 ∷ [])) (codes "[1600sub0]\nDefault
     ∷ kept (codes "[1600sub1]") ∷ kept (codes "DefaultValue=8") ∷ kept (codes "[1601sub0]") ∷ kept (codes "DefaultValue=8") ∷ []
 unfolding assigned
 forced_mapping = refl
+
+-- and a LowLimit that doesn't permit 0; not HighLimit, nor one of 0, nor of another entry
+forced_low : pieces (force_with (0x1600 ∷ [])) (codes "[1600sub0]\nDataType=5\nLowLimit=1\nHighLimit=8\n[1600sub1]\nDataType=7\nLowLimit=1\n[1601sub0]\nDataType=5\nLowLimit=1\n")
+    ≡ kept (codes "[1600sub0]") ∷ kept (codes "DataType=5") ∷ change_at 3 ForcedMapping (codes "LowLimit=1") (codes ";LowLimit=1\n") ∷ kept (codes "HighLimit=8")
+    ∷ kept (codes "[1600sub1]") ∷ kept (codes "DataType=7") ∷ kept (codes "LowLimit=1")
+    ∷ kept (codes "[1601sub0]") ∷ kept (codes "DataType=5") ∷ kept (codes "LowLimit=1") ∷ []
+unfolding assigned
+forced_low = refl
+
+low_of_zero : pieces (force_with (0x1600 ∷ [])) (codes "[1600sub0]\nDataType=5\nLowLimit=0x0\n")
+    ≡ kept (codes "[1600sub0]") ∷ kept (codes "DataType=5") ∷ kept (codes "LowLimit=0x0") ∷ []
+low_of_zero = refl
 
 -- ---- a text of which no line is changed stays as it is
 

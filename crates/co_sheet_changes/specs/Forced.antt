@@ -1,6 +1,6 @@
 -- What only `--force` changes: limits against their type, mappings at fault, and a SYNC that the
 -- device would produce (CiA 306, object description; CiA 301, 7.5.2.5, 7.5.2.36 and 7.5.2.38).
-use Rattle.std.specs.Prelude.{ℕ, ◌-◌, ◌%◌, ◌/◌, ◌^◌, ℤ, Bool, true, false, ◌&&◌, not, ◌==◌, nat_lt, if◌then◌else◌, List, [], ◌∷◌, ◌++◌, codes, Option, Some, None, option_map, option_and_then, Result, Ok, Err}
+use Rattle.std.specs.Prelude.{ℕ, ◌-◌, ◌%◌, ◌/◌, ◌^◌, ℤ, Bool, true, false, ◌&&◌, not, ◌==◌, nat_lt, if◌then◌else◌, List, ◌∷◌, ◌++◌, codes, Option, Some, None, option_map, option_and_then, Result, Ok, Err}
 use Rattle.std.specs.List.{list_any}
 use Rattle.std.specs.Option.{option_map_or}
 use Rattle.std.specs.Result.{result_ok}
@@ -12,10 +12,10 @@ use Rattle.co_sheet_text.specs.declared.section_kind.SectionKind.{SectionKind}
 use Rattle.co_sheet_text.specs.declared.section_kind.SectionKind.TheVariants.{Object, SubIndex}
 use Rattle.co_sheet_text.specs.Numerals.{unsigned_number}
 use Rattle.co_sheet.specs.Limits.{is_in_type, is_numeric, number_at_type}
-use Rattle.co_sheet.specs.ObjectLists.{is_one_of}
 use Rattle.co_sheet_changes.specs.declared.change.ChangeKind.TheVariants.{ForcedLimit, ForcedMapping, ForcedSync}
+use Rattle.co_sheet_changes.specs.Extended.{is_extended_limit}
 use Rattle.co_sheet_changes.specs.Groups.{Group}
-use Rattle.co_sheet_changes.specs.Limits.{data_type_of, has_unsigned_limits, is_limit, is_preset}
+use Rattle.co_sheet_changes.specs.Limits.{data_type_of, has_unsigned_limits, is_limit, is_low, is_preset, is_zero}
 use Rattle.co_sheet_changes.specs.Pieces.{Mended, mended, assigned}
 
 -- the data type to which the limits of a section must belong; limits of the unsigned type have a
@@ -32,8 +32,14 @@ is_against t (Err Ambiguous) = false
 abbrev pub is_forced_at : DataType → List ℕ → Bool
 is_forced_at t value = is_numeric t && is_against t (number_at_type t value)
 
-abbrev pub is_forced_limit : Option DataType → List ℕ → List ℕ → Bool
-is_forced_limit t name value = is_limit name && option_map_or (λ type. is_forced_at type value) t false
+-- so has one with its sign extended
+abbrev pub is_forced_of : Bool → DataType → List ℕ → List ℕ → Bool
+is_forced_of negative_low t name value =
+    is_forced_at t value && not (is_extended_limit negative_low t name value)
+
+abbrev pub is_forced_limit : Bool → Option DataType → List ℕ → List ℕ → Bool
+is_forced_limit negative_low t name value =
+    is_limit name && option_map_or (λ type. is_forced_of negative_low type name value) t false
 
 -- it becomes a comment
 abbrev pub as_comment : List ℕ → List ℕ → List ℕ
@@ -50,13 +56,18 @@ sync_change name value =
     option_map (λ v. mended ForcedSync (assigned name v))
     (option_and_then without_bit_30 (result_ok (unsigned_number value)))
 
--- the number of entries of a mapping at fault becomes 0
+-- the number of entries of a mapping at fault becomes 0, and a LowLimit above it a comment
 abbrev pub is_count : List ℕ → List ℕ → Bool
-is_count name value = is_preset name && not (is_one_of (0 ∷ []) (result_ok (unsigned_number value)))
+is_count name value = is_preset name && not (is_zero value)
+
+abbrev pub is_above_zero : List ℕ → List ℕ → Bool
+is_above_zero name value = is_low name && not (is_zero value)
 
 abbrev pub mapping_change : Bool → List ℕ → List ℕ → Option Mended
 mapping_change is_at_fault name value =
     if is_at_fault && is_count name value then Some (mended ForcedMapping (assigned name (codes "0")))
+    else if is_at_fault && is_above_zero name value
+    then Some (mended ForcedMapping (as_comment name value))
     else None
 
 abbrev pub is_among : List ℕ → ℕ → Bool
@@ -70,8 +81,10 @@ abbrev pub is_sync : SectionKind → Bool
 is_sync (Object index) = index == 0x1005
 is_sync kind = false
 
-abbrev pub forced_change : List ℕ → SectionKind → Option DataType → List ℕ → List ℕ → Option Mended
-forced_change mappings kind t name value =
-    if is_forced_limit t name value then Some (mended ForcedLimit (as_comment name value))
+abbrev pub forced_change : List ℕ → SectionKind → Bool → Option DataType → List ℕ → List ℕ
+    → Option Mended
+forced_change mappings kind negative_low t name value =
+    if is_forced_limit negative_low t name value
+    then Some (mended ForcedLimit (as_comment name value))
     else if is_sync kind && is_preset name then sync_change name value
     else mapping_change (is_mapping_of mappings kind) name value

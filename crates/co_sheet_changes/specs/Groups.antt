@@ -1,6 +1,6 @@
 -- The sections of a text with all their lines (CiA 306, structure of an EDS).
-use Rattle.std.specs.Prelude.{ℕ, suc, ◌&&◌, ◌||◌, not, ◌==◌, if◌then◌else◌, List, [], ◌∷◌, ◌++◌, filter, take, is_some, Option, Some, None, option_and_then}
-use Rattle.std.specs.List.{list_any, before_first, after_first}
+use Rattle.std.specs.Prelude.{ℕ, Bool, suc, ◌&&◌, ◌||◌, not, ◌==◌, if◌then◌else◌, List, [], ◌∷◌, ◌++◌, filter, take, is_some, Option, Some, None, option_and_then}
+use Rattle.std.specs.List.{list_all, list_any, before_first, after_first}
 use Rattle.std.specs.Option.{option_or}
 use Rattle.std.specs.Result.{result_ok}
 use Rattle.co_text.specs.Texts.{is_blank}
@@ -42,6 +42,16 @@ section_at_text (b ∷ bs) =
 
 abbrev pub section_in : Line → Option (List ℕ)
 section_in line = section_at_text (trim line.bytes)
+
+-- a line that is nothing but the mark by which DOS ends a file, 1Ah, or NUL bytes
+abbrev pub is_end_byte : ℕ → Bool
+is_end_byte byte = (byte == 0x1A) || (byte == 0)
+
+abbrev pub is_end_text : List ℕ → Bool
+is_end_text text = not (is_empty text) && list_all is_end_byte text
+
+abbrev pub is_end_mark : Line → Bool
+is_end_mark line = is_end_text (trim line.bytes)
 
 -- a text without its blanks
 abbrev pub without_blanks : List ℕ → List ℕ

@@ -1,3 +1,4 @@
+pub mod Extended
 pub mod Forced
 pub mod Groups
 pub mod Limits

@@ -1,7 +1,7 @@
 -- What a change is called.
 use Rattle.std.specs.Prelude.{ℕ, List, codes}
 use Rattle.co_sheet_changes.specs.declared.change.ChangeKind.{ChangeKind}
-use Rattle.co_sheet_changes.specs.declared.change.ChangeKind.TheVariants.{SectionName, ListKey, SubIndex0, CompactSubObj, CompactPdo, ListCount, DataType, RealLimit, RealValue, UnicodeValue, UnsignedLimit, SignExtended, OctetBlanks, LeadingZero, ForcedLimit, ForcedMapping, ForcedSync}
+use Rattle.co_sheet_changes.specs.declared.change.ChangeKind.TheVariants.{SectionName, ListKey, SubIndex0, CompactSubObj, CompactPdo, ListCount, DataType, RealLimit, RealValue, UnicodeValue, UnsignedLimit, SignExtended, OctetBlanks, EndMark, LeadingZero, ForcedLimit, ForcedMapping, ForcedSync}
 
 abbrev pub change_name : ChangeKind → List ℕ
 change_name SectionName = codes "blanks in a section's name"
@@ -17,6 +17,7 @@ change_name UnicodeValue = codes "text in UTF-16"
 change_name UnsignedLimit = codes "unsigned limit of a signed number"
 change_name SignExtended = codes "value with its sign extended"
 change_name OctetBlanks = codes "blanks between bytes"
+change_name EndMark = codes "end-of-file mark"
 change_name LeadingZero = codes "leading zero"
 change_name ForcedLimit = codes "limit against its type"
 change_name ForcedMapping = codes "mapping at fault"

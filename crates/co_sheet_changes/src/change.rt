@@ -25,17 +25,19 @@ pub enum ChangeKind {
     RealValue,
     /// A value of a UNICODE_STRING, replaced by its bytes in UTF-16.
     UnicodeValue,
-    /// A limit of a signed number; both are those of the unsigned type.
+    /// A limit of a signed number, where they are those of the unsigned type.
     UnsignedLimit,
-    /// A value of a signed number, with its sign in more bytes than the type has.
+    /// A value or a limit of a signed number, with its sign in more bytes than the type has.
     SignExtended,
     /// Blanks between the bytes of an OCTET_STRING.
     OctetBlanks,
+    /// A line that is nothing but the mark by which DOS ends a file, 1Ah, or NUL bytes.
+    EndMark,
     /// A number with a leading zero, written anew by the base that is requested.
     LeadingZero,
     /// A limit that is no number of its type.
     ForcedLimit,
-    /// The number of entries of a mapping at fault.
+    /// The number of entries of a mapping at fault, or a LowLimit that doesn't permit 0.
     ForcedMapping,
     /// Bit 30 of the COB-ID of the SYNC.
     ForcedSync,

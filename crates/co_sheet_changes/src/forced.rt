@@ -7,9 +7,11 @@ ghost use Rattle.co_sheet_changes.specs.Forced.{
   as_comment,
   forced_change,
   is_among,
+  is_above_zero,
   is_count,
   is_forced_at,
   is_forced_limit,
+  is_forced_of,
   is_mapping_of,
   is_sync,
   limited_type,
@@ -20,9 +22,11 @@ ghost use Rattle.co_sheet_changes.specs.Forced.{
 
 use crate::change::{ChangeKind, Mended};
 use crate::digits::hexadecimal;
+use crate::extended::is_extended_limit;
 use crate::group::Group;
-use crate::limits::{data_type_of, has_unsigned_limits, is_limit, is_preset};
+use crate::limits::{data_type_of, has_unsigned_limits, is_limit, is_low, is_preset, is_zero};
 use crate::pieces::{assigned, joined, with_value};
+use crate::requested::Facts;
 use co_sheet::is_in_type;
 use co_sheet_text::{NumeralFault, SectionKind, signed_numeral, unsigned_number};
 use co_value::DataType;
@@ -51,11 +55,20 @@ fn is_forced_at(data_type: DataType, value: &[u8]) -> bool
     data_type.width().is_some() && is_against
 }
 
-fn is_forced_limit(data_type: Option<DataType>, name: &[u8], value: &[u8]) -> bool
-    ensures { result ≡ is_forced_limit data_type name.now value.now }
+// the same, but for one that is read as a negative number with its sign extended
+fn is_forced_of(has_negative_low: bool, data_type: DataType, name: &[u8], value: &[u8]) -> bool
+    ensures { result ≡ is_forced_of has_negative_low data_type name.now value.now }
 {
-    match data_type {
-        Some(data_type) => is_limit(name) && is_forced_at(data_type, value),
+    is_forced_at(data_type, value) && !is_extended_limit(has_negative_low, data_type, name, value)
+}
+
+fn is_forced_limit(facts: &Facts, name: &[u8], value: &[u8]) -> bool
+    ensures { result ≡ is_forced_limit facts.now.has_negative_low facts.now.data_type name.now value.now }
+{
+    match facts.data_type {
+        Some(data_type) => {
+            is_limit(name) && is_forced_of(facts.has_negative_low, data_type, name, value)
+        }
         None => false,
     }
 }
@@ -94,7 +107,14 @@ fn sync_change(alloc: Global, name: &[u8], value: &[u8]) -> Result<Option<Mended
 fn is_count(name: &[u8], value: &[u8]) -> bool
     ensures { result ≡ is_count name.now value.now }
 {
-    is_preset(name) && !matches!(unsigned_number(value), Ok(0))
+    is_preset(name) && !is_zero(value)
+}
+
+// whether a line is a LowLimit that doesn't permit 0 entries
+fn is_above_zero(name: &[u8], value: &[u8]) -> bool
+    ensures { result ≡ is_above_zero name.now value.now }
+{
+    is_low(name) && !is_zero(value)
 }
 
 fn mapping_change(
@@ -106,13 +126,16 @@ fn mapping_change(
     ensures { IfOk result (λ made.
         option_map mended_view made ≡ mapping_change is_at_fault name.now value.now) }
 {
+    let kind = ChangeKind::ForcedMapping;
     if is_at_fault && is_count(name, value) {
         let new = attempt!(assigned(alloc, name, b"0"));
-        let kind = ChangeKind::ForcedMapping;
-        Ok(Some(Mended { kind, new }))
-    } else {
-        Ok(None)
+        return Ok(Some(Mended { kind, new }));
     }
+    if is_at_fault && is_above_zero(name, value) {
+        let new = attempt!(as_comment(alloc, name, value));
+        return Ok(Some(Mended { kind, new }));
+    }
+    Ok(None)
 }
 
 fn is_among(mappings: &[u16], index: u16) -> bool
@@ -146,22 +169,22 @@ fn is_sync(kind: SectionKind) -> bool
 pub(crate) fn forced_change(
     alloc: Global,
     mappings: &[u16],
-    kind: SectionKind,
-    data_type: Option<DataType>,
+    facts: &Facts,
     name: &[u8],
     value: &[u8],
 ) -> Result<Option<Mended>, AllocError>
     ensures { IfOk result (λ made. option_map mended_view made
-        ≡ forced_change mappings.now kind data_type name.now value.now) }
+        ≡ forced_change mappings.now facts.now.kind facts.now.has_negative_low facts.now.data_type
+        name.now value.now) }
 {
-    if is_forced_limit(data_type, name, value) {
+    if is_forced_limit(facts, name, value) {
         let new = attempt!(as_comment(alloc, name, value));
         let kind = ChangeKind::ForcedLimit;
         return Ok(Some(Mended { kind, new }));
     }
-    if is_sync(kind) && is_preset(name) {
+    if is_sync(facts.kind) && is_preset(name) {
         return sync_change(alloc, name, value);
     }
-    let is_at_fault = is_mapping_of(mappings, kind);
+    let is_at_fault = is_mapping_of(mappings, facts.kind);
     mapping_change(alloc, is_at_fault, name, value)
 }

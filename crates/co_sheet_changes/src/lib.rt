@@ -25,6 +25,7 @@ macro_rules! attempt_in_memory {
 
 mod change;
 mod digits;
+mod extended;
 mod fault;
 mod forced;
 mod group;
@@ -40,11 +41,10 @@ mod zeros;
 
 pub use change::{Change, ChangeKind, Mended, Piece};
 pub use digits::{hexadecimal, push_number};
+pub use extended::{has_negative_low, is_extended_limit, sign_extended};
 pub use fault::AdaptFault;
 pub use group::{Group, before_sections, groups_in, without_blanks};
-pub use limits::{
-    data_type_of, has_unsigned_limits, is_limit, is_preset, power_of_two, signed_width,
-};
+pub use limits::{data_type_of, has_unsigned_limits, is_limit, is_preset};
 pub use line::{Line, lines_in};
 pub use names::{Names, row_at, shown_name};
 pub use originals::Originals;

@@ -6,22 +6,33 @@ ghost use Rattle.co_sheet_changes.specs.Limits.{
   data_type_of,
   has_unsigned_limits,
   is_limit,
+  is_low,
   is_preset,
   is_whole_unsigned,
+  is_zero,
   signed_width,
+  starts_at_zero,
 };
+ghost use Rattle.std.specs.Option.{option_copied};
 ghost use Rattle.co_sheet_changes.specs.Views.{group_view};
 
 use crate::group::Group;
 use co_sheet::data_type_with;
-use co_sheet_text::same_name;
+use co_sheet_text::{same_name, unsigned_number};
 use co_value::DataType;
+
+/// Whether a name is that of the lower limit.
+pub(crate) fn is_low(name: &[u8]) -> bool
+    ensures { result ≡ is_low name.now }
+{
+    same_name(name, b"LowLimit")
+}
 
 /// Whether a name is that of a limit.
 pub fn is_limit(name: &[u8]) -> bool
     ensures { result ≡ is_limit name.now }
 {
-    same_name(name, b"LowLimit") || same_name(name, b"HighLimit")
+    is_low(name) || same_name(name, b"HighLimit")
 }
 
 /// Whether a name is that of a default, or of a value of a device configuration file.
@@ -60,24 +71,43 @@ pub fn signed_width(data_type: DataType) -> Option<usize>
     }
 }
 
-// whether two limits are those of the unsigned type of as many bytes as a signed one has
-fn is_whole_unsigned(data_type: DataType, low: Option<u64>, high: Option<u64>) -> bool
-    ensures { result ≡ is_whole_unsigned data_type low high }
+/// Whether a value is the number 0.
+pub(crate) fn is_zero(value: &[u8]) -> bool
+    ensures { result ≡ is_zero value.now }
 {
-    match (signed_width(data_type), low, high) {
-        (Some(width), Some(0), Some(high)) => { u128::from(high) + 1 == power_of_two(8 * width) }
+    matches!(unsigned_number(value).ok(), Some(0))
+}
+
+fn starts_at_zero(low: Option<&[u8]>) -> bool
+    ensures { result ≡ starts_at_zero (option_copied low.entry) }
+{
+    match low {
+        Some(value) => is_zero(value),
+        None => true,
+    }
+}
+
+// whether two limits are those of the unsigned type of as many bytes as a signed one has
+fn is_whole_unsigned(data_type: DataType, low: Option<&[u8]>, high: Option<u64>) -> bool
+    ensures { result ≡ is_whole_unsigned data_type (option_copied low.entry) high }
+{
+    match (signed_width(data_type), high) {
+        (Some(width), Some(high)) => {
+            starts_at_zero(low) && u128::from(high) + 1 == power_of_two(8 * width)
+        }
         _ => false,
     }
 }
 
-/// Whether both limits of a signed number are those of the unsigned type of as many bytes.
+/// Whether the limits of a signed number are those of the unsigned type of as many bytes: HighLimit
+/// its greatest number, and LowLimit 0 or not there.
 pub fn has_unsigned_limits(group: &Group) -> bool
     ensures { result ≡ has_unsigned_limits (group_view group.now) }
 {
     match data_type_of(group) {
         Some(data_type) => is_whole_unsigned(
             data_type,
-            group.number(b"LowLimit"),
+            group.value(b"LowLimit"),
             group.number(b"HighLimit"),
         ),
         None => false,

@@ -1,11 +1,11 @@
 //! The lines of a text.
 
 ghost use Rattle.std.specs.Prelude.{◌≡◌, ◌≤◌, length, map, IfOk, option_map};
-ghost use Rattle.std.specs.List.{before_first};
+ghost use Rattle.std.specs.List.{before_first, list_all};
 ghost use Rattle.std.specs.Option.{option_copied};
 ghost use Rattle.co_sheet_text.specs.Text.{lines_of, trim};
 ghost use Rattle.co_sheet_text.specs.Sections.{form_of, is_equals};
-ghost use Rattle.co_sheet_changes.specs.Groups.{property_in, section_in, property_of};
+ghost use Rattle.co_sheet_changes.specs.Groups.{property_in, section_in, property_of, is_end_byte, is_end_mark};
 ghost use Rattle.co_sheet_changes.specs.Views.{line_view, pair_view};
 
 use co_sheet_text::{trim, without_mark};
@@ -51,7 +51,27 @@ fn property_of(text: &[u8]) -> Option<(&[u8], &[u8])>
     Some((name, value))
 }
 
+fn is_end_byte(byte: u8) -> bool
+    ensures { result ≡ is_end_byte byte }
+{
+    byte == 0x1A || byte == 0
+}
+
+fn has_end_bytes(text: &[u8]) -> bool
+    ensures { result ≡ list_all is_end_byte text.now }
+{
+    text.iter().all(|byte| is_end_byte(*byte))
+}
+
 impl<'a> Line<'a> {
+    /// Whether the line is nothing but the mark by which DOS ends a file, 1Ah, or NUL bytes.
+    pub fn is_end_mark(&self) -> bool
+        ensures { result ≡ is_end_mark (line_view self.now) }
+    {
+        let text = trim(self.bytes);
+        !text.is_empty() && has_end_bytes(text)
+    }
+
     /// The name and the value that the line gives a section.
     pub fn property(&self) -> Option<(&'a [u8], &'a [u8])>
         ensures { option_map pair_view result ≡ property_in (line_view self.now) }

@@ -21,6 +21,7 @@ ghost use Rattle.co_sheet_changes.specs.Requested.{
 };
 
 use crate::change::{Mended, Piece};
+use crate::extended::has_negative_low;
 use crate::fault::AdaptFault;
 use crate::forced::{forced_change, limited_type};
 use crate::group::{Group, before_sections, groups_in};
@@ -52,6 +53,8 @@ pub(crate) struct Facts {
     pub(crate) numbers: bool,
     /// The data type to which its limits must belong.
     pub(crate) data_type: Option<DataType>,
+    /// Whether its LowLimit is a negative number.
+    pub(crate) has_negative_low: bool,
 }
 
 fn numbers_of(alloc: Global, request: Request<'_>, group: &Group) -> Result<bool, AllocError>
@@ -71,6 +74,7 @@ fn facts_of(alloc: Global, request: Request<'_>, group: &Group) -> Result<Facts,
         kind: group.kind,
         numbers,
         data_type: limited_type(group),
+        has_negative_low: has_negative_low(group),
     })
 }
 
@@ -88,9 +92,7 @@ fn change_in(
         Request::LeadingZeros(zeros) => {
             zero_change(alloc, zeros, facts.kind, facts.numbers, name, value)
         }
-        Request::Force(mappings) => {
-            forced_change(alloc, mappings, facts.kind, facts.data_type, name, value)
-        }
+        Request::Force(mappings) => { forced_change(alloc, mappings, facts, name, value) }
     }
 }
 

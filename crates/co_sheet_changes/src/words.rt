@@ -23,6 +23,7 @@ pub fn change_name(kind: ChangeKind) -> &'static str
         ChangeKind::UnsignedLimit => "unsigned limit of a signed number",
         ChangeKind::SignExtended => "value with its sign extended",
         ChangeKind::OctetBlanks => "blanks between bytes",
+        ChangeKind::EndMark => "end-of-file mark",
         ChangeKind::LeadingZero => "leading zero",
         ChangeKind::ForcedLimit => "limit against its type",
         ChangeKind::ForcedMapping => "mapping at fault",

@@ -1,11 +1,12 @@
 -- The changes of a text, a line each: `NAME:LINE: what changed: old -> new`.
-use Rattle.std.specs.Prelude.{ℕ, ◌+◌, ◌-◌, ◌/◌, ◌%◌, Bool, true, false, ◌&&◌, Option, Some, None, length, take, slice_index, ◌==◌, ◌||◌, nat_eq, nat_lt, if◌then◌else◌, List, [], ◌∷◌, ◌++◌, map, codes, decimal}
+use Rattle.std.specs.Prelude.{ℕ, ◌+◌, ◌-◌, ◌/◌, ◌%◌, Bool, true, false, ◌&&◌, not, Option, Some, None, length, take, slice_index, ◌==◌, ◌||◌, nat_eq, nat_lt, if◌then◌else◌, List, [], ◌∷◌, ◌++◌, map, codes, decimal}
 use Rattle.std.specs.List.{before_first, flat_map, list_any, starts_with}
 use Rattle.co_text.specs.Printed.{digits_text}
 use Rattle.co_sheet_text.specs.Sections.{is_equals}
 use Rattle.co_sheet_text.specs.Text.{trim, is_empty, same_name}
 use Rattle.co_sheet_changes.specs.declared.change.ChangeKind.{ChangeKind}
 use Rattle.co_sheet_changes.specs.declared.change.ChangeKind.TheVariants.{CompactSubObj, CompactPdo}
+use Rattle.co_sheet_changes.specs.Groups.{is_end_byte}
 use Rattle.co_sheet_changes.specs.Pieces.{Change, Piece, changed}
 use Rattle.co_sheet_changes.specs.Words.{change_name}
 
@@ -112,12 +113,13 @@ ends_text name (line ∷ lines) =
 abbrev pub ends_line : Bool → List ℕ → List ℕ → List ℕ
 ends_line stays name text = if stays then [] else ends_text name (returns_from 1 false text)
 
--- the number of the last line, if it has no LF; `is_begun` says whether a byte of it is before
--- these
+-- the number of the last line, if it has no LF and isn't dropped as an end mark of DOS; `is_begun`
+-- says whether a byte of it that is no such mark is before these
 abbrev pub open_line : ℕ → Bool → List ℕ → Option ℕ
 open_line line is_begun [] = if is_begun then Some line else None
 open_line line is_begun (b ∷ bs) =
-    if b == 10 then open_line (line + 1) false bs else open_line line true bs
+    if b == 10 then open_line (line + 1) false bs
+    else open_line line (is_begun || not (is_end_byte b)) bs
 
 unfoldable pub last_text : List ℕ → Option ℕ → List ℕ
 last_text name None = []

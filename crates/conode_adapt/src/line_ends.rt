@@ -10,6 +10,7 @@ ghost use Rattle.conode_adapt.specs.Listing.{
   open_line,
   returns_from,
 };
+ghost use Rattle.co_sheet_changes.specs.Groups.{is_end_byte};
 
 use crate::listing::push_place;
 use co_sheet_changes::push_number;
@@ -90,7 +91,13 @@ pub(crate) fn push_line_ends(
     push_ends(alloc, text, name, lines.as_slice())
 }
 
-// the number of the last line, if it has no LF
+fn is_end_byte(byte: u8) -> bool
+    ensures { result ≡ is_end_byte byte }
+{
+    byte == 0x1A || byte == 0
+}
+
+// the number of the last line, if it has no LF and isn't dropped as an end mark of DOS
 fn open_line(source: &[u8]) -> Option<usize>
     ensures { result ≡ open_line 1 false source.now }
 {
@@ -101,7 +108,7 @@ fn open_line(source: &[u8]) -> Option<usize>
             line += 1;
             is_begun = false;
         } else {
-            is_begun = true;
+            is_begun = is_begun || !is_end_byte(*byte);
         }
     }
     if is_begun { Some(line) } else { None }
@@ -123,7 +130,8 @@ fn push_last(
     text.extend_from_slice(b"end of the last line: none -> LF\n")
 }
 
-/// Appends the line about an LF after the last line, if it has none and the text doesn't stay.
+/// Appends the line about an LF after the last line, if it has none, and neither it is dropped nor the
+/// text stays.
 pub(crate) fn push_last_line(
     alloc: Global,
     text: &mut Vec<u8>,

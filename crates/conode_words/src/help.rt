@@ -184,13 +184,14 @@ Prints the sheet with what can be rewritten safely: CompactSubObj as sections of
 its own, REAL32 and REAL64 by their bits, times and texts in UTF-16 by their
 bytes (the original type stays in OriginalDataType), keys of lists with leading
 zeros, blanks in names of sections, a sub-index 0 without type or access, values
-with an extended sign, unsigned limits of signed numbers. Each change goes to
-standard error, as `NAME:LINE: what changed: old -> new`; all other lines stay,
-but end with a line feed alone.
+and limits with an extended sign, unsigned limits of signed numbers, the mark by
+which DOS ends a file. Each change goes to standard error, as
+`NAME:LINE: what changed: old -> new`; all other lines stay, but end with a line
+feed alone.
 
   conode adapt vendor.eds > adapted.eds
 
-Standard input is /dev/stdin. CompactPDO is written out as sections: PDOs that
+`-` as SHEET is standard input. CompactPDO is written out as sections: PDOs that
 aren't valid, with mappings of 0 entries, since the sheet doesn't say more.
 
 --leading-zeros octal reads 010 as 8, --leading-zeros decimal as 10; without the
