@@ -57,7 +57,7 @@ class Transfer:
     def __init__(self, random_, key):
         self.r, self.key = random_, key
         self.frames, self.taken, self.ending = [], 0, None
-        self.within = set()
+        self.within, self.due = set(), set()
         self.way = self.r.choice(["download", "upload"])
         self.protocol = self.r.choice(["expedited", "segmented", "block"])
         few = self.protocol == "expedited"
@@ -132,10 +132,12 @@ class Transfer:
         while taken < len(pieces):
             block = pieces[taken:taken + block_size]
             count = len(block) if self.r.random() < 0.7 else self.r.randint(0, len(block))
+            self.due.add(len(self.frames) - 1)
             for i, piece in enumerate(block):
                 last = taken + i == len(pieces) - 1
                 if i < len(block) - 1:
                     self.within.add(len(self.frames))
+                    self.due.add(len(self.frames))
                 self.say(sender, bytes([i + 1 | 0x80 * last]) + piece.ljust(7, b"\0"))
             taken += count
             block_size = self.r.choice(sizes)
@@ -165,6 +167,10 @@ class Transfer:
         side = self.frames[-1][0]
         other = SERVER if side == CLIENT else CLIENT
         return side if len(self.frames) - 1 in self.within else other
+
+    def is_due(self):
+        """Whether the server of an upload has segments of a sub-block left to send."""
+        return self.way == "upload" and len(self.frames) - 1 in self.due
 
     def request(self):
         """Its first frame alone, without an answer."""
@@ -212,7 +218,7 @@ def left_ending(before, stamps, transfer, now):
         return None
     if [frame for _, frame, _ in before.frames] == [transfer.frames[0][1]]:
         return f"requested again after {waited}"
-    if before.next_end() == CLIENT:
+    if before.next_end() == CLIENT or before.is_due() and now - stamps[-1] < 50000:
         return "interrupted"
     return None if is_segment_after(before.frames, transfer.frames[0][1]) else f"no answer in {waited}"
 

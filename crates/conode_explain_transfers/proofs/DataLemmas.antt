@@ -54,7 +54,7 @@ pub record IsOpenWith (transfer : Transfer) (bytes : List ℕ) : Type 0 where
 abbrev pub StaysOpen : Option Transfer → List ℕ → Type 0
 StaysOpen current bytes = IfSome current (λ transfer. IsOpenWith transfer bytes)
 
-frame_open : (what : What) (transfer : Transfer) (micros : ℕ) (side : Side) (bytes : List ℕ)
+pub frame_open : (what : What) (transfer : Transfer) (micros : ℕ) (side : Side) (bytes : List ℕ)
     → IsOpenWith transfer bytes → IsOpenWith (with_frame what transfer micros side) bytes
 frame_open Overtaken transfer micros side bytes h = h
 frame_open _ transfer micros side bytes h = record { unconfirmed = h.unconfirmed; taken = h.taken }

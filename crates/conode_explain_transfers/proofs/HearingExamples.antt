@@ -11,8 +11,8 @@ use Rattle.conode_explain_transfers.specs.declared.kinds.What.{What}
 use Rattle.conode_explain_transfers.specs.declared.kinds.What.TheVariants.{Initiate, Part, Segment, OutOfSequence, LastAgain, Overtaken, Unexpected, Stray, BegunBefore}
 use Rattle.conode_explain_transfers.specs.Crc.{shifted, crc_with}
 use Rattle.conode_explain_transfers.specs.Followed.{nothing_heard}
-use Rattle.conode_explain_transfers.specs.Hearings.{begins_as_last, is_last_again, is_low_last, is_low_segment, named}
-use Rattle.conode_explain_transfers.proofs.Dialogues.{End, Sent, Told, c, heard_all, hex, s, shown}
+use Rattle.conode_explain_transfers.specs.Hearings.{begins_as_last, hearing, is_last_again, is_low_last, is_low_segment, named}
+use Rattle.conode_explain_transfers.proofs.Dialogues.{End, Sent, Told, c, ends_with, heard_all, hex, s, shown}
 
 -- a segment of a block download, of a block upload
 abbrev segment : ℕ → Sent
@@ -468,7 +468,8 @@ unfolding request_row_in response_row_in shifted crc_with
 no_answer = refl
 
 -- within a sub-block it is the turn of the end that sends the data, until all segments of it came, or the last one: after segment 1 of 2 it is
--- the client of a download that stops, and the server of an upload. Where a segment came twice, it isn't said that there was no answer
+-- the client of a download that stops, and the server of an upload, whose next segment may be due. Where a segment came twice, it isn't said
+-- that there was no answer
 abbrev unanswered : ℕ → List End
 unanswered frames = record { protocol = Block; bytes = 0; first = []; frames = frames; ending = Unanswered } ∷ []
 
@@ -480,9 +481,28 @@ left_in_download = refl
 
 left_in_upload : map (λ frames. (shown (c (codes "A000210002000000") ∷ s (codes "C000210000000000") ∷ c (codes "A300000000000000") ∷ frames ++ c (codes "4000100000000000") ∷ [])).ends)
     ([] ∷ (uploaded 1 ∷ []) ∷ (uploaded 1 ∷ uploaded 2 ∷ []) ∷ (uploaded 0x81 ∷ []) ∷ (uploaded 1 ∷ uploaded 1 ∷ []) ∷ [])
-    ≡ unanswered 3 ∷ unanswered 4 ∷ left 5 ∷ left 4 ∷ left 5 ∷ []
+    ≡ left 3 ∷ left 4 ∷ left 5 ∷ left 4 ∷ left 5 ∷ []
 unfolding request_row_in response_row_in shifted crc_with
 left_in_upload = refl
+
+-- segment 1 comes at 60 ms, the other frames at 0; and then a request, with this stamp in microseconds
+abbrev left_at : List Sent → Sent → ℕ → List End
+left_at before sent micros =
+    let current = (hearing (heard_all nothing_heard before) 60000 sent.side sent.bytes).next in
+    ends_with (hearing current micros Client (hex (codes "4000100000000000"))).says.ended []
+
+-- the next segment of an upload is due for 50 ms, also where the stamp steps back, and where there is none
+due_in_upload : map (left_at (c (codes "A000210002000000") ∷ s (codes "C000210000000000") ∷ c (codes "A300000000000000") ∷ []) (uploaded 1)) (0 ∷ 60000 ∷ 109999 ∷ 110000 ∷ [])
+    ≡ left 4 ∷ left 4 ∷ left 4 ∷ unanswered 4 ∷ []
+unfolding request_row_in response_row_in shifted crc_with
+due_in_upload = refl
+
+-- all segments of an upload came, and the last one; a download: 1 s later as well
+not_due : map (λ frames. left_at (c (codes "A000210001000000") ∷ s (codes "C000210000000000") ∷ c (codes "A300000000000000") ∷ []) frames 1060000) (uploaded 1 ∷ uploaded 0x81 ∷ [])
+    ++ left_at (c (codes "C000210000000000") ∷ s (codes "A000210002000000") ∷ []) (segment 1) 1060000 ∷ []
+    ≡ left 4 ∷ left 4 ∷ left 3 ∷ []
+unfolding request_row_in response_row_in shifted crc_with
+not_due = refl
 
 -- segment 2 of 4 is missing, and 83h is the last one: it isn't known whether others are left, so it is as the newest frame has it
 gap_in_download : (shown (c (codes "C000210000000000") ∷ s (codes "A000210004000000") ∷ segment 1 ∷ segment 0x83 ∷ c (codes "4000100000000000") ∷ [])).ends ≡ unanswered 4

@@ -5,6 +5,7 @@ pub mod Dialogues
 pub mod DoneLemmas
 pub mod HeardLemmas
 pub mod Kept
+mod LateExamples
 mod DoubtfulExamples
 mod DoubtfulLemmas
 mod HearingExamples

@@ -8,7 +8,7 @@ use Rattle.conode_explain_transfers.specs.declared.transfer.Transfer.{Transfer}
 use Rattle.conode_explain_transfers.specs.Data.{data_by, IsDoneWith}
 use Rattle.conode_explain_transfers.specs.Doubtful.{freed, shown_by}
 use Rattle.conode_explain_transfers.specs.Followed.{Event, Framed, BootedUp, Following, after_boot, nothing_heard}
-use Rattle.conode_explain_transfers.specs.Hearings.{aside, hearing, made_up}
+use Rattle.conode_explain_transfers.specs.Hearings.{aside, hearing, late_segment, made_up}
 use Rattle.conode_explain_transfers.specs.Readings.{reading_of}
 use Rattle.conode_explain_transfers.specs.Turns.{turn_of}
 
@@ -22,7 +22,12 @@ heard_after (BootedUp micros ∷ older) = after_boot (heard_after older)
 abbrev pub heard_of : List Event → ℕ → Side → List ℕ → Heard
 heard_of log micros side frame = (hearing (heard_after log) micros side frame).says
 
--- with a frame; one that is put aside takes none
+-- a frame that takes no data: a segment after its acknowledge, or one that is put aside
+abbrev pub beside : Option What → Option What → Option What
+beside (Some late) passed = Some late
+beside None passed = passed
+
+-- with a frame
 abbrev pub data_heard : Option What → Option Transfer → Side → List ℕ → List ℕ → List ℕ
 data_heard (Some what) current side frame bytes = bytes
 data_heard None current side frame bytes = data_by current (reading_of current side frame) frame bytes
@@ -38,7 +43,7 @@ heard_data [] = []
 heard_data (Framed micros side frame ∷ older) =
     let before = (heard_after older).transfer in
     let current = freed before side frame in
-    data_heard (aside current side frame) (made_up current side frame) side frame (data_freed (shown_by before side frame) (heard_data older))
+    data_heard (beside (late_segment current side frame) (aside current side frame)) (made_up current side frame) side frame (data_freed (shown_by before side frame) (heard_data older))
 heard_data (BootedUp micros ∷ older) = []
 
 -- the open transfer is done with a frame after a log

@@ -1,6 +1,7 @@
 -- What is heard on a channel of a recording. Not each frame is of the transfer that is open, and some
 -- of its frames may be missing in the recording.
-use Rattle.std.specs.Prelude.{ℕ, ◌+◌, ◌==◌, ◌&&◌, ◌||◌, ◌%◌, ◌/◌, nat_le, nat_lt, not, Bool, true, false, if◌then◌else◌, List, length, slice_index, Option, Some, None}
+use Rattle.std.specs.Prelude.{ℕ, ◌+◌, ◌-◌, ◌==◌, ◌&&◌, ◌||◌, ◌%◌, ◌/◌, nat_le, nat_lt, not, Bool, true, false, if◌then◌else◌, List, length, slice_index, Option, Some, None}
+use Rattle.std.specs.Option.{option_map}
 use Rattle.co_frame.specs.SdoResponses.{response_in}
 use Rattle.co_frame.specs.declared.sdo_response.SdoResponse.{SdoResponse}
 use Rattle.co_frame.specs.declared.sdo_response.SdoResponse.TheVariants.{Abort, UploadSegment, BlockDownloadInitiated}
@@ -12,18 +13,18 @@ use Rattle.conode_explain_transfers.specs.declared.ended.Ending.TheVariants.{Una
 use Rattle.conode_explain_transfers.specs.declared.kinds.Side.{Side}
 use Rattle.conode_explain_transfers.specs.declared.kinds.Side.TheVariants.{Client, Server}
 use Rattle.conode_explain_transfers.specs.declared.kinds.What.{What}
-use Rattle.conode_explain_transfers.specs.declared.kinds.What.TheVariants.{Segment, LastAgain, Overtaken, Unexpected}
+use Rattle.conode_explain_transfers.specs.declared.kinds.What.TheVariants.{Segment, OutOfSequence, LastAgain, Overtaken, Unexpected}
 use Rattle.conode_explain_transfers.specs.declared.reading.Reading.{Reading}
 use Rattle.conode_explain_transfers.specs.declared.reading.Reading.TheVariants.{Begin}
 use Rattle.conode_explain_transfers.specs.declared.stage.Stage.{Stage}
 use Rattle.conode_explain_transfers.specs.declared.stage.Stage.TheVariants.{BlockInitiated, SubBlock, AllAcknowledged}
 use Rattle.conode_explain_transfers.specs.declared.transfer.Transfer.{Transfer}
 use Rattle.conode_explain_transfers.specs.BlockTurns.{is_block, most_segments}
-use Rattle.conode_explain_transfers.specs.Doubtful.{asks_for, freed, names_other, noted}
-use Rattle.conode_explain_transfers.specs.Followed.{Following, Followed, after_boot, ends_as, followed}
+use Rattle.conode_explain_transfers.specs.Doubtful.{asks_for, freed, names_other, noted, with_newest}
+use Rattle.conode_explain_transfers.specs.Followed.{Following, Followed, after_boot, ends_as, followed, with_frame}
 use Rattle.conode_explain_transfers.specs.Readings.{answers_key, is_in_sub_block, is_sender, plain_reading}
 use Rattle.conode_explain_transfers.specs.Stages.{is_initiated}
-use Rattle.conode_explain_transfers.specs.Transfers.{awaited_number, is_download}
+use Rattle.conode_explain_transfers.specs.Transfers.{awaited_number, irregular, is_download}
 use Rattle.conode_explain_transfers.specs.Unanswered.{is_client, multiplexer_of, number_of, refuses_with}
 
 -- ---- segments by their first byte
@@ -181,10 +182,16 @@ made_up (Some transfer) side bytes = Some (with_missing side bytes transfer)
 abbrev pub begins_as_end : ℕ → Bool
 begins_as_end byte = (byte / 32 == 6) && (byte % 4 == 1)
 
+-- the last segment came, and the end didn't
+abbrev pub has_last : Stage → Bool
+has_last (SubBlock last) = last
+has_last AllAcknowledged = true
+has_last _ = false
+
 -- the last segment of the transfer comes again: with 128 more than its number, the one before the next
 abbrev pub is_last_again : Transfer → Side → List ℕ → Bool
 is_last_again transfer side bytes =
-    (is_after_last transfer.stage && is_sender transfer.direction side)
+    (has_last transfer.stage && is_sender transfer.direction side)
     && (((length bytes == 8) && not (begins_as_end (slice_index bytes 0)))
     && (nat_lt 128 (slice_index bytes 0) && (number_of bytes + 1 == transfer.next_number)))
 
@@ -197,6 +204,69 @@ abbrev pub named : Option What → What → What
 named (Some again) Unexpected = again
 named again what = what
 
+-- ---- segments that come after the acknowledge of their sub-block
+
+abbrev pub is_all_acknowledged : Stage → Bool
+is_all_acknowledged AllAcknowledged = true
+is_all_acknowledged _ = false
+
+-- The last segment comes again after its acknowledge, with a number of 1 to 31: 81h to 9Fh, which would be
+-- an abort there. With a higher number it isn't read as one, and `last_again` names it.
+abbrev pub is_again_acknowledged : Transfer → Side → List ℕ → Bool
+is_again_acknowledged transfer side bytes =
+    (is_all_acknowledged transfer.stage && is_sender transfer.direction side)
+    && (is_low_last bytes && (number_of bytes + 1 == transfer.next_number))
+
+-- A receiver may acknowledge a sub-block before its end, since a segment is missing (7.2.4.3.10,
+-- 7.2.4.3.14). The sender goes on with segment 1, and what it had under way comes before that: the
+-- segments after the newest one.
+abbrev pub is_left_segment : Transfer → Side → List ℕ → Bool
+is_left_segment transfer side bytes =
+    (is_within_sub_block transfer.stage && is_sender transfer.direction side)
+    && (((length bytes == 8) && nat_lt 0 transfer.left_number)
+    && (nat_le (number_of bytes) transfer.block_size && (number_of bytes == transfer.left_number + 1)))
+
+abbrev pub late_in : Transfer → Side → List ℕ → Option What
+late_in transfer side bytes =
+    if is_again_acknowledged transfer side bytes then Some (LastAgain (number_of bytes))
+    else (if is_left_segment transfer side bytes then Some (OutOfSequence (number_of bytes) transfer.next_number) else None)
+
+-- what such a segment is
+abbrev pub late_segment : Option Transfer → Side → List ℕ → Option What
+late_segment None side bytes = None
+late_segment (Some transfer) side bytes = late_in transfer side bytes
+
+-- One that was under way is taken by no one, and the next sub-block still begins with 1.
+abbrev pub with_late : What → List ℕ → Transfer → Transfer
+with_late (LastAgain number) bytes transfer = irregular transfer
+with_late _ bytes transfer = record transfer { left_number = number_of bytes }
+
+-- the transfer after it
+abbrev pub after_late : What → ℕ → Side → List ℕ → Transfer → Transfer
+after_late what micros side bytes transfer = with_newest side what micros bytes (with_frame what (with_late what bytes transfer) micros side)
+
+-- the number of the newest segment that came of a sub-block, also after its acknowledge; 0: none came
+abbrev pub newest_in : Transfer → ℕ
+newest_in transfer = if transfer.left_number == 0 then transfer.next_number - 1 else transfer.left_number
+
+abbrev pub newest_number : Option Transfer → ℕ
+newest_number None = 0
+newest_number (Some transfer) = newest_in transfer
+
+-- a sub-block begins with this acknowledge of the one before: A2h of the receiver, in both directions
+abbrev pub begins_next : Side → List ℕ → Transfer → Bool
+begins_next side bytes transfer =
+    (transfer.next_number == 1) && (not (is_sender transfer.direction side) && (slice_index bytes 0 == 162))
+
+-- It names the newest segment that was taken, in byte 1; segments after the newest one that came may be
+-- under way where that isn't the same.
+abbrev pub left_by : ℕ → Side → List ℕ → Transfer → ℕ
+left_by newest side bytes transfer = if begins_next side bytes transfer && nat_lt (slice_index bytes 1) newest then newest else 0
+
+abbrev pub with_left : ℕ → Side → List ℕ → Option Transfer → Option Transfer
+with_left newest side bytes None = None
+with_left newest side bytes (Some transfer) = Some (record transfer { left_number = left_by newest side bytes transfer })
+
 -- ---- ends
 
 -- The end that sends the data has segments of the sub-block left to send, so it is its turn, whoever sent
@@ -206,14 +276,23 @@ has_segments_left transfer =
     is_within_sub_block transfer.stage
     && (nat_le transfer.next_number transfer.block_size && (awaited_number transfer == transfer.next_number))
 
--- Whether a client that leaves the transfer awaited an answer, where the end that sent the newest frame
--- doesn't show it. Frames of it are missing, maybe the answer too; or the server sent the newest one, as
--- an abort that may have been meant for it: then it isn't said that there was no answer.
-abbrev pub awaits_answer : Option Transfer → Option Bool
-awaits_answer None = None
-awaits_answer (Some transfer) =
+-- A segment is due as long as the newest frame came less than 50 ms before: another client may have sent
+-- the request. In microseconds; in a recording without stamps all are due.
+abbrev pub segment_time : ℕ
+segment_time = 50000
+
+-- the server of an upload has segments left to send, and has sent none for that time
+abbrev pub is_silent : ℕ → Transfer → Bool
+is_silent micros transfer = not (is_download transfer.direction) && nat_le segment_time (micros - transfer.newest)
+
+-- Whether a client that leaves the transfer with a frame awaited an answer, where the end that sent the
+-- newest frame doesn't show it. Frames of it are missing, maybe the answer too; or the server sent the
+-- newest one, as an abort that may have been meant for it: then it isn't said that there was no answer.
+abbrev pub awaits_answer : ℕ → Option Transfer → Option Bool
+awaits_answer micros None = None
+awaits_answer micros (Some transfer) =
     if transfer.irregular then Some false
-    else (if has_segments_left transfer then Some (not (is_download transfer.direction))
+    else (if has_segments_left transfer then Some (is_silent micros transfer)
     else (if is_client transfer.by then None else Some false))
 
 abbrev pub left_awaiting : Bool → Ending
@@ -247,30 +326,41 @@ cut following micros = record {
   next = after_boot following;
 }
 
+-- a segment after the acknowledge of its sub-block: it has the entry of the open transfer
+abbrev pub late : Following → What → ℕ → Side → List ℕ → Followed
+late following what micros side bytes = record {
+  says = record { what = what; of = option_map (λ t. t.key) following.transfer; ended = None };
+  next = record following { transfer = option_map (after_late what micros side bytes) following.transfer };
+}
+
 abbrev pub with_end : Option Bool → Followed → Followed
 with_end awaits f = record { says = record f.says { ended = sure_end awaits f.says.ended }; next = f.next }
 
 abbrev pub with_name : Option What → Followed → Followed
 with_name again f = record { says = record f.says { what = named again f.says.what }; next = f.next }
 
--- the client's newest frame is kept, where it may be a request
-abbrev pub with_note : ℕ → Side → List ℕ → Followed → Followed
-with_note micros side bytes f =
-    record { says = f.says; next = record f.next { transfer = noted side f.says.what micros bytes f.next.transfer } }
+-- the client's newest frame is kept, where it may be a request; and which segments may be under way
+abbrev pub with_note : ℕ → ℕ → Side → List ℕ → Followed → Followed
+with_note newest micros side bytes f =
+    record { says = f.says; next = record f.next { transfer = with_left newest side bytes (noted side f.says.what micros bytes f.next.transfer) } }
 
 -- the channel takes it
 abbrev pub heard_next : Following → ℕ → Side → List ℕ → Followed
 heard_next following micros side bytes =
-    with_name (last_again following.transfer side bytes) (with_note micros side bytes
-    (with_end (awaits_answer following.transfer) (followed (record following { transfer = made_up following.transfer side bytes }) micros side bytes)))
+    with_name (last_again following.transfer side bytes) (with_note (newest_number following.transfer) micros side bytes
+    (with_end (awaits_answer micros following.transfer) (followed (record following { transfer = made_up following.transfer side bytes }) micros side bytes)))
 
 abbrev pub hearing_by : Option What → Following → ℕ → Side → List ℕ → Followed
 hearing_by (Some what) following micros side bytes = passed following what bytes
 hearing_by None following micros side bytes = heard_next following micros side bytes
 
+abbrev pub hearing_late : Option What → Following → ℕ → Side → List ℕ → Followed
+hearing_late (Some what) following micros side bytes = late following what micros side bytes
+hearing_late None following micros side bytes = hearing_by (aside following.transfer side bytes) following micros side bytes
+
 abbrev pub hearing_where : Bool → Following → ℕ → Side → List ℕ → Followed
 hearing_where true following micros side bytes = cut following micros
-hearing_where false following micros side bytes = hearing_by (aside following.transfer side bytes) following micros side bytes
+hearing_where false following micros side bytes = hearing_late (late_segment following.transfer side bytes) following micros side bytes
 
 -- of the transfer that is open before it
 abbrev pub hearing_in : Following → ℕ → Side → List ℕ → Followed

@@ -134,8 +134,8 @@ impl Transfer {
         self.frames = self.frames.saturating_add(1);
     }
 
-    // Notes who sent the newest frame, and when; a frame of another transfer doesn't count.
-    fn note_frame(&mut self, what: What, micros: u64, side: Side)
+    /// Notes who sent the newest frame, and when; a frame of another transfer doesn't count.
+    pub(crate) fn note_frame(&mut self, what: What, micros: u64, side: Side)
         ensures { self.new ≡ with_frame what self.old micros side }
     {
         match what {

@@ -18,6 +18,7 @@ ghost use Rattle.conode_explain_transfers.specs.Hearings.{
   cut,
   earlier,
   earlier_abort,
+  has_last,
   has_segments_left,
   heard_next,
   hearing,
@@ -29,6 +30,7 @@ ghost use Rattle.conode_explain_transfers.specs.Hearings.{
   is_low_last,
   is_low_segment,
   is_over,
+  is_silent,
   is_within_sub_block,
   lacks_acknowledge,
   lacks_start,
@@ -44,6 +46,7 @@ ghost use Rattle.conode_explain_transfers.specs.Hearings.{
   sure_end,
   sure_ending,
   with_aside,
+  with_left,
   with_missing,
 };
 ghost use Rattle.conode_explain_transfers.specs.Readings.{is_in_sub_block, plain_reading};
@@ -60,6 +63,9 @@ use crate::transfer::Transfer;
 use crate::unanswered::{ABORT, byte_at, is_client, multiplexer_of, number_of};
 use co_frame::{Frame, SdoResponse};
 use co_value::Key;
+
+/// For how long the next segment of an upload is due after the newest frame, in microseconds.
+const SEGMENT_TIME: u64 = 50_000;
 
 /// No segment with a number below it begins as an initiate request does, or as a response to one.
 const FIRST_SERVICE: u8 = 32;
@@ -81,8 +87,8 @@ fn begins_as_last(next: u8) -> bool
     is_upload || is_download
 }
 
-// Whether it begins as the last one of its transfer does.
-fn is_low_last(frame: &Frame) -> bool
+/// Whether it begins as the last one of its transfer does.
+pub(crate) fn is_low_last(frame: &Frame) -> bool
     ensures { result ≡ is_low_last frame.now.bytes }
 {
     is_low_segment(frame) && ABORT < byte_at(frame.bytes(), 0)
@@ -166,7 +172,7 @@ impl Stage {
         }
     }
 
-    // Whether the last segment came.
+    // Whether the last segment came, and its acknowledge is awaited.
     fn is_after_last(self) -> bool
         ensures { result ≡ is_after_last self }
     {
@@ -176,8 +182,19 @@ impl Stage {
         }
     }
 
-    // Whether segments of a sub-block are awaited.
-    fn is_within_sub_block(self) -> bool
+    // Whether the last segment came, and the end didn't.
+    fn has_last(self) -> bool
+        ensures { result ≡ has_last self }
+    {
+        match self {
+            Stage::SubBlock { last } => last,
+            Stage::AllAcknowledged => true,
+            _ => false,
+        }
+    }
+
+    /// Whether segments of a sub-block are awaited.
+    pub(crate) fn is_within_sub_block(self) -> bool
         ensures { result ≡ is_within_sub_block self }
     {
         match self {
@@ -319,17 +336,24 @@ impl Transfer {
             && (self.next_number <= self.block_size && self.awaited_number() == self.next_number)
     }
 
+    // Whether it is an upload, and no frame came for so long that a segment isn't just due.
+    fn is_silent(&self, micros: u64) -> bool
+        ensures { result ≡ is_silent micros self.now }
+    {
+        !self.is_download() && micros.saturating_sub(self.newest) >= SEGMENT_TIME
+    }
+
     // Whether a client that leaves it awaited an answer, where the end that sent the newest frame
     // doesn't show it: frames of it are missing, segments are left to send, or the server sent an
     // abort of another entry.
-    fn awaits_answer(&self) -> Option<bool>
-        ensures { result ≡ awaits_answer (Some self.now) }
+    fn awaits_answer(&self, micros: u64) -> Option<bool>
+        ensures { result ≡ awaits_answer micros (Some self.now) }
     {
         if self.irregular {
             return Some(false);
         }
         if self.has_segments_left() {
-            return Some(!self.is_download());
+            return Some(self.is_silent(micros));
         }
         if is_client(self.by) {
             None
@@ -343,7 +367,7 @@ impl Transfer {
         ensures { result ≡ is_last_again self.now side frame.now.bytes }
     {
         let bytes = frame.bytes();
-        (self.stage.is_after_last() && self.is_sender(side))
+        (self.stage.has_last() && self.is_sender(side))
             && ((bytes.len() == 8 && !begins_as_end(byte_at(bytes, 0)))
                 && (ABORT < byte_at(bytes, 0)
                     && number_of(frame) as u16 + 1 == self.next_number as u16))
@@ -418,11 +442,11 @@ impl Channel {
 
     // Whether a client that leaves the open transfer awaited an answer, where the end that sent the
     // newest frame doesn't show it.
-    fn awaits_answer(&self) -> Option<bool>
-        ensures { result ≡ awaits_answer self.now.transfer }
+    fn awaits_answer(&self, micros: u64) -> Option<bool>
+        ensures { result ≡ awaits_answer micros self.now.transfer }
     {
         match &self.transfer {
-            Some(transfer) => transfer.awaits_answer(),
+            Some(transfer) => transfer.awaits_answer(micros),
             None => None,
         }
     }
@@ -481,13 +505,17 @@ impl Channel {
         }
     }
 
-    // Keeps the client's newest frame, where it may be a request.
-    fn note(&mut self, side: Side, what: What, micros: u64, frame: &Frame)
-        ensures { self.new ≡ record self.old
-            { transfer = noted side what micros frame.now.bytes self.old.transfer } }
+    // Keeps the client's newest frame, where it may be a request; and the number of the newest
+    // segment, where it is of a sub-block that is over.
+    fn note(&mut self, newest: u8, side: Side, what: What, micros: u64, frame: &Frame)
+        ensures { self.new ≡ record self.old {
+          transfer = with_left newest side frame.now.bytes
+              (noted side what micros frame.now.bytes self.old.transfer);
+        } }
     {
         if let Some(transfer) = &mut self.transfer {
             transfer.note_newest(side, what, micros, frame);
+            transfer.note_left(newest, side, frame);
         }
     }
 
@@ -496,11 +524,12 @@ impl Channel {
         ensures says { result ≡ (heard_next self.old micros side frame.now.bytes).says }
         ensures next { self.new ≡ (heard_next self.old micros side frame.now.bytes).next }
     {
-        let awaits = self.awaits_answer();
+        let awaits = self.awaits_answer(micros);
         let again = self.last_again(side, frame);
+        let newest = self.newest_number();
         self.make_up(side, frame);
         let heard = self.take(micros, side, frame);
-        self.note(side, heard.what, micros, frame);
+        self.note(newest, side, heard.what, micros, frame);
         Heard {
             what: named(again, heard.what),
             of: heard.of,
@@ -516,6 +545,9 @@ impl Channel {
         if self.is_over(side, frame) {
             return self.cut(micros);
         }
+        if let Some(what) = self.late_segment(side, frame) {
+            return self.hear_late(what, micros, side, frame);
+        }
         if let Some(what) = self.aside(side, frame) {
             return self.pass(what, frame);
         }
@@ -529,9 +561,11 @@ impl Channel {
     /// of a transfer that lacks the start of a block upload, or an acknowledge with a larger block
     /// size, the segments are followed; none of which frames are missing, or an abort was put
     /// aside, is `Unanswered` or `Repeated`; where segments of a sub-block are left, a download
-    /// that the client leaves is `Interrupted`, an upload `Unanswered`; and the last segment of a
-    /// sub-block that comes again is `LastAgain`. What the frame reveals of a transfer that was
-    /// left has to be asked for before (`reveals`).
+    /// that the client leaves is `Interrupted`, and an upload `Unanswered` only where no frame came
+    /// for 50 ms; the last segment of a sub-block that comes again is `LastAgain`, also after its
+    /// acknowledge; and segments that were under way at an acknowledge of fewer than came leave the
+    /// transfer regular. What the frame reveals of a transfer that was left has to be asked for
+    /// before (`reveals`).
     pub fn hear(&mut self, micros: u64, side: Side, frame: &Frame) -> Heard
         ensures heard { result ≡ (hearing self.old micros side frame.now.bytes).says }
         ensures next { self.new ≡ (hearing self.old micros side frame.now.bytes).next }

@@ -12,6 +12,7 @@ mod ended;
 mod hearing;
 mod initiate;
 mod kinds;
+mod late;
 mod laws;
 mod reading;
 mod requests;
