@@ -144,7 +144,7 @@ fix_of WrongAccess = codes "give the entry that access"
 fix_of MisspeltSection = codes "write the name as the standard has it, as [DeviceInfo], [1018sub1]"
 fix_of (MisspeltKey meant) = codes "write the key as the standard has it"
 fix_of (SharedCobId node) =
-    codes "give each PDO, SDO channel and EMCY an identifier of its own, or set bit 31"
+    codes "give each an identifier of its own; or disable a PDO, an SDO channel or EMCY by bit 31, TIME by bits 31 and 30 clear"
 fix_of InhibitTime = codes "set it to 0, or take a transmission type from 254 on"
 fix_of OwnHeartbeat = codes "give the node-ID of another node, or set the word to 0"
 fix_of (HeartbeatTwice given) = codes "take one of the two out"

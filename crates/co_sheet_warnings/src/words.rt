@@ -170,7 +170,8 @@ const FIXES: [&str; 33] = [
     "give the entry that access",
     "write the name as the standard has it, as [DeviceInfo], [1018sub1]",
     "write the key as the standard has it",
-    "give each PDO, SDO channel and EMCY an identifier of its own, or set bit 31",
+    "give each an identifier of its own; or disable a PDO, an SDO channel or EMCY by bit 31, TIME by \
+    bits 31 and 30 clear",
     "set it to 0, or take a transmission type from 254 on",
     "give the node-ID of another node, or set the word to 0",
     "take one of the two out",

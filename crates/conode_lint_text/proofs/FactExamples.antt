@@ -242,7 +242,7 @@ slip_texts = refl
 
 slip_fixes : map (λ about. fix_with about (codes "f")) (Fact fact.NoMapping ∷ Fact fact.NotOctal ∷ Fact fact.OpenSection ∷ Fact fact.Unsupported ∷ Fact fact.ManyEntries ∷ Fact (fact.DecimalName 10 16) ∷ Fact (fact.SubIndex0 10 16) ∷ [])
     ≡ codes "write 1 if the entry may be mapped into a PDO, or else 0" ∷ codes "write the number without the zero, or try conode adapt --leading-zeros decimal"
-    ∷ codes "put `]` after the name; until then no section of this name is read, so a listed object lacks it" ∷ codes "take the object out of its list"
+    ∷ codes "put `]` after the name, or take the section out where the sheet has it already; until then its lines aren't read, so a listed object may lack them" ∷ codes "take the object out of its list"
     ∷ codes "describe its sub-indices, with ObjectType=8 of 1003h or ObjectType=9 of a mapping; or take the object out of its list"
     ∷ codes "write the sub-index in hexadecimal in each section's name, as subA for 10; or give the highest sub-index" ∷ codes "f" ∷ []
 unfolding fix_with
@@ -258,8 +258,8 @@ type_names : map bad_number (codes "DataType=UNSIGNED8" ∷ codes " datatype = R
 unfolding named_code
 type_names = refl
 
-type_codes : map named_code (codes "BOOLEAN" ∷ codes "INTEGER8" ∷ codes "INTEGER16" ∷ codes "INTEGER32" ∷ codes "INTEGER64" ∷ codes "UNSIGNED8" ∷ codes "UNSIGNED16" ∷ codes "UNSIGNED32" ∷ codes "UNSIGNED64" ∷ codes "REAL32" ∷ codes "REAL64" ∷ codes "VISIBLE_STRING" ∷ codes "OCTET_STRING" ∷ codes "UNICODE_STRING" ∷ codes "DOMAIN" ∷ codes "UNSIGNED" ∷ [])
-    ≡ Some 1 ∷ Some 2 ∷ Some 3 ∷ Some 4 ∷ Some 0x15 ∷ Some 5 ∷ Some 6 ∷ Some 7 ∷ Some 0x1B ∷ Some 8 ∷ Some 0x11 ∷ Some 9 ∷ Some 10 ∷ Some 11 ∷ Some 15 ∷ None ∷ []
+type_codes : map named_code (codes "BOOLEAN" ∷ codes "INTEGER8" ∷ codes "INTEGER16" ∷ codes "INTEGER24" ∷ codes "INTEGER32" ∷ codes "INTEGER40" ∷ codes "INTEGER48" ∷ codes "INTEGER56" ∷ codes "INTEGER64" ∷ codes "UNSIGNED8" ∷ codes "UNSIGNED16" ∷ codes "UNSIGNED24" ∷ codes "UNSIGNED32" ∷ codes "UNSIGNED40" ∷ codes "UNSIGNED48" ∷ codes "UNSIGNED56" ∷ codes "UNSIGNED64" ∷ codes "REAL32" ∷ codes "REAL64" ∷ codes "VISIBLE_STRING" ∷ codes "OCTET_STRING" ∷ codes "UNICODE_STRING" ∷ codes "TIME_OF_DAY" ∷ codes "TIME_DIFFERENCE" ∷ codes "DOMAIN" ∷ codes "UNSIGNED" ∷ codes "UNSIGNED9" ∷ codes "TIME" ∷ [])
+    ≡ Some 0x01 ∷ Some 0x02 ∷ Some 0x03 ∷ Some 0x10 ∷ Some 0x04 ∷ Some 0x12 ∷ Some 0x13 ∷ Some 0x14 ∷ Some 0x15 ∷ Some 0x05 ∷ Some 0x06 ∷ Some 0x16 ∷ Some 0x07 ∷ Some 0x18 ∷ Some 0x19 ∷ Some 0x1A ∷ Some 0x1B ∷ Some 0x08 ∷ Some 0x11 ∷ Some 0x09 ∷ Some 0x0A ∷ Some 0x0B ∷ Some 0x0C ∷ Some 0x0D ∷ Some 0x0F ∷ None ∷ None ∷ None ∷ []
 unfolding named_code
 type_codes = refl
 

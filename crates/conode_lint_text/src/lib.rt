@@ -27,6 +27,7 @@ mod pieces;
 mod sarif_form;
 mod sums;
 mod text_form;
+mod type_names;
 mod words;
 
 pub use bounds::{bad_default, bad_limits};
