@@ -1,7 +1,10 @@
 -- What a sheet has where a finding is, evaluated.
 use Rattle.std.proofs.Common.{◌≡◌, ℕ, true, false, List, Some, None, [], ◌∷◌, ◌++◌, codes, map, refl}
-use Rattle.std.specs.Prelude.{pos, negsuc, replicate}
+use Rattle.std.specs.Prelude.{Bool, is_none, pos, negsuc, replicate}
+use Rattle.std.specs.List.{list_all}
 use Rattle.std.specs.Fmt.{digits}
+use Rattle.co_profile.specs.FixedTypes.{fixed_type_of}
+use Rattle.co_sheet_warnings.specs.Types.{standard_types}
 use Rattle.co_sheet_warnings.specs.declared.accesses.FixedAccess.TheVariants.{ReadOnly, Readable, ReadWrite}
 use Rattle.co_sheet_text_warnings.specs.declared.known_key.KnownKey.TheVariants.{AccessType, DataType, NrOfRxPdo}
 use Rattle.co_text.specs.Printed.{digits_text}
@@ -14,7 +17,7 @@ use Rattle.conode_lint_text.specs.declared.finding.About.TheVariants.{Line, Firs
 use Rattle.conode_lint_text.specs.declared.fact.Fact.TheVariants as fact
 use Rattle.conode_lint_text.specs.declared.meant_section.MeantSection.TheVariants as meant
 use Rattle.conode_lint_text.specs.FactTexts.{fact_text, hexadecimal, missing_text, texts_of, words_of}
-use Rattle.conode_lint_text.specs.Facts.{ambiguous_number, bad_access, bad_line, bad_list, bad_number, bad_type, count_fact, device_info, duplicate_key, duplicate_section, file_info, first_at, highest_fact, identity_number, list_fact, listed_twice, missing_key, missing_mandatory, missing_section, misspelt_key, misspelt_section, named_code, pdo_count, reserved_value, sub_index_0, sub_number, too_large, utf8, wrong_access, wrong_list}
+use Rattle.conode_lint_text.specs.Facts.{ambiguous_number, bad_access, bad_line, bad_list, bad_number, bad_type, count_fact, device_info, duplicate_key, duplicate_section, file_info, first_at, highest_fact, identity_number, list_fact, listed_twice, missing_key, missing_mandatory, missing_section, misspelt_key, misspelt_section, named_code, pdo_count, reserved_value, sub_index_0, sub_number, too_large, utf8, wrong_access, wrong_list, wrong_type}
 use Rattle.conode_lint_text.specs.Bounds.{bad_default, bad_limits}
 use Rattle.conode_lint_text.specs.Findings.{about_message, fix_with}
 
@@ -197,6 +200,22 @@ section_text = refl
 accesses : map (λ line. wrong_access line (section 10 (Object 0x1000) [] ∷ section 20 (Object 0x1017) [] ∷ section 30 (SubIndex (record { index = 0x1010; sub = 1 })) [] ∷ section 40 (SubIndex (record { index = 0x1003; sub = 0 })) [] ∷ [])) (10 ∷ 11 ∷ 20 ∷ 21 ∷ 31 ∷ 41 ∷ [])
     ≡ Line ∷ Access ReadOnly ∷ Access ReadOnly ∷ Line ∷ Access Readable ∷ Access ReadWrite ∷ []
 accesses = refl
+
+-- the type of the entry whose section the line is in; of an entry without one, and before the first section, nothing
+types_of_sections : map (λ line. wrong_type line (section 10 (Object 0x1006) [] ∷ section 20 (Object 0x1017) [] ∷ section 30 (SubIndex (record { index = 0x2000; sub = 0 })) [] ∷ section 40 (Object 0x1008) [] ∷ [])) (10 ∷ 11 ∷ 20 ∷ 21 ∷ 31 ∷ 41 ∷ [])
+    ≡ Line ∷ Fact (fact.StandardType 7) ∷ Fact (fact.StandardType 7) ∷ Line ∷ Fact (fact.StandardType 5) ∷ Fact (fact.StandardType 9) ∷ []
+types_of_sections = refl
+
+-- no entry of these has a type that is fixed, at the ends of each row
+abbrev is_free : ℕ → ℕ → Bool
+is_free index sub = is_none (fixed_type_of (record { index = index; sub = sub }))
+
+none_fixed : list_all (λ r. is_free r.1 r.3) standard_types ∷ list_all (λ r. is_free r.2 r.4) standard_types ∷ [] ≡ true ∷ true ∷ []
+none_fixed = refl
+
+standard_text : fact_text (fact.StandardType 9) ∷ fix_with (Fact (fact.StandardType 9)) (codes "f") ∷ [] ≡ codes "CiA 301 has DataType=0x0009 here" ∷ codes "f" ∷ []
+unfolding fact_text words_of texts_of fix_with filled digits digits_text
+standard_text = refl
 
 access_texts : map (λ access. about_message (Access access) (codes "m")) (ReadOnly ∷ Readable ∷ ReadWrite ∷ []) ≡ codes "CiA 301 has AccessType=ro or const here" ∷ codes "CiA 301 has AccessType=rw here" ∷ codes "CiA 301 has AccessType=rw here" ∷ []
 unfolding about_message

@@ -16,6 +16,7 @@ use Rattle.co_sheet_text.specs.Properties.{number_at, property_number}
 use Rattle.co_sheet_text.specs.Sections.{Property, TextSection, is_bracket, is_equals, property_at, section_at}
 use Rattle.co_sheet_text.specs.Text.{same_name, trim}
 use Rattle.co_sheet_warnings.specs.Accesses.{fixed_access}
+use Rattle.co_sheet_warnings.specs.Types.{standard_type}
 use Rattle.co_sheet_text_warnings.specs.Infos.{object_count}
 use Rattle.co_sheet_text_warnings.specs.KnownKeys.{key_text}
 use Rattle.co_sheet_text_warnings.specs.Lines.{has_other_byte}
@@ -383,6 +384,14 @@ access_fact s = option_map_or (λ access. Access access) (fixed_access s.kind) L
 
 abbrev pub wrong_access : ℕ → List TextSection → About
 wrong_access line sections = option_map_or access_fact (section_before line sections) Line
+
+-- of the WrongType of a line: the type that CiA 301 has for the entry
+abbrev pub standard_fact : TextSection → About
+standard_fact s =
+    option_map_or (λ t. Fact (fact.StandardType (code_of t))) (standard_type s.kind) Line
+
+abbrev pub wrong_type : ℕ → List TextSection → About
+wrong_type line sections = option_map_or standard_fact (section_before line sections) Line
 
 -- of the ReservedValue of a line: a transmission type of an RPDO or of a TPDO, or the value of 1019h
 abbrev pub reserved_fact : SectionKind → About

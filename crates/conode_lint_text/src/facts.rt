@@ -55,6 +55,7 @@ ghost use Rattle.conode_lint_text.specs.Facts.{
   section_kind,
   section_name,
   section_on,
+  standard_fact,
   too_large,
   type_fact,
   type_number,
@@ -62,6 +63,7 @@ ghost use Rattle.conode_lint_text.specs.Facts.{
   value_fact,
   wrong_access,
   wrong_list,
+  wrong_type,
 };
 
 use crate::fact::Fact;
@@ -72,7 +74,7 @@ use co_profile::fixed_type;
 use co_sheet::section_at;
 use co_sheet_text::{SectionKind, TextSection, number_in, same_name, trim, unsigned_number};
 use co_sheet_text_warnings::{KnownKey, has_other_byte};
-use co_sheet_warnings::fixed_access;
+use co_sheet_warnings::{fixed_access, standard_type};
 use co_text::split_at_first;
 use co_value::Key;
 
@@ -546,6 +548,25 @@ pub fn wrong_access(sections: &[TextSection<'_, '_>], line: usize) -> About
 {
     match section_before(sections, line) {
         Some(section) => access_fact(section),
+        None => About::Line,
+    }
+}
+
+fn standard_fact(section: &TextSection<'_, '_>) -> About
+    ensures { result ≡ standard_fact (section_view section.now) }
+{
+    match standard_type(section.kind) {
+        Some(data_type) => About::Fact(Fact::StandardType(data_type.code())),
+        None => About::Line,
+    }
+}
+
+/// Of the WrongType of a line: the type that CiA 301 has for the entry.
+pub fn wrong_type(sections: &[TextSection<'_, '_>], line: usize) -> About
+    ensures { result ≡ wrong_type line (map section_view sections.now) }
+{
+    match section_before(sections, line) {
+        Some(section) => standard_fact(section),
         None => About::Line,
     }
 }

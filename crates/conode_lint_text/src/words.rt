@@ -185,6 +185,7 @@ fn fact_fix(fact: Fact, fix: &str) -> &str
         | Fact::ListCount(_, _)
         | Fact::ListGap(_, _, _)
         | Fact::NoDataType
+        | Fact::StandardType(_)
         | Fact::MeantSection(_)
         | Fact::NoFileInfo(_)
         | Fact::NoDeviceInfo(_)
