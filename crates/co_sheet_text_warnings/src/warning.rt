@@ -39,6 +39,8 @@ pub enum WarningKind {
     ReservedValue,
     /// An access other than CiA 301 has it for the entry.
     WrongAccess,
+    /// A data type other than CiA 301 has it for the entry.
+    WrongType,
     /// A section that nothing reads, with a name that is like one of the standard.
     MisspeltSection,
     /// A key that the standard doesn't have, and that is like one of its own.

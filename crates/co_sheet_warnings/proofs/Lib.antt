@@ -12,7 +12,9 @@ mod LimitExamples
 mod NodeIdSumExamples
 mod ReservedValueExamples
 mod AccessExamples
+mod TypeExamples
 mod SectionNameExamples
 mod ByLineLemmas
 pub mod NameLemmas
 mod WordLemmas
+mod TypeLemmas

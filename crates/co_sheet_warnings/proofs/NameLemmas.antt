@@ -6,9 +6,10 @@ use Rattle.std.proofs.lemmas.List.{map-append}
 use Rattle.std.specs.Str.{bytes_eq}
 use Rattle.co_sheet_warnings.specs.declared.repeats.ScopedName.{ScopedName}
 use Rattle.co_sheet_text.specs.Sections.{Property, TextSection}
+use Rattle.co_sheet_warnings.specs.declared.repeats.CobIdUse.{CobIdUse}
 use Rattle.co_sheet_warnings.specs.declared.repeats.Once.{Once}
 use Rattle.co_sheet_warnings.specs.declared.repeats.Once.TheVariants.{Identifiers, Consumed, Names}
-use Rattle.co_sheet_warnings.specs.Repeats.{Placed, as_name, has_cob_id, id_name, identifier_in, identifier_name, identifier_of, identifiers_in, is_time, repeats, same_scoped, value_in}
+use Rattle.co_sheet_warnings.specs.Repeats.{Placed, as_name, has_cob_id, id_name, identifier_in, identifier_name, identifier_of, identifiers_in, repeats, same_scoped, use_of, value_in}
 use Rattle.co_sheet_warnings.specs.Repeats.{ScopedName as Scoped}
 use Rattle.co_sheet_text_warnings.specs.declared.warning.Warning.{Warning}
 use Rattle.co_sheet_text_warnings.specs.declared.warning.WarningKind.{WarningKind}
@@ -61,11 +62,11 @@ same_repeats before (x ∷ xs) =
     ∙ ap (λ l. cond (list_any (nat_eq x.key) before) (x.line ∷ repeats nat_eq before xs) l) (same_repeats (before ++ x.key ∷ []) xs)
 
 -- the identifier of an entry with a COB-ID and a value
-pub identifier_known : (node : ℕ) (s : TextSection) (time : Bool) (k : Property) (found : Option (Placed Scoped))
-    → true ≡ has_cob_id s.kind → Some k ≡ value_in s → time ≡ is_time s.kind → found ≡ option_map as_name (identifier_of node time k) → found ≡ identifier_name node s
-identifier_known node s time k found has given of_time is =
-    let of_value : Option Property → Option (Placed ℕ) = option_and_then (identifier_of node (is_time s.kind)) in
-    is ∙ ap (λ t. option_map as_name (identifier_of node t k)) of_time
+pub identifier_known : (node : ℕ) (s : TextSection) (by : CobIdUse) (k : Property) (found : Option (Placed Scoped))
+    → true ≡ has_cob_id s.kind → Some k ≡ value_in s → by ≡ use_of s.kind → found ≡ option_map as_name (identifier_of node by k) → found ≡ identifier_name node s
+identifier_known node s by k found has given as_used is =
+    let of_value : Option Property → Option (Placed ℕ) = option_and_then (identifier_of node (use_of s.kind)) in
+    is ∙ ap (λ t. option_map as_name (identifier_of node t k)) as_used
     ∙ ap (λ (o : Option Property). option_map as_name (of_value o)) given
     ∙ ap (λ b. option_map as_name (cond b (of_value (value_in s)) None)) has
 

@@ -3,7 +3,8 @@ use Rattle.std.proofs.Common.{◌≡◌, ℕ, List, Option, [], ◌∷◌, Some,
 use Rattle.std.specs.Prelude.{filter_map, option_and_then}
 use Rattle.co_sheet_text.specs.declared.section_kind.SectionKind.TheVariants.{MandatoryObjects, Object}
 use Rattle.co_sheet_text_warnings.specs.declared.warning.WarningKind.TheVariants.{SharedCobId, HeartbeatTwice, EqualNames, MissingName}
-use Rattle.co_sheet_warnings.specs.Repeats.{compared, first_equal, has_cob_id, identifier_with, is_time, used_cob_id}
+use Rattle.co_sheet_warnings.specs.Repeats.{compared, first_equal, has_cob_id, identifier_with, use_of, used_cob_id}
+use Rattle.co_sheet_warnings.specs.declared.repeats.CobIdUse.TheVariants.{Sync, Time, Other}
 use Rattle.co_sheet_text_warnings.specs.declared.warning.WarningKind.{WarningKind}
 use Rattle.co_sheet_text.specs.LinesAtFault.{sections_read}
 use Rattle.co_sheet_text.specs.Text.{lines_of}
@@ -18,9 +19,9 @@ time_and_sync : map has_cob_id (Object 0x1004 ∷ Object 0x1005 ∷ Object 0x100
     ≡ false ∷ true ∷ false ∷ false ∷ true ∷ false ∷ false ∷ []
 time_and_sync = refl
 
-time_alone : map is_time (Object 0x1005 ∷ Object 0x1011 ∷ Object 0x1012 ∷ Object 0x1013 ∷ Object 0x1014 ∷ sub_index 0x1012 1 ∷ MandatoryObjects ∷ [])
-    ≡ false ∷ false ∷ true ∷ false ∷ false ∷ false ∷ false ∷ []
-time_alone = refl
+uses : map use_of (Object 0x1004 ∷ Object 0x1005 ∷ Object 0x1006 ∷ Object 0x1011 ∷ Object 0x1012 ∷ Object 0x1013 ∷ Object 0x1014 ∷ sub_index 0x1012 1 ∷ MandatoryObjects ∷ [])
+    ≡ Other ∷ Sync ∷ Other ∷ Other ∷ Time ∷ Other ∷ Other ∷ Other ∷ Other ∷ []
+uses = refl
 
 cob_id_entries : map has_cob_id (Object 0x1013 ∷ Object 0x1014 ∷ Object 0x1400 ∷ sub_index 0x1014 1 ∷ sub_index 0x13FF 1 ∷ sub_index 0x1400 0 ∷ sub_index 0x1400 1 ∷ sub_index 0x1400 2 ∷ sub_index 0x15FF 1 ∷ sub_index 0x1600 1 ∷ sub_index 0x17FF 1 ∷ sub_index 0x1800 1 ∷ sub_index 0x19FF 1 ∷ sub_index 0x1A00 1 ∷ MandatoryObjects ∷ [])
     ≡ false ∷ true ∷ false ∷ false ∷ false ∷ false ∷ true ∷ false ∷ true ∷ false ∷ false ∷ true ∷ true ∷ false ∷ false ∷ []
@@ -31,12 +32,17 @@ channel_entries : map has_cob_id (sub_index 0x11FF 1 ∷ sub_index 0x1200 0 ∷ 
 channel_entries = refl
 
 -- bit 31, and what is left without bit 30
-identifiers : map (λ value. option_and_then identifier_with (used_cob_id 5 false value)) (codes "0x185" ∷ codes "$NODEID+0x180" ∷ codes "0x40000185" ∷ codes "0x20000185" ∷ codes "0x80000185" ∷ codes "0x7FFFFFFF" ∷ codes "$NODEID+0x7FFFFFFA" ∷ codes "$NODEID+0x7FFFFFFB" ∷ codes "0" ∷ codes "0x40000000" ∷ codes "-1" ∷ codes "x" ∷ [])
+identifiers : map (λ value. option_and_then identifier_with (used_cob_id 5 Other value)) (codes "0x185" ∷ codes "$NODEID+0x180" ∷ codes "0x40000185" ∷ codes "0x20000185" ∷ codes "0x80000185" ∷ codes "0x7FFFFFFF" ∷ codes "$NODEID+0x7FFFFFFA" ∷ codes "$NODEID+0x7FFFFFFB" ∷ codes "0" ∷ codes "0x40000000" ∷ codes "-1" ∷ codes "x" ∷ [])
     ≡ Some 0x185 ∷ Some 0x185 ∷ Some 0x185 ∷ Some 0x20000185 ∷ None ∷ Some 0x3FFFFFFF ∷ Some 0x3FFFFFFF ∷ None ∷ None ∷ None ∷ None ∷ None ∷ []
 identifiers = refl
 
+-- of SYNC: bits 31 and 30 say nothing
+sync_identifiers : map (λ value. option_and_then identifier_with (used_cob_id 5 Sync value)) (codes "0x80" ∷ codes "0x80000080" ∷ codes "0xC0000080" ∷ codes "0xFFFFFFFF" ∷ codes "0x100000080" ∷ codes "$NODEID+0xFFFFFFFA" ∷ codes "$NODEID+0xFFFFFFFB" ∷ codes "0x80000000" ∷ codes "0" ∷ codes "-1" ∷ [])
+    ≡ Some 0x80 ∷ Some 0x80 ∷ Some 0x80 ∷ Some 0x3FFFFFFF ∷ None ∷ Some 0x3FFFFFFF ∷ None ∷ None ∷ None ∷ None ∷ []
+sync_identifiers = refl
+
 -- of TIME: received, sent, both, neither
-time_identifiers : map (λ value. option_and_then identifier_with (used_cob_id 5 true value)) (codes "0x80000100" ∷ codes "0x40000100" ∷ codes "0xC0000100" ∷ codes "0x100" ∷ codes "0x3FFFFFFF" ∷ codes "0x40000000" ∷ codes "0x80000000" ∷ codes "$NODEID+0x80000100" ∷ codes "$NODEID+0x3FFFFFFA" ∷ codes "$NODEID+0x3FFFFFFC" ∷ codes "0xFFFFFFFF" ∷ codes "$NODEID+0xFFFFFFFA" ∷ codes "$NODEID+0xFFFFFFFB" ∷ codes "0" ∷ codes "-1" ∷ codes "x" ∷ [])
+time_identifiers : map (λ value. option_and_then identifier_with (used_cob_id 5 Time value)) (codes "0x80000100" ∷ codes "0x40000100" ∷ codes "0xC0000100" ∷ codes "0x100" ∷ codes "0x3FFFFFFF" ∷ codes "0x40000000" ∷ codes "0x80000000" ∷ codes "$NODEID+0x80000100" ∷ codes "$NODEID+0x3FFFFFFA" ∷ codes "$NODEID+0x3FFFFFFC" ∷ codes "0xFFFFFFFF" ∷ codes "$NODEID+0xFFFFFFFA" ∷ codes "$NODEID+0xFFFFFFFB" ∷ codes "0" ∷ codes "-1" ∷ codes "x" ∷ [])
     ≡ Some 0x100 ∷ Some 0x100 ∷ Some 0x100 ∷ None ∷ None ∷ None ∷ None ∷ Some 0x105 ∷ None ∷ Some 1 ∷ Some 0x3FFFFFFF ∷ Some 0x3FFFFFFF ∷ None ∷ None ∷ None ∷ None ∷ []
 time_identifiers = refl
 
@@ -49,8 +55,8 @@ unfolding places_of few_places place_in_text places_in
 all_the_same = refl
 
 -- that of SYNC, which a device sends (bit 30) or receives, and that of TIME, where it is used
-with_sync : map (λ word. places_at 5 (SharedCobId 0) (codes "[1005]" ∷ word ∷ codes "[1800sub1]" ∷ codes "DefaultValue=0x80" ∷ [])) (codes "DefaultValue=0x80" ∷ codes "DefaultValue=0x40000080" ∷ codes "DefaultValue=0x81" ∷ [])
-    ≡ (4 ∷ []) ∷ (4 ∷ []) ∷ [] ∷ []
+with_sync : map (λ word. places_at 5 (SharedCobId 0) (codes "[1005]" ∷ word ∷ codes "[1800sub1]" ∷ codes "DefaultValue=0x80" ∷ [])) (codes "DefaultValue=0x80" ∷ codes "DefaultValue=0x40000080" ∷ codes "DefaultValue=0x80000080" ∷ codes "DefaultValue=0x81" ∷ [])
+    ≡ (4 ∷ []) ∷ (4 ∷ []) ∷ (4 ∷ []) ∷ [] ∷ []
 unfolding places_of few_places place_in_text places_in
 with_sync = refl
 

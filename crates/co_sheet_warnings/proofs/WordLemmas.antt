@@ -1,7 +1,7 @@
 -- The tables of words have each kind's words in its row.
 use Rattle.std.proofs.Common.{◌≡◌, ◌<◌, ℕ, List, [], get_or, map, refl, arith}
 use Rattle.co_sheet_text_warnings.specs.declared.warning.WarningKind.{WarningKind}
-use Rattle.co_sheet_text_warnings.specs.declared.warning.WarningKind.TheVariants.{SubNumber, SubIndex0, VarSubIndices, FileInfoKeys, DeviceInfoKeys, PdoCount, WrongList, UncountedKey, Unlisted, IdentityNumber, FixedCobId, NodeIdPlace, NodeIdSum, NegativeLimit, ReservedValue, WrongAccess, MisspeltSection, MisspeltKey, SharedCobId, InhibitTime, OwnHeartbeat, HeartbeatTwice, NoErrorControl, LongLine, Utf8, NotAscii, NodeId, ListOrder, EqualNames, MissingName, UnknownKey, DateFormat, LineEnds}
+use Rattle.co_sheet_text_warnings.specs.declared.warning.WarningKind.TheVariants.{SubNumber, SubIndex0, VarSubIndices, FileInfoKeys, DeviceInfoKeys, PdoCount, WrongList, UncountedKey, Unlisted, IdentityNumber, FixedCobId, NodeIdPlace, NodeIdSum, NegativeLimit, ReservedValue, WrongAccess, WrongType, MisspeltSection, MisspeltKey, SharedCobId, InhibitTime, OwnHeartbeat, HeartbeatTwice, NoErrorControl, LongLine, Utf8, NotAscii, NodeId, ListOrder, EqualNames, MissingName, UnknownKey, DateFormat, LineEnds}
 use Rattle.co_sheet_warnings.specs.declared.words.TheConstants.{NAMES, MEANINGS, FIXES, SUBJECTS}
 use Rattle.co_sheet_warnings.specs.WarningWords.{name_of, meaning_of, fix_of, subject_of}
 use Rattle.co_sheet_warnings.specs.private.Views.{kind_row}
@@ -35,6 +35,7 @@ named NodeIdSum = refl
 named NegativeLimit = refl
 named ReservedValue = refl
 named WrongAccess = refl
+named WrongType = refl
 named MisspeltSection = refl
 named (MisspeltKey key) = refl
 named (SharedCobId node) = refl
@@ -70,6 +71,7 @@ meant NodeIdSum = refl
 meant NegativeLimit = refl
 meant ReservedValue = refl
 meant WrongAccess = refl
+meant WrongType = refl
 meant MisspeltSection = refl
 meant (MisspeltKey key) = refl
 meant (SharedCobId node) = refl
@@ -105,6 +107,7 @@ ruled NodeIdSum = refl
 ruled NegativeLimit = refl
 ruled ReservedValue = refl
 ruled WrongAccess = refl
+ruled WrongType = refl
 ruled MisspeltSection = refl
 ruled (MisspeltKey key) = refl
 ruled (SharedCobId node) = refl
@@ -140,6 +143,7 @@ fixed NodeIdSum = refl
 fixed NegativeLimit = refl
 fixed ReservedValue = refl
 fixed WrongAccess = refl
+fixed WrongType = refl
 fixed MisspeltSection = refl
 fixed (MisspeltKey key) = refl
 fixed (SharedCobId node) = refl
@@ -159,7 +163,7 @@ fixed DateFormat = refl
 fixed LineEnds = refl
 
 -- no row past the last
-pub few_rows : (kind : WarningKind) → kind_row kind < 33
+pub few_rows : (kind : WarningKind) → kind_row kind < 34
 few_rows SubNumber = omega arith
 few_rows SubIndex0 = omega arith
 few_rows VarSubIndices = omega arith
@@ -176,6 +180,7 @@ few_rows NodeIdSum = omega arith
 few_rows NegativeLimit = omega arith
 few_rows ReservedValue = omega arith
 few_rows WrongAccess = omega arith
+few_rows WrongType = omega arith
 few_rows MisspeltSection = omega arith
 few_rows (MisspeltKey key) = omega arith
 few_rows (SharedCobId node) = omega arith

@@ -6,6 +6,7 @@ pub mod Identities
 pub mod Repeats
 pub mod ReservedValues
 pub mod Accesses
+pub mod Types
 pub mod NodeIdSums
 pub mod Warnings
 pub mod WarningWords

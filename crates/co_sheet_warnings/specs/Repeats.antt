@@ -10,7 +10,6 @@ use Rattle.std.specs.Prelude.{
   nat_lt,
   nat_eq,
   Bool,
-  true,
   false,
   ◌&&◌,
   ◌||◌,
@@ -38,6 +37,8 @@ use Rattle.co_sheet_text.specs.declared.section_kind.SectionKind.{SectionKind}
 use Rattle.co_sheet_text.specs.declared.section_kind.SectionKind.TheVariants.{Object, SubIndex}
 use Rattle.co_sheet_text.specs.Sections.{Property, TextSection, property_at}
 use Rattle.co_sheet.specs.Limits.{Default, number, node_id, numeric_default}
+use Rattle.co_sheet_warnings.specs.declared.repeats.CobIdUse.{CobIdUse}
+use Rattle.co_sheet_warnings.specs.declared.repeats.CobIdUse.TheVariants.{Sync, Time, Other}
 use Rattle.co_sheet_warnings.specs.declared.repeats.ComparedNumber.{ComparedNumber}
 use Rattle.co_sheet_text_warnings.specs.declared.warning.WarningKind.{WarningKind}
 use Rattle.co_sheet_text_warnings.specs.declared.warning.WarningKind.TheVariants.{SharedCobId, HeartbeatTwice, EqualNames}
@@ -66,42 +67,43 @@ has_cob_id (SubIndex key) =
     || (((key.sub == 1) || (key.sub == 2)) && is_within 0x1200 0x12FF key.index)
 has_cob_id kind = false
 
--- the COB-ID of TIME is used where its bit 31 is set, by which the device receives TIME, or bit 30, by
--- which it sends TIME; any other where bit 31, which disables it, isn't set (CiA 301, COB-ID time stamp
--- object, COB-ID EMCY)
-abbrev pub is_time : SectionKind → Bool
-is_time (Object index) = index == 0x1012
-is_time kind = false
+-- the COB-ID of SYNC is always used: its bit 31 has no meaning; that of TIME where its bit 31 is set, by
+-- which the device receives TIME, or bit 30, by which it sends TIME; any other where bit 31, which
+-- disables it, isn't set (CiA 301, COB-ID SYNC message, COB-ID time stamp object, COB-ID EMCY)
+abbrev pub use_of : SectionKind → CobIdUse
+use_of (Object index) = if index == 0x1005 then Sync else if index == 0x1012 then Time else Other
+use_of kind = Other
 
-abbrev pub is_used : Bool → ℕ → Bool
-is_used true word = nat_le (2 ^ 30) word && nat_lt word (2 ^ 32)
-is_used false word = nat_lt word (2 ^ 31)
+abbrev pub is_used : CobIdUse → ℕ → Bool
+is_used Sync word = nat_lt word (2 ^ 32)
+is_used Time word = nat_le (2 ^ 30) word && nat_lt word (2 ^ 32)
+is_used Other word = nat_lt word (2 ^ 31)
 
-abbrev pub if_used : Bool → ℕ → Option ℕ
-if_used time word = if is_used time word then Some word else None
+abbrev pub if_used : CobIdUse → ℕ → Option ℕ
+if_used by word = if is_used by word then Some word else None
 
-abbrev pub used_number : Bool → ℤ → Option ℕ
-used_number time (pos n) = if_used time n
-used_number time other = None
+abbrev pub used_number : CobIdUse → ℤ → Option ℕ
+used_number by (pos n) = if_used by n
+used_number by other = None
 
--- the COB-ID that a value is for a node, of TIME or another
-abbrev pub cob_id_for : ℕ → Bool → Default → Option ℕ
-cob_id_for node time (number n) = used_number time n
-cob_id_for node time (node_id n) = if_used time (n + node)
-cob_id_for node time other = None
+-- the COB-ID that a value is for a node
+abbrev pub cob_id_for : ℕ → CobIdUse → Default → Option ℕ
+cob_id_for node by (number n) = used_number by n
+cob_id_for node by (node_id n) = if_used by (n + node)
+cob_id_for node by other = None
 
-abbrev pub used_cob_id : ℕ → Bool → List ℕ → Option ℕ
-used_cob_id node time value =
-    option_and_then (cob_id_for node time) (result_ok (numeric_default Unsigned32 value))
+abbrev pub used_cob_id : ℕ → CobIdUse → List ℕ → Option ℕ
+used_cob_id node by value =
+    option_and_then (cob_id_for node by) (result_ok (numeric_default Unsigned32 value))
 
 -- its identifier, with bit 29, which tells 29 bits from 11; 0 is none
 abbrev pub identifier_with : ℕ → Option ℕ
 identifier_with word = if word % 2 ^ 30 == 0 then None else Some (word % 2 ^ 30)
 
-abbrev pub identifier_of : ℕ → Bool → Property → Option (Placed ℕ)
-identifier_of node time k =
+abbrev pub identifier_of : ℕ → CobIdUse → Property → Option (Placed ℕ)
+identifier_of node by k =
     option_map (λ n. record { key = n; line = k.line })
-    (option_and_then identifier_with (used_cob_id node time k.value))
+    (option_and_then identifier_with (used_cob_id node by k.value))
 
 -- what states the value that an entry begins with: ParameterValue, or where it is absent
 -- DefaultValue
@@ -111,7 +113,7 @@ value_in s =
 
 abbrev pub identifier_in : ℕ → TextSection → Option (Placed ℕ)
 identifier_in node s =
-    if has_cob_id s.kind then option_and_then (identifier_of node (is_time s.kind)) (value_in s)
+    if has_cob_id s.kind then option_and_then (identifier_of node (use_of s.kind)) (value_in s)
     else None
 
 abbrev pub identifiers_in : ℕ → List TextSection → List (Placed ℕ)

@@ -19,6 +19,7 @@ use Rattle.co_sheet_text_warnings.specs.declared.warning.WarningKind.TheVariants
   NegativeLimit,
   ReservedValue,
   WrongAccess,
+  WrongType,
   MisspeltSection,
   MisspeltKey,
   SharedCobId,
@@ -56,6 +57,7 @@ name_of NodeIdSum = codes "NodeIdSum"
 name_of NegativeLimit = codes "NegativeLimit"
 name_of ReservedValue = codes "ReservedValue"
 name_of WrongAccess = codes "WrongAccess"
+name_of WrongType = codes "WrongType"
 name_of MisspeltSection = codes "MisspeltSection"
 name_of (MisspeltKey meant) = codes "MisspeltKey"
 name_of (SharedCobId node) = codes "SharedCobId"
@@ -96,6 +98,7 @@ meaning_of NegativeLimit =
     codes "this HighLimit is -1 at its type, so no number from 0 on is permitted"
 meaning_of ReservedValue = codes "CiA 301 reserves this value"
 meaning_of WrongAccess = codes "CiA 301 has another access for this entry"
+meaning_of WrongType = codes "CiA 301 has another data type for this entry"
 meaning_of MisspeltSection =
     codes "nothing reads a section of this name, and the standard has one like it"
 meaning_of (MisspeltKey meant) = codes "the standard has no such key, but one like it"
@@ -141,10 +144,11 @@ fix_of NegativeLimit =
 fix_of ReservedValue =
     codes "give a transmission type of 0 to 240 or from 254 on, of a TPDO also 252 or 253; to 1019h 0 or 2 to 240"
 fix_of WrongAccess = codes "give the entry that access"
+fix_of WrongType = codes "give the entry that type"
 fix_of MisspeltSection = codes "write the name as the standard has it, as [DeviceInfo], [1018sub1]"
 fix_of (MisspeltKey meant) = codes "write the key as the standard has it"
 fix_of (SharedCobId node) =
-    codes "give each PDO, SDO channel and EMCY an identifier of its own, or set bit 31"
+    codes "give each an identifier of its own; or disable a PDO, an SDO channel or EMCY by bit 31, TIME by bits 31 and 30 clear"
 fix_of InhibitTime = codes "set it to 0, or take a transmission type from 254 on"
 fix_of OwnHeartbeat = codes "give the node-ID of another node, or set the word to 0"
 fix_of (HeartbeatTwice given) = codes "take one of the two out"
@@ -179,6 +183,8 @@ subject_of NegativeLimit = codes "CiA 306-1, object description"
 subject_of ReservedValue =
     codes "CiA 301, transmission types and synchronous counter overflow value"
 subject_of WrongAccess = codes "CiA 301, objects of the communication profile"
+subject_of WrongType =
+    codes "CiA 301, objects of the communication profile and sub-index 0 of arrays and records"
 subject_of MisspeltSection = codes "CiA 306-1, structure of an EDS"
 subject_of (MisspeltKey meant) = codes "CiA 306-1, structure of an EDS"
 subject_of (SharedCobId node) = codes "CiA 301, COB-IDs"

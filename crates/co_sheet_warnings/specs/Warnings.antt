@@ -39,6 +39,7 @@ use Rattle.co_sheet_text_warnings.specs.declared.warning.WarningKind.TheVariants
   NegativeLimit,
   ReservedValue,
   WrongAccess,
+  WrongType,
   MisspeltSection,
   SharedCobId,
   InhibitTime,
@@ -70,6 +71,7 @@ use Rattle.co_sheet_warnings.specs.SubIndices.{
 use Rattle.co_sheet_text_warnings.specs.Lists.{wrong_lists, uncounted_keys, list_orders}
 use Rattle.co_sheet_warnings.specs.CobIds.{fixed_cob_id, node_id_place}
 use Rattle.co_sheet_warnings.specs.Accesses.{wrong_access}
+use Rattle.co_sheet_warnings.specs.Types.{wrong_type}
 use Rattle.co_sheet_warnings.specs.Limits.{negative_limit}
 use Rattle.co_sheet_warnings.specs.ReservedValues.{reserved_value}
 use Rattle.co_sheet_text_warnings.specs.SectionNames.{misspelt_section}
@@ -96,6 +98,7 @@ places_in t NodeIdSum s = node_id_sum t.node s
 places_in t NegativeLimit s = negative_limit s
 places_in t ReservedValue s = reserved_value s
 places_in t WrongAccess s = wrong_access s
+places_in t WrongType s = wrong_type s
 places_in t MisspeltSection s = misspelt_section t.sections s
 places_in t InhibitTime s = inhibit_time t.sections s s.kind
 places_in t OwnHeartbeat s = own_heartbeat t.node s s.kind
@@ -132,7 +135,8 @@ first_kinds =
     SubNumber ∷ SubIndex0 ∷ VarSubIndices ∷ FileInfoKeys (replicate 10 false)
     ∷ DeviceInfoKeys (replicate 22 false) ∷ PdoCount ∷ WrongList ∷ UncountedKey ∷ Unlisted
     ∷ IdentityNumber 1 ∷ IdentityNumber 2 ∷ IdentityNumber 3 ∷ FixedCobId ∷ NodeIdPlace
-    ∷ NodeIdSum ∷ NegativeLimit ∷ ReservedValue ∷ WrongAccess ∷ MisspeltSection ∷ []
+    ∷ NodeIdSum ∷ NegativeLimit ∷ ReservedValue ∷ WrongAccess ∷ WrongType ∷ MisspeltSection
+    ∷ []
 
 abbrev pub last_kinds : List WarningKind
 last_kinds =

@@ -11,6 +11,7 @@ use crate::limits::negative_limit;
 use crate::node_id_sums::node_id_sum;
 use crate::reserved_values::reserved_value;
 use crate::sub_indices::{missing_name, sub_index_0, sub_number, unlisted, var_sub_indices};
+use crate::types::wrong_type;
 use co_sheet_text::TextSection;
 use co_sheet_text_warnings::{ReadText, WarningKind, misspelt_section, no_node_id};
 
@@ -30,6 +31,7 @@ pub(crate) fn place_in(text: &ReadText, kind: WarningKind, section: &TextSection
         WarningKind::NegativeLimit => negative_limit(section),
         WarningKind::ReservedValue => reserved_value(section),
         WarningKind::WrongAccess => wrong_access(section),
+        WarningKind::WrongType => wrong_type(section),
         WarningKind::MisspeltSection => misspelt_section(text, section),
         WarningKind::InhibitTime => inhibit_time(text, section),
         WarningKind::OwnHeartbeat => own_heartbeat(text.node, section),

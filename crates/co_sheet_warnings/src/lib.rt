@@ -33,6 +33,7 @@ mod node_id_sums;
 mod repeats;
 mod reserved_values;
 mod sub_indices;
+mod types;
 mod whole;
 mod words;
 
@@ -40,4 +41,5 @@ pub use accesses::{FixedAccess, fixed_access};
 pub use find::find_warnings;
 pub use repeats::{ComparedNumber, compared, first_equal};
 pub use sub_indices::value_in;
+pub use types::standard_type;
 pub use words::{fix_of, meaning_of, name_of, subject_of};

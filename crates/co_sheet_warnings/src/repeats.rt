@@ -26,12 +26,12 @@ ghost use Rattle.co_sheet_warnings.specs.Repeats.{
   identifier_name,
   identifier_of,
   is_consumer,
-  is_time,
   name_in,
   passing,
   repeats,
   same_scoped,
   used_cob_id,
+  use_of,
   used_number,
 };
 ghost use Rattle.co_sheet_text_warnings.specs.Places.{warnings_at};
@@ -68,6 +68,17 @@ fn has_cob_id(kind: SectionKind) -> bool
     }
 }
 
+/// By which bits of its word a COB-ID is used.
+#[derive(Clone, Copy)]
+pub(crate) enum CobIdUse {
+    /// That of SYNC: by none, so always.
+    Sync,
+    /// That of TIME: by bit 31 the device receives it, by bit 30 it sends it.
+    Time,
+    /// Any other: bit 31 disables it.
+    Other,
+}
+
 /// This bit of a COB-ID word disables it, but by it 1012h has that the device receives TIME.
 const DISABLED: i128 = 1 << 31;
 /// By this bit 1012h has that the device sends TIME.
@@ -75,31 +86,35 @@ const SENT: i128 = 1 << 30;
 /// Above all COB-ID words.
 const WORDS: i128 = 1 << 32;
 
-fn is_time(kind: SectionKind) -> bool
-    ensures { result ≡ is_time kind }
+fn use_of(kind: SectionKind) -> CobIdUse
+    ensures { result ≡ use_of kind }
 {
-    matches!(kind, SectionKind::Object(0x1012))
+    match kind {
+        SectionKind::Object(0x1005) => CobIdUse::Sync,
+        SectionKind::Object(0x1012) => CobIdUse::Time,
+        _ => CobIdUse::Other,
+    }
 }
 
-// a number that is a COB-ID in use, of TIME or of another
-fn used_number(time: bool, number: i128) -> Option<u64>
-    ensures { result ≡ used_number time number }
+// a number that is a COB-ID in use
+fn used_number(by: CobIdUse, number: i128) -> Option<u64>
+    ensures { result ≡ used_number by number }
 {
-    let is_used = if time {
-        SENT <= number && number < WORDS
-    } else {
-        0 <= number && number < DISABLED
+    let is_used = match by {
+        CobIdUse::Sync => 0 <= number && number < WORDS,
+        CobIdUse::Time => SENT <= number && number < WORDS,
+        CobIdUse::Other => 0 <= number && number < DISABLED,
     };
     if is_used { Some(number as u64) } else { None }
 }
 
-// the COB-ID of a text for a node, of TIME or of another; `None` where it isn't used
-fn used_cob_id(node: u8, time: bool, value: &[u8]) -> Option<u64>
-    ensures { result ≡ used_cob_id node time value.now }
+// the COB-ID of a text for a node; `None` where it isn't used
+fn used_cob_id(node: u8, by: CobIdUse, value: &[u8]) -> Option<u64>
+    ensures { result ≡ used_cob_id node by value.now }
 {
     match numeric_default(DataType::Unsigned32, value) {
-        Ok(Preset::Number(number)) => used_number(time, number),
-        Ok(Preset::NodeId(addend)) => used_number(time, addend as i128 + node as i128),
+        Ok(Preset::Number(number)) => used_number(by, number),
+        Ok(Preset::NodeId(addend)) => used_number(by, addend as i128 + node as i128),
         _ => None,
     }
 }
@@ -124,12 +139,12 @@ pub(crate) struct PlacedName<'a> {
     pub(crate) line: usize,
 }
 
-// the identifier of a value, of TIME or of another, for a node
-fn identifier_of<'a>(node: u8, time: bool, given: &Property) -> Option<PlacedName<'a>>
+// the identifier of a value for a node
+fn identifier_of<'a>(node: u8, by: CobIdUse, given: &Property) -> Option<PlacedName<'a>>
     ensures { option_map name_view result
-        ≡ option_map as_name (identifier_of node time (property_view given.now)) }
+        ≡ option_map as_name (identifier_of node by (property_view given.now)) }
 {
-    let Some(word) = used_cob_id(node, time, given.value) else {
+    let Some(word) = used_cob_id(node, by, given.value) else {
         return None;
     };
     let scope = word % (1 << 30);
@@ -151,7 +166,7 @@ fn identifier_in<'a>(node: u8, section: &TextSection<'_, 'a>) -> Option<PlacedNa
         return None;
     }
     match value_in(section) {
-        Some(given) => identifier_of(node, is_time(section.kind), &given),
+        Some(given) => identifier_of(node, use_of(section.kind), &given),
         None => None,
     }
 }

@@ -32,23 +32,24 @@ fn row(kind: WarningKind) -> usize
         WarningKind::NegativeLimit => 13,
         WarningKind::ReservedValue => 14,
         WarningKind::WrongAccess => 15,
-        WarningKind::MisspeltSection => 16,
-        WarningKind::MisspeltKey(_) => 17,
-        WarningKind::SharedCobId(_) => 18,
-        WarningKind::InhibitTime => 19,
-        WarningKind::OwnHeartbeat => 20,
-        WarningKind::HeartbeatTwice(_) => 21,
-        WarningKind::NoErrorControl => 22,
-        WarningKind::LongLine => 23,
-        WarningKind::Utf8 => 24,
-        WarningKind::NotAscii => 25,
-        WarningKind::NodeId => 26,
-        WarningKind::ListOrder => 27,
-        WarningKind::EqualNames => 28,
-        WarningKind::MissingName => 29,
-        WarningKind::UnknownKey => 30,
-        WarningKind::DateFormat => 31,
-        WarningKind::LineEnds => 32,
+        WarningKind::WrongType => 16,
+        WarningKind::MisspeltSection => 17,
+        WarningKind::MisspeltKey(_) => 18,
+        WarningKind::SharedCobId(_) => 19,
+        WarningKind::InhibitTime => 20,
+        WarningKind::OwnHeartbeat => 21,
+        WarningKind::HeartbeatTwice(_) => 22,
+        WarningKind::NoErrorControl => 23,
+        WarningKind::LongLine => 24,
+        WarningKind::Utf8 => 25,
+        WarningKind::NotAscii => 26,
+        WarningKind::NodeId => 27,
+        WarningKind::ListOrder => 28,
+        WarningKind::EqualNames => 29,
+        WarningKind::MissingName => 30,
+        WarningKind::UnknownKey => 31,
+        WarningKind::DateFormat => 32,
+        WarningKind::LineEnds => 33,
     }
 }
 
@@ -61,7 +62,7 @@ fn text_at(texts: &[&'static str], row: usize) -> &'static str
 }
 
 /// The names of all kinds, by row.
-const NAMES: [&str; 33] = [
+const NAMES: [&str; 34] = [
     "SubNumber",
     "SubIndex0",
     "VarSubIndices",
@@ -78,6 +79,7 @@ const NAMES: [&str; 33] = [
     "NegativeLimit",
     "ReservedValue",
     "WrongAccess",
+    "WrongType",
     "MisspeltSection",
     "MisspeltKey",
     "SharedCobId",
@@ -105,7 +107,7 @@ pub fn name_of(kind: WarningKind) -> &'static str
 }
 
 /// What a warning of each kind means, by row.
-const MEANINGS: [&str; 33] = [
+const MEANINGS: [&str; 34] = [
     "SubNumber isn't the number of the object's sub-index sections",
     "sub-index 0 isn't the highest sub-index of the object",
     "the object is a VAR or a DOMAIN, so its sub-index sections aren't read",
@@ -122,6 +124,7 @@ const MEANINGS: [&str; 33] = [
     "this HighLimit is -1 at its type, so no number from 0 on is permitted",
     "CiA 301 reserves this value",
     "CiA 301 has another access for this entry",
+    "CiA 301 has another data type for this entry",
     "nothing reads a section of this name, and the standard has one like it",
     "the standard has no such key, but one like it",
     "an entry before it has the same identifier, for this node-ID",
@@ -149,7 +152,7 @@ pub fn meaning_of(kind: WarningKind) -> &'static str
 }
 
 /// How a warning of each kind is fixed, by row.
-const FIXES: [&str; 33] = [
+const FIXES: [&str; 34] = [
     "count the sections; one may be missing, or its name misspelt",
     "give it the highest sub-index, or describe the one that is missing",
     "give it ObjectType=0x8 or 0x9, or take these sections out",
@@ -168,9 +171,11 @@ const FIXES: [&str; 33] = [
     "give a transmission type of 0 to 240 or from 254 on, of a TPDO also 252 or 253; to 1019h 0 or 2 \
     to 240",
     "give the entry that access",
+    "give the entry that type",
     "write the name as the standard has it, as [DeviceInfo], [1018sub1]",
     "write the key as the standard has it",
-    "give each PDO, SDO channel and EMCY an identifier of its own, or set bit 31",
+    "give each an identifier of its own; or disable a PDO, an SDO channel or EMCY by bit 31, TIME by \
+    bits 31 and 30 clear",
     "set it to 0, or take a transmission type from 254 on",
     "give the node-ID of another node, or set the word to 0",
     "take one of the two out",
@@ -195,7 +200,7 @@ pub fn fix_of(kind: WarningKind) -> &'static str
 }
 
 /// The subject that has the rule of each kind, by row.
-const SUBJECTS: [&str; 33] = [
+const SUBJECTS: [&str; 34] = [
     "CiA 306-1, object description",
     "CiA 301, sub-index 0 of arrays and records",
     "CiA 306-1, object description",
@@ -212,6 +217,7 @@ const SUBJECTS: [&str; 33] = [
     "CiA 306-1, object description",
     "CiA 301, transmission types and synchronous counter overflow value",
     "CiA 301, objects of the communication profile",
+    "CiA 301, objects of the communication profile and sub-index 0 of arrays and records",
     "CiA 306-1, structure of an EDS",
     "CiA 306-1, structure of an EDS",
     "CiA 301, COB-IDs",

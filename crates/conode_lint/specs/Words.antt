@@ -97,6 +97,7 @@ warning_about sections line text (warning.MisspeltKey known) =
 warning_about sections line text warning.MisspeltSection = facts.misspelt_section text
 warning_about sections line text warning.WrongList = facts.wrong_list text
 warning_about sections line text warning.WrongAccess = facts.wrong_access line sections
+warning_about sections line text warning.WrongType = facts.wrong_type line sections
 warning_about sections line text warning.ReservedValue = facts.reserved_value line sections
 warning_about sections line text warning.Utf8 = facts.utf8 text
 warning_about sections line text other = about.Line

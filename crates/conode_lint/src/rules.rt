@@ -12,7 +12,7 @@ use std::alloc::AllocError;
 const KEY: Key = Key { index: 0, sub: 0 };
 
 /// All kinds: another format, the faults of a text, those of a build, and the warnings.
-static SUBJECTS: [Subject; 58] = [
+static SUBJECTS: [Subject; 59] = [
     Subject::Format(OtherFormat::Xml),
     Subject::Fault(FaultKind::TooLarge),
     Subject::Fault(FaultKind::BadLine),
@@ -54,6 +54,7 @@ static SUBJECTS: [Subject; 58] = [
     Subject::Warning(WarningKind::NegativeLimit),
     Subject::Warning(WarningKind::ReservedValue),
     Subject::Warning(WarningKind::WrongAccess),
+    Subject::Warning(WarningKind::WrongType),
     Subject::Warning(WarningKind::MisspeltSection),
     Subject::Warning(WarningKind::MisspeltKey(KnownKey::AccessType)),
     Subject::Warning(WarningKind::SharedCobId(0)),

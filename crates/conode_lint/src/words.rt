@@ -31,7 +31,7 @@ use conode_lint_text::{
     bad_list, bad_number, bad_type, device_info, duplicate_key, duplicate_section, file_info,
     first_at, identity_number, listed_twice, missing_key, missing_mandatory, missing_section,
     misspelt_key, misspelt_section, pdo_count, reserved_value, sub_index_0, sub_number, too_large,
-    utf8, wrong_access, wrong_list,
+    utf8, wrong_access, wrong_list, wrong_type,
 };
 
 /// Its name, as `BadList`.
@@ -134,6 +134,7 @@ fn warning_about(
         WarningKind::MisspeltSection => misspelt_section(text),
         WarningKind::WrongList => wrong_list(text),
         WarningKind::WrongAccess => wrong_access(sections, line),
+        WarningKind::WrongType => wrong_type(sections, line),
         WarningKind::ReservedValue => reserved_value(sections, line),
         WarningKind::Utf8 => utf8(text),
         _ => About::Line,

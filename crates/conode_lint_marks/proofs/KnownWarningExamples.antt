@@ -9,7 +9,7 @@ use Rattle.co_sheet_text.specs.declared.section_kind.SectionKind.TheVariants.{De
 use Rattle.co_sheet_text.specs.Sections.{TextSection, form_of}
 use Rattle.co_sheet_text_warnings.specs.declared.warning.Warning.{Warning}
 use Rattle.co_sheet_text_warnings.specs.declared.warning.WarningKind.{WarningKind}
-use Rattle.co_sheet_text_warnings.specs.declared.warning.WarningKind.TheVariants.{SubNumber, SubIndex0, VarSubIndices, FileInfoKeys, DeviceInfoKeys, PdoCount, Unlisted, IdentityNumber, FixedCobId, NodeIdPlace, NodeIdSum, NegativeLimit, ReservedValue, WrongAccess, SharedCobId, InhibitTime, OwnHeartbeat, HeartbeatTwice, NoErrorControl, LongLine}
+use Rattle.co_sheet_text_warnings.specs.declared.warning.WarningKind.TheVariants.{SubNumber, SubIndex0, VarSubIndices, FileInfoKeys, DeviceInfoKeys, PdoCount, Unlisted, IdentityNumber, FixedCobId, NodeIdPlace, NodeIdSum, NegativeLimit, ReservedValue, WrongAccess, WrongType, SharedCobId, InhibitTime, OwnHeartbeat, HeartbeatTwice, NoErrorControl, LongLine}
 use Rattle.conode_lint_marks.specs.declared.mark.Subject.TheVariants as mark
 use Rattle.conode_lint_marks.specs.AtFault.{is_complete, kinds_at_fault}
 use Rattle.conode_lint_marks.specs.BuildLines.{value_line}
@@ -112,7 +112,7 @@ unfolding known_warnings unknown_of is_complete kinds_at_fault doubts_of whole_l
 limit = refl
 
 -- a value and an access: nothing is said of one at fault
-fixed : left_by (fault BadDefault 11 ∷ fault DuplicateKey 12 ∷ []) (warning ReservedValue 11 ∷ warning WrongAccess 12 ∷ warning ReservedValue 13 ∷ warning WrongAccess 13 ∷ []) ≡ warning ReservedValue 13 ∷ warning WrongAccess 13 ∷ []
+fixed : left_by (fault BadDefault 11 ∷ fault DuplicateKey 12 ∷ []) (warning ReservedValue 11 ∷ warning WrongAccess 12 ∷ warning WrongType 12 ∷ warning ReservedValue 13 ∷ warning WrongAccess 13 ∷ warning WrongType 13 ∷ []) ≡ warning ReservedValue 13 ∷ warning WrongAccess 13 ∷ warning WrongType 13 ∷ []
 unfolding known_warnings unknown_of is_complete kinds_at_fault doubts_of whole_line value_line
 fixed = refl
 

@@ -12,7 +12,7 @@ use Rattle.co_sheet_warnings.specs.Repeats.{compared}
 use Rattle.co_sheet_warnings.specs.declared.repeats.ComparedNumber.{ComparedNumber}
 use Rattle.co_sheet_text_warnings.specs.declared.warning.Warning.{Warning}
 use Rattle.co_sheet_text_warnings.specs.declared.warning.WarningKind.{WarningKind}
-use Rattle.co_sheet_text_warnings.specs.declared.warning.WarningKind.TheVariants.{SubNumber, SubIndex0, VarSubIndices, FileInfoKeys, DeviceInfoKeys, PdoCount, Unlisted, IdentityNumber, FixedCobId, NodeIdPlace, NodeIdSum, NegativeLimit, ReservedValue, WrongAccess, SharedCobId, InhibitTime, OwnHeartbeat, HeartbeatTwice, NoErrorControl}
+use Rattle.co_sheet_text_warnings.specs.declared.warning.WarningKind.TheVariants.{SubNumber, SubIndex0, VarSubIndices, FileInfoKeys, DeviceInfoKeys, PdoCount, Unlisted, IdentityNumber, FixedCobId, NodeIdPlace, NodeIdSum, NegativeLimit, ReservedValue, WrongAccess, WrongType, SharedCobId, InhibitTime, OwnHeartbeat, HeartbeatTwice, NoErrorControl}
 use Rattle.conode_lint_marks.specs.declared.concerns.Concern.TheVariants.{CompactPdo, Same, SectionLine, SubsOf}
 use Rattle.conode_lint_marks.specs.declared.known_warnings.Unknown.{Unknown}
 use Rattle.conode_lint_marks.specs.declared.mark.Mark.{Mark}
@@ -185,6 +185,7 @@ rests_on_fault u sections kinds doubts bad here faults line NodeIdPlace = begins
 rests_on_fault u sections kinds doubts bad here faults line NegativeLimit = begins_at line faults
 rests_on_fault u sections kinds doubts bad here faults line ReservedValue = begins_at line faults
 rests_on_fault u sections kinds doubts bad here faults line WrongAccess = begins_at line faults
+rests_on_fault u sections kinds doubts bad here faults line WrongType = begins_at line faults
 rests_on_fault u sections kinds doubts bad here faults line OwnHeartbeat = begins_at line faults
 rests_on_fault u sections kinds doubts bad here faults line NodeIdSum =
     is_at_fault_here kinds doubts here

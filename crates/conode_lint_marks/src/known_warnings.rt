@@ -354,6 +354,7 @@ fn rests_on_fault(
         | WarningKind::NegativeLimit
         | WarningKind::ReservedValue
         | WarningKind::WrongAccess
+        | WarningKind::WrongType
         | WarningKind::OwnHeartbeat => begins_at(line, faults),
         WarningKind::NodeIdSum => is_at_fault_here(kinds, doubts, here),
         _ => false,

@@ -1,7 +1,10 @@
 -- What a sheet has where a finding is, evaluated.
 use Rattle.std.proofs.Common.{◌≡◌, ℕ, true, false, List, Some, None, [], ◌∷◌, ◌++◌, codes, map, refl}
-use Rattle.std.specs.Prelude.{pos, negsuc, replicate}
+use Rattle.std.specs.Prelude.{Bool, is_none, pos, negsuc, replicate}
+use Rattle.std.specs.List.{list_all}
 use Rattle.std.specs.Fmt.{digits}
+use Rattle.co_profile.specs.FixedTypes.{fixed_type_of}
+use Rattle.co_sheet_warnings.specs.Types.{standard_types}
 use Rattle.co_sheet_warnings.specs.declared.accesses.FixedAccess.TheVariants.{ReadOnly, Readable, ReadWrite}
 use Rattle.co_sheet_text_warnings.specs.declared.known_key.KnownKey.TheVariants.{AccessType, DataType, NrOfRxPdo}
 use Rattle.co_text.specs.Printed.{digits_text}
@@ -14,7 +17,7 @@ use Rattle.conode_lint_text.specs.declared.finding.About.TheVariants.{Line, Firs
 use Rattle.conode_lint_text.specs.declared.fact.Fact.TheVariants as fact
 use Rattle.conode_lint_text.specs.declared.meant_section.MeantSection.TheVariants as meant
 use Rattle.conode_lint_text.specs.FactTexts.{fact_text, hexadecimal, missing_text, texts_of, words_of}
-use Rattle.conode_lint_text.specs.Facts.{ambiguous_number, bad_access, bad_line, bad_list, bad_number, bad_type, count_fact, device_info, duplicate_key, duplicate_section, file_info, first_at, highest_fact, identity_number, list_fact, listed_twice, missing_key, missing_mandatory, missing_section, misspelt_key, misspelt_section, named_code, pdo_count, reserved_value, sub_index_0, sub_number, too_large, utf8, wrong_access, wrong_list}
+use Rattle.conode_lint_text.specs.Facts.{ambiguous_number, bad_access, bad_line, bad_list, bad_number, bad_type, count_fact, device_info, duplicate_key, duplicate_section, file_info, first_at, highest_fact, identity_number, list_fact, listed_twice, missing_key, missing_mandatory, missing_section, misspelt_key, misspelt_section, named_code, pdo_count, reserved_value, sub_index_0, sub_number, too_large, utf8, wrong_access, wrong_list, wrong_type}
 use Rattle.conode_lint_text.specs.Bounds.{bad_default, bad_limits}
 use Rattle.conode_lint_text.specs.Findings.{about_message, fix_with}
 
@@ -198,6 +201,22 @@ accesses : map (λ line. wrong_access line (section 10 (Object 0x1000) [] ∷ se
     ≡ Line ∷ Access ReadOnly ∷ Access ReadOnly ∷ Line ∷ Access Readable ∷ Access ReadWrite ∷ []
 accesses = refl
 
+-- the type of the entry whose section the line is in; of an entry without one, and before the first section, nothing
+types_of_sections : map (λ line. wrong_type line (section 10 (Object 0x1006) [] ∷ section 20 (Object 0x1017) [] ∷ section 30 (SubIndex (record { index = 0x2000; sub = 0 })) [] ∷ section 40 (Object 0x1008) [] ∷ [])) (10 ∷ 11 ∷ 20 ∷ 21 ∷ 31 ∷ 41 ∷ [])
+    ≡ Line ∷ Fact (fact.StandardType 7) ∷ Fact (fact.StandardType 7) ∷ Line ∷ Fact (fact.StandardType 5) ∷ Fact (fact.StandardType 9) ∷ []
+types_of_sections = refl
+
+-- no entry of these has a type that is fixed, at the ends of each row
+abbrev is_free : ℕ → ℕ → Bool
+is_free index sub = is_none (fixed_type_of (record { index = index; sub = sub }))
+
+none_fixed : list_all (λ r. is_free r.1 r.3) standard_types ∷ list_all (λ r. is_free r.2 r.4) standard_types ∷ [] ≡ true ∷ true ∷ []
+none_fixed = refl
+
+standard_text : fact_text (fact.StandardType 9) ∷ fix_with (Fact (fact.StandardType 9)) (codes "f") ∷ [] ≡ codes "CiA 301 has DataType=0x0009 here" ∷ codes "f" ∷ []
+unfolding fact_text words_of texts_of fix_with filled digits digits_text
+standard_text = refl
+
 access_texts : map (λ access. about_message (Access access) (codes "m")) (ReadOnly ∷ Readable ∷ ReadWrite ∷ []) ≡ codes "CiA 301 has AccessType=ro or const here" ∷ codes "CiA 301 has AccessType=rw here" ∷ codes "CiA 301 has AccessType=rw here" ∷ []
 unfolding about_message
 access_texts = refl
@@ -242,7 +261,7 @@ slip_texts = refl
 
 slip_fixes : map (λ about. fix_with about (codes "f")) (Fact fact.NoMapping ∷ Fact fact.NotOctal ∷ Fact fact.OpenSection ∷ Fact fact.Unsupported ∷ Fact fact.ManyEntries ∷ Fact (fact.DecimalName 10 16) ∷ Fact (fact.SubIndex0 10 16) ∷ [])
     ≡ codes "write 1 if the entry may be mapped into a PDO, or else 0" ∷ codes "write the number without the zero, or try conode adapt --leading-zeros decimal"
-    ∷ codes "put `]` after the name; until then no section of this name is read, so a listed object lacks it" ∷ codes "take the object out of its list"
+    ∷ codes "put `]` after the name, or take the section out where the sheet has it already; until then its lines aren't read, so a listed object may lack them" ∷ codes "take the object out of its list"
     ∷ codes "describe its sub-indices, with ObjectType=8 of 1003h or ObjectType=9 of a mapping; or take the object out of its list"
     ∷ codes "write the sub-index in hexadecimal in each section's name, as subA for 10; or give the highest sub-index" ∷ codes "f" ∷ []
 unfolding fix_with
@@ -258,8 +277,8 @@ type_names : map bad_number (codes "DataType=UNSIGNED8" ∷ codes " datatype = R
 unfolding named_code
 type_names = refl
 
-type_codes : map named_code (codes "BOOLEAN" ∷ codes "INTEGER8" ∷ codes "INTEGER16" ∷ codes "INTEGER32" ∷ codes "INTEGER64" ∷ codes "UNSIGNED8" ∷ codes "UNSIGNED16" ∷ codes "UNSIGNED32" ∷ codes "UNSIGNED64" ∷ codes "REAL32" ∷ codes "REAL64" ∷ codes "VISIBLE_STRING" ∷ codes "OCTET_STRING" ∷ codes "UNICODE_STRING" ∷ codes "DOMAIN" ∷ codes "UNSIGNED" ∷ [])
-    ≡ Some 1 ∷ Some 2 ∷ Some 3 ∷ Some 4 ∷ Some 0x15 ∷ Some 5 ∷ Some 6 ∷ Some 7 ∷ Some 0x1B ∷ Some 8 ∷ Some 0x11 ∷ Some 9 ∷ Some 10 ∷ Some 11 ∷ Some 15 ∷ None ∷ []
+type_codes : map named_code (codes "BOOLEAN" ∷ codes "INTEGER8" ∷ codes "INTEGER16" ∷ codes "INTEGER24" ∷ codes "INTEGER32" ∷ codes "INTEGER40" ∷ codes "INTEGER48" ∷ codes "INTEGER56" ∷ codes "INTEGER64" ∷ codes "UNSIGNED8" ∷ codes "UNSIGNED16" ∷ codes "UNSIGNED24" ∷ codes "UNSIGNED32" ∷ codes "UNSIGNED40" ∷ codes "UNSIGNED48" ∷ codes "UNSIGNED56" ∷ codes "UNSIGNED64" ∷ codes "REAL32" ∷ codes "REAL64" ∷ codes "VISIBLE_STRING" ∷ codes "OCTET_STRING" ∷ codes "UNICODE_STRING" ∷ codes "TIME_OF_DAY" ∷ codes "TIME_DIFFERENCE" ∷ codes "DOMAIN" ∷ codes "UNSIGNED" ∷ codes "UNSIGNED9" ∷ codes "TIME" ∷ [])
+    ≡ Some 0x01 ∷ Some 0x02 ∷ Some 0x03 ∷ Some 0x10 ∷ Some 0x04 ∷ Some 0x12 ∷ Some 0x13 ∷ Some 0x14 ∷ Some 0x15 ∷ Some 0x05 ∷ Some 0x06 ∷ Some 0x16 ∷ Some 0x07 ∷ Some 0x18 ∷ Some 0x19 ∷ Some 0x1A ∷ Some 0x1B ∷ Some 0x08 ∷ Some 0x11 ∷ Some 0x09 ∷ Some 0x0A ∷ Some 0x0B ∷ Some 0x0C ∷ Some 0x0D ∷ Some 0x0F ∷ None ∷ None ∷ None ∷ []
 unfolding named_code
 type_codes = refl
 

@@ -1,3 +1,4 @@
 pub mod Examples
 mod FactExamples
 mod SumExamples
+mod TypeNameLemmas

@@ -12,7 +12,7 @@ use Rattle.conode_lint_text.specs.MeantSections.{meant_text}
 use Rattle.conode_lint_text.specs.declared.fact.Fact.{Fact}
 use Rattle.conode_lint_text.specs.declared.fact.Part.{Part}
 use Rattle.conode_lint_text.specs.declared.fact.Part.TheVariants.{Number, Code, Hexadecimal, Signed}
-use Rattle.conode_lint_text.specs.declared.fact.Fact.TheVariants.{NoCount, ListCount, ListGap, HighIndex, NoMandatoryList, NotListed, LargeText, NoValue, NoMapping, NotOctal, OpenSection, Unsupported, ManyEntries, NoObjectType, NoDataType, TypeName, ReservedOfTpdo, ReservedOfRpdo, ReservedCounter, MeantSection, ByteOrderMark, CommentInValue, QuotedValue, NoPairs, DecimalIndex, LowDecimal, LowIndex, FixedType, NoType, NoAccess, NoTypeOrAccess, NoFileInfo, FileInfoLacks, NoDeviceInfo, DeviceInfoLacks, NoSubNumber, SubNumber, SubIndex0, DecimalName, RpdoCount, TpdoCount, NoRpdoCount, NoTpdoCount, Identity, NoIdentity, BelowLow, AboveHigh, AboveNegative, ValueOutside, LimitOutside, LimitsCrossed, NegativeHigh, EndMark, Truth, OtherNumber}
+use Rattle.conode_lint_text.specs.declared.fact.Fact.TheVariants.{NoCount, ListCount, ListGap, HighIndex, NoMandatoryList, NotListed, LargeText, NoValue, NoMapping, NotOctal, OpenSection, Unsupported, ManyEntries, NoObjectType, NoDataType, TypeName, ReservedOfTpdo, ReservedOfRpdo, ReservedCounter, MeantSection, ByteOrderMark, CommentInValue, QuotedValue, NoPairs, DecimalIndex, LowDecimal, LowIndex, FixedType, StandardType, NoType, NoAccess, NoTypeOrAccess, NoFileInfo, FileInfoLacks, NoDeviceInfo, DeviceInfoLacks, NoSubNumber, SubNumber, SubIndex0, DecimalName, RpdoCount, TpdoCount, NoRpdoCount, NoTpdoCount, Identity, NoIdentity, BelowLow, AboveHigh, AboveNegative, ValueOutside, LimitOutside, LimitsCrossed, NegativeHigh, EndMark, Truth, OtherNumber}
 
 -- a number as sheets have it, in hexadecimal digits
 unfoldable pub hexadecimal : ℕ → List ℕ
@@ -82,6 +82,7 @@ words_of (LowDecimal number) =
     codes "% is below 0x1000, so it isn't read: % is decimal, 0x% is hexadecimal"
 words_of (LowIndex number) = codes "% is below 0x1000, so it isn't read"
 words_of (FixedType number) = codes "CiA 301 has DataType=0x% here"
+words_of (StandardType number) = codes "CiA 301 has DataType=0x% here"
 words_of (NoType is_sub) = codes "the entry has no DataType"
 words_of (NoAccess is_sub) = codes "the entry has no AccessType"
 words_of (NoTypeOrAccess is_sub) = codes "the entry has neither DataType nor AccessType"
@@ -157,6 +158,7 @@ texts_of (LowIndex index) = hexadecimal index ∷ decimal 0 ∷ decimal 0 ∷ []
 texts_of (DecimalIndex index) = hexadecimal index ∷ decimal index ∷ decimal index ∷ []
 texts_of (LowDecimal index) = hexadecimal index ∷ decimal index ∷ decimal index ∷ []
 texts_of (FixedType code) = digits_text 16 4 code ∷ decimal 0 ∷ decimal 0 ∷ []
+texts_of (StandardType code) = digits_text 16 4 code ∷ decimal 0 ∷ decimal 0 ∷ []
 texts_of (TypeName code) = digits_text 16 4 code ∷ decimal 0 ∷ decimal 0 ∷ []
 texts_of other = numbers 0 0 0
 

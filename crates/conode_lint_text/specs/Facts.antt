@@ -16,6 +16,7 @@ use Rattle.co_sheet_text.specs.Properties.{number_at, property_number}
 use Rattle.co_sheet_text.specs.Sections.{Property, TextSection, is_bracket, is_equals, property_at, section_at}
 use Rattle.co_sheet_text.specs.Text.{same_name, trim}
 use Rattle.co_sheet_warnings.specs.Accesses.{fixed_access}
+use Rattle.co_sheet_warnings.specs.Types.{standard_type}
 use Rattle.co_sheet_text_warnings.specs.Infos.{object_count}
 use Rattle.co_sheet_text_warnings.specs.KnownKeys.{key_text}
 use Rattle.co_sheet_text_warnings.specs.Lines.{has_other_byte}
@@ -213,24 +214,37 @@ is_value_key name = same_name name (codes "DefaultValue") || same_name name (cod
 
 -- and ObjectType and DataType may be written as names; the code of a data type by its name (CiA 301,
 -- data types)
+abbrev pub type_names : List (List ℕ × ℕ)
+type_names =
+    (codes "BOOLEAN", 0x0001)
+    ∷ (codes "INTEGER8", 0x0002)
+    ∷ (codes "INTEGER16", 0x0003)
+    ∷ (codes "INTEGER24", 0x0010)
+    ∷ (codes "INTEGER32", 0x0004)
+    ∷ (codes "INTEGER40", 0x0012)
+    ∷ (codes "INTEGER48", 0x0013)
+    ∷ (codes "INTEGER56", 0x0014)
+    ∷ (codes "INTEGER64", 0x0015)
+    ∷ (codes "UNSIGNED8", 0x0005)
+    ∷ (codes "UNSIGNED16", 0x0006)
+    ∷ (codes "UNSIGNED24", 0x0016)
+    ∷ (codes "UNSIGNED32", 0x0007)
+    ∷ (codes "UNSIGNED40", 0x0018)
+    ∷ (codes "UNSIGNED48", 0x0019)
+    ∷ (codes "UNSIGNED56", 0x001A)
+    ∷ (codes "UNSIGNED64", 0x001B)
+    ∷ (codes "REAL32", 0x0008)
+    ∷ (codes "REAL64", 0x0011)
+    ∷ (codes "VISIBLE_STRING", 0x0009)
+    ∷ (codes "OCTET_STRING", 0x000A)
+    ∷ (codes "UNICODE_STRING", 0x000B)
+    ∷ (codes "TIME_OF_DAY", 0x000C)
+    ∷ (codes "TIME_DIFFERENCE", 0x000D)
+    ∷ (codes "DOMAIN", 0x000F)
+    ∷ []
+
 unfoldable pub named_code : List ℕ → Option ℕ
-named_code name =
-    if same_name name (codes "BOOLEAN") then Some 0x0001
-    else if same_name name (codes "INTEGER8") then Some 0x0002
-    else if same_name name (codes "INTEGER16") then Some 0x0003
-    else if same_name name (codes "INTEGER32") then Some 0x0004
-    else if same_name name (codes "INTEGER64") then Some 0x0015
-    else if same_name name (codes "UNSIGNED8") then Some 0x0005
-    else if same_name name (codes "UNSIGNED16") then Some 0x0006
-    else if same_name name (codes "UNSIGNED32") then Some 0x0007
-    else if same_name name (codes "UNSIGNED64") then Some 0x001B
-    else if same_name name (codes "REAL32") then Some 0x0008
-    else if same_name name (codes "REAL64") then Some 0x0011
-    else if same_name name (codes "VISIBLE_STRING") then Some 0x0009
-    else if same_name name (codes "OCTET_STRING") then Some 0x000A
-    else if same_name name (codes "UNICODE_STRING") then Some 0x000B
-    else if same_name name (codes "DOMAIN") then Some 0x000F
-    else None
+named_code name = option_map (λ r. r.1) (find (λ r. same_name name r.0) type_names)
 
 abbrev pub type_number : Option ℕ → About
 type_number (Some code) = Fact (fact.TypeName code)
@@ -370,6 +384,14 @@ access_fact s = option_map_or (λ access. Access access) (fixed_access s.kind) L
 
 abbrev pub wrong_access : ℕ → List TextSection → About
 wrong_access line sections = option_map_or access_fact (section_before line sections) Line
+
+-- of the WrongType of a line: the type that CiA 301 has for the entry
+abbrev pub standard_fact : TextSection → About
+standard_fact s =
+    option_map_or (λ t. Fact (fact.StandardType (code_of t))) (standard_type s.kind) Line
+
+abbrev pub wrong_type : ℕ → List TextSection → About
+wrong_type line sections = option_map_or standard_fact (section_before line sections) Line
 
 -- of the ReservedValue of a line: a transmission type of an RPDO or of a TPDO, or the value of 1019h
 abbrev pub reserved_fact : SectionKind → About

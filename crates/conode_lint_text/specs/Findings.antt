@@ -93,7 +93,7 @@ fix_with (Fact NoMapping) fix =
 fix_with (Fact NotOctal) fix =
     codes "write the number without the zero, or try conode adapt --leading-zeros decimal"
 fix_with (Fact OpenSection) fix =
-    codes "put `]` after the name; until then no section of this name is read, so a listed object lacks it"
+    codes "put `]` after the name, or take the section out where the sheet has it already; until then its lines aren't read, so a listed object may lack them"
 fix_with (Fact Unsupported) fix = codes "take the object out of its list"
 fix_with (Fact ManyEntries) fix =
     codes "describe its sub-indices, with ObjectType=8 of 1003h or ObjectType=9 of a mapping; or take the object out of its list"

@@ -87,6 +87,8 @@ pub enum Fact {
     LowIndex(u64),
     /// A type that isn't the one of CiA 301 for this entry, by its code.
     FixedType(u16),
+    /// The same, where a sheet may have another type.
+    StandardType(u16),
     /// An entry without DataType, and whether it is a sub-index.
     NoType(bool),
     /// The same without AccessType.
@@ -239,7 +241,7 @@ fn words_of(fact: Fact) -> &'static str
             "% is below 0x1000, so it isn't read: % is decimal, 0x% is hexadecimal"
         }
         Fact::LowIndex(_) => "% is below 0x1000, so it isn't read",
-        Fact::FixedType(_) => "CiA 301 has DataType=0x% here",
+        Fact::FixedType(_) | Fact::StandardType(_) => "CiA 301 has DataType=0x% here",
         Fact::NoType(_) => "the entry has no DataType",
         Fact::NoAccess(_) => "the entry has no AccessType",
         Fact::NoTypeOrAccess(_) => "the entry has neither DataType nor AccessType",
@@ -345,7 +347,7 @@ fn values_of(fact: Fact) -> [Part; 3]
             Part::Number(index),
             Part::Number(index),
         ],
-        Fact::FixedType(code) | Fact::TypeName(code) => {
+        Fact::FixedType(code) | Fact::StandardType(code) | Fact::TypeName(code) => {
             [Part::Code(code), Part::Number(0), Part::Number(0)]
         }
         _ => numbers(0, 0, 0),

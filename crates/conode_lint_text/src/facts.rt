@@ -44,7 +44,6 @@ ghost use Rattle.conode_lint_text.specs.Facts.{
   misspelt_section,
   missing_key,
   missing_section,
-  named_code,
   number_fact,
   object_type_fact,
   odd_value,
@@ -56,6 +55,7 @@ ghost use Rattle.conode_lint_text.specs.Facts.{
   section_kind,
   section_name,
   section_on,
+  standard_fact,
   too_large,
   type_fact,
   type_number,
@@ -63,16 +63,18 @@ ghost use Rattle.conode_lint_text.specs.Facts.{
   value_fact,
   wrong_access,
   wrong_list,
+  wrong_type,
 };
 
 use crate::fact::Fact;
 use crate::finding::About;
 use crate::meant_section::meant_section;
+use crate::type_names::named_code;
 use co_profile::fixed_type;
 use co_sheet::section_at;
 use co_sheet_text::{SectionKind, TextSection, number_in, same_name, trim, unsigned_number};
 use co_sheet_text_warnings::{KnownKey, has_other_byte};
-use co_sheet_warnings::fixed_access;
+use co_sheet_warnings::{fixed_access, standard_type};
 use co_text::split_at_first;
 use co_value::Key;
 
@@ -234,59 +236,6 @@ fn is_value_key(name: &[u8]) -> bool
     ensures { result ≡ is_value_key name.now }
 {
     same_name(name, b"DefaultValue") || same_name(name, b"ParameterValue")
-}
-
-// the code of a data type by its name
-#[tactic(auto, unfolding(crate::specs::Facts::named_code))]
-fn named_code(name: &[u8]) -> Option<u16>
-    ensures { result ≡ named_code name.now }
-{
-    if same_name(name, b"BOOLEAN") {
-        return Some(0x0001);
-    }
-    if same_name(name, b"INTEGER8") {
-        return Some(0x0002);
-    }
-    if same_name(name, b"INTEGER16") {
-        return Some(0x0003);
-    }
-    if same_name(name, b"INTEGER32") {
-        return Some(0x0004);
-    }
-    if same_name(name, b"INTEGER64") {
-        return Some(0x0015);
-    }
-    if same_name(name, b"UNSIGNED8") {
-        return Some(0x0005);
-    }
-    if same_name(name, b"UNSIGNED16") {
-        return Some(0x0006);
-    }
-    if same_name(name, b"UNSIGNED32") {
-        return Some(0x0007);
-    }
-    if same_name(name, b"UNSIGNED64") {
-        return Some(0x001B);
-    }
-    if same_name(name, b"REAL32") {
-        return Some(0x0008);
-    }
-    if same_name(name, b"REAL64") {
-        return Some(0x0011);
-    }
-    if same_name(name, b"VISIBLE_STRING") {
-        return Some(0x0009);
-    }
-    if same_name(name, b"OCTET_STRING") {
-        return Some(0x000A);
-    }
-    if same_name(name, b"UNICODE_STRING") {
-        return Some(0x000B);
-    }
-    if same_name(name, b"DOMAIN") {
-        return Some(0x000F);
-    }
-    None
 }
 
 // what is said of a DataType that is no number, and perhaps the name of the type with this code
@@ -599,6 +548,25 @@ pub fn wrong_access(sections: &[TextSection<'_, '_>], line: usize) -> About
 {
     match section_before(sections, line) {
         Some(section) => access_fact(section),
+        None => About::Line,
+    }
+}
+
+fn standard_fact(section: &TextSection<'_, '_>) -> About
+    ensures { result ≡ standard_fact (section_view section.now) }
+{
+    match standard_type(section.kind) {
+        Some(data_type) => About::Fact(Fact::StandardType(data_type.code())),
+        None => About::Line,
+    }
+}
+
+/// Of the WrongType of a line: the type that CiA 301 has for the entry.
+pub fn wrong_type(sections: &[TextSection<'_, '_>], line: usize) -> About
+    ensures { result ≡ wrong_type line (map section_view sections.now) }
+{
+    match section_before(sections, line) {
+        Some(section) => standard_fact(section),
         None => About::Line,
     }
 }

@@ -27,6 +27,7 @@ mod pieces;
 mod sarif_form;
 mod sums;
 mod text_form;
+mod type_names;
 mod words;
 
 pub use bounds::{bad_default, bad_limits};
@@ -35,7 +36,7 @@ pub use fact::Fact;
 pub use facts::{
     ambiguous_number, bad_access, bad_line, bad_number, bad_type, device_info, duplicate_key,
     duplicate_section, file_info, first_at, key_value, missing_key, missing_section, misspelt_key,
-    misspelt_section, reserved_value, too_large, utf8, wrong_access, wrong_list,
+    misspelt_section, reserved_value, too_large, utf8, wrong_access, wrong_list, wrong_type,
 };
 pub use finding::{About, Finding, Place, Rule, Severity};
 pub use json_form::{put_document_end, put_document_head, put_file};

@@ -132,8 +132,8 @@ fn fact_fix(fact: Fact, fix: &str) -> &str
             "write the number without the zero, or try conode adapt --leading-zeros decimal"
         }
         Fact::OpenSection => {
-            "put `]` after the name; until then no section of this name is read, so a listed object \
-            lacks it"
+            "put `]` after the name, or take the section out where the sheet has it already; until then \
+            its lines aren't read, so a listed object may lack them"
         }
         Fact::Unsupported => "take the object out of its list",
         Fact::ManyEntries => {
@@ -185,6 +185,7 @@ fn fact_fix(fact: Fact, fix: &str) -> &str
         | Fact::ListCount(_, _)
         | Fact::ListGap(_, _, _)
         | Fact::NoDataType
+        | Fact::StandardType(_)
         | Fact::MeantSection(_)
         | Fact::NoFileInfo(_)
         | Fact::NoDeviceInfo(_)

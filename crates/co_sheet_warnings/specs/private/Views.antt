@@ -26,6 +26,7 @@ use Rattle.co_sheet_text_warnings.specs.declared.warning.WarningKind.TheVariants
   NegativeLimit,
   ReservedValue,
   WrongAccess,
+  WrongType,
   MisspeltSection,
   MisspeltKey,
   SharedCobId,
@@ -66,23 +67,24 @@ kind_row NodeIdSum = 12
 kind_row NegativeLimit = 13
 kind_row ReservedValue = 14
 kind_row WrongAccess = 15
-kind_row MisspeltSection = 16
-kind_row (MisspeltKey meant) = 17
-kind_row (SharedCobId node) = 18
-kind_row InhibitTime = 19
-kind_row OwnHeartbeat = 20
-kind_row (HeartbeatTwice given) = 21
-kind_row NoErrorControl = 22
-kind_row LongLine = 23
-kind_row Utf8 = 24
-kind_row NotAscii = 25
-kind_row NodeId = 26
-kind_row ListOrder = 27
-kind_row EqualNames = 28
-kind_row MissingName = 29
-kind_row UnknownKey = 30
-kind_row DateFormat = 31
-kind_row LineEnds = 32
+kind_row WrongType = 16
+kind_row MisspeltSection = 17
+kind_row (MisspeltKey meant) = 18
+kind_row (SharedCobId node) = 19
+kind_row InhibitTime = 20
+kind_row OwnHeartbeat = 21
+kind_row (HeartbeatTwice given) = 22
+kind_row NoErrorControl = 23
+kind_row LongLine = 24
+kind_row Utf8 = 25
+kind_row NotAscii = 26
+kind_row NodeId = 27
+kind_row ListOrder = 28
+kind_row EqualNames = 29
+kind_row MissingName = 30
+kind_row UnknownKey = 31
+kind_row DateFormat = 32
+kind_row LineEnds = 33
 
 -- an entry that nobody writes, by its section
 abbrev pub is_constant_section : TextSection → Bool
