@@ -33,7 +33,7 @@ ghost use Rattle.conode_compare_nmt.specs.Heartbeats.{
 
 use crate::entries::{Entries, shown_period};
 use crate::finding::{Finding, Remark};
-use crate::limits::{Limits, drift_of};
+use crate::limits::{Limits, drift_of, most_passed};
 use crate::nmt::is_guarded_state;
 use conode_compare_transfers::{is_past, micros_of};
 use conode_explain_transfers::{Direction, Ended};
@@ -214,27 +214,29 @@ impl Heartbeats {
 
     /// What is remarked of a heartbeat with this byte that comes early (CiA 301, 7.2.8.3.2), at a
     /// stamp in microseconds: sooner after the last one than its period, less the tolerance and by how
-    /// much the clocks may differ.
+    /// much the clocks may differ. `earlier`: the last other stamp.
     #[tactic(auto, unfolding(crate::specs::Heartbeats::early_remark))]
     pub fn early_remark(
         &self,
         limits: &Limits,
         entries: &Entries,
+        earlier: Option<u64>,
         micros: u64,
         byte: u8,
     ) -> Option<Remark>
-        ensures { result ≡ early_remark limits.now entries.now.period self.now micros byte }
+        ensures { result
+            ≡ early_remark limits.now entries.now.period self.now earlier micros byte }
     {
         let period = entries.period?;
         let sent = self.sent?;
-        let passed = micros.saturating_sub(sent);
+        let most = most_passed(earlier, sent, micros)?;
         let least = micros_of(period as u32)
             .saturating_sub(micros_of(limits.tolerance))
             .saturating_sub(drift_of(limits, period));
-        if self.guarded || is_guarded_state(byte) || passed == 0 || passed >= least {
+        if self.guarded || is_guarded_state(byte) || most >= least {
             return None;
         }
-        Some(Remark::EarlyHeartbeat(passed, period))
+        Some(Remark::EarlyHeartbeat(micros.saturating_sub(sent), period))
     }
 
     /// For how many microseconds the next heartbeat is awaited at `micros`, where that is too long by

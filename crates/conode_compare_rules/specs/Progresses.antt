@@ -22,7 +22,7 @@ use Rattle.conode_compare_rules.specs.Processes.{process_findings, after_process
 -- what is found at a frame, by what it is to the device, once the recording is begun
 abbrev pub findings_in : Subject → List Row → Progress → ℕ → FrameKind → Findings
 findings_in subject rows progress micros (Control byte) =
-    if byte == 0 then boot_findings subject progress micros else control_findings subject progress micros byte
+    if byte == 0 then boot_findings progress micros else control_findings subject progress micros byte
 findings_in subject rows progress micros (OddControl length) = odd_control_findings subject progress micros length
 findings_in subject rows progress micros (Emergency code register) = emergency_findings subject progress micros code register
 findings_in subject rows progress micros (OddEmergency length) = odd_emergency_findings progress length
