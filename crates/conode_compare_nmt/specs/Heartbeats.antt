@@ -190,7 +190,7 @@ unfoldable pub late_finding : Limits → Option ℕ → Heartbeats → ℕ → �
 late_finding limits period heartbeats free micros =
     option_map (late_since heartbeats.awaited) (overdue_by limits period heartbeats free micros)
 
--- An EMCY or a TPDO showed that the device sends while its heartbeat was late, `shown`: the first one
+-- An answer, an EMCY or a TPDO showed that the device sends while its heartbeat was late, `shown`: the first one
 -- since that heartbeat is awaited.
 abbrev pub shown_after : ℕ → Option ℕ → Bool
 shown_after since None = false

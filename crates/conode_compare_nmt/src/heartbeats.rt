@@ -64,8 +64,8 @@ pub struct Heartbeats {
     /// When the bus was free before the newest one or the boot-up, or 1017:00 was asked to be
     /// written: from then on the device counts its period, or from later.
     pub sent: Option<u64>,
-    /// When an EMCY or a TPDO showed first that it sends while the next one is late; where that is
-    /// after `since`.
+    /// When an answer, an EMCY or a TPDO showed first that it sends while the next one is late; where
+    /// that is after `since`.
     pub shown: Option<u64>,
     /// The longest time, in microseconds, that one of the newest heartbeats took, which all came
     /// late; where the newest one did.
@@ -277,7 +277,8 @@ impl Heartbeats {
         }
     }
 
-    // whether an EMCY or a TPDO showed that the device sends while the next heartbeat is late
+    // whether an answer, an EMCY or a TPDO showed that the device sends while the next heartbeat is
+    // late
     fn is_shown(&self) -> bool
         ensures { result ≡ is_shown self.now.since self.now.shown }
     {
@@ -287,8 +288,8 @@ impl Heartbeats {
         }
     }
 
-    /// An EMCY or a TPDO, at a stamp in microseconds, shows that the device sends while the next
-    /// heartbeat is late: the first one since that is awaited counts.
+    /// An answer, an EMCY or a TPDO, at a stamp in microseconds, shows that the device sends while the
+    /// next heartbeat is late: the first one since that is awaited counts.
     pub fn note_shown(&mut self, micros: u64)
         ensures { self.new ≡ with_shown self.old true micros }
     {
@@ -307,9 +308,9 @@ impl Heartbeats {
         }
     }
 
-    /// Whether the next heartbeat is missing: it hasn't come, and since an EMCY or a TPDO showed that
-    /// the device sends, the bus was free once more after as long as until a late one, last at this
-    /// stamp in microseconds.
+    /// Whether the next heartbeat is missing: it hasn't come, and since an answer, an EMCY or a TPDO
+    /// showed that the device sends, the bus was free once more after as long as until a late one,
+    /// last at this stamp in microseconds.
     #[tactic(auto, unfolding(crate::specs::Heartbeats::is_missing))]
     pub fn is_missing(&self, limits: &Limits, entries: &Entries, free: u64) -> bool
         ensures { result ≡ is_missing limits.now entries.now.period self.now free }
