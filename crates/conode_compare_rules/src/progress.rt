@@ -44,6 +44,7 @@ ghost use Rattle.conode_compare_rules.specs.Progresses.{
   progress_with,
   findings_at,
   findings_in,
+  is_end_judged,
   is_number_kept,
   after_frame,
 };
@@ -585,6 +586,17 @@ impl Progress {
                 let ended = &exchange.heard.ended;
                 self.written.is_kept(&subject.held, exchange.certain, ended)
             }
+            None => false,
+        }
+    }
+
+    /// Whether the newest frame ends a transfer, and that end is judged: no earlier request can be
+    /// answered.
+    pub fn is_end_judged(&self) -> bool
+        ensures { result ≡ is_end_judged self.now }
+    {
+        match &self.exchange {
+            Some(exchange) => exchange.certain && exchange.heard.ended.is_some(),
             None => false,
         }
     }
