@@ -453,8 +453,8 @@ fn passes(verdict: Option<Verdict>) -> bool
     }
 }
 
-/// Counts the kinds that a frame could have shown. What ended with it is in `heard`, and counts where it is
-/// `judged`; `free`: the bus was free since the last frame of error control.
+/// Counts the kinds that a frame could have shown. What ended with it is in `heard`, and counts where
+/// it is `judged`; `free`: the bus was free since the last frame of error control.
 #[tactic(auto, unfolding(crate::specs::Occasions::frame_passed))]
 pub(crate) fn pass_frame(
     counts: &mut [Counted],
