@@ -34,7 +34,7 @@ use Rattle.conode_compare_rules.specs.declared.progress.Progress.{Progress}
 use Rattle.conode_compare_receptions.specs.declared.receptions.Receptions.{Receptions}
 use Rattle.conode_compare_rules.specs.FrameKinds.{kind_of}
 use Rattle.conode_compare_rules.specs.Gaps.{before_recording, with_bad_line}
-use Rattle.conode_compare_rules.specs.Progresses.{findings_at, is_number_kept, progress_with}
+use Rattle.conode_compare_rules.specs.Progresses.{findings_at, is_end_judged, is_number_kept, progress_with}
 use Rattle.conode_compare_receptions.specs.Receptions.{no_receptions, receptions_with, with_receptions}
 use Rattle.conode_compare_text.specs.declared.details.Details.{Details}
 use Rattle.conode_compare_text.specs.Beside.{came_at, no_details}
@@ -140,7 +140,7 @@ findings_noted micros details found kept =
 abbrev pub frame_noted : Comparison → Progress → ℕ → FrameKind → Kept → Kept
 frame_noted c progress micros kind kept =
     with_frame c.rows kept micros kind (before_at kept.rpdos c.subject.facts.modular progress kind) (progress_with c.subject progress micros kind).nmt.state
-    (progress_with c.subject progress micros kind).free (findings_at c.subject c.rows progress micros kind)
+    (progress_with c.subject progress micros kind).free (is_end_judged (progress_with c.subject progress micros kind)) (findings_at c.subject c.rows progress micros kind)
 
 -- an upload of an entry that is held shows the number that was written
 abbrev pub number_noted : Comparison → Progress → Kept → Kept

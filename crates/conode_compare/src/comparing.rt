@@ -133,7 +133,17 @@ fn document_kind(
     let found = progress.take(&settings.subject, settings.rows, micros, kind);
     let state = progress.state();
     let free = progress.free;
-    attempt!(report.take_frame(settings.rows, micros, kind, &before, state, free, &found));
+    let judged = progress.is_end_judged();
+    attempt!(report.take_frame(
+        settings.rows,
+        micros,
+        kind,
+        &before,
+        state,
+        free,
+        judged,
+        &found
+    ));
     if progress.is_number_kept(&settings.subject) {
         report.pass(Kind::ValueHeld);
     }

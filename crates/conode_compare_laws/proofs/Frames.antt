@@ -220,9 +220,9 @@ boots_shown true = refl
 boots_shown false = refl
 
 pub boot_passes : (subject : Subject) (rows : List Row) (p : Progress) (micros : ℕ) → FitsAt micros boots p → Passes subject rows p micros (Control 0) (runs node.PreOperational)
-unfolding found control_finding second_boot_up booted states.after_control after_boot_up
+unfolding found second_boot_up booted states.after_control after_boot_up
 boot_passes subject rows p micros h = record {
-  none = ap (λ b. option_to_list (second_boot_up b micros)) h.0;
+  none = ap (λ b. option_to_list (second_boot_up p.earlier b micros)) h.0;
   fits = boots_shown (boots_known subject.limits p.nmt.commanded micros);
 }
 
@@ -239,7 +239,7 @@ never_again subject p micros node.Operational h = none_wrong (not p.heartbeats.g
 never_again subject p micros node.Stopped h = none_wrong (not p.heartbeats.guarded && is_settled subject.limits p.started p.nmt.commanded p.free) _ _ (freer_not_wrong subject.facts.starts_itself p.nmt.state p.nmt.due node.Stopped h)
 
 none_controlled : (subject : Subject) (p : Progress) (micros : ℕ) (actual : NodeState) → FitsAt micros (runs actual) p
-    → control_finding subject p.started p.heartbeats.guarded (comes_early subject p micros (state_byte (heartbeat_of actual))) p.nmt p.free micros (state_byte (heartbeat_of actual)) ≡ None
+    → control_finding subject p.started p.heartbeats.guarded (comes_early subject p micros (state_byte (heartbeat_of actual))) p.nmt p.free (state_byte (heartbeat_of actual)) ≡ None
 unfolding control_finding
 none_controlled subject p micros node.PreOperational h = by (strays_again subject p.started p.heartbeats.guarded (comes_early subject p micros 127) p.nmt p.free 127) (p.heartbeats.guarded || (is_guarded_state 127 || not (is_settled subject.limits p.started p.nmt.commanded p.free)))
     (never_again subject p micros node.PreOperational h)
@@ -268,9 +268,9 @@ none_controlled subject p micros node.Stopped h = by (strays_again subject p.sta
 
 heartbeat_none : (subject : Subject) (rows : List Row) (p : Progress) (micros : ℕ) (actual : NodeState) → FitsAt micros (runs actual) p
     → option_to_list (boot_finding subject.limits p.nmt micros)
-    ++ option_to_list (control_finding subject p.started p.heartbeats.guarded (comes_early subject p micros (state_byte (heartbeat_of actual))) p.nmt p.free micros (state_byte (heartbeat_of actual))) ≡ []
+    ++ option_to_list (control_finding subject p.started p.heartbeats.guarded (comes_early subject p micros (state_byte (heartbeat_of actual))) p.nmt p.free (state_byte (heartbeat_of actual))) ≡ []
 heartbeat_none subject rows p micros actual h =
-    ap (λ o. option_to_list o ++ option_to_list (control_finding subject p.started p.heartbeats.guarded (comes_early subject p micros (state_byte (heartbeat_of actual))) p.nmt p.free micros (state_byte (heartbeat_of actual)))) (none_missing subject.limits p micros (runs actual) h)
+    ap (λ o. option_to_list o ++ option_to_list (control_finding subject p.started p.heartbeats.guarded (comes_early subject p micros (state_byte (heartbeat_of actual))) p.nmt p.free (state_byte (heartbeat_of actual)))) (none_missing subject.limits p micros (runs actual) h)
     ∙ ap (λ o. [] ++ option_to_list o) (none_controlled subject p micros actual h)
 
 -- what is known after a heartbeat: its state, or what was known

@@ -79,41 +79,60 @@ unfolding late_finding overdue_by
 not_since = refl
 
 -- early before 1000 ms, less 10 ms and 1 %
-early : early_remark limits (Some 1000) pulse 980003 5 ≡ Some (EarlyHeartbeat 979999 1000)
+early : early_remark limits (Some 1000) pulse None 980003 5 ≡ Some (EarlyHeartbeat 979999 1000)
 unfolding early_remark
 early = refl
 
-not_early : early_remark limits (Some 1000) pulse 980004 5 ≡ None
+not_early : early_remark limits (Some 1000) pulse None 980004 5 ≡ None
 unfolding early_remark
 not_early = refl
 
 -- in a recording without stamps
-same_stamp : early_remark limits (Some 1000) pulse 4 5 ≡ None
+same_stamp : early_remark limits (Some 1000) pulse None 4 5 ≡ None
 unfolding early_remark
 same_stamp = refl
 
-just_later : early_remark limits (Some 1000) pulse 5 5 ≡ Some (EarlyHeartbeat 1 1000)
+-- Two with one stamp, 1 s: of a log that is rounded, or of one that stamps together what it reads at once, no more time passed
+-- than since the stamp before. So of one in seconds nothing is known.
+abbrev stamped : Heartbeats
+stamped = record pulse { since = Some 1000000; sent = Some 1000000 }
+
+rounded : map (λ earlier. early_remark limits (Some 1000) stamped (Some earlier) 1000000 5) (999999 ∷ 20001 ∷ 20000 ∷ 0 ∷ [])
+    ≡ Some (EarlyHeartbeat 0 1000) ∷ Some (EarlyHeartbeat 0 1000) ∷ None ∷ None ∷ []
+unfolding early_remark
+rounded = refl
+
+-- with two stamps the one before says nothing
+other_stamp : map (λ earlier. early_remark limits (Some 1000) stamped earlier 1979999 5) (None ∷ Some 1000000 ∷ []) ≡ Some (EarlyHeartbeat 979999 1000) ∷ Some (EarlyHeartbeat 979999 1000) ∷ []
+unfolding early_remark
+other_stamp = refl
+
+other_period : map (λ earlier. early_remark limits (Some 1000) stamped earlier 1980000 5) (None ∷ Some 1000000 ∷ []) ≡ None ∷ None ∷ []
+unfolding early_remark
+other_period = refl
+
+just_later : early_remark limits (Some 1000) pulse None 5 5 ≡ Some (EarlyHeartbeat 1 1000)
 unfolding early_remark
 just_later = refl
 
-no_period : early_remark limits (Some 0) pulse 5 5 ≡ None
+no_period : early_remark limits (Some 0) pulse None 5 5 ≡ None
 unfolding early_remark
 no_period = refl
 
-period_unknown : early_remark limits None pulse 5 5 ≡ None
+period_unknown : early_remark limits None pulse None 5 5 ≡ None
 unfolding early_remark
 period_unknown = refl
 
-none_before : early_remark limits (Some 1000) (record pulse { sent = None }) 5 5 ≡ None
+none_before : early_remark limits (Some 1000) (record pulse { sent = None }) (Some 3) 5 5 ≡ None
 unfolding early_remark
 none_before = refl
 
 -- answers of node guarding aren't heartbeats
-guarded_early : early_remark limits (Some 1000) (record pulse { guarded = true }) 5 5 ≡ None
+guarded_early : early_remark limits (Some 1000) (record pulse { guarded = true }) None 5 5 ≡ None
 unfolding early_remark
 guarded_early = refl
 
-toggled : early_remark limits (Some 1000) pulse 5 0x85 ≡ None
+toggled : early_remark limits (Some 1000) pulse None 5 0x85 ≡ None
 unfolding early_remark
 toggled = refl
 

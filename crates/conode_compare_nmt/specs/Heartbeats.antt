@@ -24,7 +24,7 @@ use Rattle.conode_compare_nmt.specs.OtherClients.{is_channel}
 use Rattle.conode_compare_nmt.specs.declared.nmt.Nmt.{Nmt}
 use Rattle.conode_compare_nmt.specs.States.{is_guarded_state, same_state, state_of}
 use Rattle.conode_compare_transfers.specs.Times.{is_past, micros_of}
-use Rattle.conode_compare_nmt.specs.Times.{drift_of}
+use Rattle.conode_compare_nmt.specs.Times.{drift_of, most_passed}
 
 -- the longest period: 1017:00 has 16 bits (CiA 301, 7.5.2.20)
 abbrev pub longest_period : ℕ
@@ -190,7 +190,7 @@ unfoldable pub late_finding : Limits → Option ℕ → Heartbeats → ℕ → �
 late_finding limits period heartbeats free micros =
     option_map (late_since heartbeats.awaited) (overdue_by limits period heartbeats free micros)
 
--- An EMCY or a TPDO showed that the device sends while its heartbeat was late, `shown`: the first one
+-- An answer, an EMCY or a TPDO showed that the device sends while its heartbeat was late, `shown`: the first one
 -- since that heartbeat is awaited.
 abbrev pub shown_after : ℕ → Option ℕ → Bool
 shown_after since None = false
@@ -283,21 +283,22 @@ slow_after limits period heartbeats free micros =
 abbrev pub least_time : Limits → ℕ → ℕ
 least_time limits period = micros_of period - micros_of limits.tolerance - drift_of limits period
 
-abbrev pub early_after : Limits → Bool → ℕ → ℕ → Option Remark
-early_after limits guarded period passed =
-    if guarded || (passed == 0) || nat_le (least_time limits period) passed then None else Some (EarlyHeartbeat passed period)
+abbrev pub early_after : Limits → Bool → ℕ → Option ℕ → ℕ → Option Remark
+early_after limits guarded period None passed = None
+early_after limits guarded period (Some most) passed =
+    if guarded || nat_le (least_time limits period) most then None else Some (EarlyHeartbeat passed period)
 
-abbrev pub early_since : Limits → Bool → ℕ → Option ℕ → ℕ → Option Remark
-early_since limits guarded period None micros = None
-early_since limits guarded period (Some sent) micros = early_after limits guarded period (micros - sent)
+abbrev pub early_since : Limits → Bool → ℕ → Option ℕ → Option ℕ → ℕ → Option Remark
+early_since limits guarded period earlier None micros = None
+early_since limits guarded period earlier (Some sent) micros =
+    early_after limits guarded period (most_passed earlier sent micros) (micros - sent)
 
-abbrev pub early_with : Limits → Bool → Option ℕ → Option ℕ → ℕ → Option Remark
-early_with limits guarded None sent micros = None
-early_with limits guarded (Some period) sent micros = early_since limits guarded period sent micros
+abbrev pub early_with : Limits → Bool → Option ℕ → Option ℕ → Option ℕ → ℕ → Option Remark
+early_with limits guarded None earlier sent micros = None
+early_with limits guarded (Some period) earlier sent micros = early_since limits guarded period earlier sent micros
 
 -- `choice-heartbeat`: it comes sooner than its period after the last one, the boot-up, or the request
--- to write 1017:00; answers of node guarding aren't looked at, nor a heartbeat with the stamp of the last one, as in a
--- recording without stamps
-unfoldable pub early_remark : Limits → Option ℕ → Heartbeats → ℕ → ℕ → Option Remark
-early_remark limits period heartbeats micros byte =
-    early_with limits (heartbeats.guarded || is_guarded_state byte) period heartbeats.sent micros
+-- to write 1017:00; answers of node guarding aren't looked at. `earlier`: the last other stamp.
+unfoldable pub early_remark : Limits → Option ℕ → Heartbeats → Option ℕ → ℕ → ℕ → Option Remark
+early_remark limits period heartbeats earlier micros byte =
+    early_with limits (heartbeats.guarded || is_guarded_state byte) period earlier heartbeats.sent micros

@@ -33,7 +33,7 @@ ghost use Rattle.conode_compare_nmt.specs.Heartbeats.{
 
 use crate::entries::{Entries, shown_period};
 use crate::finding::{Finding, Remark};
-use crate::limits::{Limits, drift_of};
+use crate::limits::{Limits, drift_of, most_passed};
 use crate::nmt::is_guarded_state;
 use conode_compare_transfers::{is_past, micros_of};
 use conode_explain_transfers::{Direction, Ended};
@@ -64,8 +64,8 @@ pub struct Heartbeats {
     /// When the bus was free before the newest one or the boot-up, or 1017:00 was asked to be
     /// written: from then on the device counts its period, or from later.
     pub sent: Option<u64>,
-    /// When an EMCY or a TPDO showed first that it sends while the next one is late; where that is
-    /// after `since`.
+    /// When an answer, an EMCY or a TPDO showed first that it sends while the next one is late; where
+    /// that is after `since`.
     pub shown: Option<u64>,
     /// The longest time, in microseconds, that one of the newest heartbeats took, which all came
     /// late; where the newest one did.
@@ -214,27 +214,29 @@ impl Heartbeats {
 
     /// What is remarked of a heartbeat with this byte that comes early (CiA 301, 7.2.8.3.2), at a
     /// stamp in microseconds: sooner after the last one than its period, less the tolerance and by how
-    /// much the clocks may differ.
+    /// much the clocks may differ. `earlier`: the last other stamp.
     #[tactic(auto, unfolding(crate::specs::Heartbeats::early_remark))]
     pub fn early_remark(
         &self,
         limits: &Limits,
         entries: &Entries,
+        earlier: Option<u64>,
         micros: u64,
         byte: u8,
     ) -> Option<Remark>
-        ensures { result ≡ early_remark limits.now entries.now.period self.now micros byte }
+        ensures { result
+            ≡ early_remark limits.now entries.now.period self.now earlier micros byte }
     {
         let period = entries.period?;
         let sent = self.sent?;
-        let passed = micros.saturating_sub(sent);
+        let most = most_passed(earlier, sent, micros)?;
         let least = micros_of(period as u32)
             .saturating_sub(micros_of(limits.tolerance))
             .saturating_sub(drift_of(limits, period));
-        if self.guarded || is_guarded_state(byte) || passed == 0 || passed >= least {
+        if self.guarded || is_guarded_state(byte) || most >= least {
             return None;
         }
-        Some(Remark::EarlyHeartbeat(passed, period))
+        Some(Remark::EarlyHeartbeat(micros.saturating_sub(sent), period))
     }
 
     /// For how many microseconds the next heartbeat is awaited at `micros`, where that is too long by
@@ -275,7 +277,8 @@ impl Heartbeats {
         }
     }
 
-    // whether an EMCY or a TPDO showed that the device sends while the next heartbeat is late
+    // whether an answer, an EMCY or a TPDO showed that the device sends while the next heartbeat is
+    // late
     fn is_shown(&self) -> bool
         ensures { result ≡ is_shown self.now.since self.now.shown }
     {
@@ -285,8 +288,8 @@ impl Heartbeats {
         }
     }
 
-    /// An EMCY or a TPDO, at a stamp in microseconds, shows that the device sends while the next
-    /// heartbeat is late: the first one since that is awaited counts.
+    /// An answer, an EMCY or a TPDO, at a stamp in microseconds, shows that the device sends while the
+    /// next heartbeat is late: the first one since that is awaited counts.
     pub fn note_shown(&mut self, micros: u64)
         ensures { self.new ≡ with_shown self.old true micros }
     {
@@ -305,9 +308,9 @@ impl Heartbeats {
         }
     }
 
-    /// Whether the next heartbeat is missing: it hasn't come, and since an EMCY or a TPDO showed that
-    /// the device sends, the bus was free once more after as long as until a late one, last at this
-    /// stamp in microseconds.
+    /// Whether the next heartbeat is missing: it hasn't come, and since an answer, an EMCY or a TPDO
+    /// showed that the device sends, the bus was free once more after as long as until a late one,
+    /// last at this stamp in microseconds.
     #[tactic(auto, unfolding(crate::specs::Heartbeats::is_missing))]
     pub fn is_missing(&self, limits: &Limits, entries: &Entries, free: u64) -> bool
         ensures { result ≡ is_missing limits.now entries.now.period self.now free }

@@ -1,7 +1,7 @@
 //! How exactly a device is judged, and the device itself.
 
 ghost use Rattle.std.specs.Prelude.{◌≡◌};
-ghost use Rattle.conode_compare_nmt.specs.Times.{drift_of};
+ghost use Rattle.conode_compare_nmt.specs.Times.{drift_of, most_passed};
 
 use crate::entries::Facts;
 use conode_compare_values::{HeldEntries, Rooms};
@@ -42,4 +42,18 @@ pub fn drift_of(limits: &Limits, millis: u16) -> u64
     ensures { result ≡ drift_of limits.now millis }
 {
     (millis as u32 * limits.drift as u32) as u64 * 10
+}
+
+/// How many microseconds have passed at most between two frames with these stamps: between two of one
+/// stamp no more than since the last other one, `earlier`; without that it isn't known.
+pub(crate) fn most_passed(earlier: Option<u64>, from: u64, micros: u64) -> Option<u64>
+    ensures { result ≡ most_passed earlier from micros }
+{
+    if from < micros {
+        return Some(micros.saturating_sub(from));
+    }
+    match earlier {
+        Some(stamp) => Some(micros.saturating_sub(stamp)),
+        None => None,
+    }
 }

@@ -42,10 +42,10 @@ ghost use Rattle.conode_compare_nmt.specs.States.{
 
 use crate::finding::{Finding, NmtState, Remark};
 use crate::leaving::{Leaving, is_running};
-use crate::limits::{Limits, Subject};
+use crate::limits::{Limits, Subject, most_passed};
 use crate::repeated::Odd;
 use co_frame::NmtService;
-use conode_compare_transfers::is_past;
+use conode_compare_transfers::{is_past, micros_of};
 
 // two boot-ups within so many ms are those of two devices
 const SECOND_BOOT_UP: u32 = 1000;
@@ -344,28 +344,35 @@ impl Nmt {
         }
     }
 
-    // the difference of a boot-up
+    /// `second-sender`: the difference of a boot-up at a stamp in microseconds (CiA 301, 7.2.8.3.3);
+    /// `earlier`: the last other stamp.
     #[tactic(auto, unfolding(crate::specs::States::second_boot_up))]
-    fn second_boot_up(&self, micros: u64) -> Option<Finding>
-        ensures { result ≡ second_boot_up self.now.booted micros }
+    pub fn second_boot_up(&self, earlier: Option<u64>, micros: u64) -> Option<Finding>
+        ensures { result ≡ second_boot_up earlier self.now.booted micros }
     {
-        match self.booted {
-            // (two with one stamp, as in a recording without stamps, may be far apart)
-            Some(booted) if micros <= booted || is_past(booted, SECOND_BOOT_UP, micros) => None,
-            Some(booted) => Some(Finding::SecondBootUp(micros.saturating_sub(booted))),
-            None => None,
+        let booted = self.booted?;
+        match most_passed(earlier, booted, micros) {
+            Some(most) if most <= micros_of(SECOND_BOOT_UP) => {
+                Some(Finding::SecondBootUp(micros.saturating_sub(booted)))
+            }
+            _ => None,
         }
     }
 
     /// What is remarked of a boot-up at a stamp in microseconds, where the device was up and no reset
-    /// was commanded since (CiA 301, 7.2.8.3.3).
+    /// was commanded since (CiA 301, 7.2.8.3.3); `earlier`: the last other stamp.
     #[tactic(auto, unfolding(crate::specs::States::restart_remark))]
-    pub fn restart_remark(&self, limits: &Limits, micros: u64) -> Option<Remark>
-        ensures { result ≡ restart_remark limits.now self.now micros }
+    pub fn restart_remark(
+        &self,
+        limits: &Limits,
+        earlier: Option<u64>,
+        micros: u64,
+    ) -> Option<Remark>
+        ensures { result ≡ restart_remark limits.now self.now earlier micros }
     {
         if !is_up(self.state)
             || self.several_left(limits, micros)
-            || self.second_boot_up(micros).is_some()
+            || self.second_boot_up(earlier, micros).is_some()
         {
             None
         } else {
@@ -393,10 +400,9 @@ impl Nmt {
         }
     }
 
-    /// The difference of a byte of error control (CiA 301, 7.2.8.3.2 and 7.2.8.3.3), by stamps in
-    /// microseconds: the recording began at `started`, the bus was free last at `free`, and the frame
-    /// comes at `micros`. `early`: it comes sooner than the heartbeats' period. Once node guarding was
-    /// seen (`guarded`), only boot-ups are judged.
+    /// The difference of a heartbeat's byte (CiA 301, 7.2.8.3.2), by stamps in microseconds: the
+    /// recording began at `started`, and the bus was free last at `free`. `early`: it comes sooner than
+    /// its period. Once node guarding was seen (`guarded`), none is judged.
     #[tactic(auto, unfolding(crate::specs::States::control_finding))]
     pub fn control_finding(
         &self,
@@ -405,15 +411,10 @@ impl Nmt {
         guarded: bool,
         early: bool,
         free: u64,
-        micros: u64,
         byte: u8,
     ) -> Option<Finding>
-        ensures { result
-            ≡ control_finding subject.now started guarded early self.now free micros byte }
+        ensures { result ≡ control_finding subject.now started guarded early self.now free byte }
     {
-        if byte == 0 {
-            return self.second_boot_up(micros);
-        }
         if self.strays_again(subject, started, guarded, early, free, byte) {
             return Some(Finding::TwoStates(state_of(byte), self.judged_state()));
         }

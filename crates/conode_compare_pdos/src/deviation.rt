@@ -65,7 +65,8 @@ pub struct Moment {
     pub idle: bool,
     /// Whether its state is known.
     pub known: bool,
-    /// When the newest command came; where none did, when the recording began.
+    /// Since when the times of TPDOs count: the newest command; where none came, the begin of the
+    /// recording, or the device's first frame since.
     pub commanded: Option<u64>,
 }
 

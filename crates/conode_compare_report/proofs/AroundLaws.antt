@@ -464,8 +464,8 @@ step lines kept (Came bytes) few h =
     (ap (λ (n : ℕ). numbered_from 1 lines ++ line_of (n + 1) bytes ∷ []) size ∙ sym (numbered_more 1 lines bytes))
     (came (numbered_from 1 lines) kept bytes (omega (arith, few, size)) h)
 step lines kept WasBad few h = subst (λ (all : List (List ℕ)). Stands (numbered_from 1 all) (with_bad_line kept)) (sym (append-nil lines)) h
-step lines kept (Framed rows micros kind before state free found) few h =
-    subst (λ (all : List (List ℕ)). Stands (numbered_from 1 all) (with_frame rows kept micros kind before state free found)) (sym (append-nil lines)) h
+step lines kept (Framed rows micros kind before state free judged found) few h =
+    subst (λ (all : List (List ℕ)). Stands (numbered_from 1 all) (with_frame rows kept micros kind before state free judged found)) (sym (append-nil lines)) h
 step lines kept (Passed kind) few h = subst (λ (all : List (List ℕ)). Stands (numbered_from 1 all) (with_passed kept kind)) (sym (append-nil lines)) h
 step lines kept (Found micros details finding) few h =
     let size : length (numbered_from 1 lines) ≡ length lines = numbered_length 1 lines in

@@ -8,6 +8,7 @@ use Rattle.co_profile.specs.declared.access.Access.TheVariants.{Ro, Wo, Rw, Cons
 use Rattle.co_sheet.specs.Content.{Row}
 use Rattle.co_sheet.specs.Limits.{absent, node_id}
 use Rattle.co_value.specs.declared.data_type.DataType.TheVariants.{Unsigned8, Unsigned32}
+use Rattle.conode_explain_transfers.specs.declared.channel.Heard.{Heard}
 use Rattle.conode_explain_transfers.specs.declared.ended.Ended.{Ended}
 use Rattle.conode_explain_transfers.specs.declared.ended.Ending.{Ending}
 use Rattle.conode_explain_transfers.specs.declared.ended.Ending.TheVariants.{Done, Aborted, Unanswered}
@@ -16,6 +17,7 @@ use Rattle.conode_explain_transfers.specs.declared.kinds.Direction.TheVariants.{
 use Rattle.conode_explain_transfers.specs.declared.kinds.Protocol.{Protocol}
 use Rattle.conode_explain_transfers.specs.declared.kinds.Protocol.TheVariants.{Expedited, Segmented, Block}
 use Rattle.conode_explain_transfers.specs.declared.kinds.Side.TheVariants.{Client, Server}
+use Rattle.conode_explain_transfers.specs.declared.kinds.What.TheVariants.{Part}
 use Rattle.conode_compare_pdos.specs.declared.parameters.Parameters.{Parameters}
 use Rattle.conode_compare_pdos.specs.Followed.{unknown_pdos}
 use Rattle.conode_compare_nmt.specs.declared.entries.Entries.{Entries}
@@ -441,11 +443,20 @@ unfolding ended_passed upload_passed counts_passed
 aborted_by_client = refl
 
 -- a frame with a difference, or one that isn't judged, counts for no other kind
-by_verdict : map (λ verdict. length (shown (frame_passed rows (frame.Control 5) (before Operational None None role.Other) true None verdict no_counts)))
+by_verdict : map (λ verdict. length (shown (frame_passed rows (frame.Control 5) (before Operational None None role.Other) true None false verdict no_counts)))
     (Some Prescribed ∷ None ∷ Some Different ∷ Some Unjudged ∷ [])
     ≡ 2 ∷ 2 ∷ 0 ∷ 0 ∷ []
 unfolding frame_passed control_passed counts_passed
 by_verdict = refl
+
+-- with the client's confirmation of a block upload, which has no verdict, its end counts where it is judged
+abbrev confirmed : Heard
+confirmed = record { what = Part; of = None; ended = Some (ended 0x2001 Upload Block done) }
+
+by_judgement : map (λ judged. shown (frame_passed rows (frame.Sdo Client (record { id = 0x605; bytes = 0xA1 ∷ [] })) (before Operational None None role.Other) true (Some confirmed) judged None no_counts)) (true ∷ false ∷ [])
+    ≡ (AnswerSize ∷ AnswerCrc ∷ ValueLength ∷ ValueConst ∷ AccessRead ∷ []) ∷ [] ∷ []
+unfolding frame_passed ended_passed upload_passed counts_passed
+by_judgement = refl
 
 found_counts_too : filter (λ counted. nat_lt 0 counted.found) (counts_found AnswerCrc no_counts) ≡ record { kind = AnswerCrc; found = 1; occasions = 1 } ∷ []
 unfolding counts_found
@@ -530,7 +541,7 @@ types_counted = refl
 -- ---- a frame
 
 abbrev one_frame : Kept
-one_frame = with_frame rows empty_report 9000 (frame.Control 5) (before PreOperational None None role.Other) Operational 9000 nothing_found
+one_frame = with_frame rows empty_report 9000 (frame.Control 5) (before PreOperational None None role.Other) Operational 9000 false nothing_found
 
 newest_control : map (control_with (Some 5) 9) (frame.Control 0 ∷ frame.OddControl 2 ∷ frame.Emergency 0 0 ∷ []) ≡ Some 9 ∷ Some 9 ∷ Some 5 ∷ []
 newest_control = refl

@@ -335,7 +335,7 @@ of_finding kept micros details finding =
 fits_before : (happening : Happening) (seen : List Seen) → StampsFit (seen_in happening ++ seen) → StampsFit seen
 fits_before (Came line) seen fit = fit
 fits_before WasBad seen fit = fit
-fits_before (Framed rows micros kind before state free found) seen fit = fit.1
+fits_before (Framed rows micros kind before state free judged found) seen fit = fit.1
 fits_before (Passed kind) seen fit = fit
 fits_before (Found micros details finding) seen fit = fit
 
@@ -344,7 +344,7 @@ step : (happening : Happening) (seen : List Seen) (kept : Kept) → StampsFit (s
 unfolding with_line with_frame with_finding
 step (Came line) seen kept fit h = subst (Drawn seen) (sym (of_line kept (line_of (one_more_of kept.lines) line))) h
 step WasBad seen kept fit h = h
-step (Framed rows micros kind before state free found) seen kept fit h =
+step (Framed rows micros kind before state free judged found) seen kept fit h =
     one_more (record { micros = micros; state = state; lane = lane_of kind before.role; differences = number_found found }) seen kept.lanes fit.0 h
 step (Passed kind) seen kept fit h = h
 step (Found micros details finding) seen kept fit h =

@@ -1,5 +1,5 @@
 -- What happens in a comparison, and what is kept of it: the law about the lines around differences.
-use Rattle.std.specs.Prelude.{ℕ, ◌+◌, ◌-◌, List, [], ◌∷◌, ◌++◌, drop, take}
+use Rattle.std.specs.Prelude.{ℕ, ◌+◌, ◌-◌, Bool, List, [], ◌∷◌, ◌++◌, drop, take}
 use Rattle.co_sheet.specs.Content.{Row}
 use Rattle.conode_compare_text.specs.declared.details.Details.{Details}
 use Rattle.conode_compare_nmt.specs.declared.finding.Finding.{Finding}
@@ -17,14 +17,14 @@ use Rattle.conode_compare_report.specs.Views.{Kept}
 pub data Happening : Type 0 where
   Came : List ℕ → Happening
   WasBad : Happening
-  Framed : List Row → ℕ → FrameKind → Before → NmtState → ℕ → Findings → Happening
+  Framed : List Row → ℕ → FrameKind → Before → NmtState → ℕ → Bool → Findings → Happening
   Passed : Kind → Happening
   Found : ℕ → Details → Finding → Happening
 
 abbrev pub happened : Kept → Happening → Kept
 happened kept (Came line) = with_line kept line
 happened kept WasBad = with_bad_line kept
-happened kept (Framed rows micros kind before state free found) = with_frame rows kept micros kind before state free found
+happened kept (Framed rows micros kind before state free judged found) = with_frame rows kept micros kind before state free judged found
 happened kept (Passed kind) = with_passed kept kind
 happened kept (Found micros details finding) = with_finding kept micros details finding
 

@@ -257,6 +257,10 @@ passes (Some Prescribed) = true
 passes (Some Different) = false
 passes (Some Unjudged) = false
 
-unfoldable pub frame_passed : List Row → FrameKind → Before → Bool → Option Heard → Option Verdict → List Counted → List Counted
-frame_passed rows kind before free heard verdict counts =
-    if passes verdict then if_ended_passed before.modular rows (ended_in heard) (kind_passed kind before free heard counts) else counts
+-- the end of a transfer, where it is judged
+abbrev pub judged_in : Bool → Option Heard → Option Ended
+judged_in judged heard = if judged then ended_in heard else None
+
+unfoldable pub frame_passed : List Row → FrameKind → Before → Bool → Option Heard → Bool → Option Verdict → List Counted → List Counted
+frame_passed rows kind before free heard judged verdict counts =
+    if passes verdict then if_ended_passed before.modular rows (judged_in judged heard) (kind_passed kind before free heard counts) else counts

@@ -1,5 +1,5 @@
 -- What is kept of a comparison: line by line, frame by frame, and difference by difference.
-use Rattle.std.specs.Prelude.{ℕ, ◌+◌, ◌-◌, ◌^◌, ◌==◌, min, nat_lt, true, if◌then◌else◌, List, [], ◌∷◌, ◌++◌, length, drop, Option, Some, None}
+use Rattle.std.specs.Prelude.{ℕ, ◌+◌, ◌-◌, ◌^◌, ◌==◌, min, nat_lt, Bool, true, if◌then◌else◌, List, [], ◌∷◌, ◌++◌, length, drop, Option, Some, None}
 use Rattle.co_sheet.specs.Content.{Row}
 use Rattle.conode_explain_transfers.specs.declared.channel.Heard.{Heard}
 use Rattle.conode_explain_transfers.specs.Followed.{Following, after_boot, followed, nothing_heard}
@@ -92,13 +92,13 @@ control_with control micros (Control byte) = Some micros
 control_with control micros (OddControl length) = Some micros
 control_with control micros _ = control
 
--- a frame that is compared: what was known before it, the state that is known after it, when the bus was free last, and
--- what is found at it
-unfoldable pub with_frame : List Row → Kept → ℕ → FrameKind → Before → NmtState → ℕ → Findings → Kept
-with_frame rows kept micros kind before state free found =
+-- a frame that is compared: what was known before it, the state that is known after it, when the bus was free last,
+-- whether the end of a transfer is judged at it, and what is found
+unfoldable pub with_frame : List Row → Kept → ℕ → FrameKind → Before → NmtState → ℕ → Bool → Findings → Kept
+with_frame rows kept micros kind before state free judged found =
     let heard = heard_of kept.channel micros kind in
     record kept {
-      kinds = frame_passed rows kind before (is_free_since kept.control free) heard found.verdict kept.kinds;
+      kinds = frame_passed rows kind before (is_free_since kept.control free) heard judged found.verdict kept.kinds;
       coverage = coverage_with rows kind before.role state (ended_in heard) kept.coverage;
       lanes = lanes_with micros (bin_with state (lane_of kind before.role) (number_found found)) kept.lanes;
       begin = begin_with kept.begin micros;

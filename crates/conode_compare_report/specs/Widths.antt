@@ -16,7 +16,7 @@ pub record Seen : Type 0 where
   pub differences : ℕ
 
 abbrev pub seen_in : Happening → List Seen
-seen_in (Framed rows micros kind before state free found) =
+seen_in (Framed rows micros kind before state free judged found) =
     record { micros = micros; state = state; lane = lane_of kind before.role; differences = number_found found } ∷ []
 seen_in other = []
 

@@ -453,8 +453,8 @@ fn passes(verdict: Option<Verdict>) -> bool
     }
 }
 
-/// Counts the kinds that a frame could have shown. What ended with it is in `heard`; `free`: the bus was
-/// free since the last frame of error control.
+/// Counts the kinds that a frame could have shown. What ended with it is in `heard`, and counts where
+/// it is `judged`; `free`: the bus was free since the last frame of error control.
 #[tactic(auto, unfolding(crate::specs::Occasions::frame_passed))]
 pub(crate) fn pass_frame(
     counts: &mut [Counted],
@@ -463,17 +463,21 @@ pub(crate) fn pass_frame(
     before: &Before,
     free: bool,
     heard: &Option<Heard>,
+    judged: bool,
     verdict: Option<Verdict>,
 )
     requires { AllPairs (λ e f. is_key_before e.key f.key ≡ true) rows.now }
     ensures { counts.new
-        ≡ frame_passed (map row_view rows.now) kind.now before.now free heard.now verdict
+        ≡ frame_passed (map row_view rows.now) kind.now before.now free heard.now judged verdict
         counts.old }
 {
     if !passes(verdict) {
         return;
     }
     pass_kind(counts, kind, before, free, heard);
+    if !judged {
+        return;
+    }
     if let Some(
         Heard {
             what: _,

@@ -252,8 +252,8 @@ impl Report {
     }
 
     /// A frame of the newest line: its stamp in microseconds, its kind, what was known before it,
-    /// the state that is known after it, when the bus was free last, and what is found at it.
-    /// `Err`: out of memory.
+    /// the state that is known after it, when the bus was free last, whether the end of a transfer is
+    /// judged at it, and what is found. `Err`: out of memory.
     #[tactic(auto, unfolding(crate::specs::Reports::with_frame))]
     pub fn take_frame(
         &mut self,
@@ -263,11 +263,12 @@ impl Report {
         before: &Before,
         state: NmtState,
         free: u64,
+        judged: bool,
         found: &Findings,
     ) -> Result<(), AllocError>
         requires { AllPairs (λ e f. is_key_before e.key f.key ≡ true) rows.now }
         ensures { OnOk result (self.new ≡ with_frame
-            (map row_view rows.now) self.old micros kind.now before.now state free found.now) }
+            (map row_view rows.now) self.old micros kind.now before.now state free judged found.now) }
     {
         let heard = hear(&mut self.channel, micros, kind);
         let is_free = is_free_since(self.control, free);
@@ -278,6 +279,7 @@ impl Report {
             before,
             is_free,
             &heard,
+            judged,
             found.verdict,
         );
         attempt!(

@@ -129,7 +129,7 @@ started_before = refl
 -- ---- two boot-ups: one of the reset commands came before the bad line, or was that
 
 two_resets : found_after ((0, Control 127) ∷ (100000, Command ResetNode) ∷ []) ((200000, Control 0) ∷ []) 700000 (Control 0) ≡ None
-unfolding findings_at progress_with begun booted found nmt_frames.after_control states.after_control after_boot_up after_other awaits_boot_up nmt_frames.after_command states.after_command control_finding second_boot_up is_settled with_gap
+unfolding findings_at progress_with begun booted found nmt_frames.after_control states.after_control after_boot_up after_other awaits_boot_up nmt_frames.after_command states.after_command second_boot_up is_settled with_gap
 two_resets = refl
 
 -- more than 10 s after that both are one device's, or two devices'
@@ -138,9 +138,15 @@ boots_late micros = (100000, Other) ∷ (3000000, Other) ∷ (5900000, Other) �
 
 two_late : map (λ micros. found_after ((0, Control 127) ∷ []) (boots_late micros) 10600000 (Control 0)) (10100000 ∷ 10100001 ∷ [])
     ≡ None ∷ Some (SecondBootUp 499999) ∷ []
-unfolding findings_at progress_with begun booted found nmt_frames.after_control states.after_control after_boot_up control_finding second_boot_up is_settled
+unfolding findings_at progress_with begun booted found nmt_frames.after_control states.after_control after_boot_up second_boot_up is_settled
 two_late = refl
 
 one_device : last_found ((0, Control 0) ∷ []) 700000 (Control 0) ≡ Some (SecondBootUp 700000)
-unfolding findings_at progress_with begun booted found states.after_control after_boot_up control_finding second_boot_up
+unfolding findings_at progress_with begun booted found states.after_control after_boot_up second_boot_up
 one_device = refl
+
+-- Two with one stamp came within a second, where the stamp before is no older; of a recording without stamps nothing is known.
+one_stamp : map (λ before. last_found ((before, Other) ∷ (2000000, Control 0) ∷ []) 2000000 (Control 0)) (999999 ∷ 1000000 ∷ 1999999 ∷ 2000000 ∷ [])
+    ≡ None ∷ Some (SecondBootUp 0) ∷ Some (SecondBootUp 0) ∷ None ∷ []
+unfolding findings_at progress_with begun booted found states.after_control after_boot_up second_boot_up
+one_stamp = refl

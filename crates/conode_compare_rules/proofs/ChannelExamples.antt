@@ -90,6 +90,11 @@ begins : map (λ newest. is_begun (begun device (record up { newest = newest; st
 unfolding begun
 begins = refl
 
+-- the stamp before the newest one, since the recording began
+stamp_before : map (λ newest. (begun device (record up { newest = newest; earlier = Some 3 }) 9).earlier) (None ∷ Some 9 ∷ Some 8 ∷ Some 10 ∷ []) ≡ None ∷ Some 3 ∷ Some 8 ∷ None ∷ []
+unfolding begun
+stamp_before = refl
+
 begins_with_error : is_begun (after_fault up 9) ∷ is_begun (begun device (record (after_fault up 9) { newest = Some 9 }) 9) ∷ [] ≡ true ∷ false ∷ []
 unfolding after_fault begun with_gap
 begins_with_error = refl

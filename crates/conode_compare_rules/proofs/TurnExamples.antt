@@ -13,7 +13,7 @@ use Rattle.conode_compare_nmt.specs.declared.finding.Finding.{Finding}
 use Rattle.conode_compare_nmt.specs.declared.finding.Finding.TheVariants.{EmergencyStopped, HeartbeatLate, HeartbeatLength, LateAfterBootUp, NoState, Pdo as PdoFinding, TwoStates, WrongState}
 use Rattle.conode_compare_nmt.specs.declared.finding.NmtState.TheVariants.{PreOperational, Operational, Stopped}
 use Rattle.conode_compare_rules.specs.declared.kind.FrameKind.{FrameKind}
-use Rattle.conode_compare_rules.specs.declared.kind.FrameKind.TheVariants.{Command, Control, Emergency, OddControl, Process}
+use Rattle.conode_compare_rules.specs.declared.kind.FrameKind.TheVariants.{Command, Control, Emergency, OddControl, Other, Process}
 use Rattle.conode_compare_nmt.specs.declared.limits.Subject.{Subject}
 use Rattle.conode_compare_rules.specs.declared.progress.Progress.{Progress}
 use Rattle.conode_compare_rules.specs.declared.verdict.Verdict.{Verdict}
@@ -144,6 +144,15 @@ second = refl
 alone : last_found ((0, Control 0) ∷ (1000000, Control 5) ∷ (2000000, Control 127) ∷ []) 3000000 (Control 5) ≡ Some (WrongState Operational PreOperational)
 unfolding findings_at progress_with begun booted found nmt_frames.after_control states.after_control after_boot_up after_other awaits_boot_up control_findings heartbeat_findings control_finding state_finding is_settled early_remark
 alone = refl
+
+-- With one stamp they came sooner than 980 ms after one another, where that before is no older.
+abbrev one_stamp : ℕ → List (ℕ × FrameKind)
+one_stamp between = (0, Control 0) ∷ (1000000, Control 127) ∷ (1000000, Control 5) ∷ (between, Other) ∷ (2000000, Control 127) ∷ []
+
+with_one_stamp : map (λ between. last_found (one_stamp between) 2000000 (Control 5)) (1000000 ∷ 1020000 ∷ 1020001 ∷ [])
+    ≡ Some (WrongState Operational PreOperational) ∷ Some (WrongState Operational PreOperational) ∷ Some (TwoStates Operational PreOperational) ∷ []
+unfolding findings_at progress_with begun booted found nmt_frames.after_control states.after_control after_boot_up after_other awaits_boot_up control_findings heartbeat_findings control_finding state_finding is_settled early_remark
+with_one_stamp = refl
 
 -- said once, and no state is known any more
 said : last_found (in_turn ++ (1500000, Control 5) ∷ (2000000, Control 127) ∷ []) 2500000 (Control 5) ≡ None

@@ -18,6 +18,7 @@ use Rattle.conode_compare_transfers.specs.Times.{is_past}
 abbrev pub before_recording : Subject → Progress
 before_recording subject = record {
   newest = None;
+  earlier = None;
   started = 0;
   begins = false;
   damaged = None;
@@ -52,6 +53,10 @@ was_quiet limits progress micros = option_map_or (λ newest. is_past newest limi
 -- a frame comes later than the newest one
 abbrev pub is_later : Option ℕ → ℕ → Bool
 is_later newest micros = option_map_or (λ newest. nat_lt newest micros) newest false
+
+-- the newest stamp before that of the frame
+abbrev pub earlier_at : Progress → ℕ → Option ℕ
+earlier_at progress micros = if is_later progress.newest micros then progress.newest else progress.earlier
 
 -- Then no request is known. Nor is one after a wrong answer, which was said: with the next frame, where that comes later, its
 -- transfer isn't followed any more.
@@ -127,6 +132,7 @@ begun subject progress micros =
     }
     else record progress {
       newest = Some micros;
+      earlier = earlier_at progress micros;
       begins = false;
       free = free_at progress.newest progress.free micros;
       dialogue = with_quiet subject.limits progress micros;

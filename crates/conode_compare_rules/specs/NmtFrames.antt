@@ -21,7 +21,7 @@ use Rattle.conode_compare_nmt.specs.EntriesInForce.{reset_entries}
 use Rattle.conode_compare_nmt.specs.Heartbeats as beats
 use Rattle.conode_compare_nmt.specs.Heartbeats.{after_byte, early_remark, former_after, late_finding, longest_period, may_be_of_change, is_late_again, is_missing, overdue_with, slow_after, with_shown}
 use Rattle.conode_compare_nmt.specs.States as states
-use Rattle.conode_compare_nmt.specs.States.{boot_finding, control_finding, is_reset, is_same_byte, is_same_length, is_settled, is_steady, after_turn, odd_after, odd_finding, restart_remark, with_odd}
+use Rattle.conode_compare_nmt.specs.States.{boot_finding, control_finding, is_reset, is_same_byte, is_same_length, is_settled, is_steady, after_turn, odd_after, odd_finding, restart_remark, second_boot_up, with_odd}
 use Rattle.conode_compare_transfers.specs.Times.{is_past}
 use Rattle.conode_compare_rules.specs.Verdicts.{found}
 use Rattle.conode_compare_rules.specs.Gaps.{with_gap}
@@ -46,9 +46,8 @@ after_guarding progress = record progress { heartbeats = record progress.heartbe
 
 -- ---- boot-ups
 
-abbrev pub boot_findings : Subject → Progress → ℕ → Findings
-boot_findings subject progress micros =
-    found None None None (control_finding subject progress.started progress.heartbeats.guarded false progress.nmt progress.free micros 0) true
+abbrev pub boot_findings : Progress → ℕ → Findings
+boot_findings progress micros = found None None None (second_boot_up progress.earlier progress.nmt.booted micros) true
 
 -- A client asked to write an entry of the communication profile within the tolerance before the boot-up frame,
 -- when the bus was free last: the device may have booted up by then, and its frame waited.
@@ -86,7 +85,7 @@ booted subject progress micros = record progress {
   dialogue = record (interrupted progress.dialogue micros) { slow = nothing_left; sub_block = false };
   pdos = booted_pdos subject progress;
   written = nothing_written;
-  remark = restart_remark subject.limits progress.nmt micros;
+  remark = restart_remark subject.limits progress.nmt progress.earlier micros;
 }
 
 -- ---- heartbeats
@@ -156,12 +155,12 @@ heartbeats_by subject progress own micros =
 -- it comes sooner than its period
 abbrev pub comes_early : Subject → Progress → ℕ → ℕ → Bool
 comes_early subject progress micros byte =
-    is_some (early_remark subject.limits progress.entries.period progress.heartbeats micros byte)
+    is_some (early_remark subject.limits progress.entries.period progress.heartbeats progress.earlier micros byte)
 
 -- the difference of its byte
 abbrev pub byte_finding : Subject → Progress → ℕ → ℕ → Option Finding
 byte_finding subject progress micros byte =
-    control_finding subject progress.started progress.heartbeats.guarded (comes_early subject progress micros byte) progress.nmt progress.free micros byte
+    control_finding subject progress.started progress.heartbeats.guarded (comes_early subject progress micros byte) progress.nmt progress.free byte
 
 -- A heartbeat has the same byte as the last one, which is no state, or is late as the last one was. Both
 -- were said of an earlier one, so it is unjudged.
@@ -201,7 +200,7 @@ after_control subject progress micros byte = record progress {
   heartbeats = record (after_byte progress.heartbeats progress.free micros byte) { slow = slow_then subject progress micros; former = former_then subject progress micros byte };
   pdos = if byte == 5 then progress.pdos else tpdos.commanded progress.pdos;
   dialogue = if is_some (silence_at subject progress micros byte) then given_up progress.dialogue micros else progress.dialogue;
-  remark = early_remark subject.limits progress.entries.period progress.heartbeats micros byte;
+  remark = early_remark subject.limits progress.entries.period progress.heartbeats progress.earlier micros byte;
 }
 
 -- of another number of bytes than one

@@ -1,5 +1,5 @@
 -- What a recording shows of a device, frame by frame, and where it differs from CiA 301.
-use Rattle.std.specs.Prelude.{ℕ, ◌==◌, Bool, true, false, ◌&&◌, if◌then◌else◌, List}
+use Rattle.std.specs.Prelude.{ℕ, ◌==◌, Bool, true, false, ◌&&◌, if◌then◌else◌, List, is_some}
 use Rattle.std.specs.Option.{option_map_or}
 use Rattle.co_sheet.specs.Content.{Row}
 use Rattle.conode_explain_transfers.specs.declared.kinds.Side.TheVariants.{Client, Server}
@@ -22,7 +22,7 @@ use Rattle.conode_compare_rules.specs.Processes.{process_findings, after_process
 -- what is found at a frame, by what it is to the device, once the recording is begun
 abbrev pub findings_in : Subject → List Row → Progress → ℕ → FrameKind → Findings
 findings_in subject rows progress micros (Control byte) =
-    if byte == 0 then boot_findings subject progress micros else control_findings subject progress micros byte
+    if byte == 0 then boot_findings progress micros else control_findings subject progress micros byte
 findings_in subject rows progress micros (OddControl length) = odd_control_findings subject progress micros length
 findings_in subject rows progress micros (Emergency code register) = emergency_findings subject progress micros code register
 findings_in subject rows progress micros (OddEmergency length) = odd_emergency_findings progress length
@@ -63,6 +63,10 @@ kept_in subject written exchange = is_kept subject.held.entries.items written ex
 
 abbrev pub is_number_kept : Subject → Progress → Bool
 is_number_kept subject after = option_map_or (kept_in subject after.written) after.exchange false
+
+-- the frame ends a transfer, and no earlier request can be answered: so that end is judged
+abbrev pub is_end_judged : Progress → Bool
+is_end_judged after = option_map_or (λ exchange. exchange.certain && is_some exchange.heard.ended) after.exchange false
 
 -- the recording begins with the newest frame, or begins anew; or that is an error frame
 abbrev pub is_begun : Progress → Bool

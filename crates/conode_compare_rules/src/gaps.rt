@@ -9,6 +9,7 @@ ghost use Rattle.conode_compare_rules.specs.Gaps.{
   begun,
   breaks_off,
   client_since,
+  earlier_at,
   forgotten,
   former_begun,
   former_lost,
@@ -70,6 +71,17 @@ impl Progress {
         match self.newest {
             Some(newest) => newest < micros,
             None => false,
+        }
+    }
+
+    // The newest stamp before that of a frame.
+    fn earlier_at(&self, micros: u64) -> Option<u64>
+        ensures { result ≡ earlier_at self.now micros }
+    {
+        if self.is_later(micros) {
+            self.newest
+        } else {
+            self.earlier
         }
     }
 
@@ -199,6 +211,7 @@ impl Progress {
             self.dialogue.sub_block = sub_block;
             self.other_client = other_client;
         } else {
+            self.earlier = self.earlier_at(micros);
             self.begins = false;
             let was_quiet = self.was_quiet(&subject.limits, micros);
             if self.breaks_off(&subject.limits, micros) {

@@ -44,6 +44,7 @@ ghost use Rattle.conode_compare_rules.specs.Progresses.{
   progress_with,
   findings_at,
   findings_in,
+  is_end_judged,
   is_number_kept,
   after_frame,
 };
@@ -68,6 +69,8 @@ use conode_explain_transfers::Side;
 pub struct Progress {
     /// The stamp of the newest frame.
     pub newest: Option<u64>,
+    /// The newest stamp before that one, since the recording began, also anew.
+    pub(crate) earlier: Option<u64>,
     /// The stamp of the first frame, or of the first one after a gap.
     pub started: u64,
     /// Whether the recording begins with the newest frame, or begins anew; or that is an error frame.
@@ -106,6 +109,7 @@ impl Progress {
     {
         Progress {
             newest: None,
+            earlier: None,
             started: 0,
             begins: false,
             damaged: None,
@@ -206,20 +210,13 @@ impl Progress {
     // a boot-up
     #[tactic(auto, unfolding(crate::specs::NmtFrames::booted, crate::specs::Gaps::with_gap))]
     fn take_boot_up(&mut self, subject: &Subject, micros: u64) -> Findings
-        ensures findings { result ≡ boot_findings subject.now self.old micros }
+        ensures findings { result ≡ boot_findings self.old micros }
         ensures progress { self.new ≡ booted subject.now self.old micros }
     {
-        let guarded = self.heartbeats.guarded;
-        let frame = self.nmt.control_finding(
-            subject,
-            self.started,
-            guarded,
-            false,
-            self.free,
-            micros,
-            0,
-        );
-        self.remark = self.nmt.restart_remark(&subject.limits, micros);
+        let frame = self.nmt.second_boot_up(self.earlier, micros);
+        self.remark = self
+            .nmt
+            .restart_remark(&subject.limits, self.earlier, micros);
         self.nmt = self
             .nmt
             .after_control(&subject.limits, self.started, self.free, micros, 0);
@@ -322,7 +319,7 @@ impl Progress {
         ensures { result ≡ comes_early subject.now self.now micros byte }
     {
         self.heartbeats
-            .early_remark(&subject.limits, &self.entries, micros, byte)
+            .early_remark(&subject.limits, &self.entries, self.earlier, micros, byte)
             .is_some()
     }
 
@@ -332,15 +329,8 @@ impl Progress {
     {
         let guarded = self.heartbeats.guarded;
         let early = self.comes_early(subject, micros, byte);
-        self.nmt.control_finding(
-            subject,
-            self.started,
-            guarded,
-            early,
-            self.free,
-            micros,
-            byte,
-        )
+        self.nmt
+            .control_finding(subject, self.started, guarded, early, self.free, byte)
     }
 
     // whether what is wrong about a heartbeat was said of an earlier one
@@ -434,7 +424,7 @@ impl Progress {
             .former_after(limits, aside, self.entries.period, self.free);
         self.remark = self
             .heartbeats
-            .early_remark(limits, &self.entries, micros, byte);
+            .early_remark(limits, &self.entries, self.earlier, micros, byte);
         let odd = self.nmt.odd_after(frame, byte);
         let next = self
             .nmt
@@ -596,6 +586,17 @@ impl Progress {
                 let ended = &exchange.heard.ended;
                 self.written.is_kept(&subject.held, exchange.certain, ended)
             }
+            None => false,
+        }
+    }
+
+    /// Whether the newest frame ends a transfer, and that end is judged: no earlier request can be
+    /// answered.
+    pub fn is_end_judged(&self) -> bool
+        ensures { result ≡ is_end_judged self.now }
+    {
+        match &self.exchange {
+            Some(exchange) => exchange.certain && exchange.heard.ended.is_some(),
             None => false,
         }
     }

@@ -61,8 +61,8 @@ impl Progress {
         sends_first(&subject.limits, &self.nmt, free)
     }
 
-    /// Since when the times of TPDOs count: since the newest command, else since the first frame of the
-    /// device in the recording.
+    /// Since when the times of TPDOs count: since the newest command; where none came, since the begin
+    /// of the recording, or the device's first frame since.
     pub(crate) fn counts_since(&self) -> u64
         ensures { result ≡ counts_since self.now }
     {
