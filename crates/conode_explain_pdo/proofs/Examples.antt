@@ -5,7 +5,7 @@ use Rattle.std.specs.Fmt.{digits}
 use Rattle.std.specs.Str.{is_utf8, chars}
 use lib.Utf8.{encode}
 use Rattle.co_value.specs.declared.data_type.DataType.{DataType}
-use Rattle.co_value.specs.declared.data_type.DataType.TheVariants.{Boolean, Integer16, Unsigned8, Unsigned16, Unsigned32, OctetString}
+use Rattle.co_value.specs.declared.data_type.DataType.TheVariants.{Boolean, Integer16, Unsigned8, Unsigned16, Unsigned32, Unsigned64, OctetString}
 use Rattle.co_profile.specs.declared.access.Access.TheVariants.{Rw}
 use Rattle.co_sheet.specs.Limits.{Default, absent, number, node_id}
 use Rattle.co_sheet.specs.Content.{Row}
@@ -33,7 +33,7 @@ use Rattle.conode_explain_pdo.specs.CobIdWords.{cob_id_words, has_cob_id}
 use Rattle.conode_explain_pdo.specs.EntryBits.{assumed_bits, entry_bits, place_from, shown_bits}
 use Rattle.conode_explain_pdo.specs.InForce.{assumed_text, data_in_force, is_count, mapping_in_force, raw_text, shown_text, words_in_force}
 use Rattle.conode_explain_pdo.specs.KnownEntries.{known_text}
-use Rattle.conode_explain_pdo.specs.Mappings.{addressed_text, addressing_word, all_text, bits_at, data_text, mapped_text, missing_text, more_parts, more_text, multiplexed_data, multiplexed_text, part_bytes, part_text, parts_text, short_text, with_bits}
+use Rattle.conode_explain_pdo.specs.Mappings.{addressed_text, addressing_word, all_text, bits_at, data_text, mapped_text, missing_text, more_parts, more_text, multiplexed_data, multiplexed_text, named_text, node_text, part_bytes, part_text, parts_text, short_text, unnamed_text, with_bits}
 use Rattle.conode_explain_pdo.specs.Pdos.{more_pdos, pdo_by, pdo_front, pdo_text, pdos_text}
 
 -- ---- the bits at an offset
@@ -214,15 +214,23 @@ part_of_a_cob_id = refl
 
 -- ---- counts
 
+-- of can0, by these sheets and by what was shown of PDOs
+abbrev bus_with : List KnownSheet → List ShownPdo → Bus
+bus_with sheets entries = record { sheets = sheets; entries = entries; interface = codes "can0" }
+
+-- a sheet for each interface
+abbrev sheet_of : Names → KnownSheet
+sheet_of names = known_sheet None names
+
 abbrev counted : ℕ → List ℕ → List ℕ
-counted count bytes = data_text (of_sheet names) 5 (record { count = count; words = 0x20020008 ∷ 0x20020008 ∷ [] }) bytes
+counted count bytes = data_text (bus_with (sheet_of names ∷ []) []) 5 (record { count = count; words = 0x20020008 ∷ 0x20020008 ∷ [] }) bytes
 
 nothing_mapped : counted 0 (1 ∷ []) ≡ []
 unfolding data_text
 nothing_mapped = refl
 
 one_mapped : counted 1 (1 ∷ []) ≡ codes ": B 2002:00 = true"
-unfolding data_text mapped_text parts_text more_parts part_text part_bytes short_text more_text filled entry_of known_text meaning_at entry_text value_text number_text digits digits_text is_utf8 chars encode
+unfolding data_text names_for mapped_text parts_text more_parts part_text part_bytes short_text more_text filled entry_of known_text meaning_at entry_text value_text number_text digits digits_text is_utf8 chars encode
 one_mapped = refl
 
 above_64 : counted 65 (1 ∷ []) ≡ []
@@ -233,30 +241,72 @@ below_multiplexed : counted 0xFD (1 ∷ []) ≡ []
 unfolding data_text
 below_multiplexed = refl
 
-destination : counted 0xFE (0x85 ∷ 0x01 ∷ 0x20 ∷ 0x02 ∷ 0xE8 ∷ 0x03 ∷ 0 ∷ 0 ∷ []) ≡ codes ": destination node 5 2001:02 E8030000"
-unfolding data_text multiplexed_data multiplexed_text addressed_text filled addressing_word digits digits_text
+-- ---- multiplexed PDOs: of the four bytes an UNSIGNED16 has two
+
+abbrev of_1000 : ℕ → ℕ → List ℕ
+of_1000 address sub = address ∷ 0x01 ∷ 0x20 ∷ sub ∷ 0xE8 ∷ 0x03 ∷ 0 ∷ 0 ∷ []
+
+destination : counted 0xFE (of_1000 0x85 2) ≡ codes ": destination node 5: H 2001:02 = 1000"
+unfolding data_text multiplexed_data multiplexed_text named_text node_text names_for entry_of known_text meaning_at entry_text value_text number_text filled addressing_word digits digits_text is_utf8 chars encode
 destination = refl
 
-source : counted 0xFF (0x7F ∷ 0x01 ∷ 0x20 ∷ 0x02 ∷ 0xE8 ∷ 0x03 ∷ 0 ∷ 0 ∷ []) ≡ codes ": source node 127 2001:02 E8030000"
-unfolding data_text multiplexed_data multiplexed_text addressed_text filled addressing_word digits digits_text
+source : counted 0xFF (of_1000 0x7F 2) ≡ codes ": source node 127: H 2001:02 = 1000"
+unfolding data_text multiplexed_data multiplexed_text named_text node_text names_for entry_of known_text meaning_at entry_text value_text number_text filled addressing_word digits digits_text is_utf8 chars encode
 source = refl
 
--- the destination 0 is all nodes, a source 0 is none
-to_all : counted 0xFF (0x80 ∷ 0x01 ∷ 0x20 ∷ 0x02 ∷ 0xE8 ∷ 0x03 ∷ 0 ∷ 0 ∷ []) ≡ codes ": destination all nodes 2001:02 E8030000"
-unfolding data_text multiplexed_data multiplexed_text all_text filled digits digits_text
-to_all = refl
-
-to_first : counted 0xFF (0x81 ∷ 0x01 ∷ 0x20 ∷ 0x02 ∷ 0xE8 ∷ 0x03 ∷ 0 ∷ 0 ∷ []) ≡ codes ": destination node 1 2001:02 E8030000"
-unfolding data_text multiplexed_data multiplexed_text addressed_text filled addressing_word digits digits_text
+to_first : counted 0xFF (of_1000 0x81 2) ≡ codes ": destination node 1: H 2001:02 = 1000"
+unfolding data_text multiplexed_data multiplexed_text named_text node_text names_for entry_of known_text meaning_at entry_text value_text number_text filled addressing_word digits digits_text is_utf8 chars encode
 to_first = refl
 
-of_none : counted 0xFE (0x00 ∷ 0x01 ∷ 0x20 ∷ 0x02 ∷ 0xE8 ∷ 0x03 ∷ 0 ∷ 0 ∷ []) ≡ codes ": source node 0 2001:02 E8030000"
-unfolding data_text multiplexed_data multiplexed_text addressed_text filled addressing_word digits digits_text
+-- the destination 0 is all nodes, a source 0 is none
+to_all : counted 0xFF (of_1000 0x80 2) ≡ codes ": destination all nodes 2001:02 E8030000"
+unfolding data_text multiplexed_data multiplexed_text unnamed_text addressed_text all_text names_for entry_of filled addressing_word digits digits_text
+to_all = refl
+
+of_none : counted 0xFE (of_1000 0x00 2) ≡ codes ": source node 0 2001:02 E8030000"
+unfolding data_text multiplexed_data multiplexed_text unnamed_text addressed_text all_text names_for entry_of filled addressing_word digits digits_text
 of_none = refl
+
+-- an entry that the sheet lacks
+lacking : counted 0xFF (of_1000 0x85 3) ≡ codes ": destination node 5 2001:03 E8030000"
+unfolding data_text multiplexed_data multiplexed_text unnamed_text addressed_text all_text names_for entry_of filled addressing_word digits digits_text
+lacking = refl
 
 short_multiplexed : counted 0xFF (0x85 ∷ 0x01 ∷ []) ≡ codes ": 2 bytes, mapping has 8"
 unfolding data_text multiplexed_data short_text filled digits
 short_multiplexed = refl
+
+-- by the sheet of the destination alone, or of the source
+abbrev of_six : List ℕ → List ℕ
+of_six bytes = multiplexed_data (bus_with (sheet_of (record names { only = Some 6 }) ∷ []) []) bytes
+
+its_sheet : of_six (of_1000 0x86 2) ≡ codes "destination node 6: H 2001:02 = 1000"
+unfolding data_text multiplexed_data multiplexed_text named_text node_text names_for entry_of known_text meaning_at entry_text value_text number_text filled addressing_word digits digits_text is_utf8 chars encode
+its_sheet = refl
+
+other_sheet : of_six (of_1000 0x85 2) ≡ codes "destination node 5 2001:02 E8030000"
+unfolding data_text multiplexed_data multiplexed_text unnamed_text addressed_text all_text names_for entry_of filled addressing_word digits digits_text
+other_sheet = refl
+
+-- one byte of the four, and four of eight
+abbrev of_type : DataType → List ℕ
+of_type t = multiplexed_data (bus_with (sheet_of (names_with (row 0x2001 2 t absent (codes "H") ∷ [])) ∷ []) []) (of_1000 0x85 2)
+
+of_a_byte : of_type Unsigned8 ≡ codes "destination node 5: H 2001:02 = 232"
+unfolding data_text multiplexed_data multiplexed_text named_text node_text names_for entry_of known_text meaning_at entry_text value_text number_text filled addressing_word digits digits_text is_utf8 chars encode
+of_a_byte = refl
+
+of_all_bytes : of_type Unsigned32 ≡ codes "destination node 5: H 2001:02 = 1000"
+unfolding data_text multiplexed_data multiplexed_text named_text node_text names_for entry_of known_text meaning_at entry_text value_text number_text filled addressing_word digits digits_text is_utf8 chars encode
+of_all_bytes = refl
+
+of_more_bytes : of_type Unsigned64 ≡ codes "destination node 5: H 2001:02 = E8030000 (32 of 64 bits)"
+unfolding data_text multiplexed_data multiplexed_text named_text node_text names_for entry_of known_text meaning_at entry_text value_text number_text filled addressing_word digits digits_text is_utf8 chars encode
+of_more_bytes = refl
+
+without_width : of_type OctetString ≡ codes "destination node 5: H 2001:02 = E8030000"
+unfolding data_text multiplexed_data multiplexed_text named_text node_text names_for entry_of known_text meaning_at entry_text value_text number_text filled addressing_word digits digits_text is_utf8 chars encode
+without_width = refl
 
 -- ---- the PDOs of a sheet
 
@@ -270,14 +320,6 @@ rows_of_pdos =
     row 0x1400 1 Unsigned32 (number (pos 0x185)) [] ∷ row 0x1600 0 Unsigned8 (number (pos 0)) []
     ∷ row 0x1800 1 Unsigned32 (node_id 0x180) [] ∷ row 0x1A00 0 Unsigned8 (number (pos 1)) [] ∷ row 0x1A00 1 Unsigned32 (number (pos 0x20020008)) []
     ∷ row 0x2002 0 Boolean absent (codes "B") ∷ []
-
--- of can0, by these sheets and by what was shown of PDOs
-abbrev bus_with : List KnownSheet → List ShownPdo → Bus
-bus_with sheets entries = record { sheets = sheets; entries = entries; interface = codes "can0" }
-
--- a sheet for each interface
-abbrev sheet_of : Names → KnownSheet
-sheet_of names = known_sheet None names
 
 abbrev said_by : List KnownSheet → List ShownPdo → ℕ → List ℕ → List ℕ
 said_by sheets entries id bytes = pdos_text (bus_with sheets entries) bytes (claims_with (bus_with sheets entries) id)
@@ -548,8 +590,8 @@ greatest_count : is_count 64 ≡ true
 greatest_count = refl
 
 -- of the recording and of the sheet: the data are raw
-raw_counts : shown_text (of_sheet names) 5 (0xE8 ∷ 0x03 ∷ []) None (shown 0x1800 (Seen 0x185) (Seen 65 ∷ []) false).state
-    ∷ assumed_text (of_sheet names) 5 (0xE8 ∷ 0x03 ∷ []) (Some (record { count = Some 65; words = [] })) ∷ []
+raw_counts : shown_text (bus_with (sheet_of names ∷ []) []) 5 (0xE8 ∷ 0x03 ∷ []) None (shown 0x1800 (Seen 0x185) (Seen 65 ∷ []) false).state
+    ∷ assumed_text (bus_with (sheet_of names ∷ []) []) 5 (0xE8 ∷ 0x03 ∷ []) (Some (record { count = Some 65; words = [] })) ∷ []
     ≡ codes ": E803 (mapping is unknown)" ∷ codes ": E803 (mapping is unknown)" ∷ []
 unfolding shown_text mapping_in_force words_in_force raw_text filled digits digits_text
 raw_counts = refl

@@ -10,7 +10,7 @@ use Rattle.conode_explain_entries.specs.declared.state.Value.TheVariants.{Assume
 use Rattle.conode_text.specs.Filled.{filled}
 use Rattle.conode_explain_cob_ids.specs.declared.origin.Origin.TheVariants.{Sheet, Transfer, Store}
 use Rattle.conode_explain_cob_ids.specs.Content.{SheetMapping}
-use Rattle.conode_explain_cob_ids.specs.Devices.{Device}
+use Rattle.conode_explain_cob_ids.specs.Buses.{Bus}
 use Rattle.conode_explain_cob_ids.specs.Origins.{is_from, number_by, value_at}
 use Rattle.conode_explain_cob_ids.specs.SheetMappings.{is_assumed, sheet_count, sheet_word}
 use Rattle.conode_explain_pdo.specs.Content.{Mapping}
@@ -74,27 +74,27 @@ unfoldable pub raw_text : List ℕ → List ℕ → List ℕ
 raw_text bytes why = codes ":" ++ digits_of bytes ++ filled (codes " (%)") (why ∷ [])
 
 -- by the mapping in force
-abbrev pub known_text : Device → ℕ → List ℕ → List Value → Mapping → List ℕ
-known_text device node bytes values mapping = origin_text values (word_count mapping.count) ++ data_text device node mapping bytes
+abbrev pub known_text : Bus → ℕ → List ℕ → List Value → Mapping → List ℕ
+known_text bus node bytes values mapping = origin_text values (word_count mapping.count) ++ data_text bus node mapping bytes
 
 -- by a mapping that isn't known; of a PDO without a COB-ID no more is said
 abbrev pub unknown_text : Bool → List ℕ → List ℕ
 unknown_text assumed bytes = if assumed then [] else raw_text bytes (codes "mapping is unknown")
 
 -- the recording shows an entry of the PDO
-unfoldable pub shown_text : Device → ℕ → List ℕ → Option SheetMapping → PdoState → List ℕ
-shown_text device node bytes sheet state =
+unfoldable pub shown_text : Bus → ℕ → List ℕ → Option SheetMapping → PdoState → List ℕ
+shown_text bus node bytes sheet state =
     if state.is_being_changed then raw_text bytes (codes "mapping is being changed")
-    else option_map_or (known_text device node bytes state.now.mapping) (mapping_in_force state.now.mapping sheet)
+    else option_map_or (known_text bus node bytes state.now.mapping) (mapping_in_force state.now.mapping sheet)
     (unknown_text (is_assumed sheet state.now.cob_id) bytes)
 
 -- it shows none: the mapping is the sheet's, if the sheet has all of it
-abbrev pub assumed_text : Device → ℕ → List ℕ → Option SheetMapping → List ℕ
-assumed_text device node bytes sheet =
-    option_map_or (λ mapping. data_text device node mapping bytes) (mapping_in_force [] sheet)
+abbrev pub assumed_text : Bus → ℕ → List ℕ → Option SheetMapping → List ℕ
+assumed_text bus node bytes sheet =
+    option_map_or (λ mapping. data_text bus node mapping bytes) (mapping_in_force [] sheet)
     (unknown_text (is_assumed sheet Assumed) bytes)
 
 -- the data of a node's PDO, by its mapping in the sheet and what the recording shows
-unfoldable pub data_in_force : Device → ℕ → List ℕ → Option SheetMapping → Option PdoState → List ℕ
-data_in_force device node bytes sheet state =
-    option_map_or (shown_text device node bytes sheet) state (assumed_text device node bytes sheet)
+unfoldable pub data_in_force : Bus → ℕ → List ℕ → Option SheetMapping → Option PdoState → List ℕ
+data_in_force bus node bytes sheet state =
+    option_map_or (shown_text bus node bytes sheet) state (assumed_text bus node bytes sheet)

@@ -1,15 +1,18 @@
 -- What a mapping says of data: each part is the bits at its offset (CiA 301, 7.2.2.1 and 7.5.2.36).
-use Rattle.std.specs.Prelude.{ℕ, ◌+◌, ◌-◌, ◌/◌, ◌%◌, ◌^◌, ◌==◌, nat_lt, nat_le, Bool, ◌&&◌, if◌then◌else◌, List, [], ◌∷◌, ◌++◌, length, take, drop, slice_index, codes, decimal, is_some}
+use Rattle.std.specs.Prelude.{ℕ, ◌+◌, ◌-◌, ◌*◌, ◌/◌, ◌%◌, ◌^◌, ◌==◌, nat_lt, nat_le, min, Bool, ◌&&◌, if◌then◌else◌, List, [], ◌∷◌, ◌++◌, length, take, drop, slice_index, codes, decimal, Option, None, is_some, unwrap_or}
 use Rattle.std.specs.List.{flat_map}
 use Rattle.std.specs.Option.{option_map_or}
 use Rattle.co_text.specs.Printed.{byte_text}
+use Rattle.co_value.specs.declared.data_type.DataType.{DataType}
 use Rattle.co_value.specs.declared.key.Key.{Key}
 use Rattle.co_value.specs.KeyTexts.{key_text}
 use Rattle.co_value.specs.Numbers.{low_bytes, unsigned_of}
+use Rattle.co_value.specs.Types.{width_of}
 use Rattle.co_sheet.specs.Content.{Row}
 use Rattle.co_sheet_changes.specs.Names.{entry_of}
 use Rattle.conode_text.specs.Filled.{filled}
-use Rattle.conode_explain_cob_ids.specs.Devices.{Device}
+use Rattle.conode_explain_cob_ids.specs.Buses.{Bus}
+use Rattle.conode_explain_cob_ids.specs.Devices.{Device, device_at}
 use Rattle.conode_explain_pdo.specs.Content.{Mapping}
 use Rattle.conode_explain_pdo.specs.KnownEntries.{known_text}
 
@@ -118,17 +121,45 @@ all_text key = filled (codes "destination all nodes % ") (key_text key ∷ [])
 abbrev pub address_text : ℕ → Key → List ℕ
 address_text byte key = if byte == 128 then all_text key else addressed_text (addressing_word byte) (byte % 128) key
 
-unfoldable pub multiplexed_text : List ℕ → List ℕ
-multiplexed_text bytes = address_text (slice_index bytes 0) (multiplexed_key bytes) ++ flat_map byte_text (drop 4 bytes)
+-- of the last four bytes as many as the type of the entry has
+abbrev pub multiplexed_value : DataType → List ℕ → List ℕ
+multiplexed_value t bytes = take (min (unwrap_or (width_of t) 4) 4) (drop 4 bytes)
+
+-- the entry is one of the destination's dictionary, or of the source's
+abbrev pub addressed_row : Device → ℕ → Key → Option Row
+addressed_row device node key = if node == 0 then None else entry_of device.names node key
+
+-- which of the two, and the node
+unfoldable pub node_text : List ℕ → ℕ → List ℕ
+node_text word node = filled (codes "% node %: ") (word ∷ decimal node ∷ [])
+
+-- that node, and its entry with the value
+unfoldable pub named_text : Device → ℕ → List ℕ → Row → List ℕ
+named_text device node bytes row =
+    let value = multiplexed_value row.data_type bytes in
+    node_text (addressing_word (slice_index bytes 0)) node
+    ++ known_text device node (multiplexed_key bytes) row (8 * length value) value
+
+-- an entry without a name, with all four bytes
+unfoldable pub unnamed_text : List ℕ → List ℕ
+unnamed_text bytes = address_text (slice_index bytes 0) (multiplexed_key bytes) ++ flat_map byte_text (drop 4 bytes)
+
+-- by the sheet of the node that is named in the lower seven bits of the first byte
+abbrev pub multiplexed_by : Device → ℕ → List ℕ → List ℕ
+multiplexed_by device node bytes =
+    option_map_or (named_text device node bytes) (addressed_row device node (multiplexed_key bytes)) (unnamed_text bytes)
+
+unfoldable pub multiplexed_text : Bus → List ℕ → List ℕ
+multiplexed_text bus bytes = multiplexed_by (device_at bus (slice_index bytes 0 % 128)) (slice_index bytes 0 % 128) bytes
 
 -- the data of one
-unfoldable pub multiplexed_data : List ℕ → List ℕ
-multiplexed_data bytes = if length bytes == 8 then multiplexed_text bytes else short_text (length bytes) 8
+unfoldable pub multiplexed_data : Bus → List ℕ → List ℕ
+multiplexed_data bus bytes = if length bytes == 8 then multiplexed_text bus bytes else short_text (length bytes) 8
 
 -- data by the mapping in force: by its count 1 to 64 entries, FEh or FFh multiplexed, else nothing
 -- is known of them
-unfoldable pub data_text : Device → ℕ → Mapping → List ℕ → List ℕ
-data_text device node mapping bytes =
+unfoldable pub data_text : Bus → ℕ → Mapping → List ℕ → List ℕ
+data_text bus node mapping bytes =
     if mapping.count == 0 then []
-    else (if nat_le mapping.count 64 then codes ": " ++ mapped_text device node (take mapping.count mapping.words) bytes
-    else (if nat_le 0xFE mapping.count then codes ": " ++ multiplexed_data bytes else []))
+    else (if nat_le mapping.count 64 then codes ": " ++ mapped_text (device_at bus node) node (take mapping.count mapping.words) bytes
+    else (if nat_le 0xFE mapping.count then codes ": " ++ multiplexed_data bus bytes else []))

@@ -6,7 +6,6 @@ use Rattle.conode_explain_entries.specs.declared.state.Value.TheVariants.{Assume
 use Rattle.conode_explain_cob_ids.specs.declared.claim.Claim.{Claim}
 use Rattle.conode_explain_cob_ids.specs.Buses.{Bus, state_at}
 use Rattle.conode_explain_cob_ids.specs.Content.{SheetMapping}
-use Rattle.conode_explain_cob_ids.specs.Devices.{device_at}
 use Rattle.conode_explain_cob_ids.specs.SheetMappings.{is_assumed, sheet_mapping}
 use Rattle.conode_explain_pdo.specs.InForce.{data_in_force}
 
@@ -29,7 +28,7 @@ assumed_mark assumed = if assumed then codes "~" else []
 unfoldable pub pdo_by : Bus → List ℕ → Claim → Option SheetMapping → Option PdoState → List ℕ
 pdo_by bus bytes claim sheet state =
     assumed_mark (is_assumed sheet (cob_id_at state)) ++ pdo_front claim.index claim.node
-    ++ data_in_force (device_at bus claim.node) claim.node bytes sheet state
+    ++ data_in_force bus claim.node bytes sheet state
 
 -- the PDO, its node, and what the data say
 unfoldable pub pdo_text : Bus → List ℕ → Claim → List ℕ

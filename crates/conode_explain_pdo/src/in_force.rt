@@ -3,7 +3,7 @@
 ghost use Rattle.std.specs.Prelude.{◌≡◌, ◌≤◌, ◌++◌, OnOk, length, option_map, string_bytes, take};
 ghost use Rattle.std.specs.List.{list_all};
 ghost use Rattle.std.specs.Option.{option_copied};
-ghost use Rattle.conode_explain_cob_ids.specs.Devices.{device_view};
+ghost use Rattle.conode_explain_cob_ids.specs.Buses.{bus_view};
 ghost use Rattle.conode_explain_cob_ids.specs.Origins.{is_from};
 ghost use Rattle.conode_explain_pdo.specs.InForce.{
   assumed_text,
@@ -27,7 +27,7 @@ use crate::mapping::{Mapping, push_data};
 use arrayvec::ArrayVec;
 use co_text::push_bytes;
 use conode_explain_cob_ids::{
-    Device, Origin, SheetMapping, is_assumed, is_from, number_by, sheet_count, sheet_word, value_at,
+    Bus, Origin, SheetMapping, is_assumed, is_from, number_by, sheet_count, sheet_word, value_at,
 };
 use conode_explain_entries::{PdoState, Value};
 use conode_text::{Value as Filling, push_filled};
@@ -180,24 +180,24 @@ fn push_unknown(text: &mut String, assumed: bool, bytes: &[u8]) -> Result<(), Al
 // by the sheet's mapping: the recording shows nothing of it
 fn push_assumed(
     text: &mut String,
-    device: Device<'_, '_>,
+    bus: Bus<'_, '_, '_, '_, '_>,
     node: u8,
     sheet: Option<&SheetMapping>,
     bytes: &[u8],
 ) -> Result<(), AllocError>
     requires { length bytes.now ≤ 8 }
     ensures { OnOk result (string_bytes text.new ≡ string_bytes text.old
-        ++ assumed_text (device_view device.entry) node bytes.now (option_copied sheet.entry)) }
+        ++ assumed_text (bus_view bus.entry) node bytes.now (option_copied sheet.entry)) }
 {
     match mapping_in_force(&[], sheet) {
-        Some(mapping) => push_data(text, device, node, &mapping, bytes),
+        Some(mapping) => push_data(text, bus, node, &mapping, bytes),
         None => push_unknown(text, is_assumed(sheet, Value::Assumed), bytes),
     }
 }
 
 fn push_known(
     text: &mut String,
-    device: Device<'_, '_>,
+    bus: Bus<'_, '_, '_, '_, '_>,
     node: u8,
     values: &[Value],
     mapping: &Mapping,
@@ -205,18 +205,18 @@ fn push_known(
 ) -> Result<(), AllocError>
     requires { length bytes.now ≤ 8 }
     ensures { OnOk result (string_bytes text.new ≡ string_bytes text.old
-        ++ known_text (device_view device.entry) node bytes.now values.now mapping.now) }
+        ++ known_text (bus_view bus.entry) node bytes.now values.now mapping.now) }
 {
     let count = word_count(mapping.count) as usize;
     attempt!(text.push_str(origin_words(first_values(values, count + 1))));
-    push_data(text, device, node, mapping, bytes)
+    push_data(text, bus, node, mapping, bytes)
 }
 
 // by the mapping of which the recording shows something
 #[tactic(auto, unfolding(crate::specs::InForce::shown_text))]
 fn push_shown(
     text: &mut String,
-    device: Device<'_, '_>,
+    bus: Bus<'_, '_, '_, '_, '_>,
     node: u8,
     sheet: Option<&SheetMapping>,
     state: &PdoState,
@@ -224,14 +224,14 @@ fn push_shown(
 ) -> Result<(), AllocError>
     requires { length bytes.now ≤ 8 }
     ensures { OnOk result (string_bytes text.new ≡ string_bytes text.old
-        ++ shown_text (device_view device.entry) node bytes.now (option_copied sheet.entry) state.entry.now) }
+        ++ shown_text (bus_view bus.entry) node bytes.now (option_copied sheet.entry) state.entry.now) }
 {
     if state.is_being_changed {
         return push_raw(text, bytes, "mapping is being changed");
     }
     let values = state.now.mapping.as_slice();
     match mapping_in_force(values, sheet) {
-        Some(mapping) => push_known(text, device, node, values, &mapping, bytes),
+        Some(mapping) => push_known(text, bus, node, values, &mapping, bytes),
         None => push_unknown(text, is_assumed(sheet, state.now.cob_id), bytes),
     }
 }
@@ -243,7 +243,7 @@ fn push_shown(
 #[tactic(auto, unfolding(crate::specs::InForce::data_in_force))]
 pub(crate) fn push_data_in_force(
     text: &mut String,
-    device: Device<'_, '_>,
+    bus: Bus<'_, '_, '_, '_, '_>,
     node: u8,
     sheet: Option<&SheetMapping>,
     state: Option<&PdoState>,
@@ -251,11 +251,11 @@ pub(crate) fn push_data_in_force(
 ) -> Result<(), AllocError>
     requires { length bytes.now ≤ 8 }
     ensures { OnOk result (string_bytes text.new ≡ string_bytes text.old
-        ++ data_in_force (device_view device.entry) node bytes.now
+        ++ data_in_force (bus_view bus.entry) node bytes.now
         (option_copied sheet.entry) (option_copied state.entry)) }
 {
     match state {
-        Some(state) => push_shown(text, device, node, sheet, state, bytes),
-        None => push_assumed(text, device, node, sheet, bytes),
+        Some(state) => push_shown(text, bus, node, sheet, state, bytes),
+        None => push_assumed(text, bus, node, sheet, bytes),
     }
 }

@@ -1,12 +1,16 @@
 //! What a mapping says of data. Each function appends a text; on an `Err` memory ran out, and a
 //! part of it may be there.
 
-ghost use Rattle.std.specs.Prelude.{◌≡◌, ◌+◌, ◌*◌, ◌/◌, ◌%◌, ◌^◌, ◌++◌, ◌≤◌, [], OnOk, is_some, length, string_bytes, take};
+ghost use Rattle.std.specs.Prelude.{◌≡◌, ◌+◌, ◌*◌, ◌/◌, ◌%◌, ◌^◌, ◌++◌, ◌≤◌, [], OnOk, is_some, length, option_map, string_bytes, take};
+ghost use Rattle.std.specs.Option.{option_copied};
 ghost use Rattle.co_value.specs.Numbers.{low_bytes, unsigned_of};
+ghost use Rattle.co_sheet.specs.SheetViews.{row_view};
+ghost use Rattle.conode_explain_cob_ids.specs.Buses.{bus_view};
 ghost use Rattle.conode_explain_cob_ids.specs.Devices.{device_view};
 ghost use Rattle.conode_explain_values.specs.Values.{HasBits};
 ghost use Rattle.conode_explain_pdo.specs.Mappings.{
   address_text,
+  addressed_row,
   addressed_text,
   addressing_word,
   all_text,
@@ -20,12 +24,16 @@ ghost use Rattle.conode_explain_pdo.specs.Mappings.{
   multiplexed_data,
   multiplexed_key,
   multiplexed_text,
+  multiplexed_value,
+  named_text,
+  node_text,
   part_bytes,
   part_text,
   parts_text,
   short_text,
   total_bits,
   unit_of,
+  unnamed_text,
   with_bits,
   word_bits,
   word_key,
@@ -33,9 +41,10 @@ ghost use Rattle.conode_explain_pdo.specs.Mappings.{
 
 use crate::known_entry::push_known;
 use arrayvec::ArrayVec;
+use co_sheet::EntryRow;
 use co_text::push_bytes;
-use co_value::{Key, read_u16, unsigned_of};
-use conode_explain_cob_ids::Device;
+use co_value::{DataType, Key, read_u16, unsigned_of};
+use conode_explain_cob_ids::{Bus, Device};
 use conode_text::{Value, push_filled};
 use std::alloc::AllocError;
 use std::marker::Model;
@@ -357,23 +366,99 @@ fn push_address(text: &mut String, byte: u8, key: Key) -> Result<(), AllocError>
     push_addressed(text, addressing_word(byte), byte % 128, key)
 }
 
-#[tactic(auto, unfolding(crate::specs::Mappings::multiplexed_text))]
-fn push_multiplexed(text: &mut String, bytes: &[u8]) -> Result<(), AllocError>
+// of the last four bytes as many as the type has
+fn multiplexed_value(data_type: DataType, bytes: &[u8]) -> &[u8]
+    requires { length bytes.now ≡ 8 }
+    ensures bytes { result.now ≡ multiplexed_value data_type bytes.now }
+    ensures few { length result.now ≤ 4 }
+{
+    let width = data_type.width().unwrap_or(4);
+    let four = &bytes[4..];
+    &four[..width.min(4)]
+}
+
+// the entry of the destination's or the source's sheet; all nodes have none in common
+fn addressed_row<'s, 'a>(device: Device<'s, 'a>, node: u8, key: Key) -> Option<&'s EntryRow<'a>>
+    ensures { option_map row_view (option_copied result)
+        ≡ addressed_row (device_view device.entry) node key }
+{
+    if node == 0 {
+        return None;
+    }
+    device.names.entry(node, key)
+}
+
+// the destination or the source
+#[tactic(auto, unfolding(crate::specs::Mappings::node_text))]
+fn push_node(text: &mut String, word: &str, node: u8) -> Result<(), AllocError>
+    ensures { OnOk result
+        (string_bytes text.new ≡ string_bytes text.old ++ node_text word.now node) }
+{
+    push_filled(
+        text,
+        "% node %: ",
+        &[Value::Words(word), Value::Number(node as u64)],
+    )
+}
+
+// the node, and its entry with the value
+#[tactic(auto, unfolding(crate::specs::Mappings::named_text))]
+fn push_named(
+    text: &mut String,
+    device: Device<'_, '_>,
+    node: u8,
+    bytes: &[u8],
+    row: &EntryRow<'_>,
+) -> Result<(), AllocError>
+    requires { length bytes.now ≡ 8 }
+    ensures { OnOk result (string_bytes text.new ≡ string_bytes text.old
+        ++ named_text (device_view device.entry) node bytes.now (row_view row.now)) }
+{
+    attempt!(push_node(text, addressing_word(bytes[0]), node));
+    let value = multiplexed_value(row.data_type, bytes);
+    let key = multiplexed_key(bytes);
+    push_known(text, device, node, key, row, 8 * value.len(), value)
+}
+
+#[tactic(auto, unfolding(crate::specs::Mappings::unnamed_text))]
+fn push_unnamed(text: &mut String, bytes: &[u8]) -> Result<(), AllocError>
     requires { length bytes.now ≡ 8 }
     ensures { OnOk result
-        (string_bytes text.new ≡ string_bytes text.old ++ multiplexed_text bytes.now) }
+        (string_bytes text.new ≡ string_bytes text.old ++ unnamed_text bytes.now) }
 {
     attempt!(push_address(text, bytes[0], multiplexed_key(bytes)));
     push_bytes(text, &bytes[4..])
 }
 
+#[tactic(auto, unfolding(crate::specs::Mappings::multiplexed_text))]
+fn push_multiplexed(
+    text: &mut String,
+    bus: Bus<'_, '_, '_, '_, '_>,
+    bytes: &[u8],
+) -> Result<(), AllocError>
+    requires { length bytes.now ≡ 8 }
+    ensures { OnOk result (string_bytes text.new
+        ≡ string_bytes text.old ++ multiplexed_text (bus_view bus.entry) bytes.now) }
+{
+    let node = bytes[0] % 128;
+    let device = bus.device(node);
+    match addressed_row(device, node, multiplexed_key(bytes)) {
+        Some(row) => push_named(text, device, node, bytes, row),
+        None => push_unnamed(text, bytes),
+    }
+}
+
 #[tactic(auto, unfolding(crate::specs::Mappings::multiplexed_data))]
-fn push_multiplexed_data(text: &mut String, bytes: &[u8]) -> Result<(), AllocError>
-    ensures { OnOk result
-        (string_bytes text.new ≡ string_bytes text.old ++ multiplexed_data bytes.now) }
+fn push_multiplexed_data(
+    text: &mut String,
+    bus: Bus<'_, '_, '_, '_, '_>,
+    bytes: &[u8],
+) -> Result<(), AllocError>
+    ensures { OnOk result (string_bytes text.new
+        ≡ string_bytes text.old ++ multiplexed_data (bus_view bus.entry) bytes.now) }
 {
     if bytes.len() == 8 {
-        push_multiplexed(text, bytes)
+        push_multiplexed(text, bus, bytes)
     } else {
         push_short(text, bytes.len(), 8)
     }
@@ -382,12 +467,13 @@ fn push_multiplexed_data(text: &mut String, bytes: &[u8]) -> Result<(), AllocErr
 /// Appends what the data of a PDO of a node say by a mapping: each mapped entry with its value, as
 /// `: Temperature 2001:01 = 1000; Humidity 2001:02 = 10000`; `-` for a gap, `2345:01 (not in
 /// sheet)` for an entry that the sheet lacks; `: 4 bytes, mapping has 6` where the data are
-/// shorter; of a multiplexed PDO `: destination node 5 2001:01 E8030000`. Nothing where nothing is
-/// mapped. On an `Err` memory ran out, and a part of it may be there.
+/// shorter; of a multiplexed PDO the destination or the source with its entry, by the sheet of that node, as
+/// `: destination node 5: Temperature 2001:01 = 1000`, or the four bytes, as `: destination node 5 2001:01
+/// E8030000`. Nothing where nothing is mapped. On an `Err` memory ran out, and a part of it may be there.
 #[tactic(auto, unfolding(crate::specs::Mappings::data_text))]
 pub fn push_data(
     text: &mut String,
-    device: Device<'_, '_>,
+    bus: Bus<'_, '_, '_, '_, '_>,
     node: u8,
     mapping: &Mapping,
     bytes: &[u8],
@@ -395,7 +481,7 @@ pub fn push_data(
     requires { length bytes.now ≤ 8 }
     // Each entry is shown with the bits at its offset in this mapping.
     ensures { OnOk result (string_bytes text.new ≡ string_bytes text.old
-        ++ data_text (device_view device.entry) node mapping.now bytes.now) }
+        ++ data_text (bus_view bus.entry) node mapping.now bytes.now) }
 {
     let count = mapping.count as usize;
     if count == 0 || (count > 64 && count < 0xFE) {
@@ -403,8 +489,9 @@ pub fn push_data(
     }
     attempt!(text.push_str(": "));
     if count > 64 {
-        return push_multiplexed_data(text, bytes);
+        return push_multiplexed_data(text, bus, bytes);
     }
     let words = mapping.words.as_slice();
-    push_mapped(text, device, node, &words[..count.min(words.len())], bytes)
+    let mapped = &words[..count.min(words.len())];
+    push_mapped(text, bus.device(node), node, mapped, bytes)
 }

@@ -75,14 +75,7 @@ fn push_pdo_by(
     let mark = assumed_mark(is_assumed(sheet, cob_id_at(state)));
     attempt!(text.push_str(mark));
     attempt!(push_front(text, claim.index, claim.node));
-    push_data_in_force(
-        text,
-        bus.device(claim.node),
-        claim.node,
-        sheet,
-        state,
-        bytes,
-    )
+    push_data_in_force(text, bus, claim.node, sheet, state, bytes)
 }
 
 #[tactic(auto, unfolding(crate::specs::Pdos::pdo_text))]

@@ -211,10 +211,11 @@ unfolding service_words fixed_at guarding_answer_words state_words digits filled
 toggled = refl
 
 -- numbers beside the states are none, without the toggle bit and with it; 0 is the boot-up, with the toggle bit it is none
-stateless : map (λ byte. says nothing_seen 0x77F (byte ∷ [])) (0x01 ∷ 0x03 ∷ 0x06 ∷ 0x7E ∷ 0x80 ∷ 0x83 ∷ 0xFE ∷ [])
+stateless : map (λ byte. says nothing_seen 0x77F (byte ∷ [])) (0x01 ∷ 0x03 ∷ 0x06 ∷ 0x7E ∷ 0x80 ∷ 0x81 ∷ 0x83 ∷ 0xFE ∷ [])
     ≡ Some (codes "error control node 127 state 1 (CiA 301 has no such state)") ∷ Some (codes "error control node 127 state 3 (CiA 301 has no such state)")
     ∷ Some (codes "error control node 127 state 6 (CiA 301 has no such state)") ∷ Some (codes "error control node 127 state 126 (CiA 301 has no such state)")
-    ∷ Some (codes "error control node 127 state 0 toggle 1 (CiA 301 has no such state)") ∷ Some (codes "error control node 127 state 3 toggle 1 (CiA 301 has no such state)")
+    ∷ Some (codes "error control node 127 state 0 toggle 1 (a boot-up has no toggle bit, a guarding answer no state 0)") ∷ Some (codes "error control node 127 state 1 toggle 1 (CiA 301 has no such state)")
+    ∷ Some (codes "error control node 127 state 3 toggle 1 (CiA 301 has no such state)")
     ∷ Some (codes "error control node 127 state 126 toggle 1 (CiA 301 has no such state)") ∷ []
 unfolding service_words no_state_words fixed_at digits filled
 stateless = refl

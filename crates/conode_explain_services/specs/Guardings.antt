@@ -69,10 +69,16 @@ guarding_answer_words node guarding byte =
 abbrev pub set_toggle_text : Bool → List ℕ
 set_toggle_text toggle = if toggle then codes " toggle 1" else []
 
+-- why it is none. The state 0 is that of a boot-up message, which is a whole byte of 0 (CiA 301, 7.2.8.3.3); no node that
+-- answers guarding requests is in it
+abbrev pub why_none : ℕ → List ℕ
+why_none byte =
+    if byte == 128 then codes "a boot-up has no toggle bit, a guarding answer no state 0" else codes "CiA 301 has no such state"
+
 unfoldable pub no_state_words : ℕ → ℕ → List ℕ
 no_state_words node byte =
-    filled (codes "error control node % state %% (CiA 301 has no such state)")
-    (decimal node ∷ decimal (byte % 128) ∷ set_toggle_text (toggle_of byte) ∷ [])
+    filled (codes "error control node % state %% (%)")
+    (decimal node ∷ decimal (byte % 128) ∷ set_toggle_text (toggle_of byte) ∷ why_none byte ∷ [])
 
 unfoldable pub guarding_request_words : ℕ → List ℕ
 guarding_request_words node = filled (codes "guarding request node %") (decimal node ∷ [])

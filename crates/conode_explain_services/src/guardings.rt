@@ -17,6 +17,7 @@ ghost use Rattle.conode_explain_services.specs.Guardings.{
   set_toggle_text,
   state_words,
   toggle_text,
+  why_none,
 };
 
 use crate::guarding::Guarding;
@@ -157,9 +158,20 @@ fn set_toggle_text(toggle: bool) -> &'static str
     if toggle { " toggle 1" } else { "" }
 }
 
-/// Appends the number in a frame of error control that no state has, and its toggle bit, if that is
-/// set: `error control node 5 state 3 (CiA 301 has no such state)`. On an `Err` memory ran out, and a
-/// part of it may be there.
+// why a byte is neither a boot-up nor a state
+fn why_none(byte: u8) -> &'static str
+    ensures { result.now ≡ why_none byte }
+{
+    if byte == 128 {
+        "a boot-up has no toggle bit, a guarding answer no state 0"
+    } else {
+        "CiA 301 has no such state"
+    }
+}
+
+/// Appends the number in a frame of error control that no state has, its toggle bit, if that is set, and
+/// why it is none: `error control node 5 state 3 (CiA 301 has no such state)`. On an `Err` memory ran out,
+/// and a part of it may be there.
 #[tactic(auto, unfolding(crate::specs::Guardings::no_state_words))]
 pub(crate) fn push_no_state(text: &mut String, node: u8, byte: u8) -> Result<(), AllocError>
     ensures { OnOk result
@@ -167,11 +179,12 @@ pub(crate) fn push_no_state(text: &mut String, node: u8, byte: u8) -> Result<(),
 {
     push_filled(
         text,
-        "error control node % state %% (CiA 301 has no such state)",
+        "error control node % state %% (%)",
         &[
             Value::Number(node as u64),
             Value::Number((byte % 128) as u64),
             Value::Words(set_toggle_text(byte > 127)),
+            Value::Words(why_none(byte)),
         ],
     )
 }

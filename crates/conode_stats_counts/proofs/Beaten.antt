@@ -75,10 +75,10 @@ module _ (before : Option ℕ) (micros : ℕ) (late other : List ℕ) where
   beats true w = refl
   beats false w = waits w (wait before micros)
 
-pub shown_more : (log : List NodeEvent) (state : NmtState) (micros : ℕ)
-    → beat_with (same_state state BootUp) micros (heartbeats_of log) ≡ heartbeats_of (Sent state micros ∷ log)
+pub shown_more : (log : List NodeEvent) (state : NmtState) (toggle : Bool) (micros : ℕ)
+    → beat_with (same_state state BootUp) micros (heartbeats_of log) ≡ heartbeats_of (Sent state toggle micros ∷ log)
 unfolding heartbeats_of written_time since late_gaps other_gaps
-shown_more log state micros = beats (since log) micros (late_gaps log) (other_gaps log) (same_state state BootUp) (written_time log)
+shown_more log state toggle micros = beats (since log) micros (late_gaps log) (other_gaps log) (same_state state BootUp) (written_time log)
 
 pub exchanged_more : (log : List NodeEvent) (frame : SdoFrame) (micros : ℕ) → heartbeats_of log ≡ heartbeats_of (Exchanged frame micros ∷ log)
 unfolding heartbeats_of written_time since late_gaps other_gaps

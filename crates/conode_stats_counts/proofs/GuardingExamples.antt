@@ -1,79 +1,172 @@
--- Guarding requests and answers, evaluated. Logs have the newest event first.
+-- Guarding requests, answers and heartbeats, evaluated. Logs have the newest event first.
 use Rattle.std.proofs.Common.{List, [], ◌∷◌, ◌≡◌, Some, None, true, false, refl}
 use Rattle.conode_explain_transfers.specs.declared.kinds.Direction.TheVariants.{Download, Upload}
+use Rattle.conode_stats_counts.specs.declared.guarding.ErrorControl.TheVariants.{Nothing, Heartbeat, Requested, Answer}
 use Rattle.conode_stats_counts.specs.declared.sdo_frame.SdoFrame.TheVariants.{Request}
-use Rattle.conode_stats_counts.specs.declared.state.NmtState.TheVariants.{BootUp, Operational}
-use Rattle.conode_stats_counts.specs.Guardings.{is_answer, unanswered}
+use Rattle.conode_stats_counts.specs.declared.state.NmtState.TheVariants.{BootUp, Operational, Unknown}
+use Rattle.conode_stats_counts.specs.Guardings.{control_of, unanswered}
 use Rattle.conode_stats_counts.specs.States.{NodeEvent, Commanded, Sent, Exchanged, Timed, Asked}
 
--- ---- a node that answered a request
+-- ---- requests
 
+-- a node that answered one
 abbrev answered : List NodeEvent
-answered = Sent Operational 120 ∷ Asked 100 ∷ []
-
-is_guarded : is_answer answered ≡ true
-unfolding is_answer unanswered
-is_guarded = refl
+answered = Sent Operational false 120 ∷ Asked 100 ∷ []
 
 none_open : unanswered answered ≡ None
 unfolding unanswered
 none_open = refl
-
--- a request that isn't answered doesn't make its last frame another one
-still_guarded : is_answer (Asked 200 ∷ answered) ≡ true
-unfolding is_answer unanswered
-still_guarded = refl
 
 -- the first of two, whatever else came
 first_open : unanswered (Asked 300 ∷ Exchanged Request 280 ∷ Commanded ∷ Asked 200 ∷ answered) ≡ Some 200
 unfolding unanswered
 first_open = refl
 
-heartbeat_since : is_answer (Sent Operational 220 ∷ answered) ≡ false
-unfolding is_answer unanswered
-heartbeat_since = refl
-
-without_request : is_answer (Sent Operational 120 ∷ []) ≡ false
-unfolding is_answer unanswered
-without_request = refl
-
-nothing_sent : is_answer (Asked 100 ∷ []) ≡ false
-unfolding is_answer
-nothing_sent = refl
-
 asked_alone : unanswered (Asked 100 ∷ []) ≡ Some 100
 unfolding unanswered
 asked_alone = refl
 
--- ---- boot-ups
-
-booted_guarded : is_answer (Sent BootUp 220 ∷ answered) ≡ true
-unfolding is_answer unanswered
-booted_guarded = refl
-
--- a request that came while the node was off
-booted_asked : is_answer (Sent BootUp 220 ∷ Asked 200 ∷ []) ≡ true
-unfolding is_answer unanswered
-booted_asked = refl
-
-booted_alone : is_answer (Sent BootUp 220 ∷ []) ≡ false
-unfolding is_answer unanswered
-booted_alone = refl
-
-heartbeat_after : is_answer (Sent Operational 240 ∷ Sent BootUp 220 ∷ answered) ≡ false
-unfolding is_answer unanswered
-heartbeat_after = refl
-
--- ---- 1017:00
-
-written : is_answer (Timed Download 500 220 ∷ answered) ≡ false
-unfolding is_answer unanswered
-written = refl
-
-read : is_answer (Timed Upload 0 220 ∷ answered) ≡ true
-unfolding is_answer unanswered
-read = refl
-
 still_open : unanswered (Timed Download 500 220 ∷ Asked 200 ∷ answered) ≡ Some 200
 unfolding unanswered
 still_open = refl
+
+-- ---- the first frame
+
+nothing_sent : control_of (Asked 100 ∷ []) ≡ Nothing
+unfolding control_of
+nothing_sent = refl
+
+without_request : control_of (Sent Operational false 120 ∷ []) ≡ Heartbeat
+unfolding control_of unanswered
+without_request = refl
+
+after_request : control_of answered ≡ Requested
+unfolding control_of unanswered
+after_request = refl
+
+with_toggle : control_of (Sent Operational true 120 ∷ []) ≡ Answer true
+unfolding control_of unanswered
+with_toggle = refl
+
+-- a request that isn't answered, a command and an SDO frame make it no other
+still_the_same : control_of (Exchanged Request 280 ∷ Commanded ∷ Asked 200 ∷ answered) ≡ Requested
+unfolding control_of unanswered
+still_the_same = refl
+
+-- ---- answers
+
+-- with a toggle bit that alternates
+alternating : control_of (Sent Operational true 220 ∷ Asked 200 ∷ answered) ≡ Answer true
+unfolding control_of unanswered
+alternating = refl
+
+alternating_back : control_of (Sent Operational false 320 ∷ Asked 300 ∷ Sent Operational true 220 ∷ Asked 200 ∷ answered) ≡ Answer false
+unfolding control_of unanswered
+alternating_back = refl
+
+-- though the recording lacks the request
+unrecorded : control_of (Sent Operational false 320 ∷ Sent Operational true 220 ∷ []) ≡ Answer false
+unfolding control_of unanswered
+unrecorded = refl
+
+-- the bit is the same twice: an answer is missing
+missing_set : control_of (Sent Operational true 320 ∷ Asked 300 ∷ Sent Operational true 220 ∷ []) ≡ Answer true
+unfolding control_of unanswered
+missing_set = refl
+
+missing_clear : control_of (Sent Operational false 420 ∷ Asked 400 ∷ Sent Operational false 320 ∷ Sent Operational true 220 ∷ []) ≡ Requested
+unfolding control_of unanswered
+missing_clear = refl
+
+-- it toggles not at all
+never_toggled : control_of (Sent Operational false 220 ∷ Asked 200 ∷ answered) ≡ Requested
+unfolding control_of unanswered
+never_toggled = refl
+
+-- of no state
+toggled_zero : control_of (Sent Unknown true 120 ∷ Asked 100 ∷ []) ≡ Answer true
+unfolding control_of unanswered
+toggled_zero = refl
+
+-- ---- heartbeats
+
+-- without a request, after what may be an answer
+unasked : control_of (Sent Operational false 220 ∷ answered) ≡ Heartbeat
+unfolding control_of unanswered
+unasked = refl
+
+-- a second one without the toggle bit, after an answer with it
+unasked_twice : control_of (Sent Operational false 420 ∷ Sent Operational false 320 ∷ Sent Operational true 220 ∷ []) ≡ Heartbeat
+unfolding control_of unanswered
+unasked_twice = refl
+
+-- a request between heartbeats
+asked_between : control_of (Sent Operational false 220 ∷ Asked 210 ∷ Sent Operational false 120 ∷ []) ≡ Heartbeat
+unfolding control_of unanswered
+asked_between = refl
+
+-- until the toggle bit shows an answer
+no_longer : control_of (Sent Operational true 320 ∷ Asked 310 ∷ Sent Operational false 220 ∷ Asked 210 ∷ Sent Operational false 120 ∷ []) ≡ Answer true
+unfolding control_of unanswered
+no_longer = refl
+
+-- ---- boot-up messages are left out
+
+booted_guarded : control_of (Sent BootUp false 220 ∷ answered) ≡ Requested
+unfolding control_of unanswered
+booted_guarded = refl
+
+booted_with_heartbeats : control_of (Sent BootUp false 220 ∷ Asked 200 ∷ Sent Operational false 120 ∷ []) ≡ Heartbeat
+unfolding control_of unanswered
+booted_with_heartbeats = refl
+
+-- a request that came while the node was off
+booted_asked : control_of (Sent BootUp false 220 ∷ Asked 200 ∷ []) ≡ Nothing
+unfolding control_of unanswered
+booted_asked = refl
+
+-- it was for the boot-up message
+asked_before_boot : control_of (Sent Operational false 240 ∷ Sent BootUp false 220 ∷ Asked 200 ∷ []) ≡ Heartbeat
+unfolding control_of unanswered
+asked_before_boot = refl
+
+asked_after_boot : control_of (Sent Operational false 240 ∷ Asked 230 ∷ Sent BootUp false 220 ∷ []) ≡ Requested
+unfolding control_of unanswered
+asked_after_boot = refl
+
+-- ---- 1017:00
+
+written : control_of (Timed Download 1 220 ∷ answered) ≡ Heartbeat
+unfolding control_of unanswered
+written = refl
+
+read : control_of (Timed Upload 500 220 ∷ []) ≡ Heartbeat
+unfolding control_of unanswered
+read = refl
+
+-- from then on a request is for nothing
+asked_after : control_of (Sent Operational false 320 ∷ Asked 300 ∷ Timed Download 500 220 ∷ answered) ≡ Heartbeat
+unfolding control_of unanswered
+asked_after = refl
+
+-- after an answer with the toggle bit too
+written_after_toggle : control_of (Sent Operational false 320 ∷ Timed Download 500 220 ∷ Sent Operational true 120 ∷ []) ≡ Heartbeat
+unfolding control_of unanswered
+written_after_toggle = refl
+
+-- with 0 the node sends no heartbeats, and may be guarded
+written_zero : control_of (Timed Download 0 220 ∷ Sent Operational false 120 ∷ []) ≡ Nothing
+unfolding control_of unanswered
+written_zero = refl
+
+guarded_since : control_of (Sent Operational false 320 ∷ Asked 300 ∷ Timed Download 0 220 ∷ Sent Operational false 120 ∷ []) ≡ Requested
+unfolding control_of unanswered
+guarded_since = refl
+
+still_guarded : control_of (Timed Upload 0 220 ∷ answered) ≡ Requested
+unfolding control_of unanswered
+still_guarded = refl
+
+still_toggling : control_of (Timed Download 0 220 ∷ Sent Operational true 120 ∷ []) ≡ Answer true
+unfolding control_of unanswered
+still_toggling = refl

@@ -23,7 +23,7 @@ never_late = refl
 -- steps back
 
 abbrev beats : List NodeEvent
-beats = Sent Operational 90000 ∷ Sent Operational 95000 ∷ Sent BootUp 65000 ∷ Sent Operational 60000 ∷ Commanded ∷ Sent Operational 40000 ∷ []
+beats = Sent Operational false 90000 ∷ Sent Operational false 95000 ∷ Sent BootUp false 65000 ∷ Sent Operational false 60000 ∷ Commanded ∷ Sent Operational false 40000 ∷ []
 
 gaps_without : other_gaps beats ≡ 30000 ∷ 20000 ∷ []
 unfolding other_gaps since written_time
@@ -34,7 +34,7 @@ unfolding late_gaps since written_time
 none_late_without = refl
 
 -- of guarding answers
-gaps_guarded : other_gaps (Sent Operational 90000 ∷ Asked 89000 ∷ Sent Operational 60000 ∷ []) ≡ 30000 ∷ []
+gaps_guarded : other_gaps (Sent Operational false 90000 ∷ Asked 89000 ∷ Sent Operational false 60000 ∷ []) ≡ 30000 ∷ []
 unfolding other_gaps since written_time
 gaps_guarded = refl
 
@@ -55,17 +55,17 @@ since_written : since written ≡ Some 101000
 unfolding since
 since_written = refl
 
-late_after : late_gaps (Sent Operational 132000 ∷ Sent Operational 117000 ∷ written) ≡ 16000 ∷ []
+late_after : late_gaps (Sent Operational false 132000 ∷ Sent Operational false 117000 ∷ written) ≡ 16000 ∷ []
 unfolding late_gaps since written_time
 late_after = refl
 
 -- they are none of those without a download
-others_after : other_gaps (Sent Operational 132000 ∷ Sent Operational 117000 ∷ written) ≡ 30000 ∷ 20000 ∷ []
+others_after : other_gaps (Sent Operational false 132000 ∷ Sent Operational false 117000 ∷ written) ≡ 30000 ∷ 20000 ∷ []
 unfolding other_gaps since written_time
 others_after = refl
 
 -- a boot-up ends it
-booted_since : written_time (Sent BootUp 120000 ∷ written) ≡ None
+booted_since : written_time (Sent BootUp false 120000 ∷ written) ≡ None
 unfolding written_time
 booted_since = refl
 
@@ -84,11 +84,11 @@ since_read : since read ≡ Some 90000
 unfolding since
 since_read = refl
 
-in_time_after : late_gaps (Sent Operational 105000 ∷ read) ≡ []
+in_time_after : late_gaps (Sent Operational false 105000 ∷ read) ≡ []
 unfolding late_gaps since written_time
 in_time_after = refl
 
-late_after_read : late_gaps (Sent Operational 106000 ∷ read) ≡ 16000 ∷ []
+late_after_read : late_gaps (Sent Operational false 106000 ∷ read) ≡ 16000 ∷ []
 unfolding late_gaps since written_time
 late_after_read = refl
 
@@ -108,7 +108,7 @@ four_ms : longest_answer answers ≡ Some 4000
 unfolding longest_answer pending
 four_ms = refl
 
-one_ms : longest_answer (Exchanged Response 2000 ∷ Sent Operational 1500 ∷ Commanded ∷ Exchanged Request 1000 ∷ []) ≡ Some 1000
+one_ms : longest_answer (Exchanged Response 2000 ∷ Sent Operational false 1500 ∷ Commanded ∷ Exchanged Request 1000 ∷ []) ≡ Some 1000
 unfolding longest_answer pending
 one_ms = refl
 
@@ -116,6 +116,6 @@ no_answer : longest_answer (Exchanged Response 9000 ∷ Exchanged Abort 8000 ∷
 unfolding longest_answer pending
 no_answer = refl
 
-booted_before_answer : longest_answer (Exchanged Response 9000 ∷ Sent BootUp 8000 ∷ Exchanged Request 1000 ∷ []) ≡ None
+booted_before_answer : longest_answer (Exchanged Response 9000 ∷ Sent BootUp false 8000 ∷ Exchanged Request 1000 ∷ []) ≡ None
 unfolding longest_answer pending
 booted_before_answer = refl

@@ -78,11 +78,18 @@ longer_start = refl
 shorter_command : sign_as (Base 0x000) (Data (0x81 ∷ [])) ≡ Other
 shorter_command = refl
 
-first_control : sign_as (Base 0x701) (Data (0x05 ∷ [])) ≡ Shows 1 Operational
+first_control : sign_as (Base 0x701) (Data (0x05 ∷ [])) ≡ Shows 1 Operational false
 first_control = refl
 
-last_control : sign_as (Base 0x77F) (Data (0x00 ∷ [])) ≡ Shows 127 BootUp
+last_control : sign_as (Base 0x77F) (Data (0x00 ∷ [])) ≡ Shows 127 BootUp false
 last_control = refl
+
+-- bit 7 is the toggle bit
+greatest_without_toggle : sign_as (Base 0x705) (Data (0x7F ∷ [])) ≡ Shows 5 PreOperational false
+greatest_without_toggle = refl
+
+least_with_toggle : sign_as (Base 0x705) (Data (0x80 ∷ [])) ≡ Shows 5 Unknown true
+least_with_toggle = refl
 
 before_control : sign_as (Base 0x700) (Data (0x05 ∷ [])) ≡ Other
 before_control = refl
@@ -152,8 +159,11 @@ to_it = refl
 to_another : log_with 6 (Reset 7) 10 [] ≡ []
 to_another = refl
 
-of_another : log_with 6 (Shows 7 BootUp) 10 [] ≡ []
+of_another : log_with 6 (Shows 7 BootUp false) 10 [] ≡ []
 of_another = refl
+
+shown : log_with 6 (Shows 6 Operational true) 10 [] ≡ Sent Operational true 10 ∷ []
+shown = refl
 
 asked : log_with 6 (Asks 6) 10 [] ≡ Asked 10 ∷ []
 asked = refl
@@ -197,7 +207,7 @@ module _ (transfer : Ended) where
 
 -- 20 µs after the boot-up message, 100 + 130 operational, 0 where a stamp steps back, 50 pre-operational
 abbrev session : List NodeEvent
-session = Sent Stopped 330 ∷ Sent PreOperational 280 ∷ Sent Operational 290 ∷ Sent Operational 160 ∷ Commanded ∷ Sent Operational 60 ∷ Sent BootUp 40 ∷ []
+session = Sent Stopped false 330 ∷ Sent PreOperational false 280 ∷ Sent Operational false 290 ∷ Sent Operational false 160 ∷ Commanded ∷ Sent Operational false 60 ∷ Sent BootUp false 40 ∷ []
 
 operational_time : time_in Operational session ≡ 230
 unfolding time_in newest
@@ -212,7 +222,7 @@ unfolding time_in newest
 boot_up_time = refl
 
 -- after frames with a number that no state has, 30 and 10 µs
-unknown_time : time_in Unknown (Sent Operational 90 ∷ Sent Unknown 80 ∷ Sent Operational 70 ∷ Sent Unknown 40 ∷ []) ≡ 40
+unknown_time : time_in Unknown (Sent Operational false 90 ∷ Sent Unknown false 80 ∷ Sent Operational false 70 ∷ Sent Unknown false 40 ∷ []) ≡ 40
 unfolding time_in newest
 unknown_time = refl
 
@@ -226,55 +236,55 @@ unfolding newest
 newest_of_session = refl
 
 -- the first frame of a recording is no restart
-first_boot : restarts (Sent BootUp 40 ∷ []) ≡ 0
+first_boot : restarts (Sent BootUp false 40 ∷ []) ≡ 0
 unfolding restarts newest longest_answer is_commanded
 first_boot = refl
 
 -- nor is a boot-up after a command, with a heartbeat between them that was on its way
-commanded_boot : restarts (Sent BootUp 40 ∷ Sent Operational 30 ∷ Commanded ∷ Sent Operational 20 ∷ []) ≡ 0
+commanded_boot : restarts (Sent BootUp false 40 ∷ Sent Operational false 30 ∷ Commanded ∷ Sent Operational false 20 ∷ []) ≡ 0
 unfolding restarts newest longest_answer is_commanded
 commanded_boot = refl
 
 -- nor are those after a command before the first frame
-early_command : restarts (Sent BootUp 40 ∷ Sent Operational 30 ∷ Commanded ∷ []) ≡ 0
+early_command : restarts (Sent BootUp false 40 ∷ Sent Operational false 30 ∷ Commanded ∷ []) ≡ 0
 unfolding restarts newest longest_answer is_commanded
 early_command = refl
 
 -- one command is for one boot-up
-second_boot : restarts (Sent BootUp 50 ∷ Sent BootUp 40 ∷ Commanded ∷ Sent Operational 20 ∷ []) ≡ 1
+second_boot : restarts (Sent BootUp false 50 ∷ Sent BootUp false 40 ∷ Commanded ∷ Sent Operational false 20 ∷ []) ≡ 1
 unfolding restarts newest longest_answer is_commanded
 second_boot = refl
 
 -- a boot-up in the middle of a recording
-restarted : restarts (Sent Operational 60 ∷ Sent BootUp 40 ∷ Sent Operational 20 ∷ []) ≡ 1
+restarted : restarts (Sent Operational false 60 ∷ Sent BootUp false 40 ∷ Sent Operational false 20 ∷ []) ≡ 1
 unfolding restarts newest longest_answer is_commanded
 restarted = refl
 
-restarted_at : last_restart (Sent Operational 60 ∷ Sent BootUp 40 ∷ Sent Operational 20 ∷ []) ≡ 40
+restarted_at : last_restart (Sent Operational false 60 ∷ Sent BootUp false 40 ∷ Sent Operational false 20 ∷ []) ≡ 40
 unfolding last_restart newest longest_answer is_commanded
 restarted_at = refl
 
 -- the newer of two
-restarted_again_at : last_restart (Sent BootUp 70 ∷ Sent Operational 60 ∷ Sent BootUp 40 ∷ Sent Operational 20 ∷ []) ≡ 70
+restarted_again_at : last_restart (Sent BootUp false 70 ∷ Sent Operational false 60 ∷ Sent BootUp false 40 ∷ Sent Operational false 20 ∷ []) ≡ 70
 unfolding last_restart newest longest_answer is_commanded
 restarted_again_at = refl
 
 -- of a node without heartbeats that answered a request before
-restarted_server : restarts (Sent BootUp 40 ∷ Exchanged Response 20 ∷ Exchanged Request 10 ∷ []) ≡ 1
+restarted_server : restarts (Sent BootUp false 40 ∷ Exchanged Response 20 ∷ Exchanged Request 10 ∷ []) ≡ 1
 unfolding restarts newest longest_answer pending is_commanded
 restarted_server = refl
 
 -- a guarding request shows nothing of the node
-asked_before : restarts (Sent BootUp 40 ∷ Asked 20 ∷ []) ≡ 0
+asked_before : restarts (Sent BootUp false 40 ∷ Asked 20 ∷ []) ≡ 0
 unfolding restarts newest longest_answer is_commanded
 asked_before = refl
 
 -- one that didn't answer may have been switched on since
-switched_on : restarts (Sent BootUp 40 ∷ Exchanged Request 10 ∷ []) ≡ 0
+switched_on : restarts (Sent BootUp false 40 ∷ Exchanged Request 10 ∷ []) ≡ 0
 unfolding restarts newest longest_answer pending is_commanded
 switched_on = refl
 
-booted_twice : boot_ups (Sent Operational 60 ∷ Sent BootUp 40 ∷ Commanded ∷ Sent BootUp 20 ∷ []) ≡ 2
+booted_twice : boot_ups (Sent Operational false 60 ∷ Sent BootUp false 40 ∷ Commanded ∷ Sent BootUp false 20 ∷ []) ≡ 2
 unfolding boot_ups
 booted_twice = refl
 

@@ -92,8 +92,8 @@ module _ (logs : ℕ → List NodeEvent) (count : ℕ) where
       (λ single. let e : nodes_with (Reset place) micros (nodes logs) ≡ changed_at place node_commanded (nodes logs) = rw single refl in
       e ∙ one (λ n. log_with n (Reset place) micros (logs n)) place node_commanded (let self : (place == place) ≡ true = grind (arith, nat_tests) in rw (single, self) (commanded_more (logs place)))
       (λ n other. rw (single, other) refl))
-  sign_more (Shows place state) micros =
-      one (λ n. log_with n (Shows place state) micros (logs n)) place (node_with state micros) (let self : (place == place) ≡ true = grind (arith, nat_tests) in rw self (shows_more (logs place) state micros))
+  sign_more (Shows place state toggle) micros =
+      one (λ n. log_with n (Shows place state toggle) micros (logs n)) place (node_with state toggle micros) (let self : (place == place) ≡ true = grind (arith, nat_tests) in rw self (shows_more (logs place) state toggle micros))
       (λ n other. rw other refl)
   sign_more (Exchanges place frame) micros =
       one (λ n. log_with n (Exchanges place frame) micros (logs n)) place (node_exchanged frame micros) (let self : (place == place) ≡ true = grind (arith, nat_tests) in rw self (exchanged_more (logs place) frame micros))

@@ -1,7 +1,7 @@
--- Node guarding (CiA 301, 7.2.8.3.2.2), as the guarding requests for a node and its frames of error control show it.
-use Rattle.std.specs.Prelude.{ℕ, Bool, true, false, ◌&&◌, ◌||◌, List, [], ◌∷◌, Option, Some, None, is_some}
-use Rattle.conode_explain_transfers.specs.declared.kinds.Direction.{Direction}
-use Rattle.conode_explain_transfers.specs.declared.kinds.Direction.TheVariants.{Download, Upload}
+-- Node guarding (CiA 301, 7.2.8.3.2.1), as the guarding requests for a node and its frames of error control show it.
+use Rattle.std.specs.Prelude.{ℕ, Bool, true, false, nat_lt, if◌then◌else◌, List, [], ◌∷◌, Option, Some, None, is_some}
+use Rattle.conode_stats_counts.specs.declared.guarding.ErrorControl.{ErrorControl}
+use Rattle.conode_stats_counts.specs.declared.guarding.ErrorControl.TheVariants.{Nothing, Heartbeat, Requested, Answer}
 use Rattle.conode_stats_counts.specs.declared.guarding.Guarding.{Guarding}
 use Rattle.conode_stats_counts.specs.declared.state.NmtState.TheVariants.{BootUp}
 use Rattle.conode_stats_counts.specs.States.{NodeEvent, Commanded, Sent, Exchanged, Timed, Asked, same_state}
@@ -20,27 +20,43 @@ unanswered (Commanded ∷ older) = unanswered older
 unanswered (Exchanged frame micros ∷ older) = unanswered older
 unanswered (Timed direction time micros ∷ older) = unanswered older
 unanswered (Asked micros ∷ older) = first_asked (unanswered older) micros
-unanswered (Sent state micros ∷ older) = None
+unanswered (Sent state toggle micros ∷ older) = None
 
--- ---- answers
+-- ---- heartbeats and answers
 
-abbrev pub is_upload : Direction → Bool
-is_upload Upload = true
-is_upload Download = false
+-- What a frame with this toggle bit is, after one before it; whether a request came between them. A heartbeat
+-- has the toggle bit 0, and an answer another one than the answer before it. Without the toggle bit a frame is
+-- an answer where the one before has it; a heartbeat where no request came; and after a heartbeat one too,
+-- since a node doesn't answer while it sends heartbeats. Else it may be an answer.
+abbrev pub control_by : Bool → Bool → ErrorControl → ErrorControl
+control_by true asked before = Answer true
+control_by false asked (Answer true) = Answer false
+control_by false asked Heartbeat = Heartbeat
+control_by false true before = Requested
+control_by false false before = Heartbeat
 
--- Whether the newest frame of error control is an answer: a request came since the one before it. A boot-up
--- message leaves this as it was, and from a download of the producer heartbeat time on heartbeats are awaited.
-unfoldable pub is_answer : List NodeEvent → Bool
-is_answer [] = false
-is_answer (Commanded ∷ older) = is_answer older
-is_answer (Exchanged frame micros ∷ older) = is_answer older
-is_answer (Timed direction time micros ∷ older) = is_upload direction && is_answer older
-is_answer (Asked micros ∷ older) = is_answer older
-is_answer (Sent state micros ∷ older) = is_some (unanswered older) || (same_state state BootUp && is_answer older)
+-- a node that sends no heartbeats
+abbrev pub without_heartbeats : ErrorControl → ErrorControl
+without_heartbeats Heartbeat = Nothing
+without_heartbeats before = before
+
+-- once its producer heartbeat time is known: with another than 0 it sends heartbeats (CiA 301, 7.2.8.3.2.2)
+abbrev pub control_timed : ℕ → ErrorControl → ErrorControl
+control_timed time before = if nat_lt 0 time then Heartbeat else without_heartbeats before
+
+-- what the newest frame of error control is; a boot-up message is none
+unfoldable pub control_of : List NodeEvent → ErrorControl
+control_of [] = Nothing
+control_of (Commanded ∷ older) = control_of older
+control_of (Exchanged frame micros ∷ older) = control_of older
+control_of (Timed direction time micros ∷ older) = control_timed time (control_of older)
+control_of (Asked micros ∷ older) = control_of older
+control_of (Sent state toggle micros ∷ older) =
+    if same_state state BootUp then control_of older else control_by toggle (is_some (unanswered older)) (control_of older)
 
 -- the whole
 abbrev pub guarding_of : List NodeEvent → Guarding
-guarding_of log = record { is_answer = is_answer log; asked = unanswered log }
+guarding_of log = record { control = control_of log; asked = unanswered log }
 
 -- ---- one event more, as it is counted
 
@@ -48,10 +64,13 @@ guarding_of log = record { is_answer = is_answer log; asked = unanswered log }
 abbrev pub asked_with : ℕ → Guarding → Guarding
 asked_with micros guarding = record guarding { asked = first_asked guarding.asked micros }
 
--- a frame of error control
-abbrev pub answered_with : Bool → Guarding → Guarding
-answered_with boots guarding = record { is_answer = is_some guarding.asked || (boots && guarding.is_answer); asked = None }
+-- a frame of error control, which may be a boot-up message, with this toggle bit
+abbrev pub answered_with : Bool → Bool → Guarding → Guarding
+answered_with boots toggle guarding = record {
+  control = if boots then guarding.control else control_by toggle (is_some guarding.asked) guarding.control;
+  asked = None;
+}
 
 -- a transfer that shows the producer heartbeat time
-abbrev pub timed_with : Direction → Guarding → Guarding
-timed_with direction guarding = record guarding { is_answer = is_upload direction && guarding.is_answer }
+abbrev pub timed_with : ℕ → Guarding → Guarding
+timed_with time guarding = record guarding { control = control_timed time guarding.control }

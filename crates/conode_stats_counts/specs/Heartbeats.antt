@@ -1,4 +1,4 @@
--- The heartbeats of a node (CiA 301, 7.2.8.3.2.1), its answers to SDO requests, and its producer
+-- The heartbeats of a node (CiA 301, 7.2.8.3.2.2), its answers to SDO requests, and its producer
 -- heartbeat time, 1017:00, as far as SDO transfers in the recording show it.
 use Rattle.std.specs.Prelude.{ℕ, ◌+◌, ◌-◌, ◌*◌, Bool, true, false, nat_lt, max, ◌&&◌, if◌then◌else◌, List, [], ◌∷◌, ◌++◌, length, reverse, take, Option, Some, None}
 use Rattle.conode_explain_transfers.specs.declared.kinds.Direction.{Direction}
@@ -23,7 +23,7 @@ pending [] = None
 pending (Commanded ∷ older) = pending older
 pending (Asked micros ∷ older) = pending older
 pending (Timed direction time micros ∷ older) = pending older
-pending (Sent state micros ∷ older) = if same_state state BootUp then None else pending older
+pending (Sent state toggle micros ∷ older) = if same_state state BootUp then None else pending older
 pending (Exchanged frame micros ∷ older) = pending_by frame micros
 
 -- how long a request waited for a response; none where the stamp steps back
@@ -43,7 +43,7 @@ longest_answer [] = None
 longest_answer (Commanded ∷ older) = longest_answer older
 longest_answer (Asked micros ∷ older) = longest_answer older
 longest_answer (Timed direction time micros ∷ older) = longest_answer older
-longest_answer (Sent state micros ∷ older) = longest_answer older
+longest_answer (Sent state toggle micros ∷ older) = longest_answer older
 longest_answer (Exchanged frame micros ∷ older) = longer (longest_answer older) (answer_time (pending older) frame micros)
 
 -- ---- the producer heartbeat time
@@ -56,7 +56,7 @@ written_time (Commanded ∷ older) = written_time older
 written_time (Asked micros ∷ older) = written_time older
 written_time (Exchanged frame micros ∷ older) = written_time older
 written_time (Timed direction time micros ∷ older) = Some time
-written_time (Sent state micros ∷ older) = if same_state state BootUp then None else written_time older
+written_time (Sent state toggle micros ∷ older) = if same_state state BootUp then None else written_time older
 
 -- ---- heartbeats
 
@@ -74,7 +74,7 @@ since (Commanded ∷ older) = since older
 since (Asked micros ∷ older) = since older
 since (Exchanged frame micros ∷ older) = since older
 since (Timed direction time micros ∷ older) = since_by direction micros (since older)
-since (Sent state micros ∷ older) = Some micros
+since (Sent state toggle micros ∷ older) = Some micros
 
 -- how long a heartbeat was awaited; none where the stamp steps back
 abbrev pub wait : Option ℕ → ℕ → Option ℕ
@@ -98,7 +98,7 @@ late_gaps (Commanded ∷ older) = late_gaps older
 late_gaps (Asked micros ∷ older) = late_gaps older
 late_gaps (Exchanged frame micros ∷ older) = late_gaps older
 late_gaps (Timed direction time micros ∷ older) = late_gaps older
-late_gaps (Sent state micros ∷ older) =
+late_gaps (Sent state toggle micros ∷ older) =
     if same_state state BootUp then late_gaps older
     else late_with (written_time older) (wait (since older) micros) (late_gaps older)
 
@@ -113,7 +113,7 @@ other_gaps (Commanded ∷ older) = other_gaps older
 other_gaps (Asked micros ∷ older) = other_gaps older
 other_gaps (Exchanged frame micros ∷ older) = other_gaps older
 other_gaps (Timed direction time micros ∷ older) = other_gaps older
-other_gaps (Sent state micros ∷ older) =
+other_gaps (Sent state toggle micros ∷ older) =
     if same_state state BootUp then other_gaps older
     else other_with (written_time older) (wait (since older) micros) (other_gaps older)
 

@@ -45,12 +45,12 @@ booted_if true micros node = booted micros node
 booted_if false micros node = node
 
 -- a frame of error control
-unfoldable pub node_with : NmtState → ℕ → Node → Node
-node_with state micros node = record (booted_if (same_state state BootUp) micros node) {
+unfoldable pub node_with : NmtState → Bool → ℕ → Node → Node
+node_with state toggle micros node = record (booted_if (same_state state BootUp) micros node) {
   last = Some (record { state = state; micros = micros });
   times = times_since node.last micros node.times;
   heartbeats = beat_with (same_state state BootUp) micros node.heartbeats;
-  guarding = answered_with (same_state state BootUp) node.guarding;
+  guarding = answered_with (same_state state BootUp) toggle node.guarding;
 }
 
 -- a command to reset it
@@ -67,7 +67,7 @@ node_exchanged frame micros node = record node {
 -- an SDO transfer that shows its producer heartbeat time
 unfoldable pub node_timed : Direction → ℕ → ℕ → Node → Node
 node_timed direction time micros node =
-    record node { heartbeats = timed_with direction time micros node.heartbeats; guarding = guarding_timed direction node.guarding }
+    record node { heartbeats = timed_with direction time micros node.heartbeats; guarding = guarding_timed time node.guarding }
 
 -- a guarding request
 unfoldable pub node_asked : ℕ → Node → Node

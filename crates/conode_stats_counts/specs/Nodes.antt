@@ -15,7 +15,7 @@ use Rattle.conode_stats_counts.specs.SdoFrames.{request_in, response_in}
 use Rattle.conode_stats_counts.specs.NodeCounts.{node_asked, node_commanded, node_of, node_exchanged, node_timed, node_with}
 use Rattle.conode_stats_counts.specs.Failures.{channels_of, telling_of}
 use Rattle.conode_stats_counts.specs.ShownTimes.{time_of}
-use Rattle.conode_stats_counts.specs.States.{NodeEvent, Commanded, Sent, Exchanged, Timed, Asked, state_of}
+use Rattle.conode_stats_counts.specs.States.{NodeEvent, Commanded, Sent, Exchanged, Timed, Asked, state_of, toggle_of}
 
 -- ---- what a frame shows
 
@@ -28,7 +28,7 @@ command_in _ = Other
 
 -- error control: one byte
 abbrev pub control_in : ℕ → List ℕ → Sign
-control_in node (byte ∷ []) = Shows node (state_of byte)
+control_in node (byte ∷ []) = Shows node (state_of byte) (toggle_of byte)
 control_in node _ = Other
 
 abbrev pub sign_in : ℕ → List ℕ → Sign
@@ -38,7 +38,7 @@ sign_in id bytes =
     else (if nat_lt 0x580 id && nat_lt id 0x600 then response_in (id - 0x580) bytes
     else (if nat_lt 0x600 id && nat_lt id 0x680 then request_in (id - 0x600) bytes else Other)))
 
--- a guarding request: a remote frame with a node's identifier of error control (CiA 301, 7.2.8.3.2.2)
+-- a guarding request: a remote frame with a node's identifier of error control (CiA 301, 7.2.8.3.2.1)
 abbrev pub remote_sign : ℕ → Sign
 remote_sign id = if nat_lt 0x700 id && nat_lt id 0x780 then Asks (id - 0x700) else Other
 
@@ -55,7 +55,7 @@ sign_of frame = sign_as frame.id frame.content
 -- what happens to a node, with one frame more
 abbrev pub log_with : ℕ → Sign → ℕ → List NodeEvent → List NodeEvent
 log_with node (Reset other) micros log = if (other == 0) || (other == node) then Commanded ∷ log else log
-log_with node (Shows other state) micros log = if other == node then Sent state micros ∷ log else log
+log_with node (Shows other state toggle) micros log = if other == node then Sent state toggle micros ∷ log else log
 log_with node (Exchanges other frame) micros log = if other == node then Exchanged frame micros ∷ log else log
 log_with node (Asks other) micros log = if other == node then Asked micros ∷ log else log
 log_with node Other micros log = log
@@ -102,7 +102,7 @@ changed_at node change nodes =
 
 unfoldable pub nodes_with : Sign → ℕ → List Node → List Node
 nodes_with (Reset node) micros nodes = if node == 0 then map node_commanded nodes else changed_at node node_commanded nodes
-nodes_with (Shows node state) micros nodes = changed_at node (node_with state micros) nodes
+nodes_with (Shows node state toggle) micros nodes = changed_at node (node_with state toggle micros) nodes
 nodes_with (Exchanges node frame) micros nodes = changed_at node (node_exchanged frame micros) nodes
 nodes_with (Asks node) micros nodes = changed_at node (node_asked micros) nodes
 nodes_with Other micros nodes = nodes

@@ -20,7 +20,7 @@ restarts (Commanded ∷ older) = restarts older
 restarts (Exchanged frame micros ∷ older) = restarts older
 restarts (Timed direction time micros ∷ older) = restarts older
 restarts (Asked micros ∷ older) = restarts older
-restarts (Sent state micros ∷ older) = (if is_restart state older then 1 else 0) + restarts older
+restarts (Sent state toggle micros ∷ older) = (if is_restart state older then 1 else 0) + restarts older
 
 -- the stamp of the last of them, 0 where there is none
 unfoldable pub last_restart : List NodeEvent → ℕ
@@ -29,4 +29,4 @@ last_restart (Commanded ∷ older) = last_restart older
 last_restart (Exchanged frame micros ∷ older) = last_restart older
 last_restart (Timed direction time micros ∷ older) = last_restart older
 last_restart (Asked micros ∷ older) = last_restart older
-last_restart (Sent state micros ∷ older) = if is_restart state older then micros else last_restart older
+last_restart (Sent state toggle micros ∷ older) = if is_restart state older then micros else last_restart older

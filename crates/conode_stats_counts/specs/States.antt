@@ -1,6 +1,6 @@
 -- What happens to a node, the newest first, and what it shows of its NMT state by its frames of error
 -- control (CiA 301, 7.2.8.3.2).
-use Rattle.std.specs.Prelude.{ℕ, ◌+◌, ◌-◌, ◌%◌, ◌==◌, Bool, true, false, if◌then◌else◌, List, [], ◌∷◌, Option, Some, None}
+use Rattle.std.specs.Prelude.{ℕ, ◌+◌, ◌-◌, ◌%◌, ◌==◌, nat_lt, Bool, true, false, if◌then◌else◌, List, [], ◌∷◌, Option, Some, None}
 use Rattle.conode_explain_transfers.specs.declared.kinds.Direction.{Direction}
 use Rattle.conode_stats_counts.specs.declared.sdo_frame.SdoFrame.{SdoFrame}
 use Rattle.conode_stats_counts.specs.declared.node.Shown.{Shown}
@@ -20,6 +20,10 @@ numbered number =
 abbrev pub state_of : ℕ → NmtState
 state_of byte = if byte == 0 then BootUp else numbered (byte % 128)
 
+-- bit 7: it toggles from answer to answer of node guarding, and is 0 in heartbeats and boot-up messages
+abbrev pub toggle_of : ℕ → Bool
+toggle_of byte = nat_lt 127 byte
+
 abbrev pub same_state : NmtState → NmtState → Bool
 same_state BootUp BootUp = true
 same_state PreOperational PreOperational = true
@@ -33,8 +37,8 @@ same_state _ _ = false
 pub data NodeEvent : Type 0 where
   -- a command to reset the node, or all nodes, or their communication
   Commanded : NodeEvent
-  -- a frame of error control that shows a state, with its stamp
-  Sent : NmtState → ℕ → NodeEvent
+  -- a frame of error control that shows a state, with its toggle bit and its stamp
+  Sent : NmtState → Bool → ℕ → NodeEvent
   -- an SDO frame on its default channel, with its stamp
   Exchanged : SdoFrame → ℕ → NodeEvent
   -- an SDO transfer that is done wrote or read its producer heartbeat time, in ms; with its stamp
@@ -49,7 +53,7 @@ newest (Commanded ∷ older) = newest older
 newest (Exchanged frame micros ∷ older) = newest older
 newest (Timed direction time micros ∷ older) = newest older
 newest (Asked micros ∷ older) = newest older
-newest (Sent state micros ∷ older) = Some (record { state = state; micros = micros })
+newest (Sent state toggle micros ∷ older) = Some (record { state = state; micros = micros })
 
 -- ---- times
 
@@ -69,7 +73,7 @@ time_in state (Commanded ∷ older) = time_in state older
 time_in state (Exchanged frame micros ∷ older) = time_in state older
 time_in state (Timed direction time micros ∷ older) = time_in state older
 time_in state (Asked micros ∷ older) = time_in state older
-time_in state (Sent other micros ∷ older) = time_since state (newest older) micros + time_in state older
+time_in state (Sent other toggle micros ∷ older) = time_since state (newest older) micros + time_in state older
 
 abbrev pub times_of : List NodeEvent → StateTimes
 times_of log = record {
@@ -88,7 +92,7 @@ boot_ups (Commanded ∷ older) = boot_ups older
 boot_ups (Exchanged frame micros ∷ older) = boot_ups older
 boot_ups (Timed direction time micros ∷ older) = boot_ups older
 boot_ups (Asked micros ∷ older) = boot_ups older
-boot_ups (Sent state micros ∷ older) = (if same_state state BootUp then 1 else 0) + boot_ups older
+boot_ups (Sent state toggle micros ∷ older) = (if same_state state BootUp then 1 else 0) + boot_ups older
 
 -- whether a command to reset came since the last boot-up
 unfoldable pub is_commanded : List NodeEvent → Bool
@@ -97,7 +101,7 @@ is_commanded (Commanded ∷ older) = true
 is_commanded (Exchanged frame micros ∷ older) = is_commanded older
 is_commanded (Timed direction time micros ∷ older) = is_commanded older
 is_commanded (Asked micros ∷ older) = is_commanded older
-is_commanded (Sent state micros ∷ older) = if same_state state BootUp then false else is_commanded older
+is_commanded (Sent state toggle micros ∷ older) = if same_state state BootUp then false else is_commanded older
 
 -- ---- one event more, as it is counted
 

@@ -4,32 +4,37 @@ ghost use Rattle.std.specs.Prelude.{◌≡◌};
 ghost use Rattle.conode_stats_counts.specs.Guardings.{
   answered_with,
   asked_with,
+  control_by,
+  control_timed,
   first_asked,
-  is_upload,
   timed_with,
 };
 
-use conode_explain_transfers::Direction;
+/// What a frame of error control is (CiA 301, 7.2.8.3.2), by its toggle bit, the guarding requests, the
+/// frame before it and 1017:00.
+#[derive(Clone, Copy)]
+pub enum ErrorControl {
+    /// There is none; or a heartbeat, and since then 1017:00 was shown to be 0.
+    Nothing,
+    /// A heartbeat: without the toggle bit, and no request came since the frame before it, which has no
+    /// toggle bit either; or the frame before it is a heartbeat. Also after 1017:00 was shown not to be 0.
+    Heartbeat,
+    /// A guarding answer perhaps: a request came since the frame before it, but neither has the toggle
+    /// bit, and nothing shows that the node sends heartbeats.
+    Requested,
+    /// A guarding answer: it has the toggle bit (`true`), or the frame before it has.
+    Answer(bool),
+}
 
-/// Whether a node is guarded (CiA 301, 7.2.8.3.2.2), and which guarding request it didn't answer.
+/// What a node's newest frame of error control is, and which guarding request it didn't answer (CiA
+/// 301, 7.2.8.3.2.1).
 #[derive(Clone, Copy)]
 pub struct Guarding {
-    /// Whether its newest frame of error control is a guarding answer: a guarding request came since
-    /// the one before it. A boot-up message leaves this as it was; after a download of the producer
-    /// heartbeat time it is none.
-    pub is_answer: bool,
+    /// What its newest frame of error control is, boot-up messages left out.
+    pub control: ErrorControl,
     /// The stamp of the first guarding request since its newest frame of error control, in
     /// microseconds; `None` if there is none.
     pub asked: Option<u64>,
-}
-
-fn is_upload(direction: Direction) -> bool
-    ensures { result ≡ is_upload direction }
-{
-    match direction {
-        Direction::Upload => true,
-        Direction::Download => false,
-    }
 }
 
 // the older one
@@ -42,6 +47,32 @@ fn first_asked(asked: Option<u64>, micros: u64) -> Option<u64>
     }
 }
 
+impl ErrorControl {
+    // a frame with this toggle bit after this one; whether a request came between them
+    fn next(self, toggle: bool, asked: bool) -> ErrorControl
+        ensures { result ≡ control_by toggle asked self }
+    {
+        match self {
+            _ if toggle => ErrorControl::Answer(true),
+            ErrorControl::Answer(true) => ErrorControl::Answer(false),
+            ErrorControl::Heartbeat => ErrorControl::Heartbeat,
+            _ if asked => ErrorControl::Requested,
+            _ => ErrorControl::Heartbeat,
+        }
+    }
+
+    // once this producer heartbeat time is known
+    fn timed(self, time: u16) -> ErrorControl
+        ensures { result ≡ control_timed time self }
+    {
+        match self {
+            _ if time > 0 => ErrorControl::Heartbeat,
+            ErrorControl::Heartbeat => ErrorControl::Nothing,
+            other => other,
+        }
+    }
+}
+
 impl Guarding {
     /// Notes a guarding request.
     pub(crate) fn ask(&mut self, micros: u64)
@@ -50,18 +81,21 @@ impl Guarding {
         self.asked = first_asked(self.asked, micros);
     }
 
-    /// Notes a frame of error control, which may be a boot-up message.
-    pub(crate) fn answer(&mut self, boots: bool)
-        ensures { self.new ≡ answered_with boots self.old }
+    /// Notes a frame of error control, which may be a boot-up message; `toggle`: whether its toggle bit is
+    /// set.
+    pub(crate) fn hear(&mut self, boots: bool, toggle: bool)
+        ensures { self.new ≡ answered_with boots toggle self.old }
     {
-        self.is_answer = self.asked.is_some() || (boots && self.is_answer);
+        if !boots {
+            self.control = self.control.next(toggle, self.asked.is_some());
+        }
         self.asked = None;
     }
 
-    /// Notes that a transfer shows the producer heartbeat time.
-    pub(crate) fn show(&mut self, direction: Direction)
-        ensures { self.new ≡ timed_with direction self.old }
+    /// Notes that a transfer shows the producer heartbeat time, in ms.
+    pub(crate) fn show(&mut self, time: u16)
+        ensures { self.new ≡ timed_with time self.old }
     {
-        self.is_answer = is_upload(direction) && self.is_answer;
+        self.control = self.control.timed(time);
     }
 }

@@ -15,7 +15,7 @@ use crate::first_gaps::FirstGaps;
 use crate::tally::counted;
 use conode_explain_transfers::Direction;
 
-/// The heartbeats of a node (CiA 301, 7.2.8.3.2.1): how long each was awaited, in microseconds,
+/// The heartbeats of a node (CiA 301, 7.2.8.3.2.2): how long each was awaited, in microseconds,
 /// since the frame of error control before it, or a download of the producer heartbeat time that
 /// came between them. No boot-up message is awaited. Counts saturate at 2^64 - 1.
 #[derive(Drop)]

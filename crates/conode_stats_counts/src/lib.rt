@@ -40,7 +40,7 @@ pub use counts::Counts;
 pub use emergencies::Emergencies;
 pub use failure::{Cause, FailureRow, Reason};
 pub use first_gaps::FirstGaps;
-pub use guarding::Guarding;
+pub use guarding::{ErrorControl, Guarding};
 pub use heartbeats::{Heartbeats, is_late};
 pub use load::{Load, Second};
 pub use node::{Node, Shown};

@@ -11,7 +11,7 @@ ghost use Rattle.conode_stats_counts.specs.NodeCounts.{
   node_with,
 };
 
-use crate::guarding::Guarding;
+use crate::guarding::{ErrorControl, Guarding};
 use crate::heartbeats::Heartbeats;
 use crate::sdo_frame::{SdoFrame, longer};
 use crate::state::{NmtState, StateTimes};
@@ -57,7 +57,7 @@ pub struct Node {
 
 impl Node {
     /// A node that sent nothing.
-    #[tactic(auto, unfolding(crate::specs::NodeCounts::node_of, crate::specs::Heartbeats::pending, crate::specs::Heartbeats::longest_answer, crate::specs::States::newest, crate::specs::States::boot_ups, crate::specs::Restarts::restarts, crate::specs::Restarts::last_restart, crate::specs::States::is_commanded, crate::specs::Guardings::unanswered, crate::specs::Guardings::is_answer))]
+    #[tactic(auto, unfolding(crate::specs::NodeCounts::node_of, crate::specs::Heartbeats::pending, crate::specs::Heartbeats::longest_answer, crate::specs::States::newest, crate::specs::States::boot_ups, crate::specs::Restarts::restarts, crate::specs::Restarts::last_restart, crate::specs::States::is_commanded, crate::specs::Guardings::unanswered, crate::specs::Guardings::control_of))]
     pub(crate) fn new() -> Node
         ensures { result ≡ node_of [] }
     {
@@ -70,7 +70,7 @@ impl Node {
             times: StateTimes::new(),
             heartbeats: Heartbeats::new(),
             guarding: Guarding {
-                is_answer: false,
+                control: ErrorControl::Nothing,
                 asked: None,
             },
             pending: None,
@@ -100,10 +100,10 @@ impl Node {
         self.pending = None;
     }
 
-    /// Counts a frame of error control.
+    /// Counts a frame of error control; `toggle`: whether its toggle bit is set.
     #[tactic(auto, unfolding(crate::specs::NodeCounts::node_with))]
-    pub(crate) fn show(&mut self, state: NmtState, micros: u64)
-        ensures { self.new ≡ node_with state micros self.old }
+    pub(crate) fn show(&mut self, state: NmtState, toggle: bool, micros: u64)
+        ensures { self.new ≡ node_with state toggle micros self.old }
     {
         if let Some(last) = self.last {
             self.times
@@ -114,7 +114,7 @@ impl Node {
             self.boot(micros);
         }
         self.heartbeats.beat(boots, micros);
-        self.guarding.answer(boots);
+        self.guarding.hear(boots, toggle);
         self.last = Some(Shown { state, micros });
     }
 
@@ -134,7 +134,7 @@ impl Node {
         ensures { self.new ≡ node_timed direction time micros self.old }
     {
         self.heartbeats.show(direction, time, micros);
-        self.guarding.show(direction);
+        self.guarding.show(time);
     }
 
     /// Notes a guarding request for it.

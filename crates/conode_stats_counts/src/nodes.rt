@@ -51,12 +51,12 @@ fn command_one(nodes: &mut [Node], node: u8)
 }
 
 // counts a node's frame of error control
-fn show_one(nodes: &mut [Node], node: u8, state: NmtState, micros: u64)
-    ensures { nodes.new ≡ changed_at node (node_with state micros) nodes.old }
+fn show_one(nodes: &mut [Node], node: u8, state: NmtState, toggle: bool, micros: u64)
+    ensures { nodes.new ≡ changed_at node (node_with state toggle micros) nodes.old }
 {
     let place = node as usize;
     if place < nodes.len() {
-        nodes[place].show(state, micros);
+        nodes[place].show(state, toggle, micros);
     }
 }
 
@@ -88,7 +88,7 @@ pub(crate) fn show_sign(nodes: &mut [Node], sign: Sign, micros: u64)
     match sign {
         Sign::Reset(0) => command_all(nodes),
         Sign::Reset(node) => command_one(nodes, node),
-        Sign::Shows(node, state) => show_one(nodes, node, state, micros),
+        Sign::Shows(node, state, toggle) => show_one(nodes, node, state, toggle, micros),
         Sign::Exchanges(node, frame) => exchange_one(nodes, node, frame, micros),
         Sign::Asks(node) => ask_one(nodes, node, micros),
         Sign::Other => {}

@@ -21,8 +21,8 @@ pub(crate) enum Sign {
     /// A command to reset a node or its communication (NMT, cs = 129, 130); of all nodes: 0. It may have
     /// more than its two bytes, since some devices take one that has.
     Reset(u8),
-    /// A node's frame of error control shows this state.
-    Shows(u8, NmtState),
+    /// A node's frame of error control shows this state; whether its toggle bit is set.
+    Shows(u8, NmtState, bool),
     /// An SDO frame on a node's default channel.
     Exchanges(u8, SdoFrame),
     /// A guarding request for a node.
@@ -51,7 +51,7 @@ fn control_in(node: u8, bytes: &[u8]) -> Sign
     ensures { result ≡ control_in node bytes.now }
 {
     match bytes {
-        [byte] => Sign::Shows(node, NmtState::of(*byte)),
+        [byte] => Sign::Shows(node, NmtState::of(*byte), *byte > 127),
         _ => Sign::Other,
     }
 }

@@ -3,6 +3,7 @@ use Rattle.std.proofs.Common.{ℕ, Option, [], ◌∷◌, ◌≡◌, Some, None,
 use Rattle.std.specs.Prelude.{codes}
 use Rattle.std.specs.Fmt.{digits}
 use Rattle.co_text.specs.Printed.{digits_text}
+use Rattle.conode_stats_counts.specs.declared.guarding.ErrorControl.TheVariants.{Nothing}
 use Rattle.conode_stats_counts.specs.declared.heartbeats.Heartbeats.{Heartbeats}
 use Rattle.conode_stats_counts.specs.declared.node.Node.{Node}
 use Rattle.conode_stats_counts.specs.declared.node.Shown.{Shown}
@@ -40,7 +41,7 @@ node restarts = record {
   is_commanded = false;
   times = times;
   heartbeats = heartbeats;
-  guarding = record { is_answer = false; asked = None };
+  guarding = record { control = Nothing; asked = None };
   pending = None;
   longest_answer = Some 1200;
 }

@@ -1,6 +1,8 @@
 -- Which nodes are silent at the end, evaluated.
 use Rattle.std.proofs.Common.{ℕ, Option, [], ◌∷◌, ◌≡◌, Some, None, true, false, refl}
 use Rattle.std.specs.Prelude.{List}
+use Rattle.conode_stats_counts.specs.declared.guarding.ErrorControl.{ErrorControl}
+use Rattle.conode_stats_counts.specs.declared.guarding.ErrorControl.TheVariants.{Nothing, Heartbeat, Requested, Answer}
 use Rattle.conode_stats_counts.specs.declared.node.Node.{Node}
 use Rattle.conode_stats_counts.specs.declared.row.Row.{Row}
 use Rattle.conode_stats_counts.specs.declared.state.NmtState.TheVariants.{BootUp}
@@ -8,7 +10,7 @@ use Rattle.conode_stats_counts.specs.declared.tally.Tally.{Tally}
 use Rattle.conode_stats_counts.specs.Buses.{BusCounts}
 use Rattle.conode_stats_text.specs.declared.finding.Finding.TheVariants.{Silent}
 use Rattle.conode_stats_text.specs.declared.finding.Kind.TheVariants.{Silence as SilenceKind}
-use Rattle.conode_stats_text.specs.declared.pace.Pace.TheVariants.{Written, Pdos}
+use Rattle.conode_stats_text.specs.declared.pace.Pace.TheVariants.{Written, Sheet, Median, Pdos}
 use Rattle.conode_stats_text.specs.declared.silence.Silence.{Silence}
 use Rattle.conode_stats_text.specs.declared.silence.Source.TheVariants.{Commands, Syncs, Sender}
 use Rattle.conode_stats_text.specs.Findings.{node_finding}
@@ -40,8 +42,11 @@ silent_set_back = refl
 
 -- ---- by guarding answers, the last one at 1 s: of requests that it didn't answer the first one, at 1.1 s
 
+abbrev controlled : ErrorControl → Option ℕ → Node
+controlled control asked = record by_beats { guarding = record { control = control; asked = asked } }
+
 abbrev guarded : Option ℕ → Node
-guarded asked = record by_beats { guarding = record { is_answer = true; asked = asked } }
+guarded asked = controlled (Answer true) asked
 
 no_longer_guarded : beat_silence (ended_at 9000000) None (guarded None) ≡ None
 no_longer_guarded = refl
@@ -52,10 +57,36 @@ answer_awaited = refl
 answer_missing : beat_silence (ended_at 1250001) None (guarded (Some 1100000)) ≡ Some (record { since = 1100000; pace = Written 100 })
 answer_missing = refl
 
+-- though a sheet says that it sends heartbeats: its toggle bits show that it doesn't
+guarded_all_the_same : beat_silence (ended_at 9000000) (Some 100) (controlled (Answer false) None) ≡ None
+guarded_all_the_same = refl
+
 -- one that has heartbeats doesn't answer a request
-asked_in_vain : beat_silence (ended_at 1150001) None (record by_beats { guarding = record { is_answer = false; asked = Some 1100000 } })
-    ≡ Some (record { since = 1000000; pace = Written 100 })
+asked_in_vain : beat_silence (ended_at 1150001) None (controlled Heartbeat (Some 1100000)) ≡ Some (record { since = 1000000; pace = Written 100 })
 asked_in_vain = refl
+
+-- nor has one that sent nothing yet
+none_sent : beat_silence (ended_at 1150001) None (controlled Nothing None) ≡ Some (record { since = 1000000; pace = Written 100 })
+none_sent = refl
+
+-- ---- the last frame of error control came after a request, by the median of 100 ms, and by a sheet with 100 ms
+
+abbrev asked_last : Option ℕ → Node
+asked_last asked = record (controlled Requested asked) { heartbeats = heartbeats None 0 0 (100000 ∷ 100000 ∷ []) }
+
+no_longer_asked : beat_silence (ended_at 9000000) None (asked_last None) ≡ None
+unfolding median
+no_longer_asked = refl
+
+not_answered : beat_silence (ended_at 1250001) None (asked_last (Some 1100000)) ≡ Some (record { since = 1100000; pace = Median 100000 })
+unfolding median
+not_answered = refl
+
+sheet_in_time : beat_silence (ended_at 1150000) (Some 100) (asked_last None) ≡ None
+sheet_in_time = refl
+
+by_the_sheet : beat_silence (ended_at 1150001) (Some 100) (asked_last (Some 1100000)) ≡ Some (record { since = 1000000; pace = Sheet 100 })
+by_the_sheet = refl
 
 -- ---- who sends a frame: the identifiers of node 5 and of its neighbours in the table (CiA 301, 7.3.3)
 

@@ -1,7 +1,9 @@
 -- Nodes that are silent at the end: by their heartbeats or guarding answers, and one that sends none by its PDOs. Times are in
 -- microseconds.
-use Rattle.std.specs.Prelude.{ℕ, ◌+◌, ◌-◌, ◌/◌, ◌^◌, ◌==◌, Bool, true, false, nat_le, not, min, fold, ◌&&◌, ◌||◌, if◌then◌else◌, List, Option, Some, None}
+use Rattle.std.specs.Prelude.{ℕ, ◌+◌, ◌-◌, ◌/◌, ◌^◌, ◌==◌, Bool, true, false, nat_le, not, min, fold, ◌&&◌, ◌||◌, if◌then◌else◌, List, Option, Some, None, is_some}
 use Rattle.std.specs.Option.{option_or}
+use Rattle.conode_stats_counts.specs.declared.guarding.ErrorControl.{ErrorControl}
+use Rattle.conode_stats_counts.specs.declared.guarding.ErrorControl.TheVariants.{Requested, Answer}
 use Rattle.conode_stats_counts.specs.declared.node.Node.{Node}
 use Rattle.conode_stats_counts.specs.declared.node.Shown.{Shown}
 use Rattle.conode_stats_counts.specs.declared.row.Row.{Row}
@@ -19,10 +21,17 @@ use Rattle.conode_stats_text.specs.Paces.{is_long, pace_of}
 
 -- ---- by heartbeats and guarding answers
 
+-- Whether a node is guarded: its newest frame of error control is an answer by its toggle bit or the one before; or by
+-- a request alone, and no sheet says that the node sends heartbeats.
+abbrev pub is_guarded : Option ℕ → ErrorControl → Bool
+is_guarded sheet (Answer toggle) = true
+is_guarded sheet Requested = not (is_some sheet)
+is_guarded sheet _ = false
+
 -- Since when a frame of error control is awaited: since the newest one, or the download of 1017:00 after it. A
 -- guarded node sends none but as an answer: since the first request that it didn't answer.
-abbrev pub awaited_since : Node → Option ℕ
-awaited_since node = if node.guarding.is_answer then node.guarding.asked else node.heartbeats.since
+abbrev pub awaited_since : Option ℕ → Node → Option ℕ
+awaited_since sheet node = if is_guarded sheet node.guarding.control then node.guarding.asked else node.heartbeats.since
 
 -- since this stamp up to the end of the bus it is too long at this pace; a node of which no heartbeat is known
 -- to be awaited isn't silent
@@ -32,7 +41,7 @@ beat_silence_by all (Some pace) (Some since) =
 beat_silence_by all _ _ = None
 
 abbrev pub beat_silence : Tally → Option ℕ → Node → Option Silence
-beat_silence all sheet node = beat_silence_by all (pace_of sheet node.heartbeats) (awaited_since node)
+beat_silence all sheet node = beat_silence_by all (pace_of sheet node.heartbeats) (awaited_since sheet node)
 
 -- ---- who sends a frame, by the pre-defined connection set (CiA 301, 7.3.3)
 

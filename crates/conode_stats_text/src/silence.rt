@@ -6,6 +6,7 @@ ghost use Rattle.conode_stats_text.specs.Silences.{
   awaited_since,
   beat_silence,
   is_from,
+  is_guarded,
   is_steady,
   is_tpdo,
   is_without_beats,
@@ -17,7 +18,7 @@ ghost use Rattle.conode_stats_text.specs.Silences.{
 };
 
 use crate::pace::Pace;
-use conode_stats_counts::{Bus, NmtState, Node, Row, Shown, Tally};
+use conode_stats_counts::{Bus, ErrorControl, NmtState, Node, Row, Shown, Tally};
 
 /// How a node is silent at the end of its bus.
 #[derive(Clone, Copy)]
@@ -42,11 +43,22 @@ pub(crate) enum Source {
 /// TPDOs with fewer gaps aren't known to be cyclic.
 const FEWEST_GAPS: u64 = 20;
 
-// since when a frame of error control is awaited
-fn awaited_since(node: &Node) -> Option<u64>
-    ensures { result ≡ awaited_since node.now }
+// whether a node is guarded, by its newest frame of error control
+fn is_guarded(sheet: Option<u16>, control: ErrorControl) -> bool
+    ensures { result ≡ is_guarded sheet control }
 {
-    if node.guarding.is_answer {
+    match control {
+        ErrorControl::Answer(_) => true,
+        ErrorControl::Requested => sheet.is_none(),
+        _ => false,
+    }
+}
+
+// since when a frame of error control is awaited
+fn awaited_since(sheet: Option<u16>, node: &Node) -> Option<u64>
+    ensures { result ≡ awaited_since sheet node.now }
+{
+    if is_guarded(sheet, node.guarding.control) {
         node.guarding.asked
     } else {
         node.heartbeats.since
@@ -57,7 +69,10 @@ fn awaited_since(node: &Node) -> Option<u64>
 fn beat_silence(all: &Tally, sheet: Option<u16>, node: &Node) -> Option<Silence>
     ensures { result ≡ beat_silence all.now sheet node.now }
 {
-    match (Pace::of(sheet, &node.heartbeats), awaited_since(node)) {
+    match (
+        Pace::of(sheet, &node.heartbeats),
+        awaited_since(sheet, node),
+    ) {
         (Some(pace), Some(since)) if pace.is_long(all.elapsed(since)) => {
             Some(Silence { since, pace })
         }
