@@ -909,7 +909,9 @@ static void test_empty_place(void)
     bafokun_node node = BAFOKUN_EMPTY;
     bafokun_frame frame = { 0, 0, { 0 } };
     const uint8_t none[5] = { 0, 0, 0, 0, 0 };
+    bafokun_fault fault;
     uint8_t byte = 0;
+    char text[2] = { '#', '#' };
     size_t length = 0;
     uint32_t code = 1;
     check(bafokun_boot(&node, &frame, 1) == 0, "empty", "boot");
@@ -925,6 +927,11 @@ static void test_empty_place(void)
     check(!bafokun_value(&node, 0x1000, 0, &byte, 1, &length), "empty", "value");
     check(bafokun_answer(&node, &code) == BAFOKUN_NO_EVENT && code == 0, "empty", "answer");
     check(bafokun_state(&node) == 0 && bafokun_node_id(&node) == 0 && bafokun_held(&node, 0) == 0, "empty", "questions");
+    check(bafokun_entry_name(&node, 0, text, sizeof text) == 0 && text[0] == 0 && text[1] == '#', "empty", "name");
+    /* a build that fails has freed the device before */
+    check(bafokun_build(&node, sheet, strlen(sheet), 5, &config, &fault) && is_fault(&fault, 0, 0, 0, 0, 0), "empty", "build");
+    check(!bafokun_build(&node, "", 0, 5, &config, &fault) && node.built == 0, "empty", "build of nothing");
+    check(bafokun_state(&node) == 0, "empty", "no device is left");
     bafokun_free(&node);
     check(node.built == 0, "empty", "free");
 }
