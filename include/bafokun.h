@@ -265,9 +265,16 @@ size_t bafokun_clear(bafokun_node *node, uint8_t bits, bafokun_frame *frames, si
 
 /*
  * The CAN controller changed. BAFOKUN_BUS_PASSIVE raises error 8120h, BAFOKUN_BUS_RECOVERED 8140h,
- * each with bit 4 of the error register, communication error. BAFOKUN_BUS_ACTIVE clears that bit,
- * and bit 0 if no other is left, whichever error set them. If another error that has bit 4 lasts, as
- * 8130h, call bafokun_clear with bits 0 in its place; if only one that has bit 0 alone, with 10h.
+ * each with bit 4 of the error register, communication error. BAFOKUN_BUS_ACTIVE ends them: it clears
+ * bit 4 if they alone have set it, and bit 0 if no other bit is left then; it sends an emergency of
+ * code 0 with the bits that are left.
+ * - Bit 4 stays if another error had set it when they were raised, or if since then a heartbeat was
+ *   lost (8130h), bafokun_raise raised an error that has it, or bafokun_write wrote it into 1001h.
+ * - Bit 0 stays if bafokun_raise raised an error that has no other bit, or bafokun_write wrote bit 0
+ *   into 1001h, before them or since: until bafokun_clear clears bit 0, or a reset.
+ * - Not known is an error that the device finds in an RPDO or a SYNC while bit 4 is set by them (8200h,
+ *   8210h, 8220h, 8240h), nor what an SDO client or an RPDO writes into 1001h, where the EDS permits it:
+ *   bit 4 is cleared all the same. To keep it, write the value of 1001h into it by bafokun_write.
  *
  * BAFOKUN_BUS_OFF changes the NMT state by 1029:01, as a lost heartbeat does: 0, or a missing entry,
  * leaves operational for pre-operational, 2 enters stopped, any other value changes nothing. A
