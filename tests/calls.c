@@ -148,6 +148,10 @@ static size_t give(bafokun_node *node, const char *input, bafokun_frame *frames)
         bytes[1] = (uint8_t)(number >> 8);
         return bafokun_write(node, (uint16_t)index, (uint8_t)sub, bytes, 2, frames, BAFOKUN_MOST_FRAMES);
     }
+    if (sscanf(input, "byte %x:%x %lx", &index, &sub, &number) == 3) {
+        uint8_t byte = (uint8_t)number;
+        return bafokun_write(node, (uint16_t)index, (uint8_t)sub, &byte, 1, frames, BAFOKUN_MOST_FRAMES);
+    }
     if (strcmp(input, "boot") == 0) return bafokun_boot(node, frames, BAFOKUN_MOST_FRAMES);
     {
         bafokun_frame frame = frame_of(input);
@@ -401,18 +405,75 @@ static const char *const bus[] = {
     NULL
 };
 
-/* What ends error passive where another error lasts: one with bit 0 alone, then 8130h. */
+/* What the end of error passive leaves where another error lasts. */
 static const char *const bus_and_others[] = {
+    /* recovered after error passive is the same error's bit */
+    "bus 1 = 085#2081110000000000",
+    "bus 3 = 085#4081110000000000",
+    "bus 0 = 085#0000000000000000",
+    /* an error that has bit 0 alone lasts; it ends */
     "raise 1000 00 = 085#0010010000000000",
     "bus 1 = 085#2081110000000000",
-    "clear 10 = 085#0000010000000000",
+    "bus 0 = 085#0000010000000000",
+    "value 1001:00 01",
     "clear 01 = 085#0000000000000000",
+    "bus 1 = 085#2081110000000000",
+    "bus 0 = 085#0000000000000000",
+    /* one with another bit ends meanwhile */
+    "raise 4200 08 = 085#0042090000000000",
+    "bus 1 = 085#2081190000000000",
+    "clear 08 = 085#0000110000000000",
+    "bus 0 = 085#0000000000000000",
+    /* 8130h lasts */
     "605#2316100164000700 = 585#6016100100000000",
     "707#05",
     "ticks 100 = 085#3081110000000000",
     "bus 1 = 085#2081110000000000",
-    "clear 00 = 085#0000110000000000",
+    "bus 0 = 085#0000110000000000",
     "value 1001:00 11",
+    "clear 11 = 085#0000000000000000",
+    /* it comes meanwhile */
+    "bus 1 = 085#2081110000000000",
+    "707#05",
+    "ticks 100 = 085#3081110000000000",
+    "bus 0 = 085#0000110000000000",
+    "clear 11 = 085#0000000000000000",
+    /* an error of the application with bit 4 comes meanwhile; one that is refused doesn't */
+    "bus 1 = 085#2081110000000000",
+    "raise 8100 10 = 085#0081110000000000",
+    "bus 0 = 085#0000110000000000",
+    "clear 11 = 085#0000000000000000",
+    "bus 3 = 085#4081110000000000",
+    "raise 0 10",
+    "refused 06090030",
+    "bus 0 = 085#0000000000000000",
+    /* 8130h after a reset */
+    "bus 1 = 085#2081110000000000",
+    "000#8205 = 705#00",
+    "value 1001:00 00",
+    "605#2316100164000700 = 585#6016100100000000",
+    "707#05",
+    "ticks 100 = 085#3081110000000000",
+    "bus 0 = 085#0000110000000000",
+    "clear 11 = 085#0000000000000000",
+    /* what the program writes into 1001h; two bytes are refused */
+    "bus 1 = 085#2081110000000000",
+    "byte 1001:00 11",
+    "done",
+    "bus 0 = 085#0000110000000000",
+    "clear 11 = 085#0000000000000000",
+    "bus 1 = 085#2081110000000000",
+    "write 1001:00 11",
+    "refused 06070012",
+    "bus 0 = 085#0000000000000000",
+    /* an error in a SYNC meanwhile isn't known */
+    "bus 1 = 085#2081110000000000",
+    "080#01 = 085#4082110000000000",
+    "bus 0 = 085#0000000000000000",
+    /* but one before is */
+    "080#01 = 085#4082110000000000",
+    "bus 1 = 085#2081110000000000",
+    "bus 0 = 085#0000110000000000",
     "clear 11 = 085#0000000000000000",
     /* each call sends one, and bit 0 is cleared where it is named */
     "raise 3210 04 = 085#1032050000000000",
@@ -909,7 +970,9 @@ static void test_empty_place(void)
     bafokun_node node = BAFOKUN_EMPTY;
     bafokun_frame frame = { 0, 0, { 0 } };
     const uint8_t none[5] = { 0, 0, 0, 0, 0 };
+    bafokun_fault fault;
     uint8_t byte = 0;
+    char text[2] = { '#', '#' };
     size_t length = 0;
     uint32_t code = 1;
     check(bafokun_boot(&node, &frame, 1) == 0, "empty", "boot");
@@ -925,6 +988,11 @@ static void test_empty_place(void)
     check(!bafokun_value(&node, 0x1000, 0, &byte, 1, &length), "empty", "value");
     check(bafokun_answer(&node, &code) == BAFOKUN_NO_EVENT && code == 0, "empty", "answer");
     check(bafokun_state(&node) == 0 && bafokun_node_id(&node) == 0 && bafokun_held(&node, 0) == 0, "empty", "questions");
+    check(bafokun_entry_name(&node, 0, text, sizeof text) == 0 && text[0] == 0 && text[1] == '#', "empty", "name");
+    /* a build that fails has freed the device before */
+    check(bafokun_build(&node, sheet, strlen(sheet), 5, &config, &fault) && is_fault(&fault, 0, 0, 0, 0, 0), "empty", "build");
+    check(!bafokun_build(&node, "", 0, 5, &config, &fault) && node.built == 0, "empty", "build of nothing");
+    check(bafokun_state(&node) == 0, "empty", "no device is left");
     bafokun_free(&node);
     check(node.built == 0, "empty", "free");
 }

@@ -275,8 +275,8 @@ class Node:
     def bus_changed(self, change: BusChange) -> None:
         """The CAN controller changed. PASSIVE raises the error 8120h, RECOVERED 8140h; ACTIVE clears their bits.
 
-        These are bit 4, and bit 0 if no other is left, whichever error set them. If another error that has bit 4 lasts, as
-        8130h, call clear_errors(0) in place of ACTIVE; if only one that has bit 0 alone, clear_errors(0x10).
+        These are bit 4 if no other error has set it, and bit 0 if no other bit is left then and no error that raise_error raised
+        has it alone. An error in an RPDO or a SYNC after PASSIVE isn't told apart: its bit 4 is cleared too.
 
         OFF leaves operational or stops, by the error behaviour of 1029:01, as a lost heartbeat does.
         """

@@ -1,5 +1,5 @@
 -- One more lost heartbeat, and one more tick; and the definitions, evaluated.
-use Rattle.std.proofs.Common.{◌≡◌, ◌<◌, ◌+◌, ℕ, suc, ◌==◌, true, List, [], ◌∷◌, Option, Some, None, length, take, get_or, refl, sym, ap, ◌∙◌, subst, arith}
+use Rattle.std.proofs.Common.{◌≡◌, ◌<◌, ◌+◌, ℕ, suc, ◌==◌, Bool, true, false, not, List, [], ◌∷◌, Option, Some, None, length, take, get_or, refl, sym, ap, ◌∙◌, subst, arith}
 use Rattle.std.specs.Prelude.{if◌then◌else◌}
 use Rattle.std.proofs.lemmas.Bool.Decides.{nat_tests}
 use Rattle.std.proofs.lemmas.List.{take_more}
@@ -21,8 +21,10 @@ use Rattle.co_node_device.specs.declared.seen.Seen.TheVariants as seen
 use Rattle.co_node_laws.proofs.LossDistances.{elsewhere}
 use Rattle.co_node_device.specs.Lasts.{last_losses, last_seen}
 use Rattle.bafokun.specs.declared.happened.Events.{Events}
+use Rattle.bafokun.specs.declared.ending.Ending.{Ending}
 use Rattle.bafokun.specs.declared.held.Held.{Held}
 use Rattle.bafokun.specs.declared.handle.Handle.{Handle}
+use Rattle.bafokun.specs.Ending.{by_input, by_ticks, ending_in, ending_of}
 use Rattle.bafokun.specs.Happened.{and_input, and_ticks, events_in, events_of, left_of, node_at, told_of, with_loss, with_losses, with_seen, with_state}
 
 pub one_more_loss : (contents : Contents) (subs : List ℕ) (i : ℕ) (old now after : Events) → i < length subs
@@ -89,6 +91,36 @@ pub events_given : (o : Option Held) (there after : Held) (place : Handle) (f : 
     → Some there ≡ o → place.seal.value ≡ Some after → after.events ≡ f there.events → events_of place ≡ f (events_in o)
 events_given o there after place f is back did =
     ap events_in back ∙ did ∙ ap (λ (o : Option Held). f (events_in o)) is
+
+-- ---- what ends of the error register
+
+pub one_more_ending : (k : Constants) (before : Inputs) (n : ℕ) (e : Ending)
+    → by_ticks k before (n + 1) e ≡ by_input k (after_ticks n before) Ticked (by_ticks k before n e)
+one_more_ending k before n e =
+    subst (λ m. by_ticks k before m e ≡ by_input k (after_ticks n before) Ticked (by_ticks k before n e)) (plus_one n) refl
+
+-- by a test whether a heartbeat was lost
+ending_by : (none : Bool) (e : Ending)
+    → (if not none then record e { communication = false } else e) ≡ (if none then e else record e { communication = false })
+ending_by true e = refl
+ending_by false e = refl
+
+abbrev by_loss : Ending → Bool → Ending
+by_loss e lost = if lost then record e { communication = false } else e
+
+pub ending_lost : (none lost : Bool) (e : Ending) → lost ≡ not none → lost ≡ true
+    → record e { communication = false } ≡ (if none then e else record e { communication = false })
+ending_lost none lost e is so = ap (by_loss e) (sym so ∙ is) ∙ ending_by none e
+
+pub ending_kept : (none lost : Bool) (e : Ending) → lost ≡ not none → lost ≡ false
+    → e ≡ (if none then e else record e { communication = false })
+ending_kept none lost e is so = ap (by_loss e) (sym so ∙ is) ∙ ending_by none e
+
+-- of a held device that is put back
+pub ending_given : (o : Option Held) (there after : Held) (place : Handle) (f : Ending → Ending)
+    → Some there ≡ o → place.seal.value ≡ Some after → after.ending ≡ f there.ending → ending_of place ≡ f (ending_in o)
+ending_given o there after place f is back did =
+    ap ending_in back ∙ did ∙ ap (λ (o : Option Held). f (ending_in o)) is
 
 -- ---- of four nodes, 0 to 3
 

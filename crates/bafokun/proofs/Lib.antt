@@ -1,6 +1,7 @@
 pub mod Added
 pub mod AsBox
 pub mod AsLoss
+pub mod EndingExamples
 pub mod GivenBus
 pub mod NoReset
 pub mod Numbered

@@ -26,6 +26,8 @@ use Rattle.co_node_model.specs.Sdo.{channel_logs, with_request}
 use Rattle.co_node_model.specs.Sync.{is_sync_id}
 use Rattle.co_node_device.specs.Lasts.{last_seen, seen_of}
 use Rattle.co_node_device.specs.SetEntries.{last_set}
+use Rattle.bafokun.specs.declared.ending.Ending.{Ending}
+use Rattle.bafokun.specs.Ending.{by_input, no_error}
 use Rattle.bafokun.specs.Changes.{and_set, reset_seen, with_area, with_reset}
 use Rattle.bafokun.proofs.StateKept.{unequal}
 
@@ -81,6 +83,10 @@ unseen k past frame other =
     let h = moments k past in
     unless_nmt k h frame (frame.id == 0) (is_sync_id (contents_at k h) frame.id) _ (contents_at k h) frame.id
     (unequal frame.id (frame.id == 0) refl other)
+
+-- so the error register keeps what it has
+pub ending_by_frame : (k : Constants) (past : Inputs) (frame : FrameContent) (e : Ending) → (frame.id ≡ 0 → ⊥) → e ≡ by_input k past (Framed frame) e
+ending_by_frame k past frame e other = sym (ap (λ (area : Option Area). option_map_or (λ a. no_error) area e) (unseen k past frame other))
 
 -- so what it sets is what it sets by SDO and RPDOs: `noted` of `there`, and kept where `old` was
 pub set_by_frame : (k : Constants) (past : Inputs) (frame : FrameContent) (entries : List EntryContent) (old there noted kept : List ℕ)

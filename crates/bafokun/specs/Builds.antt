@@ -17,6 +17,7 @@ use Rattle.bafokun.specs.declared.build.Settings.{Settings}
 use Rattle.bafokun.specs.declared.build.Fault.{Fault}
 use Rattle.bafokun.specs.Faults.{device_fault, sheet_fault}
 use Rattle.bafokun.specs.Changes.{no_changes}
+use Rattle.bafokun.specs.Ending.{no_error}
 use Rattle.bafokun.specs.Happened.{no_events}
 use Rattle.bafokun.specs.declared.held.Held.{Held}
 use Rattle.bafokun.specs.declared.handle.Handle.{Handle}
@@ -40,16 +41,18 @@ pub record IsNodeOf (node : ℕ) (settings : Settings) (sheet : SheetContent) (m
       → IsGreatestCapacity (built_description (plan_for node settings sheet)).rows greatest
       → Stands (node_constants (plan_for node settings sheet) greatest settings.time) made []
 
--- a node is held with this entry table and these changes, and nothing happened to it
+-- a node is held with this entry table and these changes, nothing happened to it, and no error is
+-- known
 pub record IsHeld (made : Node) (table : List EntryContent) (bits : List ℕ) (held : Held) : Type 0 where
   pub node : held.node ≡ made
   pub entries : held.entries ≡ table
   pub changes : boxed_slice_items held.changes ≡ bits
   pub events : held.events ≡ no_events
+  pub ending : held.ending ≡ no_error
 
 -- this device was built from this sheet; it has the entry table of the sheet, with these original
 -- types by section lines, and the number of an entry is its place in the dictionary; there is a bit
--- for each entry, and none of them is set; nothing happened
+-- for each entry, and none of them is set; nothing happened, and no error is known
 pub record IsHeldOf (originals : ℕ → Option (List ℕ)) (node : ℕ) (settings : Settings) (sheet : SheetContent) (held : Held) : Type 0 where
   pub is_built : IsNodeOf node settings sheet held.node
   pub entries : held.entries ≡ contents_of_rows originals (limits_for settings) sheet.rows
@@ -57,6 +60,7 @@ pub record IsHeldOf (originals : ℕ → Option (List ℕ)) (node : ℕ) (settin
       ≡ option_map (λ e. e.facts.key) (entry_at held.entries number)
   pub changes : boxed_slice_items held.changes ≡ no_changes (length held.entries)
   pub events : held.events ≡ no_events
+  pub ending : held.ending ≡ no_error
 
 -- this device was built from a text
 pub record IsBuilt (text : List ℕ) (node : ℕ) (settings : Settings) (held : Held) : Type 0 where

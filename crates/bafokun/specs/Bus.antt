@@ -1,6 +1,6 @@
 -- Changes of the CAN controller as inputs of a device: bus-off, error passive, and their ends
 -- (CiA 301, 7.2.7.1 and 7.5.2.32).
-use Rattle.std.specs.Prelude.{◌≡◌, ℕ, ◌==◌, if◌then◌else◌, bit_and, List, [], ◌∷◌, Option, Some, None, unwrap_or, slice_index_or}
+use Rattle.std.specs.Prelude.{◌≡◌, ℕ, ◌==◌, if◌then◌else◌, List, [], ◌∷◌, Option, Some, None, unwrap_or, slice_index_or}
 use Rattle.co_frame.specs.declared.nmt.NmtService.{NmtService}
 use Rattle.co_frame.specs.declared.nmt.NmtService.TheVariants.{Stop, EnterPreOperational}
 use Rattle.co_frame.specs.Nmt.{nmt_command_bytes}
@@ -17,7 +17,9 @@ use Rattle.co_node.specs.Nodes.{Stands}
 use Rattle.bafokun.specs.declared.frames.CanFrame.{CanFrame}
 use Rattle.bafokun.specs.declared.held.Held.{Held}
 use Rattle.bafokun.specs.declared.handle.Handle.{Handle}
+use Rattle.bafokun.specs.declared.ending.Ending.{Ending}
 use Rattle.bafokun.specs.Devices.{Gave, Gives, IsDevice, sent_of}
+use Rattle.bafokun.specs.Ending.{by_change, ended_bits}
 use Rattle.bafokun.specs.Frames.{ArePut}
 
 -- the first byte of an entry, such as the error register (1001h) or the error behaviour (1029:01);
@@ -29,11 +31,6 @@ byte_of bytes = slice_index_or (unwrap_or bytes []) 0 0
 -- always set
 abbrev pub bus_error : ℕ → InputView
 bus_error code = Applied (Raised code 0x10 (0 ∷ 0 ∷ 0 ∷ 0 ∷ 0 ∷ []))
-
--- the bits of the error register to clear: bit 4, and bit 0, generic error, if none but these two
--- is set
-abbrev pub ended_bits : ℕ → ℕ
-ended_bits register = if bit_and register 0xEE == 0 then 0x11 else 0x10
 
 -- an NMT command to all nodes (7.2.8.3.1)
 abbrev pub command_to_all : NmtService → InputView
@@ -48,16 +45,20 @@ by_reaction LeaveOperational Operational = Some (command_to_all EnterPreOperatio
 by_reaction LeaveOperational PreOperational = None
 by_reaction LeaveOperational Stopped = None
 
--- the input of a change: 0 error active again, 1 error passive (8120h), 2 bus-off, 3 recovered from
--- bus-off (8140h)
-abbrev pub bus_input : Constants → Inputs → ℕ → Option InputView
-bus_input k before change =
-    if change == 0 then Some (Applied (Cleared (ended_bits (byte_of (contents_of k before error_register_key)))))
+-- the input of a change, by which bits of the error register end: 0 error active again, 1 error
+-- passive (8120h), 2 bus-off, 3 recovered from bus-off (8140h)
+abbrev pub bus_input : Constants → Inputs → Ending → ℕ → Option InputView
+bus_input k before e change =
+    if change == 0 then Some (Applied (Cleared (ended_bits e (byte_of (contents_of k before error_register_key)))))
     else if change == 1 then Some (bus_error 0x8120)
     else if change == 2
     then by_reaction (reaction_with (byte_of (contents_of k before error_behaviour_key))) (state_of k before)
     else if change == 3 then Some (bus_error 0x8140)
     else None
+
+-- which bits of the error register end after a change
+abbrev pub ending_after : Constants → Inputs → ℕ → Ending → Ending
+ending_after k before change e = by_change change (byte_of (contents_of k before error_register_key)) e
 
 -- the inputs after a change
 abbrev pub after_bus : Option InputView → Inputs → Inputs

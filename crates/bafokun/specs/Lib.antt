@@ -3,6 +3,7 @@ pub mod Builds
 pub mod Bus
 pub mod Changes
 pub mod Devices
+pub mod Ending
 pub mod Entries
 pub mod Faults
 pub mod Frames

@@ -21,6 +21,7 @@ ghost use Rattle.bafokun.specs.Builds.{
 ghost use Rattle.bafokun.specs.Faults.{device_fault, no_fault, sheet_fault};
 ghost use Rattle.bafokun.specs.Devices.{IsEmpty};
 
+use crate::ending::Ending;
 use crate::handle::Handle;
 use crate::happened::Events;
 use crate::held::Held;
@@ -174,6 +175,7 @@ fn boxed(
         entries,
         changes,
         events: Events::none(),
+        ending: Ending::no_error(),
     };
     match Box::new(alloc, held) {
         Ok(held) => Ok(held),

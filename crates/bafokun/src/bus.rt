@@ -8,6 +8,7 @@ ghost use Rattle.co_node_model.specs.Inputs.{Inputs, input_view};
 ghost use Rattle.co_node_model.specs.Moments.{Constants};
 ghost use Rattle.co_node_model.specs.Device.{contents_of, state_of};
 ghost use Rattle.co_node.specs.Nodes.{Stands};
+ghost use Rattle.bafokun.specs.declared.ending.Ending.{Ending};
 ghost use Rattle.bafokun.specs.Bus.{
   after_bus,
   byte_of,
@@ -15,9 +16,10 @@ ghost use Rattle.bafokun.specs.Bus.{
   bus_input,
   by_reaction,
   command_to_all,
-  ended_bits,
+  ending_after,
 };
 
+use crate::ending::Ending;
 use crate::happened::byte_in;
 use co_frame::{NmtCommand, NmtService};
 use co_node::{AppEvent, Input, LossReaction, Node, NodeState, state_by_kind};
@@ -50,13 +52,6 @@ fn command_to_all(service: NmtService) -> Input<'static>
     Input::Frame(command.write())
 }
 
-// The bits of the error register to clear: bit 4, and bit 0 if no other bit is left.
-fn ended_bits(register: u8) -> u8
-    ensures { result ≡ ended_bits register }
-{
-    if register & 0xEE == 0 { 0x11 } else { 0x10 }
-}
-
 // The NMT command that has the effect of a lost heartbeat in a state, by a value of 1029:01.
 fn by_reaction(code: u8, state: NodeState) -> Option<Input<'static>>
     ensures { option_map input_view result ≡ by_reaction (reaction_with code) state }
@@ -74,14 +69,14 @@ fn by_reaction(code: u8, state: NodeState) -> Option<Input<'static>>
 /// The input of a change of the CAN controller: 0 error active again, 1 error passive, 2 bus-off, 3
 /// recovered from bus-off. `None` for any other number, and for a bus-off without an NMT command by
 /// 1029:01.
-pub(crate) fn bus_input(node: &Node, change: u8) -> Option<Input<'static>>
+pub(crate) fn bus_input(node: &Node, ending: Ending, change: u8) -> Option<Input<'static>>
     ensures { (k : Constants) (before : Inputs) → Stands k node.now before →
-        option_map input_view result ≡ bus_input k before change }
+        option_map input_view result ≡ bus_input k before ending change }
 {
     match change {
         0 => {
             let register = byte_at(node, keys::ERROR_REGISTER);
-            Some(Input::App(AppEvent::Clear(ended_bits(register))))
+            Some(Input::App(AppEvent::Clear(ending.bits(register))))
         }
         1 => Some(bus_error(0x8120)),
         2 => by_reaction(byte_at(node, keys::COMMUNICATION_ERROR), node.state()),
@@ -90,12 +85,21 @@ pub(crate) fn bus_input(node: &Node, change: u8) -> Option<Input<'static>>
     }
 }
 
+/// Which bits of the error register end after a change of the CAN controller, by the device before
+/// it.
+pub(crate) fn ending_after(node: &Node, change: u8, ending: Ending) -> Ending
+    ensures { (k : Constants) (before : Inputs) → Stands k node.now before →
+        result ≡ ending_after k before change ending }
+{
+    ending.after_change(change, byte_at(node, keys::ERROR_REGISTER))
+}
+
 /// After bus-off the NMT state is that after a lost heartbeat, by the error behaviour in 1029:01
 /// (CiA 301, 7.5.2.32). This is a law: a call of it changes nothing.
 #[tactic(auto, using(crate::proofs::AsLoss::as_loss))]
 pub fn bus_off_as_lost_heartbeat()
-    ensures { (k : Constants) (before : Inputs) →
-        state_of k (after_bus (bus_input k before 2) before)
+    ensures { (k : Constants) (before : Inputs) (e : Ending) →
+        state_of k (after_bus (bus_input k before e 2) before)
         ≡ after_loss (reaction_with (byte_of (contents_of k before error_behaviour_key)))
         (state_of k before) }
 {

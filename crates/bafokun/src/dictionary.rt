@@ -7,6 +7,7 @@ ghost use Rattle.co_node_model.specs.Device.{contents_of};
 ghost use Rattle.bafokun.specs.Changes.{IsGiven, changes_of};
 ghost use Rattle.bafokun.specs.Devices.{IsDevice, IsEmpty, entries_of, sent_of};
 ghost use Rattle.co_dict_table.specs.Entries.{entry_at, name_at, number_of};
+ghost use Rattle.bafokun.specs.Ending.{ending_of};
 ghost use Rattle.bafokun.specs.Entries.{IsEntry, IsNumber};
 ghost use Rattle.bafokun.specs.Happened.{events_of};
 ghost use Rattle.bafokun.specs.Texts.{IsText};
@@ -134,6 +135,7 @@ pub extern "C" fn bafokun_next_changed(
     ensures sent { sent_of node.new ≡ sent_of node.old }
     ensures entries { entries_of node.new ≡ entries_of node.old }
     ensures events { events_of node.new ≡ events_of node.old }
+    ensures ending { ending_of node.new ≡ ending_of node.old }
     ensures empty { IsEmpty node.old → IsEmpty node.new }
     ensures nothing { IsEmpty node.old → result ≡ false }
     ensures untouched { IsEmpty node.old → number.new ≡ number.old }

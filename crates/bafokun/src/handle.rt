@@ -36,6 +36,7 @@ impl Handle {
     ghost use Rattle.co_node_model.specs.Moments.{Constants};
     ghost use Rattle.bafokun.specs.Changes.{and_set, changes_of};
     ghost use Rattle.bafokun.specs.Devices.{Gives, IsDevice, IsEmpty, IsQuiet, entries_of};
+    ghost use Rattle.bafokun.specs.Ending.{by_input, ending_of};
     ghost use Rattle.bafokun.specs.Entries.{key_named};
     ghost use Rattle.bafokun.specs.Frames.{ArePut};
     ghost use Rattle.bafokun.specs.Happened.{and_input, events_of};
@@ -112,6 +113,8 @@ impl Handle {
             (changes_of self.old) }
         ensures events { (k : Constants) (before : Inputs) → IsDevice k self.old before →
             events_of self.new ≡ and_input k before (Framed frame.now) (events_of self.old) }
+        ensures ending { (k : Constants) (before : Inputs) → IsDevice k self.old before →
+            ending_of self.new ≡ by_input k before (Framed frame.now) (ending_of self.old) }
     {
         if self.is_empty() {
             return 0;
@@ -131,6 +134,8 @@ impl Handle {
         ensures changes { changes_of self.new ≡ changes_of self.old }
         ensures events { (k : Constants) (before : Inputs) → IsDevice k self.old before →
             events_of self.new ≡ and_input k before Ticked (events_of self.old) }
+        ensures ending { (k : Constants) (before : Inputs) → IsDevice k self.old before →
+            ending_of self.new ≡ by_input k before Ticked (ending_of self.old) }
     {
         if self.is_empty() {
             return 0;
@@ -155,6 +160,9 @@ impl Handle {
         ensures events { (k : Constants) (before : Inputs) → IsDevice k self.old before →
             events_of self.new ≡ and_input k before (Applied (app_view event.entry))
             (events_of self.old) }
+        ensures ending { (k : Constants) (before : Inputs) → IsDevice k self.old before →
+            ending_of self.new ≡ by_input k before (Applied (app_view event.entry))
+            (ending_of self.old) }
     {
         match self.take(alloc) {
             Some(mut held) => {
@@ -184,6 +192,10 @@ impl Handle {
             events_of self.new ≡ and_input k before
             (Applied (Written (key_named (entries_of self.old) name) bytes.now))
             (events_of self.old) }
+        ensures ending { (k : Constants) (before : Inputs) → IsDevice k self.old before →
+            ending_of self.new ≡ by_input k before
+            (Applied (Written (key_named (entries_of self.old) name) bytes.now))
+            (ending_of self.old) }
     {
         match self.take(alloc) {
             Some(mut held) => {

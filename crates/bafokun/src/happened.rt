@@ -1,12 +1,12 @@
 //! What happened to a device since the application asked.
 
-ghost use Rattle.std.specs.Prelude.{◌≡◌, ◌∷◌, slice_index, slice_set, true};
+ghost use Rattle.std.specs.Prelude.{◌≡◌, ◌==◌, ◌∷◌, length, not, slice_index, slice_set, true};
 ghost use Rattle.co_frame.specs.FrameContent.{FrameContent};
 ghost use Rattle.co_node_model.specs.Inputs.{Framed, InputView, Inputs, Ticked};
 ghost use Rattle.co_node_model.specs.Moments.{Constants};
 ghost use Rattle.co_node_model.specs.Device.{contents_of, state_of};
 ghost use Rattle.co_node_device.specs.declared.seen.Seen.TheVariants.{Nothing, Rpdo, Sync};
-ghost use Rattle.co_node_device.specs.Lasts.{last_seen};
+ghost use Rattle.co_node_device.specs.Lasts.{last_losses, last_seen};
 ghost use Rattle.co_node.specs.Nodes.{Stands};
 ghost use Rattle.bafokun.specs.Answers.{state_code};
 ghost use Rattle.bafokun.specs.Happened.{
@@ -279,16 +279,21 @@ impl Events {
         state_by_kind();
     }
 
-    /// The same, where 1 ms elapsed: something happened only if a heartbeat was lost.
+    /// The same, where 1 ms elapsed: something happened only if a heartbeat was lost. Returns
+    /// whether one was.
     #[inline(always)]
-    pub(crate) fn note_tick(&mut self, node: &Node, before: NodeState)
-        ensures { (k : Constants) (past : Inputs) → Stands k node.now (Ticked ∷ past) →
+    pub(crate) fn note_tick(&mut self, node: &Node, before: NodeState) -> bool
+        ensures events { (k : Constants) (past : Inputs) → Stands k node.now (Ticked ∷ past) →
             before ≡ state_of k past → self.new ≡ and_input k past Ticked self.old }
+        ensures lost { (k : Constants) (past : Inputs) → Stands k node.now (Ticked ∷ past) →
+            result ≡ not (length (last_losses k (Ticked ∷ past)) == 0) }
     {
         let lost = node.lost();
         if !lost.is_empty() {
             self.note_late(node, before);
+            return true;
         }
+        false
     }
 
     // `note`, where it is needed by few inputs.

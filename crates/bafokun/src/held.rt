@@ -18,15 +18,17 @@ ghost use Rattle.co_node.specs.Nodes.{Stands};
 ghost use Rattle.std.specs.Prelude.{length};
 ghost use Rattle.std.specs.Box.{boxed_slice_items};
 ghost use Rattle.bafokun.specs.Changes.{IsNext, and_set, left_after, with_reset};
-ghost use Rattle.bafokun.specs.Bus.{GaveBus, bus_input};
+ghost use Rattle.bafokun.specs.Bus.{GaveBus, bus_input, ending_after};
 ghost use Rattle.bafokun.specs.Devices.{Gave};
+ghost use Rattle.bafokun.specs.Ending.{by_input, by_seen, by_ticks};
 ghost use Rattle.bafokun.specs.Entries.{key_named};
 ghost use Rattle.bafokun.specs.Frames.{ArePut};
 ghost use Rattle.bafokun.specs.Happened.{and_bus, and_input, and_ticks, left_of, told_of};
 ghost use Rattle.bafokun.specs.Ticks.{GaveTicks};
 
-use crate::bus::bus_input;
+use crate::bus::{bus_input, ending_after};
 use crate::changes::{next_changed, note_reset};
+use crate::ending::Ending;
 use crate::entries::Named;
 use crate::frames::{CanFrame, clear, put, put_all};
 use crate::happened::{Events, is_nothing, is_rpdo, is_sync};
@@ -37,7 +39,8 @@ use co_node::{AppEvent, Node, NodeState, Seen};
 use std::boxed::BoxedSlice;
 
 /// A device, the frames of its last input, the entry table of its data sheet, which of the entries
-/// were set since the application asked, a bit each, and what happened since it asked.
+/// were set since the application asked, a bit each, what happened since it asked, and which bits of
+/// the error register end with an error of the CAN interface.
 #[derive(Drop)]
 pub struct Held {
     pub(crate) node: Node,
@@ -45,6 +48,7 @@ pub struct Held {
     pub(crate) entries: EntryTable,
     pub(crate) changes: BoxedSlice<u8>,
     pub(crate) events: Events,
+    pub(crate) ending: Ending,
 }
 
 impl Held {
@@ -59,6 +63,8 @@ impl Held {
             self.old.entries (boxed_slice_items self.old.changes) }
         ensures events { (k : Constants) (before : Inputs) → Stands k self.old.node before →
             self.new.events ≡ and_input k before (Framed frame.now) self.old.events }
+        ensures ending { (k : Constants) (before : Inputs) → Stands k self.old.node before →
+            self.new.ending ≡ by_input k before (Framed frame.now) self.old.ending }
     {
         clear(&mut self.sent);
         let state = self.node.state();
@@ -96,10 +102,13 @@ impl Held {
         ensures events { (k : Constants) (past : Inputs) (input : InputView) →
             Stands k self.old.node (input ∷ past) → before ≡ state_of k past →
             self.new.events ≡ and_input k past input self.old.events }
+        ensures ending { (k : Constants) (past : Inputs) → Stands k self.old.node past →
+            self.new.ending ≡ by_seen (last_seen k past) self.old.ending }
     {
         let seen = self.node.last_seen();
         note_reset(seen, &self.entries, &mut self.changes);
         self.events.note(&self.node, before);
+        self.ending = self.ending.after_frame(seen);
     }
 
     /// Puts the frames of the last input into the array, as many as it has room for; returns how
@@ -137,10 +146,14 @@ impl Held {
         ensures changes { self.new.changes ≡ self.old.changes }
         ensures events { (k : Constants) (before : Inputs) → Stands k self.old.node before →
             self.new.events ≡ and_input k before Ticked self.old.events }
+        ensures ending { (k : Constants) (before : Inputs) → Stands k self.old.node before →
+            self.new.ending ≡ by_input k before Ticked self.old.ending }
     {
         let state = self.node.state();
         self.node.tick(&mut self.sent);
-        self.events.note_tick(&self.node, state);
+        if self.events.note_tick(&self.node, state) {
+            self.ending = self.ending.after_loss();
+        }
     }
 
     /// At most `most` ms elapse: the ticks end with the first that sends frames. Returns how many
@@ -152,6 +165,8 @@ impl Held {
         ensures changes { self.new.changes ≡ self.old.changes }
         ensures events { (k : Constants) (before : Inputs) → Stands k self.old.node before →
             self.new.events ≡ and_ticks k before result self.old.events }
+        ensures ending { (k : Constants) (before : Inputs) → Stands k self.old.node before →
+            self.new.ending ≡ by_ticks k before result self.old.ending }
     {
         self.sent.clear();
         for i in 0..most {
@@ -180,10 +195,13 @@ impl Held {
         ensures changes { self.new.changes ≡ self.old.changes }
         ensures events { (k : Constants) (before : Inputs) → Stands k self.old.node before →
             self.new.events ≡ and_input k before (Applied (app_view event.entry)) self.old.events }
+        ensures ending { (k : Constants) (before : Inputs) → Stands k self.old.node before →
+            self.new.ending ≡ by_input k before (Applied (app_view event.entry)) self.old.ending }
     {
         let state = self.node.state();
         self.node.take_event(event, &mut self.sent);
         self.events.note(&self.node, state);
+        self.ending = self.ending.after_event(self.node.last_app(), event);
     }
 
     /// The application writes an entry.
@@ -195,12 +213,17 @@ impl Held {
         ensures events { (k : Constants) (before : Inputs) → Stands k self.old.node before →
             self.new.events ≡ and_input k before
             (Applied (Written (key_named self.old.entries name) bytes.now)) self.old.events }
+        ensures ending { (k : Constants) (before : Inputs) → Stands k self.old.node before →
+            self.new.ending ≡ by_input k before
+            (Applied (Written (key_named self.old.entries name) bytes.now)) self.old.ending }
     {
         let key = name.key(&self.entries);
         let state = self.node.state();
         self.node
             .write_at(name.number(), key, bytes, &mut self.sent);
         self.events.note(&self.node, state);
+        let event = AppEvent::Write(key, bytes);
+        self.ending = self.ending.after_event(self.node.last_app(), event);
     }
 
     /// The first entry from a number on that was set since the application asked; it is forgotten
@@ -214,6 +237,7 @@ impl Held {
         ensures sent { self.new.sent ≡ self.old.sent }
         ensures entries { self.new.entries ≡ self.old.entries }
         ensures events { self.new.events ≡ self.old.events }
+        ensures ending { self.new.ending ≡ self.old.ending }
     {
         match next_changed(&self.changes, from, self.entries.len()) {
             Some(number) => {
@@ -233,6 +257,7 @@ impl Held {
         ensures sent { self.new.sent ≡ self.old.sent }
         ensures entries { self.new.entries ≡ self.old.entries }
         ensures changes { self.new.changes ≡ self.old.changes }
+        ensures ending { self.new.ending ≡ self.old.ending }
     {
         if !self.events.is_any() {
             return None;
@@ -245,13 +270,18 @@ impl Held {
     /// Takes a change of the CAN controller.
     pub(crate) fn bus(&mut self, change: u8)
         ensures gave { (k : Constants) (before : Inputs) → Stands k self.old.node before →
-            GaveBus k before (bus_input k before change) self.new }
+            GaveBus k before (bus_input k before self.old.ending change) self.new }
         ensures entries { self.new.entries ≡ self.old.entries }
         ensures changes { self.new.changes ≡ self.old.changes }
         ensures events { (k : Constants) (before : Inputs) → Stands k self.old.node before →
-            self.new.events ≡ and_bus k before (bus_input k before change) self.old.events }
+            self.new.events ≡ and_bus k before (bus_input k before self.old.ending change)
+            self.old.events }
+        ensures ending { (k : Constants) (before : Inputs) → Stands k self.old.node before →
+            self.new.ending ≡ ending_after k before change self.old.ending }
     {
-        match bus_input(&self.node, change) {
+        let ending = self.ending;
+        self.ending = ending_after(&self.node, change, ending);
+        match bus_input(&self.node, ending, change) {
             Some(input) => {
                 let state = self.node.state();
                 self.node.step(input, &mut self.sent);
@@ -269,6 +299,7 @@ impl Held {
         ensures entries { self.new.entries ≡ self.old.entries }
         ensures changes { self.new.changes ≡ self.old.changes }
         ensures events { self.new.events ≡ self.old.events }
+        ensures ending { self.new.ending ≡ self.old.ending }
     {
         self.node.boot(&mut self.sent);
     }

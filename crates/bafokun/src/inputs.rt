@@ -13,9 +13,10 @@ ghost use Rattle.co_node_model.specs.Inputs.{
   Cleared,
 };
 ghost use Rattle.co_node_model.specs.Moments.{Constants};
-ghost use Rattle.bafokun.specs.Bus.{GivesBus, bus_input};
+ghost use Rattle.bafokun.specs.Bus.{GivesBus, bus_input, ending_after};
 ghost use Rattle.bafokun.specs.Devices.{Gives, GivesBootUp, IsDevice, IsEmpty, IsQuiet, entries_of};
 ghost use Rattle.bafokun.specs.Changes.{and_set, changes_of};
+ghost use Rattle.bafokun.specs.Ending.{by_input, by_ticks, ending_of};
 ghost use Rattle.bafokun.specs.Entries.{key_numbered};
 ghost use Rattle.bafokun.specs.Frames.{IsCan, content_of};
 ghost use Rattle.bafokun.specs.Happened.{and_bus, and_input, and_ticks, events_of};
@@ -38,6 +39,7 @@ pub extern "C" fn bafokun_boot(alloc: Global, node: &mut Handle, frames: &mut [C
     ensures entries { entries_of node.new ≡ entries_of node.old }
     ensures changes { changes_of node.new ≡ changes_of node.old }
     ensures events { events_of node.new ≡ events_of node.old }
+    ensures ending { ending_of node.new ≡ ending_of node.old }
 {
     match node.take(alloc) {
         Some(mut held) => {
@@ -69,6 +71,10 @@ pub extern "C" fn bafokun_take(
         IsCan frame.now →
         events_of node.new ≡ and_input k before (Framed (content_of frame.now))
         (events_of node.old) }
+    ensures ending { (k : Constants) (before : Inputs) → IsDevice k node.old before →
+        IsCan frame.now →
+        ending_of node.new ≡ by_input k before (Framed (content_of frame.now))
+        (ending_of node.old) }
     ensures no_frame { (IsCan frame.now → ⊥) → node.new ≡ node.old }
     ensures nothing { (IsCan frame.now → ⊥) → result ≡ 0 }
     ensures untouched { (IsCan frame.now → ⊥) → frames.new ≡ frames.old }
@@ -92,6 +98,8 @@ pub extern "C" fn bafokun_tick(node: &mut Handle, frames: &mut [CanFrame]) -> us
     ensures changes { changes_of node.new ≡ changes_of node.old }
     ensures events { (k : Constants) (before : Inputs) → IsDevice k node.old before →
         events_of node.new ≡ and_input k before Ticked (events_of node.old) }
+    ensures ending { (k : Constants) (before : Inputs) → IsDevice k node.old before →
+        ending_of node.new ≡ by_input k before Ticked (ending_of node.old) }
 {
     node.tick(frames)
 }
@@ -116,6 +124,8 @@ pub extern "C" fn bafokun_ticks(
     ensures changes { changes_of node.new ≡ changes_of node.old }
     ensures events { (k : Constants) (before : Inputs) → IsDevice k node.old before →
         events_of node.new ≡ and_ticks k before elapsed.new (events_of node.old) }
+    ensures ending { (k : Constants) (before : Inputs) → IsDevice k node.old before →
+        ending_of node.new ≡ by_ticks k before elapsed.new (ending_of node.old) }
     ensures all { IsEmpty node.old → elapsed.new ≡ most }
 {
     match node.take(alloc) {
@@ -152,6 +162,10 @@ pub extern "C" fn bafokun_write(
         events_of node.new ≡ and_input k before
         (Applied (Written (record { index = index; sub = sub_index }) bytes.now))
         (events_of node.old) }
+    ensures ending { (k : Constants) (before : Inputs) → IsDevice k node.old before →
+        ending_of node.new ≡ by_input k before
+        (Applied (Written (record { index = index; sub = sub_index }) bytes.now))
+        (ending_of node.old) }
 {
     let key = Key {
         index,
@@ -180,6 +194,10 @@ pub extern "C" fn bafokun_write_at(
         events_of node.new ≡ and_input k before
         (Applied (Written (key_numbered (entries_of node.old) number) bytes.now))
         (events_of node.old) }
+    ensures ending { (k : Constants) (before : Inputs) → IsDevice k node.old before →
+        ending_of node.new ≡ by_input k before
+        (Applied (Written (key_numbered (entries_of node.old) number) bytes.now))
+        (ending_of node.old) }
 {
     node.write(alloc, Named::Number(number), bytes, frames)
 }
@@ -200,6 +218,8 @@ pub extern "C" fn bafokun_event(
     ensures changes { changes_of node.new ≡ changes_of node.old }
     ensures events { (k : Constants) (before : Inputs) → IsDevice k node.old before →
         events_of node.new ≡ and_input k before (Applied (EventOn tpdo)) (events_of node.old) }
+    ensures ending { (k : Constants) (before : Inputs) → IsDevice k node.old before →
+        ending_of node.new ≡ by_input k before (Applied (EventOn tpdo)) (ending_of node.old) }
 {
     node.take_event(alloc, AppEvent::Event(tpdo), frames)
 }
@@ -223,6 +243,9 @@ pub extern "C" fn bafokun_changed(
     ensures events { (k : Constants) (before : Inputs) → IsDevice k node.old before →
         events_of node.new ≡ and_input k before
         (Applied (ChangedAt (record { index = index; sub = sub_index }))) (events_of node.old) }
+    ensures ending { (k : Constants) (before : Inputs) → IsDevice k node.old before →
+        ending_of node.new ≡ by_input k before
+        (Applied (ChangedAt (record { index = index; sub = sub_index }))) (ending_of node.old) }
 {
     let key = Key {
         index,
@@ -252,6 +275,9 @@ pub extern "C" fn bafokun_raise(
     ensures events { (k : Constants) (before : Inputs) → IsDevice k node.old before →
         events_of node.new ≡ and_input k before (Applied (Raised code bits manufacturer.now))
         (events_of node.old) }
+    ensures ending { (k : Constants) (before : Inputs) → IsDevice k node.old before →
+        ending_of node.new ≡ by_input k before (Applied (Raised code bits manufacturer.now))
+        (ending_of node.old) }
 {
     node.take_event(alloc, AppEvent::Raise(code, bits, *manufacturer), frames)
 }
@@ -272,15 +298,18 @@ pub extern "C" fn bafokun_clear(
     ensures changes { changes_of node.new ≡ changes_of node.old }
     ensures events { (k : Constants) (before : Inputs) → IsDevice k node.old before →
         events_of node.new ≡ and_input k before (Applied (Cleared bits)) (events_of node.old) }
+    ensures ending { (k : Constants) (before : Inputs) → IsDevice k node.old before →
+        ending_of node.new ≡ by_input k before (Applied (Cleared bits)) (ending_of node.old) }
 {
     node.take_event(alloc, AppEvent::Clear(bits), frames)
 }
 
 /// A change of the CAN controller: 0 error active again, 1 error passive, 2 bus-off, 3 recovered
 /// from bus-off. Error passive raises error 8120h, recovered 8140h, each with bit 4 of the error
-/// register. Error active clears that bit, and bit 0 if no other is left (CiA 301, 7.2.7.1).
-/// Bus-off changes the NMT state as a lost heartbeat does, by 1029:01 (CiA 301, 7.5.2.32). Any
-/// other number is no input. C must pass what `bafokun_tick` requires.
+/// register. Error active clears that bit if these two alone have set it, and bit 0 if no other is
+/// left and no error is known that has it alone (CiA 301, 7.2.7.1). Bus-off changes the NMT state
+/// as a lost heartbeat does, by 1029:01 (CiA 301, 7.5.2.32). Any other number is no input. C must
+/// pass what `bafokun_tick` requires.
 #[tactic(auto, using(crate::proofs::GivenBus::given_bus))]
 #[unsafe(no_mangle)]
 pub extern "C" fn bafokun_bus(
@@ -290,12 +319,16 @@ pub extern "C" fn bafokun_bus(
     frames: &mut [CanFrame],
 ) -> usize
     ensures gives { (k : Constants) (before : Inputs) → IsDevice k node.old before →
-        GivesBus k before (bus_input k before change) node.new frames.old frames.new result }
+        GivesBus k before (bus_input k before (ending_of node.old) change)
+        node.new frames.old frames.new result }
     ensures empty { IsEmpty node.old → IsQuiet node.new frames.old frames.new result }
     ensures entries { entries_of node.new ≡ entries_of node.old }
     ensures changes { changes_of node.new ≡ changes_of node.old }
     ensures events { (k : Constants) (before : Inputs) → IsDevice k node.old before →
-        events_of node.new ≡ and_bus k before (bus_input k before change) (events_of node.old) }
+        events_of node.new ≡ and_bus k before (bus_input k before (ending_of node.old) change)
+        (events_of node.old) }
+    ensures ending { (k : Constants) (before : Inputs) → IsDevice k node.old before →
+        ending_of node.new ≡ ending_after k before change (ending_of node.old) }
 {
     match node.take(alloc) {
         Some(mut held) => {

@@ -5,6 +5,7 @@ mod build;
 mod bus;
 mod changes;
 mod dictionary;
+mod ending;
 mod entries;
 mod frames;
 mod handle;

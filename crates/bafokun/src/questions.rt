@@ -8,6 +8,7 @@ ghost use Rattle.co_node_model.specs.Device.{app_after, contents_of, held_of, ro
 ghost use Rattle.bafokun.specs.Answers.{IsCopied, IsRead, answer_code, refusal_code, state_code};
 ghost use Rattle.bafokun.specs.Changes.{changes_of};
 ghost use Rattle.bafokun.specs.Devices.{IsDevice, IsEmpty, entries_of, sent_of};
+ghost use Rattle.bafokun.specs.Ending.{ending_of};
 ghost use Rattle.bafokun.specs.Entries.{value_numbered};
 ghost use Rattle.bafokun.specs.Frames.{ArePut};
 ghost use Rattle.bafokun.specs.Happened.{IsTold, events_of, left_of, told_of};
@@ -217,6 +218,7 @@ pub extern "C" fn bafokun_happened(alloc: Global, node: &mut Handle, events: &mu
     ensures sent { sent_of node.new ≡ sent_of node.old }
     ensures entries { entries_of node.new ≡ entries_of node.old }
     ensures changes { changes_of node.new ≡ changes_of node.old }
+    ensures ending { ending_of node.new ≡ ending_of node.old }
     ensures empty { IsEmpty node.old → IsEmpty node.new }
     ensures untouched { IsEmpty node.old → events.new ≡ events.old }
 {

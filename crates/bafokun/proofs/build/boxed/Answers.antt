@@ -10,6 +10,7 @@ returns-in-Ok-clause-ok c = record {
   entries = ap (λ (h : Held). h.entries) c.in-Ok.ensures.ok;
   changes = ap (λ (h : Held). boxed_slice_items h.changes) c.in-Ok.ensures.ok;
   events = ap (λ (h : Held). h.events) c.in-Ok.ensures.ok ∙ c.none.ensures;
+  ending = ap (λ (h : Held). h.ending) c.in-Ok.ensures.ok ∙ c.no_error.ensures;
 }
 
 pub returns-clause-err : goal.returns-clause-err

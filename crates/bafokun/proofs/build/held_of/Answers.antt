@@ -20,6 +20,7 @@ returns-clause-ok c =
           (sym (is.entries ∙ c.in_ok-entries.ensures.ok));
       changes = is.changes ∙ c.in_ok-changes.ensures.ok ∙ ap no_changes (c.len.ensures ∙ ap (λ (es : List EntryContent). length es) (sym is.entries));
       events = is.events;
+      ending = is.ending;
     }) c.boxed.ensures.ok
 
 pub returns-clause-err : goal.returns-clause-err

@@ -1,7 +1,7 @@
 use Rattle.std.proofs.Common.{◌∷◌, ◌∙◌, rules}
 use Rattle.std.proofs.lemmas.List.{with_items_is, places}
 use Rattle.co_node_model.specs.Inputs.{Framed}
-use Rattle.bafokun.proofs.NoReset.{set_by_command, set_by_frame}
+use Rattle.bafokun.proofs.NoReset.{ending_by_frame, set_by_command, set_by_frame}
 use Rattle.bafokun.proofs.held.Held.take_frame.Goals as goal
 
 pub returns-then-id-eq0-clause-changes : goal.returns-then-id-eq0-clause-changes
@@ -37,3 +37,15 @@ pub returns-else-is_rpdo-clause-events : goal.returns-else-is_rpdo-clause-events
 returns-else-is_rpdo-clause-events c = λ k before stands.
     c.note_frame-else-is_rpdo.ensures k before c.args.frame.now (λ e. c.if-id-eq0-2.false (c.id-else-is_sync.ensures.id ∙ e))
     (c.last_seen.ensures k (Framed c.args.frame.now ∷ before) (c.take_frame_noting-seen.ensures.stands k before stands))
+
+pub returns-then-id-eq0-clause-ending : goal.returns-then-id-eq0-clause-ending
+returns-then-id-eq0-clause-ending c = λ k before stands.
+    c.note_command.ensures.ending k (Framed c.args.frame.now ∷ before) (c.take_frame_noting-seen.ensures.stands k before stands)
+
+pub returns-then-id-eq0-2-clause-ending : goal.returns-then-id-eq0-2-clause-ending
+returns-then-id-eq0-2-clause-ending c = λ k before stands.
+    c.note_command-then-id-eq0-2.ensures.ending k (Framed c.args.frame.now ∷ before) (c.take_frame_noting-seen.ensures.stands k before stands)
+
+pub returns-else-is_rpdo-clause-ending : goal.returns-else-is_rpdo-clause-ending
+returns-else-is_rpdo-clause-ending c = λ k before stands.
+    ending_by_frame k before c.args.frame.now c.args.self.now.ending (λ e. c.if-id-eq0-2.false (c.id-else-is_sync.ensures.id ∙ e))

@@ -1,9 +1,10 @@
 use Rattle.std.proofs.Common.{◌≡◌, ◌+◌, true, false, [], sym, ap, ◌∙◌, rules, arith}
 use Rattle.co_node_model.specs.Inputs.{Ticked}
 use Rattle.co_node_model.specs.Ticks.{after_ticks}
+use Rattle.bafokun.specs.Ending.{by_input}
 use Rattle.bafokun.specs.Happened.{and_input}
 use Rattle.bafokun.specs.Ticks.{given_last}
-use Rattle.bafokun.proofs.Added.{one_more_tick}
+use Rattle.bafokun.proofs.Added.{one_more_ending, one_more_tick}
 use Rattle.bafokun.proofs.Ticks.{all_gave, one_more_given, one_more_stands, up_to_next}
 use Rattle.bafokun.proofs.held.Held.ticks.Goals as goal
 
@@ -31,6 +32,13 @@ returns-then-has_sent-clause-events c = λ k before stands.
     ∙ ap (and_input k (after_ticks c.loop-i.i before) Ticked) (inv.events k before stands)
     ∙ sym (one_more_tick k before c.loop-i.i c.args.self.now.events)
 
+pub returns-then-has_sent-clause-ending : goal.returns-then-has_sent-clause-ending
+returns-then-has_sent-clause-ending c = λ k before stands.
+    let inv = c.loop-i.invariant in
+    c.tick.ensures.ending k (after_ticks c.loop-i.i before) (inv.stands k before stands)
+    ∙ ap (by_input k (after_ticks c.loop-i.i before) Ticked) (inv.ending k before stands)
+    ∙ sym (one_more_ending k before c.loop-i.i c.args.self.now.ending)
+
 pub loop-i-preserved : goal.loop-i-preserved
 loop-i-preserved c =
     let inv = c.loop-i.invariant in
@@ -49,6 +57,10 @@ loop-i-preserved c =
           c.tick.ensures.events k (after_ticks c.loop-i.i before) (inv.stands k before stands)
           ∙ ap (and_input k (after_ticks c.loop-i.i before) Ticked) (inv.events k before stands)
           ∙ sym (one_more_tick k before c.loop-i.i c.args.self.now.events);
+      ending = λ k before stands.
+          c.tick.ensures.ending k (after_ticks c.loop-i.i before) (inv.stands k before stands)
+          ∙ ap (by_input k (after_ticks c.loop-i.i before) Ticked) (inv.ending k before stands)
+          ∙ sym (one_more_ending k before c.loop-i.i c.args.self.now.ending);
     }
 
 pub returns-clause-gave : goal.returns-clause-gave

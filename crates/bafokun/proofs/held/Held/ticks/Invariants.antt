@@ -3,6 +3,7 @@ use Rattle.co_node_model.specs.Inputs.{Inputs}
 use Rattle.co_node_model.specs.Moments.{Constants}
 use Rattle.co_node.specs.Nodes.{Stands}
 use Rattle.co_node_model.specs.Ticks.{after_ticks}
+use Rattle.bafokun.specs.Ending.{by_ticks}
 use Rattle.bafokun.specs.Happened.{and_ticks}
 use Rattle.bafokun.specs.Ticks.{given_last}
 use Rattle.bafokun.proofs.held.Held.ticks.Given as goal
@@ -19,4 +20,6 @@ invariant-loop-i l = record {
       (n : ℕ) → n ≤ l.i → given_last k before n ≡ [];
   events : (k : Constants) (before : Inputs) → Stands k l.fn.self.node before →
       l.self.events ≡ and_ticks k before l.i l.fn.self.events;
+  ending : (k : Constants) (before : Inputs) → Stands k l.fn.self.node before →
+      l.self.ending ≡ by_ticks k before l.i l.fn.self.ending;
 }
