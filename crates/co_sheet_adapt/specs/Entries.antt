@@ -61,9 +61,9 @@ preset_at_type t name value =
 
 -- a value, or a limit with its sign extended
 abbrev pub number_at_type : Bool → DataType → List ℕ → List ℕ → Option Mended
-number_at_type negative_low t name value =
+number_at_type extended_low t name value =
     if is_preset name then preset_at_type t name value
-    else if is_extended_limit negative_low t name value then extended_change t name value
+    else if is_extended_limit extended_low t name value then extended_change t name value
     else None
 
 -- a line of such an entry
@@ -71,7 +71,7 @@ abbrev pub at_type : Facts → List ℕ → List ℕ → Option Mended
 at_type facts name value =
     if is_limit name && facts.has_unsigned_limits then Some (mended kind.UnsignedLimit [])
     else option_and_then
-    (λ t. number_at_type facts.has_negative_low t name value) facts.data_type
+    (λ t. number_at_type facts.has_extended_low t name value) facts.data_type
 
 -- what a name and its value become; None: they stay as they are
 abbrev pub entry_change : Facts → List ℕ → List ℕ → Option Mended

@@ -23,7 +23,7 @@ facts_as_written g = record {
   left_out = None;
   data_type = None;
   has_unsigned_limits = false;
-  has_negative_low = false;
+  has_extended_low = false;
 }
 
 -- the sections of an object in compact form

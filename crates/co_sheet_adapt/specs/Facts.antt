@@ -10,7 +10,7 @@ use Rattle.co_sheet.specs.ObjectLists.{is_one_of}
 use Rattle.co_sheet.specs.Entries.{single_codes, compound_codes}
 use Rattle.co_sheet_adapt.specs.declared.left_out.LeftOut.{LeftOut}
 use Rattle.co_sheet_adapt.specs.declared.facts.Facts.{Facts}
-use Rattle.co_sheet_changes.specs.Extended.{has_negative_low}
+use Rattle.co_sheet_changes.specs.Extended.{has_extended_low}
 use Rattle.co_sheet_changes.specs.Limits.{data_type_of, has_unsigned_limits}
 use Rattle.co_sheet_changes.specs.Groups.{Group, value_in, number_in_group}
 use Rattle.co_sheet_adapt.specs.LeftOut.{left_out_with, value_in_place}
@@ -69,5 +69,5 @@ facts_of g = record {
   left_out = left_out_of g;
   data_type = data_type_of g;
   has_unsigned_limits = has_unsigned_limits g;
-  has_negative_low = has_negative_low g;
+  has_extended_low = has_extended_low g;
 }

@@ -130,17 +130,17 @@ fn preset_at_type(
 // the same, or a limit with its sign extended
 fn number_at_type(
     alloc: Global,
-    has_negative_low: bool,
+    has_extended_low: bool,
     data_type: DataType,
     name: &[u8],
     value: &[u8],
 ) -> Result<Option<Mended>, AllocError>
     ensures { IfOk result (λ made. option_map mended_view made
-        ≡ number_at_type has_negative_low data_type name.now value.now) }
+        ≡ number_at_type has_extended_low data_type name.now value.now) }
 {
     if is_preset(name) {
         preset_at_type(alloc, data_type, name, value)
-    } else if is_extended_limit(has_negative_low, data_type, name, value) {
+    } else if is_extended_limit(has_extended_low, data_type, name, value) {
         extended_change(alloc, data_type, name, value)
     } else {
         Ok(None)
@@ -166,7 +166,7 @@ pub(crate) fn entry_change(
         return Ok(Some(Mended { kind, new }));
     }
     match facts.data_type {
-        Some(data_type) => number_at_type(alloc, facts.has_negative_low, data_type, name, value),
+        Some(data_type) => number_at_type(alloc, facts.has_extended_low, data_type, name, value),
         None => Ok(None),
     }
 }

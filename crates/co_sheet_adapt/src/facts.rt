@@ -14,7 +14,7 @@ ghost use Rattle.co_sheet_adapt.specs.Expanded.{facts_as_written};
 ghost use Rattle.co_sheet_changes.specs.Views.{group_view};
 
 use crate::left_out::LeftOut;
-use co_sheet_changes::{Group, data_type_of, has_negative_low, has_unsigned_limits};
+use co_sheet_changes::{Group, data_type_of, has_extended_low, has_unsigned_limits};
 use co_sheet_text::{SectionKind, unsigned_number};
 use co_value::DataType;
 
@@ -32,7 +32,7 @@ pub(crate) struct Facts {
     /// Whether the limits of a signed number are those of the unsigned type.
     pub(crate) has_unsigned_limits: bool,
     /// Whether its LowLimit is a negative number.
-    pub(crate) has_negative_low: bool,
+    pub(crate) has_extended_low: bool,
 }
 
 fn object_code(group: &Group) -> Option<u64>
@@ -107,7 +107,7 @@ impl Facts {
             left_out: left_out_of(group),
             data_type: data_type_of(group),
             has_unsigned_limits: has_unsigned_limits(group),
-            has_negative_low: has_negative_low(group),
+            has_extended_low: has_extended_low(group),
         }
     }
 
@@ -121,7 +121,7 @@ impl Facts {
             left_out: None,
             data_type: None,
             has_unsigned_limits: false,
-            has_negative_low: false,
+            has_extended_low: false,
         }
     }
 }

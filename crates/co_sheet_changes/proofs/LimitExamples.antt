@@ -1,48 +1,57 @@
 -- Limits of the unsigned type, numbers with their sign extended, and end marks, on both sides of each
 -- edge.
-use Rattle.std.proofs.Common.{◌≡◌, ℕ, Bool, List, [], ◌∷◌, Option, Some, None, true, false, refl, codes, map}
+use Rattle.std.proofs.Common.{◌≡◌, ℕ, Bool, List, [], ◌∷◌, ◌++◌, Option, Some, None, true, false, refl, codes, map}
 use Rattle.co_text.specs.Printed.{digits_text}
 use Rattle.co_value.specs.declared.data_type.DataType.TheVariants.{Integer8, Integer16, Integer32, Integer64, Unsigned16}
 use Rattle.co_sheet_text.specs.Text.{lines_of}
 use Rattle.co_sheet_changes.specs.Groups.{Group, groups_of, is_end_text}
-use Rattle.co_sheet_changes.specs.Limits.{has_unsigned_limits, is_whole_unsigned}
-use Rattle.co_sheet_changes.specs.Extended.{has_negative_low, is_extended_limit, is_negative_at, sign_extended}
+use Rattle.co_sheet_changes.specs.Limits.{has_unsigned_limits}
+use Rattle.co_sheet_changes.specs.Extended.{has_extended_low, is_extended_limit, sign_extended}
 
 -- ---- limits of the unsigned type
-
-limits : map (is_whole_unsigned Integer32 (Some (codes "0x0"))) (Some 0xFFFFFFFF ∷ Some 0xFFFFFFFE ∷ Some 0x100000000 ∷ Some 0x7FFFFFFF ∷ None ∷ [])
-    ≡ true ∷ false ∷ false ∷ false ∷ false ∷ []
-limits = refl
-
-low_limits : map (λ low. is_whole_unsigned Integer16 low (Some 0xFFFF)) (None ∷ Some (codes "0") ∷ Some (codes "1") ∷ Some (codes "-1") ∷ Some (codes "x") ∷ [])
-    ≡ true ∷ true ∷ false ∷ false ∷ false ∷ []
-low_limits = refl
-
-least_type : map (is_whole_unsigned Integer8 None) (Some 255 ∷ Some 256 ∷ Some 127 ∷ []) ≡ true ∷ false ∷ false ∷ []
-least_type = refl
-
-greatest_type : map (is_whole_unsigned Integer64 None) (Some 0xFFFFFFFFFFFFFFFF ∷ Some 0xFFFFFFFF ∷ []) ≡ true ∷ false ∷ []
-greatest_type = refl
-
-unsigned_limits : is_whole_unsigned Unsigned16 (Some (codes "0")) (Some 0xFFFF) ≡ false
-unsigned_limits = refl
-
-unsigned_alone : is_whole_unsigned Unsigned16 None (Some 0xFFFF) ≡ false
-unsigned_alone = refl
 
 -- of the first section of a text
 abbrev has : (Group → Bool) → List Group → Bool
 has test [] = false
 has test (g ∷ groups) = test g
 
--- an empty LowLimit is none; one that is no number isn't
-whole : map (λ text. has has_unsigned_limits (groups_of (lines_of text)))
-    (codes "[2000]\nDataType=3\nHighLimit=65535\n" ∷ codes "[2000]\nDataType=3\nLowLimit=\nHighLimit=0xFFFF\n"
-    ∷ codes "[2000]\nDataType=3\nLowLimit=0x0\nHighLimit=0xFFFF\n" ∷ codes "[2000]\nDataType=3\nLowLimit=x\nHighLimit=0xFFFF\n"
-    ∷ codes "[2000]\nDataType=3\nLowLimit=-5\nHighLimit=0xFFFF\n" ∷ codes "[2000]\nDataType=3\nLowLimit=0\n"
-    ∷ codes "[2000]\nDataType=6\nHighLimit=0xFFFF\n" ∷ codes "[2000]\nHighLimit=0xFFFF\n" ∷ [])
-    ≡ true ∷ true ∷ true ∷ false ∷ false ∷ false ∷ false ∷ false ∷ []
-whole = refl
+-- with these lines the limits of a section are those of the unsigned type
+abbrev whole : List ℕ → Bool
+whole lines = has has_unsigned_limits (groups_of (lines_of (codes "[2000]\n" ++ lines)))
+
+-- LowLimit is 0: the greatest number of each type, and those beside it
+limits : map (λ high. whole (codes "DataType=4\nLowLimit=0x0\nHighLimit=" ++ high))
+    (codes "0xFFFFFFFF" ∷ codes "4294967295" ∷ codes "0xFFFFFFFE" ∷ codes "0x100000000" ∷ codes "0x7FFFFFFF" ∷ codes "" ∷ [])
+    ≡ true ∷ true ∷ false ∷ false ∷ false ∷ false ∷ []
+limits = refl
+
+low_limits : map (λ low. whole (codes "DataType=3\nHighLimit=0xFFFF\nDefaultValue=5\nLowLimit=" ++ low)) (codes "" ∷ codes "0" ∷ codes "1" ∷ codes "-1" ∷ codes "x" ∷ [])
+    ≡ true ∷ true ∷ false ∷ false ∷ false ∷ []
+low_limits = refl
+
+-- no LowLimit: in decimal
+least_type : map (λ high. whole (codes "DataType=2\nHighLimit=" ++ high)) (codes "255" ∷ codes "256" ∷ codes "127" ∷ [])
+    ≡ true ∷ false ∷ false ∷ []
+least_type = refl
+
+greatest_type : map (λ high. whole (codes "DataType=21\nHighLimit=" ++ high)) (codes "18446744073709551615" ∷ codes "4294967295" ∷ [])
+    ≡ true ∷ false ∷ []
+greatest_type = refl
+
+-- In two's complement it is -1, which is meant unless the entry begins with 0 or more.
+beginnings : map (λ lines. whole (codes "DataType=3\nHighLimit=0xFFFF\n" ++ lines))
+    (codes "" ∷ codes "DefaultValue=-5" ∷ codes "DefaultValue=0xFFFB" ∷ codes "DefaultValue=x" ∷ codes "DefaultValue=0" ∷ codes "DefaultValue=5"
+    ∷ codes "DefaultValue=-5\nParameterValue=5" ∷ codes "DefaultValue=0x7FFF" ∷ [])
+    ≡ false ∷ false ∷ false ∷ false ∷ true ∷ true ∷ true ∷ true ∷ []
+beginnings = refl
+
+in_decimal : map (λ lines. whole (codes "DataType=3\nHighLimit=65535\n" ++ lines)) (codes "" ∷ codes "DefaultValue=-5" ∷ []) ≡ true ∷ true ∷ []
+in_decimal = refl
+
+-- of an unsigned type, of none, and without a HighLimit
+no_signed : map whole (codes "DataType=6\nLowLimit=0\nHighLimit=0xFFFF" ∷ codes "LowLimit=0\nHighLimit=0xFFFF" ∷ codes "DataType=3\nLowLimit=0" ∷ [])
+    ≡ false ∷ false ∷ false ∷ []
+no_signed = refl
 
 -- ---- a sign that is extended
 
@@ -76,20 +85,14 @@ widest = refl
 unsigned : sign_extended Unsigned16 (codes "0xFFFFFF9C") ≡ None
 unsigned = refl
 
-negative : map (is_negative_at Integer16) (codes "-1" ∷ codes "0x8000" ∷ codes "0xFFFF8000" ∷ codes "0" ∷ codes "-0" ∷ codes "0x7FFF" ∷ codes "32768" ∷ codes "x" ∷ [])
-    ≡ true ∷ true ∷ true ∷ false ∷ false ∷ false ∷ false ∷ false ∷ []
-negative = refl
+-- LowLimit has its sign extended: not in decimal, not in the bytes of its type, nor of an unsigned type
+extended_low : map (λ text. has has_extended_low (groups_of (lines_of text)))
+    (codes "[2000]\nDataType=3\nLowLimit=0xFFFF8000\n" ∷ codes "[2000]\nDataType=3\nLowLimit=-1\n" ∷ codes "[2000]\nDataType=3\nLowLimit=0x8000\n"
+    ∷ codes "[2000]\nDataType=3\nLowLimit=-40000\n" ∷ codes "[2000]\nDataType=3\nHighLimit=0xFFFF8000\n" ∷ codes "[2000]\nDataType=6\nLowLimit=0xFFFF8000\n" ∷ [])
+    ≡ true ∷ false ∷ false ∷ false ∷ false ∷ false ∷ []
+extended_low = refl
 
-never_negative : map (is_negative_at Unsigned16) (codes "0x8000" ∷ codes "0xFFFF8000" ∷ []) ≡ false ∷ false ∷ []
-never_negative = refl
-
-negative_low : map (λ text. has has_negative_low (groups_of (lines_of text)))
-    (codes "[2000]\nDataType=3\nLowLimit=0xFFFF8000\n" ∷ codes "[2000]\nDataType=3\nLowLimit=-1\n" ∷ codes "[2000]\nDataType=3\nLowLimit=0\n"
-    ∷ codes "[2000]\nDataType=3\nHighLimit=-1\n" ∷ codes "[2000]\nDataType=6\nLowLimit=0xFFFF8000\n" ∷ [])
-    ≡ true ∷ true ∷ false ∷ false ∷ false ∷ []
-negative_low = refl
-
--- LowLimit, and HighLimit beside a LowLimit that isn't negative, and beside one that is
+-- LowLimit, and HighLimit beside a LowLimit without this, and beside one that has it
 low : map (λ value. is_extended_limit false Integer16 (codes "LowLimit") value) (codes "0xFFFF8000" ∷ codes "0xFFFF7FFF" ∷ codes "0x8000" ∷ [])
     ≡ true ∷ false ∷ false ∷ []
 low = refl

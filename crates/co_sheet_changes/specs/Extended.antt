@@ -1,15 +1,13 @@
 -- Numbers of signed types with their sign extended to more bytes than the type has (CiA 306, object
 -- description; CiA 301, INTEGERn).
-use Rattle.std.specs.Prelude.{ℕ, ◌+◌, ◌-◌, ◌*◌, ◌^◌, ℤ, pos, int_lt, Bool, false, ◌&&◌, ◌||◌, nat_le, nat_lt, if◌then◌else◌, List, codes, ◌++◌, Option, Some, None, option_and_then, Result, Ok}
+use Rattle.std.specs.Prelude.{ℕ, ◌+◌, ◌-◌, ◌*◌, ◌^◌, Bool, false, ◌&&◌, ◌||◌, nat_le, nat_lt, if◌then◌else◌, List, codes, ◌++◌, Option, Some, None, option_and_then, Result, Ok}
 use Rattle.std.specs.Option.{option_map_or}
-use Rattle.std.specs.Result.{result_ok}
 use Rattle.co_text.specs.Printed.{digits_text}
 use Rattle.co_value.specs.declared.data_type.DataType.{DataType}
 use Rattle.co_sheet_text.specs.declared.numeral.Numeral.{Numeral}
 use Rattle.co_sheet_text.specs.declared.numeral.Numeral.TheVariants.{Hexadecimal}
 use Rattle.co_sheet_text.specs.declared.numeral.NumeralFault.{NumeralFault}
 use Rattle.co_sheet_text.specs.Numerals.{signed_numeral}
-use Rattle.co_sheet.specs.Limits.{number_at_type}
 use Rattle.co_sheet_changes.specs.Groups.{Group, value_in}
 use Rattle.co_sheet_changes.specs.Limits.{data_type_of, is_limit, is_low, signed_width}
 
@@ -49,23 +47,15 @@ sign_extended t value =
     option_and_then (λ width. option_and_then (within_width width) (hexadecimal_in value))
     (signed_width t)
 
--- a value that is a negative number of its type, in its bytes or with its sign extended
-abbrev pub is_below_zero : ℤ → Bool
-is_below_zero z = int_lt z (pos 0)
-
-abbrev pub is_negative_at : DataType → List ℕ → Bool
-is_negative_at t value =
-    is_extended t value || option_map_or is_below_zero (result_ok (number_at_type t value)) false
-
 -- LowLimit is such a value
-abbrev pub has_negative_low : Group → Bool
-has_negative_low g =
+abbrev pub has_extended_low : Group → Bool
+has_extended_low g =
     option_map_or
-    (λ t. option_map_or (is_negative_at t) (value_in (codes "LowLimit") g.body) false)
+    (λ t. option_map_or (is_extended t) (value_in (codes "LowLimit") g.body) false)
     (data_type_of g) false
 
--- a limit that is read as a negative number with its sign extended; HighLimit only beside a negative
--- LowLimit, since else it would be below it
+-- A limit that is read as a negative number with its sign extended. HighLimit only beside such a
+-- LowLimit: else it would be below it, or may be the greatest number of a wider unsigned type.
 abbrev pub is_extended_limit : Bool → DataType → List ℕ → List ℕ → Bool
-is_extended_limit negative_low t name value =
-    is_limit name && (is_low name || negative_low) && is_extended t value
+is_extended_limit extended_low t name value =
+    is_limit name && (is_low name || extended_low) && is_extended t value

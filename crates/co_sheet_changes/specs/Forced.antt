@@ -34,12 +34,12 @@ is_forced_at t value = is_numeric t && is_against t (number_at_type t value)
 
 -- so has one with its sign extended
 abbrev pub is_forced_of : Bool → DataType → List ℕ → List ℕ → Bool
-is_forced_of negative_low t name value =
-    is_forced_at t value && not (is_extended_limit negative_low t name value)
+is_forced_of extended_low t name value =
+    is_forced_at t value && not (is_extended_limit extended_low t name value)
 
 abbrev pub is_forced_limit : Bool → Option DataType → List ℕ → List ℕ → Bool
-is_forced_limit negative_low t name value =
-    is_limit name && option_map_or (λ type. is_forced_of negative_low type name value) t false
+is_forced_limit extended_low t name value =
+    is_limit name && option_map_or (λ type. is_forced_of extended_low type name value) t false
 
 -- it becomes a comment
 abbrev pub as_comment : List ℕ → List ℕ → List ℕ
@@ -83,8 +83,8 @@ is_sync kind = false
 
 abbrev pub forced_change : List ℕ → SectionKind → Bool → Option DataType → List ℕ → List ℕ
     → Option Mended
-forced_change mappings kind negative_low t name value =
-    if is_forced_limit negative_low t name value
+forced_change mappings kind extended_low t name value =
+    if is_forced_limit extended_low t name value
     then Some (mended ForcedLimit (as_comment name value))
     else if is_sync kind && is_preset name then sync_change name value
     else mapping_change (is_mapping_of mappings kind) name value

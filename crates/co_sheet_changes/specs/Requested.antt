@@ -10,7 +10,7 @@ use Rattle.co_sheet_changes.specs.declared.request.Request.{Request as CodeReque
 use Rattle.co_sheet_changes.specs.declared.request.Request.TheVariants as asked
 use Rattle.co_sheet_changes.specs.declared.requested.Facts.{Facts}
 use Rattle.co_sheet_changes.specs.ZeroNames.{has_numbers, zero_change}
-use Rattle.co_sheet_changes.specs.Extended.{has_negative_low}
+use Rattle.co_sheet_changes.specs.Extended.{has_extended_low}
 use Rattle.co_sheet_changes.specs.Forced.{limited_type, forced_change}
 
 -- to read leading zeros in a base; to force, with the mappings that are at fault
@@ -32,14 +32,14 @@ facts_of request g = record {
   kind = g.kind;
   numbers = numbers_of request g;
   data_type = limited_type g;
-  has_negative_low = has_negative_low g;
+  has_extended_low = has_extended_low g;
 }
 
 abbrev pub change_in : Request → Facts → List ℕ → List ℕ → Option Mended
 change_in (read_zeros zeros) facts name value =
     zero_change zeros facts.kind facts.numbers name value
 change_in (force_with mappings) facts name value =
-    forced_change mappings facts.kind facts.has_negative_low facts.data_type name value
+    forced_change mappings facts.kind facts.has_extended_low facts.data_type name value
 
 abbrev pub line_piece : Request → Facts → Line → Piece
 line_piece request facts line =

@@ -3,13 +3,12 @@
 
 ghost use Rattle.std.specs.Prelude.{◌≡◌, ◌≤◌, IfOk, option_map};
 ghost use Rattle.co_sheet_changes.specs.Extended.{
-  has_negative_low,
+  has_extended_low,
   hexadecimal_in,
   is_extended,
   is_extended_by,
   is_extended_limit,
   is_extended_to,
-  is_negative_at,
   is_sign_extended,
   sign_extended,
 };
@@ -96,37 +95,25 @@ pub fn sign_extended(
     }
 }
 
-// whether a value is a negative number of its type, in its bytes or with its sign extended
-fn is_negative_at(data_type: DataType, value: &[u8]) -> bool
-    ensures { result ≡ is_negative_at data_type value.now }
-{
-    let is_below_zero = match signed_numeral(value) {
-        Ok(numeral) => numeral.value_at(data_type) < 0,
-        Err(_) => false,
-    };
-    is_extended(data_type, value) || is_below_zero
-}
-
-/// Whether the LowLimit of a section is a negative number of its type, in its bytes or with its sign
-/// extended.
-pub fn has_negative_low(group: &Group) -> bool
-    ensures { result ≡ has_negative_low (group_view group.now) }
+/// Whether the LowLimit of a section is a negative number of its type with its sign extended.
+pub fn has_extended_low(group: &Group) -> bool
+    ensures { result ≡ has_extended_low (group_view group.now) }
 {
     match (data_type_of(group), group.value(b"LowLimit")) {
-        (Some(data_type), Some(value)) => is_negative_at(data_type, value),
+        (Some(data_type), Some(value)) => is_extended(data_type, value),
         _ => false,
     }
 }
 
 /// Whether a limit is read as a negative number with its sign extended: LowLimit always, HighLimit
-/// only beside a negative LowLimit, since else it would be below it.
+/// only beside such a LowLimit.
 pub fn is_extended_limit(
-    has_negative_low: bool,
+    has_extended_low: bool,
     data_type: DataType,
     name: &[u8],
     value: &[u8],
 ) -> bool
-    ensures { result ≡ is_extended_limit has_negative_low data_type name.now value.now }
+    ensures { result ≡ is_extended_limit has_extended_low data_type name.now value.now }
 {
-    is_limit(name) && (is_low(name) || has_negative_low) && is_extended(data_type, value)
+    is_limit(name) && (is_low(name) || has_extended_low) && is_extended(data_type, value)
 }

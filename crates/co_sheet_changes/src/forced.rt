@@ -56,18 +56,18 @@ fn is_forced_at(data_type: DataType, value: &[u8]) -> bool
 }
 
 // the same, but for one that is read as a negative number with its sign extended
-fn is_forced_of(has_negative_low: bool, data_type: DataType, name: &[u8], value: &[u8]) -> bool
-    ensures { result ≡ is_forced_of has_negative_low data_type name.now value.now }
+fn is_forced_of(has_extended_low: bool, data_type: DataType, name: &[u8], value: &[u8]) -> bool
+    ensures { result ≡ is_forced_of has_extended_low data_type name.now value.now }
 {
-    is_forced_at(data_type, value) && !is_extended_limit(has_negative_low, data_type, name, value)
+    is_forced_at(data_type, value) && !is_extended_limit(has_extended_low, data_type, name, value)
 }
 
 fn is_forced_limit(facts: &Facts, name: &[u8], value: &[u8]) -> bool
-    ensures { result ≡ is_forced_limit facts.now.has_negative_low facts.now.data_type name.now value.now }
+    ensures { result ≡ is_forced_limit facts.now.has_extended_low facts.now.data_type name.now value.now }
 {
     match facts.data_type {
         Some(data_type) => {
-            is_limit(name) && is_forced_of(facts.has_negative_low, data_type, name, value)
+            is_limit(name) && is_forced_of(facts.has_extended_low, data_type, name, value)
         }
         None => false,
     }
@@ -174,7 +174,7 @@ pub(crate) fn forced_change(
     value: &[u8],
 ) -> Result<Option<Mended>, AllocError>
     ensures { IfOk result (λ made. option_map mended_view made
-        ≡ forced_change mappings.now facts.now.kind facts.now.has_negative_low facts.now.data_type
+        ≡ forced_change mappings.now facts.now.kind facts.now.has_extended_low facts.now.data_type
         name.now value.now) }
 {
     if is_forced_limit(facts, name, value) {

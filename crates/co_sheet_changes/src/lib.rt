@@ -41,7 +41,7 @@ mod zeros;
 
 pub use change::{Change, ChangeKind, Mended, Piece};
 pub use digits::{hexadecimal, push_number};
-pub use extended::{has_negative_low, is_extended_limit, sign_extended};
+pub use extended::{has_extended_low, is_extended_limit, sign_extended};
 pub use fault::AdaptFault;
 pub use group::{Group, before_sections, groups_in, without_blanks};
 pub use limits::{data_type_of, has_unsigned_limits, is_limit, is_preset};

@@ -4,21 +4,23 @@
 ghost use Rattle.std.specs.Prelude.{◌≡◌, ◌≤◌, ◌^◌};
 ghost use Rattle.co_sheet_changes.specs.Limits.{
   data_type_of,
+  has_from_zero,
   has_unsigned_limits,
+  is_from_zero,
   is_limit,
   is_low,
   is_preset,
   is_whole_unsigned,
   is_zero,
+  lacks_negative,
   signed_width,
   starts_at_zero,
 };
-ghost use Rattle.std.specs.Option.{option_copied};
 ghost use Rattle.co_sheet_changes.specs.Views.{group_view};
 
 use crate::group::Group;
 use co_sheet::data_type_with;
-use co_sheet_text::{same_name, unsigned_number};
+use co_sheet_text::{same_name, signed_numeral, unsigned_number};
 use co_value::DataType;
 
 /// Whether a name is that of the lower limit.
@@ -78,38 +80,62 @@ pub(crate) fn is_zero(value: &[u8]) -> bool
     matches!(unsigned_number(value).ok(), Some(0))
 }
 
-fn starts_at_zero(low: Option<&[u8]>) -> bool
-    ensures { result ≡ starts_at_zero (option_copied low.entry) }
+fn is_from_zero(data_type: DataType, value: &[u8]) -> bool
+    ensures { result ≡ is_from_zero data_type value.now }
 {
-    match low {
+    match signed_numeral(value) {
+        Ok(numeral) => numeral.value_at(data_type) >= 0,
+        Err(_) => false,
+    }
+}
+
+// whether a key of a section is a number of 0 or more at a type
+fn has_from_zero(data_type: DataType, group: &Group, name: &[u8]) -> bool
+    ensures { result ≡ has_from_zero data_type (group_view group.now) name.now }
+{
+    match group.value(name) {
+        Some(value) => is_from_zero(data_type, value),
+        None => false,
+    }
+}
+
+// whether a HighLimit without a LowLimit isn't meant as -1
+fn lacks_negative(data_type: DataType, group: &Group) -> bool
+    ensures { result ≡ lacks_negative data_type (group_view group.now) }
+{
+    has_from_zero(data_type, group, b"HighLimit")
+        || has_from_zero(data_type, group, b"DefaultValue")
+        || has_from_zero(data_type, group, b"ParameterValue")
+}
+
+fn starts_at_zero(data_type: DataType, group: &Group) -> bool
+    ensures { result ≡ starts_at_zero data_type (group_view group.now) }
+{
+    match group.value(b"LowLimit") {
         Some(value) => is_zero(value),
-        None => true,
+        None => lacks_negative(data_type, group),
     }
 }
 
 // whether two limits are those of the unsigned type of as many bytes as a signed one has
-fn is_whole_unsigned(data_type: DataType, low: Option<&[u8]>, high: Option<u64>) -> bool
-    ensures { result ≡ is_whole_unsigned data_type (option_copied low.entry) high }
+fn is_whole_unsigned(data_type: DataType, group: &Group) -> bool
+    ensures { result ≡ is_whole_unsigned data_type (group_view group.now) }
 {
-    match (signed_width(data_type), high) {
+    match (signed_width(data_type), group.number(b"HighLimit")) {
         (Some(width), Some(high)) => {
-            starts_at_zero(low) && u128::from(high) + 1 == power_of_two(8 * width)
+            u128::from(high) + 1 == power_of_two(8 * width) && starts_at_zero(data_type, group)
         }
         _ => false,
     }
 }
 
 /// Whether the limits of a signed number are those of the unsigned type of as many bytes: HighLimit
-/// its greatest number, and LowLimit 0 or not there.
+/// its greatest number, and LowLimit 0, or not there where no negative number is meant.
 pub fn has_unsigned_limits(group: &Group) -> bool
     ensures { result ≡ has_unsigned_limits (group_view group.now) }
 {
     match data_type_of(group) {
-        Some(data_type) => is_whole_unsigned(
-            data_type,
-            group.value(b"LowLimit"),
-            group.number(b"HighLimit"),
-        ),
+        Some(data_type) => is_whole_unsigned(data_type, group),
         None => false,
     }
 }

@@ -21,7 +21,7 @@ ghost use Rattle.co_sheet_changes.specs.Requested.{
 };
 
 use crate::change::{Mended, Piece};
-use crate::extended::has_negative_low;
+use crate::extended::has_extended_low;
 use crate::fault::AdaptFault;
 use crate::forced::{forced_change, limited_type};
 use crate::group::{Group, before_sections, groups_in};
@@ -54,7 +54,7 @@ pub(crate) struct Facts {
     /// The data type to which its limits must belong.
     pub(crate) data_type: Option<DataType>,
     /// Whether its LowLimit is a negative number.
-    pub(crate) has_negative_low: bool,
+    pub(crate) has_extended_low: bool,
 }
 
 fn numbers_of(alloc: Global, request: Request<'_>, group: &Group) -> Result<bool, AllocError>
@@ -74,7 +74,7 @@ fn facts_of(alloc: Global, request: Request<'_>, group: &Group) -> Result<Facts,
         kind: group.kind,
         numbers,
         data_type: limited_type(group),
-        has_negative_low: has_negative_low(group),
+        has_extended_low: has_extended_low(group),
     })
 }
 
