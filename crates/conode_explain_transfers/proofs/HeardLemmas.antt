@@ -10,7 +10,6 @@ use Rattle.conode_explain_transfers.specs.declared.ended.Ending.TheVariants.{Don
 use Rattle.conode_explain_transfers.specs.declared.kinds.Side.{Side}
 use Rattle.conode_explain_transfers.specs.declared.kinds.Side.TheVariants.{Client, Server}
 use Rattle.conode_explain_transfers.specs.declared.kinds.What.{What}
-use Rattle.conode_explain_transfers.specs.declared.kinds.What.TheVariants.{LastAgain}
 use Rattle.conode_explain_transfers.specs.declared.reading.Reading.{Reading}
 use Rattle.conode_explain_transfers.specs.declared.reading.Reading.TheVariants.{Begin}
 use Rattle.conode_explain_transfers.specs.declared.stage.Stage.TheVariants.{SubBlock, AllAcknowledged}
@@ -20,8 +19,9 @@ use Rattle.conode_explain_transfers.specs.Data.{IfDone, IsDoneWith, data_by}
 use Rattle.conode_explain_transfers.specs.Doubtful.{begun_by, freed, freed_by, if_answered, is_answer, noted, shown_by}
 use Rattle.conode_explain_transfers.specs.Followed.{Event, Framed, BootedUp, Following, ends_as, followed, with_frame}
 use Rattle.conode_explain_transfers.specs.HeardData.{beside, heard_after, heard_of, data_freed, data_heard, heard_data, IsDoneHeard}
-use Rattle.conode_explain_transfers.specs.Hearings.{after_aside, aside, awaits_answer, heard_next, hearing_by, hearing_in, hearing_late, hearing_where, is_over, lacks_acknowledge, lacks_start, last_again, late, late_segment, leaves_after_last, left_awaiting, made_up, may_mean_this, named, newest_number, sure_end, sure_ending, with_late, with_left}
+use Rattle.conode_explain_transfers.specs.Hearings.{after_aside, aside, awaits_answer, heard_next, hearing_by, hearing_in, hearing_late, hearing_where, is_over, lacks_acknowledge, lacks_start, last_again, late, late_segment, leaves_after_last, left_awaiting, made_up, may_mean_this, named, sure_end, sure_ending}
 use Rattle.conode_explain_transfers.specs.Readings.{plain_reading, reading_of}
+use Rattle.conode_explain_transfers.specs.Transfers.{irregular}
 use Rattle.conode_explain_transfers.specs.Turns.{turn_of}
 use Rattle.conode_explain_transfers.proofs.DataLemmas.{IsOpenWith, StaysOpen, frame_open, frame_step}
 use Rattle.conode_explain_transfers.proofs.DoneLemmas.{frame_done}
@@ -33,11 +33,10 @@ pub says_next : (old x : Following) (said : Heard) (awaits : Option Bool) (again
     → again ≡ last_again old.transfer side frame → what ≡ named again said.what → end ≡ sure_end awaits said.ended → record { what = what; of = said.of; ended = end } ≡ (heard_next old micros side frame).says
 says_next old x said awaits again what end micros side frame made is was came name sure = rw (sure, name, came, was, is, made) refl
 
-pub next_next : (old x y new : Following) (newest : ℕ) (what : What) (micros : ℕ) (side : Side) (frame : List ℕ)
+pub next_next : (old x y new : Following) (what : What) (micros : ℕ) (side : Side) (frame : List ℕ)
     → x ≡ record old { transfer = made_up old.transfer side frame } → y ≡ (followed x micros side frame).next → what ≡ (followed x micros side frame).says.what
-    → newest ≡ newest_number old.transfer → new ≡ record y { transfer = with_left newest side frame (noted side what micros frame y.transfer) }
-    → new ≡ (heard_next old micros side frame).next
-next_next old x y new newest what micros side frame made is said came note = rw (note, came, said, is, made) refl
+    → new ≡ record y { transfer = noted side what micros frame y.transfer } → new ≡ (heard_next old micros side frame).next
+next_next old x y new what micros side frame made is said note = rw (note, said, is, made) refl
 
 -- ---- a frame
 
@@ -92,16 +91,7 @@ noted_open side what micros frame None bytes h = tt
 noted_open Client what micros frame (Some transfer) bytes h = record { unconfirmed = h.unconfirmed; taken = h.taken }
 noted_open Server what micros frame (Some transfer) bytes h = h
 
--- nor that of its newest segment
-with_left_open : (newest : ℕ) (side : Side) (frame : List ℕ) (current : Option Transfer) (bytes : List ℕ) → StaysOpen current bytes → StaysOpen (with_left newest side frame current) bytes
-with_left_open newest side frame None bytes h = tt
-with_left_open newest side frame (Some transfer) bytes h = record { unconfirmed = h.unconfirmed; taken = h.taken }
-
--- nor does a segment after its acknowledge
-with_late_open : (what : What) (frame : List ℕ) (transfer : Transfer) (bytes : List ℕ) → IsOpenWith transfer bytes → IsOpenWith (with_late what frame transfer) bytes
-with_late_open (LastAgain number) frame transfer bytes h = record { unconfirmed = h.unconfirmed; taken = h.taken }
-with_late_open _ frame transfer bytes h = record { unconfirmed = h.unconfirmed; taken = h.taken }
-
+-- nor does the last segment after its acknowledge
 late_open : (what : What) (following : Following) (micros : ℕ) (side : Side) (frame bytes : List ℕ) → StaysOpen following.transfer bytes
     → StaysOpen (late following what micros side frame).next.transfer bytes
 late_open what following micros side frame bytes h = of following.transfer h
@@ -109,9 +99,8 @@ late_open what following micros side frame bytes h = of following.transfer h
     of : (current : Option Transfer) → StaysOpen current bytes → StaysOpen (late (record following { transfer = current }) what micros side frame).next.transfer bytes
     of None h = tt
     of (Some transfer) h =
-        let counted : Transfer = with_frame what (with_late what frame transfer) micros side in
-        noted_open side what micros frame (Some counted) bytes
-        (frame_open what (with_late what frame transfer) micros side bytes (with_late_open what frame transfer bytes h))
+        noted_open side what micros frame (Some (with_frame what (irregular transfer) micros side)) bytes
+        (frame_open what (irregular transfer) micros side bytes (record { unconfirmed = h.unconfirmed; taken = h.taken }))
 
 -- a request that was taken for a segment begins without data
 begun_open : (reading : Reading) (transfer : Transfer) → StaysOpen (begun_by reading transfer) []
@@ -152,11 +141,9 @@ heard_step following micros side frame bytes h = where_over (is_over following.t
     by (Some what) = aside_open following.transfer frame bytes h
     by None =
         let x : Following = record following { transfer = current } in
-        let after : Option Transfer = (followed x micros side frame).next.transfer in
-        let kept : List ℕ = data_by current (reading_of current side frame) frame bytes in
-        with_left_open (newest_number following.transfer) side frame (noted side (followed x micros side frame).says.what micros frame after) kept
-        (noted_open side (followed x micros side frame).says.what micros frame after kept
-        (frame_step following.heard current (reading_of current side frame) micros side frame bytes (made_open following.transfer side frame bytes h)))
+        noted_open side (followed x micros side frame).says.what micros frame (followed x micros side frame).next.transfer
+        (data_by current (reading_of current side frame) frame bytes)
+        (frame_step following.heard current (reading_of current side frame) micros side frame bytes (made_open following.transfer side frame bytes h))
 
     where_late : (x : Option What) → StaysOpen (hearing_late x following micros side frame).next.transfer (data_heard (beside x (aside following.transfer side frame)) current side frame bytes)
     where_late (Some what) = late_open what following micros side frame bytes h

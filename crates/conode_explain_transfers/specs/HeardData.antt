@@ -22,7 +22,7 @@ heard_after (BootedUp micros ∷ older) = after_boot (heard_after older)
 abbrev pub heard_of : List Event → ℕ → Side → List ℕ → Heard
 heard_of log micros side frame = (hearing (heard_after log) micros side frame).says
 
--- a frame that takes no data: a segment after its acknowledge, or one that is put aside
+-- a frame that takes no data: the last segment after its acknowledge, or one that is put aside
 abbrev pub beside : Option What → Option What → Option What
 beside (Some late) passed = Some late
 beside None passed = passed

@@ -13,7 +13,7 @@ use Rattle.conode_explain_transfers.specs.declared.ended.Ending.TheVariants.{Una
 use Rattle.conode_explain_transfers.specs.declared.kinds.Side.{Side}
 use Rattle.conode_explain_transfers.specs.declared.kinds.Side.TheVariants.{Client, Server}
 use Rattle.conode_explain_transfers.specs.declared.kinds.What.{What}
-use Rattle.conode_explain_transfers.specs.declared.kinds.What.TheVariants.{Segment, OutOfSequence, LastAgain, Overtaken, Unexpected}
+use Rattle.conode_explain_transfers.specs.declared.kinds.What.TheVariants.{Segment, LastAgain, Overtaken, Unexpected}
 use Rattle.conode_explain_transfers.specs.declared.reading.Reading.{Reading}
 use Rattle.conode_explain_transfers.specs.declared.reading.Reading.TheVariants.{Begin}
 use Rattle.conode_explain_transfers.specs.declared.stage.Stage.{Stage}
@@ -204,7 +204,7 @@ abbrev pub named : Option What → What → What
 named (Some again) Unexpected = again
 named again what = what
 
--- ---- segments that come after the acknowledge of their sub-block
+-- ---- the last segment again, after its acknowledge
 
 abbrev pub is_all_acknowledged : Stage → Bool
 is_all_acknowledged AllAcknowledged = true
@@ -217,55 +217,14 @@ is_again_acknowledged transfer side bytes =
     (is_all_acknowledged transfer.stage && is_sender transfer.direction side)
     && (is_low_last bytes && (number_of bytes + 1 == transfer.next_number))
 
--- A receiver may acknowledge a sub-block before its end, since a segment is missing (7.2.4.3.10,
--- 7.2.4.3.14). The sender goes on with segment 1, and what it had under way comes before that: the
--- segments after the newest one.
-abbrev pub is_left_segment : Transfer → Side → List ℕ → Bool
-is_left_segment transfer side bytes =
-    (is_within_sub_block transfer.stage && is_sender transfer.direction side)
-    && (((length bytes == 8) && nat_lt 0 transfer.left_number)
-    && (nat_le (number_of bytes) transfer.block_size && (number_of bytes == transfer.left_number + 1)))
-
-abbrev pub late_in : Transfer → Side → List ℕ → Option What
-late_in transfer side bytes =
-    if is_again_acknowledged transfer side bytes then Some (LastAgain (number_of bytes))
-    else (if is_left_segment transfer side bytes then Some (OutOfSequence (number_of bytes) transfer.next_number) else None)
-
--- what such a segment is
+-- what it is then
 abbrev pub late_segment : Option Transfer → Side → List ℕ → Option What
 late_segment None side bytes = None
-late_segment (Some transfer) side bytes = late_in transfer side bytes
+late_segment (Some transfer) side bytes = if is_again_acknowledged transfer side bytes then Some (LastAgain (number_of bytes)) else None
 
--- One that was under way is taken by no one, and the next sub-block still begins with 1.
-abbrev pub with_late : What → List ℕ → Transfer → Transfer
-with_late (LastAgain number) bytes transfer = irregular transfer
-with_late _ bytes transfer = record transfer { left_number = number_of bytes }
-
--- the transfer after it
+-- the transfer after it: a frame is in the recording twice
 abbrev pub after_late : What → ℕ → Side → List ℕ → Transfer → Transfer
-after_late what micros side bytes transfer = with_newest side what micros bytes (with_frame what (with_late what bytes transfer) micros side)
-
--- the number of the newest segment that came of a sub-block, also after its acknowledge; 0: none came
-abbrev pub newest_in : Transfer → ℕ
-newest_in transfer = if transfer.left_number == 0 then transfer.next_number - 1 else transfer.left_number
-
-abbrev pub newest_number : Option Transfer → ℕ
-newest_number None = 0
-newest_number (Some transfer) = newest_in transfer
-
--- a sub-block begins with this acknowledge of the one before: A2h of the receiver, in both directions
-abbrev pub begins_next : Side → List ℕ → Transfer → Bool
-begins_next side bytes transfer =
-    (transfer.next_number == 1) && (not (is_sender transfer.direction side) && (slice_index bytes 0 == 162))
-
--- It names the newest segment that was taken, in byte 1; segments after the newest one that came may be
--- under way where that isn't the same.
-abbrev pub left_by : ℕ → Side → List ℕ → Transfer → ℕ
-left_by newest side bytes transfer = if begins_next side bytes transfer && nat_lt (slice_index bytes 1) newest then newest else 0
-
-abbrev pub with_left : ℕ → Side → List ℕ → Option Transfer → Option Transfer
-with_left newest side bytes None = None
-with_left newest side bytes (Some transfer) = Some (record transfer { left_number = left_by newest side bytes transfer })
+after_late what micros side bytes transfer = with_newest side what micros bytes (with_frame what (irregular transfer) micros side)
 
 -- ---- ends
 
@@ -326,7 +285,7 @@ cut following micros = record {
   next = after_boot following;
 }
 
--- a segment after the acknowledge of its sub-block: it has the entry of the open transfer
+-- the last segment after its acknowledge: it has the entry of the open transfer
 abbrev pub late : Following → What → ℕ → Side → List ℕ → Followed
 late following what micros side bytes = record {
   says = record { what = what; of = option_map (λ t. t.key) following.transfer; ended = None };
@@ -339,15 +298,15 @@ with_end awaits f = record { says = record f.says { ended = sure_end awaits f.sa
 abbrev pub with_name : Option What → Followed → Followed
 with_name again f = record { says = record f.says { what = named again f.says.what }; next = f.next }
 
--- the client's newest frame is kept, where it may be a request; and which segments may be under way
-abbrev pub with_note : ℕ → ℕ → Side → List ℕ → Followed → Followed
-with_note newest micros side bytes f =
-    record { says = f.says; next = record f.next { transfer = with_left newest side bytes (noted side f.says.what micros bytes f.next.transfer) } }
+-- the client's newest frame is kept, where it may be a request
+abbrev pub with_note : ℕ → Side → List ℕ → Followed → Followed
+with_note micros side bytes f =
+    record { says = f.says; next = record f.next { transfer = noted side f.says.what micros bytes f.next.transfer } }
 
 -- the channel takes it
 abbrev pub heard_next : Following → ℕ → Side → List ℕ → Followed
 heard_next following micros side bytes =
-    with_name (last_again following.transfer side bytes) (with_note (newest_number following.transfer) micros side bytes
+    with_name (last_again following.transfer side bytes) (with_note micros side bytes
     (with_end (awaits_answer micros following.transfer) (followed (record following { transfer = made_up following.transfer side bytes }) micros side bytes)))
 
 abbrev pub hearing_by : Option What → Following → ℕ → Side → List ℕ → Followed

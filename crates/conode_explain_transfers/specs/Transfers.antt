@@ -36,7 +36,6 @@ begun initiate micros bytes = record {
   put_aside = false;
   doubtful = record { id = 0; bytes = [] };
   doubtful_at = 0;
-  left_number = 0;
 }
 
 abbrev pub is_download : Direction → Bool

@@ -46,7 +46,6 @@ ghost use Rattle.conode_explain_transfers.specs.Hearings.{
   sure_end,
   sure_ending,
   with_aside,
-  with_left,
   with_missing,
 };
 ghost use Rattle.conode_explain_transfers.specs.Readings.{is_in_sub_block, plain_reading};
@@ -193,8 +192,8 @@ impl Stage {
         }
     }
 
-    /// Whether segments of a sub-block are awaited.
-    pub(crate) fn is_within_sub_block(self) -> bool
+    // Whether segments of a sub-block are awaited.
+    fn is_within_sub_block(self) -> bool
         ensures { result ≡ is_within_sub_block self }
     {
         match self {
@@ -505,17 +504,13 @@ impl Channel {
         }
     }
 
-    // Keeps the client's newest frame, where it may be a request; and the number of the newest
-    // segment, where it is of a sub-block that is over.
-    fn note(&mut self, newest: u8, side: Side, what: What, micros: u64, frame: &Frame)
-        ensures { self.new ≡ record self.old {
-          transfer = with_left newest side frame.now.bytes
-              (noted side what micros frame.now.bytes self.old.transfer);
-        } }
+    // Keeps the client's newest frame, where it may be a request.
+    fn note(&mut self, side: Side, what: What, micros: u64, frame: &Frame)
+        ensures { self.new ≡ record self.old
+            { transfer = noted side what micros frame.now.bytes self.old.transfer } }
     {
         if let Some(transfer) = &mut self.transfer {
             transfer.note_newest(side, what, micros, frame);
-            transfer.note_left(newest, side, frame);
         }
     }
 
@@ -526,10 +521,9 @@ impl Channel {
     {
         let awaits = self.awaits_answer(micros);
         let again = self.last_again(side, frame);
-        let newest = self.newest_number();
         self.make_up(side, frame);
         let heard = self.take(micros, side, frame);
-        self.note(newest, side, heard.what, micros, frame);
+        self.note(side, heard.what, micros, frame);
         Heard {
             what: named(again, heard.what),
             of: heard.of,
@@ -562,9 +556,8 @@ impl Channel {
     /// size, the segments are followed; none of which frames are missing, or an abort was put
     /// aside, is `Unanswered` or `Repeated`; where segments of a sub-block are left, a download
     /// that the client leaves is `Interrupted`, and an upload `Unanswered` only where no frame came
-    /// for 50 ms; the last segment of a sub-block that comes again is `LastAgain`, also after its
-    /// acknowledge; and segments that were under way at an acknowledge of fewer than came leave the
-    /// transfer regular. What the frame reveals of a transfer that was left has to be asked for
+    /// for 50 ms; and the last segment of a sub-block that comes again is `LastAgain`, also after
+    /// its acknowledge. What the frame reveals of a transfer that was left has to be asked for
     /// before (`reveals`).
     pub fn hear(&mut self, micros: u64, side: Side, frame: &Frame) -> Heard
         ensures heard { result ≡ (hearing self.old micros side frame.now.bytes).says }

@@ -63,9 +63,6 @@ pub(crate) struct Transfer {
     pub(crate) doubtful: Frame,
     /// The stamp of the client's newest frame, once one came after the request.
     pub(crate) doubtful_at: u64,
-    /// Where the newest frame is an acknowledge that names fewer segments than came, or a segment
-    /// that was still under way then: the number of the newest segment of that sub-block. Else 0.
-    pub(crate) left_number: u8,
 }
 
 impl Transfer {
@@ -100,7 +97,6 @@ impl Transfer {
             put_aside: false,
             doubtful: Frame::default(),
             doubtful_at: 0,
-            left_number: 0,
         }
     }
 
