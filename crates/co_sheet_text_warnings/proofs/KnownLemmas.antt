@@ -24,7 +24,7 @@ read_keys =
     ∷ key.ParameterValue ∷ key.PdoMapping ∷ key.SubNumber ∷ key.CompactSubObj ∷ []
 
 abbrev other_keys : List KnownKey
-other_keys = key.ObjFlags ∷ key.Denotation ∷ key.ParamRefd ∷ key.UploadFile ∷ key.DownloadFile ∷ key.OriginalDataType ∷ []
+other_keys = key.ObjFlags ∷ key.Denotation ∷ key.ParamRefd ∷ key.UploadFile ∷ key.DownloadFile ∷ []
 
 pub known_read : (name : List ℕ) → is_read_name (Object 0) name ≡ true → list_any (has_text name) object_keys ≡ true
 known_read name read =

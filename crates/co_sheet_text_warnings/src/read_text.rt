@@ -1,16 +1,16 @@
 //! A text as it is read, with what is looked up in it.
 
-ghost use Rattle.std.specs.Prelude.{◌≡◌, is_some, map, IfOk};
+ghost use Rattle.std.specs.Prelude.{◌≡◌, is_some, map, option_map, IfOk};
 ghost use Rattle.co_sheet.specs.Entries.{sub_indices};
 ghost use Rattle.co_sheet.specs.ObjectLists.{is_listed};
-ghost use Rattle.co_sheet.specs.SectionViews.{entry_view, object_at};
+ghost use Rattle.co_sheet.specs.SectionViews.{entry_view, object_at, object_view};
 ghost use Rattle.co_sheet_text.specs.Views.{section_view};
 ghost use Rattle.co_sheet_text_warnings.specs.Views.{text_view};
 
 use crate::keys::WrittenKey;
 use crate::lines::first_other;
 use crate::lists::listed_indices;
-use co_sheet::{EntrySection, Tables};
+use co_sheet::{EntrySection, ListedSection, Tables};
 use co_sheet_text::TextSection;
 use indexmap::IndexSet;
 use std::alloc::{AllocError, Global};
@@ -87,6 +87,13 @@ impl<'s, 'a> ReadText<'s, 'a> {
         ensures { map entry_view result.now ≡ sub_indices self.now.sections index }
     {
         self.tables.parts(index)
+    }
+
+    /// The section of an object, the first if there are several; `None` where there is none.
+    pub fn object(&self, index: u16) -> Option<ListedSection<'s, 'a>>
+        ensures { option_map object_view result ≡ object_at index self.now.sections }
+    {
+        self.tables.object(u64::from(index))
     }
 
     /// Whether an object has a section of its own.

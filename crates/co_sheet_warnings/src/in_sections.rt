@@ -31,7 +31,7 @@ pub(crate) fn place_in(text: &ReadText, kind: WarningKind, section: &TextSection
         WarningKind::NegativeLimit => negative_limit(section),
         WarningKind::ReservedValue => reserved_value(section),
         WarningKind::WrongAccess => wrong_access(section),
-        WarningKind::WrongType => wrong_type(section),
+        WarningKind::WrongType => wrong_type(text, section),
         WarningKind::MisspeltSection => misspelt_section(text, section),
         WarningKind::InhibitTime => inhibit_time(text, section),
         WarningKind::OwnHeartbeat => own_heartbeat(text.node, section),
