@@ -4,6 +4,7 @@ ghost use Rattle.std.specs.Prelude.{◌≡◌};
 ghost use Rattle.conode_stats_counts.specs.Guardings.{
   answered_with,
   asked_with,
+  control_booted,
   control_by,
   control_timed,
   first_asked,
@@ -16,13 +17,20 @@ ghost use Rattle.conode_stats_counts.specs.Guardings.{
 pub enum ErrorControl {
     /// There is none; or a heartbeat, and since then 1017:00 was shown to be 0.
     Nothing,
-    /// A heartbeat: without the toggle bit, and no request came since the frame before it, which has no
-    /// toggle bit either; or the frame before it is a heartbeat. Also after 1017:00 was shown not to be 0.
+    /// A heartbeat, as it seems: without the toggle bit, and no request came since the frame before it,
+    /// which is neither `TimedHeartbeat` nor `Answer(true)`.
     Heartbeat,
-    /// A guarding answer perhaps: a request came since the frame before it, but neither has the toggle
-    /// bit, and nothing shows that the node sends heartbeats.
+    /// A heartbeat, as it seems: without the toggle bit, and a request came since the frame before it, which
+    /// is `Heartbeat`.
+    AskedHeartbeat,
+    /// A heartbeat: the newest transfer that shows 1017:00 shows that it isn't 0, and no toggle bit came
+    /// since. The transfer may be newer than the frame, and then there may be none.
+    TimedHeartbeat,
+    /// A guarding answer perhaps: without the toggle bit, and a request came since the frame before it, which
+    /// is `Nothing`, `AskedHeartbeat`, `Requested` or `Answer(false)`.
     Requested,
-    /// A guarding answer: it has the toggle bit (`true`), or the frame before it has.
+    /// A guarding answer: it has the toggle bit (`true`), or it hasn't, and the frame before it has
+    /// (`false`). Also `false` once a boot-up follows it: the toggle bit begins anew there.
     Answer(bool),
 }
 
@@ -55,9 +63,20 @@ impl ErrorControl {
         match self {
             _ if toggle => ErrorControl::Answer(true),
             ErrorControl::Answer(true) => ErrorControl::Answer(false),
-            ErrorControl::Heartbeat => ErrorControl::Heartbeat,
-            _ if asked => ErrorControl::Requested,
-            _ => ErrorControl::Heartbeat,
+            ErrorControl::TimedHeartbeat => ErrorControl::TimedHeartbeat,
+            _ if !asked => ErrorControl::Heartbeat,
+            ErrorControl::Heartbeat => ErrorControl::AskedHeartbeat,
+            _ => ErrorControl::Requested,
+        }
+    }
+
+    // once a boot-up follows it
+    fn booted(self) -> ErrorControl
+        ensures { result ≡ control_booted self }
+    {
+        match self {
+            ErrorControl::Answer(_) => ErrorControl::Answer(false),
+            other => other,
         }
     }
 
@@ -66,8 +85,9 @@ impl ErrorControl {
         ensures { result ≡ control_timed time self }
     {
         match self {
-            _ if time > 0 => ErrorControl::Heartbeat,
-            ErrorControl::Heartbeat => ErrorControl::Nothing,
+            _ if time > 0 => ErrorControl::TimedHeartbeat,
+            ErrorControl::Heartbeat | ErrorControl::AskedHeartbeat | ErrorControl::TimedHeartbeat =>
+                ErrorControl::Nothing,
             other => other,
         }
     }
@@ -86,9 +106,11 @@ impl Guarding {
     pub(crate) fn hear(&mut self, boots: bool, toggle: bool)
         ensures { self.new ≡ answered_with boots toggle self.old }
     {
-        if !boots {
-            self.control = self.control.next(toggle, self.asked.is_some());
-        }
+        self.control = if boots {
+            self.control.booted()
+        } else {
+            self.control.next(toggle, self.asked.is_some())
+        };
         self.asked = None;
     }
 

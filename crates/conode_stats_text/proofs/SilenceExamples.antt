@@ -2,7 +2,7 @@
 use Rattle.std.proofs.Common.{ℕ, Option, [], ◌∷◌, ◌≡◌, Some, None, true, false, refl}
 use Rattle.std.specs.Prelude.{List}
 use Rattle.conode_stats_counts.specs.declared.guarding.ErrorControl.{ErrorControl}
-use Rattle.conode_stats_counts.specs.declared.guarding.ErrorControl.TheVariants.{Nothing, Heartbeat, Requested, Answer}
+use Rattle.conode_stats_counts.specs.declared.guarding.ErrorControl.TheVariants.{Nothing, Heartbeat, AskedHeartbeat, TimedHeartbeat, Requested, Answer}
 use Rattle.conode_stats_counts.specs.declared.node.Node.{Node}
 use Rattle.conode_stats_counts.specs.declared.row.Row.{Row}
 use Rattle.conode_stats_counts.specs.declared.state.NmtState.TheVariants.{BootUp}
@@ -64,6 +64,12 @@ guarded_all_the_same = refl
 -- one that has heartbeats doesn't answer a request
 asked_in_vain : beat_silence (ended_at 1150001) None (controlled Heartbeat (Some 1100000)) ≡ Some (record { since = 1000000; pace = Written 100 })
 asked_in_vain = refl
+
+asked_once_in_vain : beat_silence (ended_at 1150001) None (controlled AskedHeartbeat (Some 1100000)) ≡ Some (record { since = 1000000; pace = Written 100 })
+asked_once_in_vain = refl
+
+asked_always_in_vain : beat_silence (ended_at 1150001) None (controlled TimedHeartbeat (Some 1100000)) ≡ Some (record { since = 1000000; pace = Written 100 })
+asked_always_in_vain = refl
 
 -- nor has one that sent nothing yet
 none_sent : beat_silence (ended_at 1150001) None (controlled Nothing None) ≡ Some (record { since = 1000000; pace = Written 100 })
