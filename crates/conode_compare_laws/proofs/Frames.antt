@@ -222,7 +222,7 @@ boots_shown false = refl
 pub boot_passes : (subject : Subject) (rows : List Row) (p : Progress) (micros : ℕ) → FitsAt micros boots p → Passes subject rows p micros (Control 0) (runs node.PreOperational)
 unfolding found second_boot_up booted states.after_control after_boot_up
 boot_passes subject rows p micros h = record {
-  none = ap (λ b. option_to_list (second_boot_up p.earlier b micros)) h.0;
+  none = ap (λ b. option_to_list (second_boot_up b micros)) h.0;
   fits = boots_shown (boots_known subject.limits p.nmt.commanded micros);
 }
 

@@ -105,67 +105,57 @@ said_once : boot_finding limits (after_other limits (reset_at 1) 10000002) 20000
 unfolding boot_finding awaits_boot_up after_other
 said_once = refl
 
-second : second_boot_up None (Some 0) 1000000 ≡ Some (SecondBootUp 1000000)
+second : second_boot_up (Some 0) 1000000 ≡ Some (SecondBootUp 1000000)
 unfolding second_boot_up
 second = refl
 
-again : second_boot_up None (Some 0) 1000001 ≡ None
+again : second_boot_up (Some 0) 1000001 ≡ None
 unfolding second_boot_up
 again = refl
 
--- in a recording without stamps
-same_stamp : second_boot_up None (Some 5) 5 ≡ None
+-- in a recording without stamps, or in one that stamps a batch at its begin
+same_stamp : second_boot_up (Some 5) 5 ≡ None
 unfolding second_boot_up
 same_stamp = refl
 
--- Two with one stamp, 2 s, came within a second, where the stamp before is no older, as in a log that is rounded to 1 s. With
--- two stamps that one says nothing.
-one_stamp : map (λ earlier. second_boot_up (Some earlier) (Some 2000000) 2000000) (1999999 ∷ 1000000 ∷ 999999 ∷ 0 ∷ []) ≡ Some (SecondBootUp 0) ∷ Some (SecondBootUp 0) ∷ None ∷ None ∷ []
-unfolding second_boot_up
-one_stamp = refl
-
-two_stamps : map (second_boot_up (Some 1999999) (Some 1000000)) (2000000 ∷ 2000001 ∷ []) ≡ Some (SecondBootUp 1000000) ∷ None ∷ []
-unfolding second_boot_up
-two_stamps = refl
-
-just_later : second_boot_up None (Some 5) 6 ≡ Some (SecondBootUp 1)
+just_later : second_boot_up (Some 5) 6 ≡ Some (SecondBootUp 1)
 unfolding second_boot_up
 just_later = refl
 
 -- a boot-up without a reset
-restarted : restart_remark limits (record { state = Stopped; commanded = None; reset = Some 5; several = false; booted = None; due = Unknown; followed = None; changed = None; strayed = Unknown; mixed = false; odd = None; leaving = Nothing }) None 9000000 ≡ Some Restarted
+restarted : restart_remark limits (record { state = Stopped; commanded = None; reset = Some 5; several = false; booted = None; due = Unknown; followed = None; changed = None; strayed = Unknown; mixed = false; odd = None; leaving = Nothing }) 9000000 ≡ Some Restarted
 unfolding restart_remark second_boot_up
 restarted = refl
 
-commanded_boot_up : restart_remark limits (reset_at 1) None 9000000 ≡ None
+commanded_boot_up : restart_remark limits (reset_at 1) 9000000 ≡ None
 unfolding restart_remark second_boot_up
 commanded_boot_up = refl
 
 -- of a device that wasn't seen before
-power_on : restart_remark limits nothing_commanded None 9000000 ≡ None
+power_on : restart_remark limits nothing_commanded 9000000 ≡ None
 unfolding restart_remark second_boot_up
 power_on = refl
 
 -- of which more than one boot-up may come
-perhaps_commanded : restart_remark limits (record { state = PreOperational; commanded = None; reset = Some 5; several = true; booted = None; due = Unknown; followed = None; changed = None; strayed = Unknown; mixed = false; odd = None; leaving = Nothing }) None 9000000 ≡ None
+perhaps_commanded : restart_remark limits (record { state = PreOperational; commanded = None; reset = Some 5; several = true; booted = None; due = Unknown; followed = None; changed = None; strayed = Unknown; mixed = false; odd = None; leaving = Nothing }) 9000000 ≡ None
 unfolding restart_remark second_boot_up
 perhaps_commanded = refl
 
 -- up to 10 s after the newest reset
-one_of_several : map (restart_remark limits (record nothing_commanded { state = PreOperational; reset = Some 5; several = true }) None) (10000005 ∷ 10000006 ∷ []) ≡ None ∷ Some Restarted ∷ []
+one_of_several : map (restart_remark limits (record nothing_commanded { state = PreOperational; reset = Some 5; several = true })) (10000005 ∷ 10000006 ∷ []) ≡ None ∷ Some Restarted ∷ []
 unfolding restart_remark second_boot_up
 one_of_several = refl
 
 -- a second one within a second is another device's
-of_another : restart_remark limits (record { state = PreOperational; commanded = None; reset = None; several = false; booted = Some 0; due = Unknown; followed = None; changed = None; strayed = Unknown; mixed = false; odd = None; leaving = Nothing }) None 1000000 ≡ None
+of_another : restart_remark limits (record { state = PreOperational; commanded = None; reset = None; several = false; booted = Some 0; due = Unknown; followed = None; changed = None; strayed = Unknown; mixed = false; odd = None; leaving = Nothing }) 1000000 ≡ None
 unfolding restart_remark second_boot_up
 of_another = refl
 
-restarted_again : restart_remark limits (record { state = PreOperational; commanded = None; reset = None; several = false; booted = Some 0; due = Unknown; followed = None; changed = None; strayed = Unknown; mixed = false; odd = None; leaving = Nothing }) None 1000001 ≡ Some Restarted
+restarted_again : restart_remark limits (record { state = PreOperational; commanded = None; reset = None; several = false; booted = Some 0; due = Unknown; followed = None; changed = None; strayed = Unknown; mixed = false; odd = None; leaving = Nothing }) 1000001 ≡ Some Restarted
 unfolding restart_remark second_boot_up
 restarted_again = refl
 
-of_one_stamp : map (λ earlier. restart_remark limits (record nothing_commanded { state = PreOperational; booted = Some 2000000 }) earlier 2000000) (Some 1000000 ∷ Some 999999 ∷ None ∷ []) ≡ None ∷ Some Restarted ∷ Some Restarted ∷ []
+of_one_stamp : restart_remark limits (record nothing_commanded { state = PreOperational; booted = Some 2000000 }) 2000000 ≡ Some Restarted
 unfolding restart_remark second_boot_up
 of_one_stamp = refl
 
@@ -261,11 +251,11 @@ same_state = refl
 
 -- a boot-up after a reset command is right, however soon after another one; after another command it
 -- isn't
-reset_since : second_boot_up None (after_command (up_in PreOperational) ResetNode false 5).booted 6 ≡ None
+reset_since : second_boot_up (after_command (up_in PreOperational) ResetNode false 5).booted 6 ≡ None
 unfolding after_command second_boot_up
 reset_since = refl
 
-started_since : second_boot_up None (after_command (up_in PreOperational) Start false 5).booted 6 ≡ Some (SecondBootUp 6)
+started_since : second_boot_up (after_command (up_in PreOperational) Start false 5).booted 6 ≡ Some (SecondBootUp 6)
 unfolding after_command second_boot_up
 started_since = refl
 

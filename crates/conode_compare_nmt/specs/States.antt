@@ -19,8 +19,7 @@ use Rattle.conode_compare_nmt.specs.declared.repeated.Odd.{Odd}
 use Rattle.conode_compare_nmt.specs.declared.repeated.Odd.TheVariants.{Byte, Length}
 use Rattle.conode_compare_nmt.specs.declared.nmt.Nmt.{Nmt}
 use Rattle.conode_compare_nmt.specs.Leavings.{is_running, leaving_after, leaving_shown, was_stopped}
-use Rattle.conode_compare_transfers.specs.Times.{is_past, micros_of}
-use Rattle.conode_compare_nmt.specs.Times.{most_passed}
+use Rattle.conode_compare_transfers.specs.Times.{is_past}
 
 abbrev pub nothing_commanded : Nmt
 nothing_commanded = record {
@@ -133,11 +132,12 @@ boot_finding limits nmt micros = option_map (λ waited. BootMissing waited) (awa
 -- `second-sender`: another boot-up within a second, and only one was due. Between them came no reset
 -- command, and no heartbeat, answer or EMCY of the device; a PDO may be another node's. A device that
 -- is switched off and on by hand takes longer than a second, but perhaps not longer than a boot-up may
--- take. `earlier`: the last other stamp.
-unfoldable pub second_boot_up : Option ℕ → Option ℕ → ℕ → Option Finding
-second_boot_up earlier None micros = None
-second_boot_up earlier (Some booted) micros =
-    if option_map_or (λ most. nat_le most (micros_of 1000)) (most_passed earlier booted micros) false then Some (SecondBootUp (micros - booted)) else None
+-- take. Two with one stamp may be far apart: in a recording without stamps, or of a recorder that stamps a batch at its
+-- begin, or reads its queue in parts.
+unfoldable pub second_boot_up : Option ℕ → ℕ → Option Finding
+second_boot_up None micros = None
+second_boot_up (Some booted) micros =
+    if nat_le micros booted || is_past booted 1000 micros then None else Some (SecondBootUp (micros - booted))
 
 -- more than one boot-up may still come: the newest reset isn't so old that its boot-up would be
 -- overdue
@@ -146,9 +146,9 @@ several_left limits nmt micros = option_map_or (λ reset. nmt.several && not (is
 
 -- `restarted`: a boot-up of a device that was seen up, though no reset was commanded since; none of
 -- several that may be due, and not where it is taken for another device's
-unfoldable pub restart_remark : Limits → Nmt → Option ℕ → ℕ → Option Remark
-restart_remark limits nmt earlier micros =
-    if not (is_up nmt.state) || (several_left limits nmt micros || is_some (second_boot_up earlier nmt.booted micros)) then None else Some Restarted
+unfoldable pub restart_remark : Limits → Nmt → ℕ → Option Remark
+restart_remark limits nmt micros =
+    if not (is_up nmt.state) || (several_left limits nmt micros || is_some (second_boot_up nmt.booted micros)) then None else Some Restarted
 
 -- After a boot-up a device is pre-operational. Where another command than a reset came shortly
 -- before, it may have taken it, and others before that: it may be stopped still.

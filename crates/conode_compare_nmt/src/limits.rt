@@ -45,7 +45,8 @@ pub fn drift_of(limits: &Limits, millis: u16) -> u64
 }
 
 /// How many microseconds have passed at most between two frames with these stamps: between two of one
-/// stamp no more than since the last other one, `earlier`; without that it isn't known.
+/// stamp no more than since the last other one, `earlier`; without that it isn't known. A recorder that
+/// stamps a batch at its begin, or reads its queue in parts, is an exception.
 pub(crate) fn most_passed(earlier: Option<u64>, from: u64, micros: u64) -> Option<u64>
     ensures { result ≡ most_passed earlier from micros }
 {

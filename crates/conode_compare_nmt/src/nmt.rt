@@ -42,10 +42,10 @@ ghost use Rattle.conode_compare_nmt.specs.States.{
 
 use crate::finding::{Finding, NmtState, Remark};
 use crate::leaving::{Leaving, is_running};
-use crate::limits::{Limits, Subject, most_passed};
+use crate::limits::{Limits, Subject};
 use crate::repeated::Odd;
 use co_frame::NmtService;
-use conode_compare_transfers::{is_past, micros_of};
+use conode_compare_transfers::is_past;
 
 // two boot-ups within so many ms are those of two devices
 const SECOND_BOOT_UP: u32 = 1000;
@@ -344,35 +344,28 @@ impl Nmt {
         }
     }
 
-    /// `second-sender`: the difference of a boot-up at a stamp in microseconds (CiA 301, 7.2.8.3.3);
-    /// `earlier`: the last other stamp.
+    /// `second-sender`: the difference of a boot-up at a stamp in microseconds (CiA 301, 7.2.8.3.3).
     #[tactic(auto, unfolding(crate::specs::States::second_boot_up))]
-    pub fn second_boot_up(&self, earlier: Option<u64>, micros: u64) -> Option<Finding>
-        ensures { result ≡ second_boot_up earlier self.now.booted micros }
+    pub fn second_boot_up(&self, micros: u64) -> Option<Finding>
+        ensures { result ≡ second_boot_up self.now.booted micros }
     {
-        let booted = self.booted?;
-        match most_passed(earlier, booted, micros) {
-            Some(most) if most <= micros_of(SECOND_BOOT_UP) => {
-                Some(Finding::SecondBootUp(micros.saturating_sub(booted)))
-            }
-            _ => None,
+        match self.booted {
+            // (two with one stamp may be far apart)
+            Some(booted) if micros <= booted || is_past(booted, SECOND_BOOT_UP, micros) => None,
+            Some(booted) => Some(Finding::SecondBootUp(micros.saturating_sub(booted))),
+            None => None,
         }
     }
 
     /// What is remarked of a boot-up at a stamp in microseconds, where the device was up and no reset
-    /// was commanded since (CiA 301, 7.2.8.3.3); `earlier`: the last other stamp.
+    /// was commanded since (CiA 301, 7.2.8.3.3).
     #[tactic(auto, unfolding(crate::specs::States::restart_remark))]
-    pub fn restart_remark(
-        &self,
-        limits: &Limits,
-        earlier: Option<u64>,
-        micros: u64,
-    ) -> Option<Remark>
-        ensures { result ≡ restart_remark limits.now self.now earlier micros }
+    pub fn restart_remark(&self, limits: &Limits, micros: u64) -> Option<Remark>
+        ensures { result ≡ restart_remark limits.now self.now micros }
     {
         if !is_up(self.state)
             || self.several_left(limits, micros)
-            || self.second_boot_up(earlier, micros).is_some()
+            || self.second_boot_up(micros).is_some()
         {
             None
         } else {

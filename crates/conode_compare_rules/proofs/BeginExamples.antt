@@ -145,8 +145,9 @@ one_device : last_found ((0, Control 0) ∷ []) 700000 (Control 0) ≡ Some (Sec
 unfolding findings_at progress_with begun booted found states.after_control after_boot_up second_boot_up
 one_device = refl
 
--- Two with one stamp came within a second, where the stamp before is no older; of a recording without stamps nothing is known.
-one_stamp : map (λ before. last_found ((before, Other) ∷ (2000000, Control 0) ∷ []) 2000000 (Control 0)) (999999 ∷ 1000000 ∷ 1999999 ∷ 2000000 ∷ [])
-    ≡ None ∷ Some (SecondBootUp 0) ∷ Some (SecondBootUp 0) ∷ None ∷ []
+-- Two with one stamp may be far apart, however near the stamp before is: of a recorder that stamps a batch at its begin, or reads
+-- its queue in parts.
+one_stamp : map (λ micros. last_found ((1999999, Other) ∷ (2000000, Control 0) ∷ []) micros (Control 0)) (2000000 ∷ 2000001 ∷ [])
+    ≡ None ∷ Some (SecondBootUp 1) ∷ []
 unfolding findings_at progress_with begun booted found states.after_control after_boot_up second_boot_up
 one_stamp = refl

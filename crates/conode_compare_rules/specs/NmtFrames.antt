@@ -47,7 +47,7 @@ after_guarding progress = record progress { heartbeats = record progress.heartbe
 -- ---- boot-ups
 
 abbrev pub boot_findings : Progress → ℕ → Findings
-boot_findings progress micros = found None None None (second_boot_up progress.earlier progress.nmt.booted micros) true
+boot_findings progress micros = found None None None (second_boot_up progress.nmt.booted micros) true
 
 -- A client asked to write an entry of the communication profile within the tolerance before the boot-up frame,
 -- when the bus was free last: the device may have booted up by then, and its frame waited.
@@ -85,7 +85,7 @@ booted subject progress micros = record progress {
   dialogue = record (interrupted progress.dialogue micros) { slow = nothing_left; sub_block = false };
   pdos = booted_pdos subject progress;
   written = nothing_written;
-  remark = restart_remark subject.limits progress.nmt progress.earlier micros;
+  remark = restart_remark subject.limits progress.nmt micros;
 }
 
 -- ---- heartbeats

@@ -213,10 +213,8 @@ impl Progress {
         ensures findings { result ≡ boot_findings self.old micros }
         ensures progress { self.new ≡ booted subject.now self.old micros }
     {
-        let frame = self.nmt.second_boot_up(self.earlier, micros);
-        self.remark = self
-            .nmt
-            .restart_remark(&subject.limits, self.earlier, micros);
+        let frame = self.nmt.second_boot_up(micros);
+        self.remark = self.nmt.restart_remark(&subject.limits, micros);
         self.nmt = self
             .nmt
             .after_control(&subject.limits, self.started, self.free, micros, 0);
