@@ -15,18 +15,27 @@
  * libbafokun.so alone; it calls malloc, realloc and free of the program.
  *
  * Rules for every call:
- * - No pointer is NULL, even if its count is 0. An array has as many elements as its count states.
+ * - No pointer is NULL, even if its count is 0, and each is aligned as its type is. An array has as
+ *   many elements as its count states.
  * - What a call writes (node, frames, bytes, length, fault, abort_code, elapsed, entry, events,
  *   number, text) overlaps no other argument.
- * - A node is in one call at a time, and no call comes from a signal handler. Different nodes may be
- *   used in different threads.
+ * - A node is in one call at a time, and each call ends before the next begins: a question too, since
+ *   each call may write the node. So no call comes from a signal handler or an interrupt, and none is
+ *   left by longjmp. Different nodes may be used in different threads: there is no data that they
+ *   share.
  * - A node begins as BAFOKUN_EMPTY, all bytes 0, as static memory is, and only the calls below write
  *   it. It may be moved, not copied.
- *   While it is empty, calls do nothing and return 0 or false; bafokun_idle returns BAFOKUN_FOREVER,
- *   and bafokun_ticks sets elapsed.
+ *   While it is empty, all calls but bafokun_build do nothing and return 0 or false; bafokun_idle
+ *   returns BAFOKUN_FOREVER, bafokun_ticks sets elapsed to most, bafokun_answer sets abort_code to 0,
+ *   and bafokun_entry_name puts an empty text.
  * - Arguments stay the caller's; none is used after the call, the text of the EDS included.
  * - Only bafokun_build allocates memory. It and bafokun_free free the memory of a device.
- * - malloc aligns blocks to 16 bytes, and malloc, realloc and free belong together.
+ * - malloc aligns blocks to 16 bytes, and malloc, realloc and free belong together. malloc and realloc
+ *   may return NULL.
+ * - The stack has room: bafokun_build took 42 KB on x86-64, bafokun_free 10, any other call 6 (measured
+ *   with 0.35.0, not proved).
+ * After the build the calls may come in any order. Each returns, and none waits for anything;
+ * bafokun_build takes ms, and bafokun_ticks time for each ms.
  * Numbers are in the byte order of the machine; the bytes of an entry and of a frame are in that of
  * CANopen, least significant byte first.
  */
@@ -41,9 +50,9 @@
 extern "C" {
 #endif
 
-#define BAFOKUN_VERSION "0.35.0"
+#define BAFOKUN_VERSION "0.36.0"
 #define BAFOKUN_VERSION_MAJOR 0
-#define BAFOKUN_VERSION_MINOR 35
+#define BAFOKUN_VERSION_MINOR 36
 #define BAFOKUN_VERSION_PATCH 0
 
 /* The version as a number: a byte for each of the three, the last in the lowest byte. */
@@ -135,7 +144,7 @@ typedef struct bafokun_events {
     uint8_t silent[128];         /* now: the heartbeat of this node is lost. This isn't forgotten */
 } bafokun_events;
 
-/* What bafokun_idle gives where nothing is ever due. */
+/* What bafokun_idle returns where nothing is ever due. */
 #define BAFOKUN_FOREVER UINT32_MAX
 
 /* NMT states, as the byte of a heartbeat (CiA 301, 7.2.8.3.2). */
@@ -156,8 +165,11 @@ typedef struct bafokun_events {
 
 /*
  * Builds the device of an EDS, a text of text_length bytes, at a node-ID, 1 to 127, in state
- * pre-operational. A device that the place had is freed first. Returns whether there is a device;
- * if not, fault is the reason, and the place is empty.
+ * pre-operational. The text needs no 0 after it, and has at most 1,048,576 bytes. A device that the
+ * place had is freed first, also if the build then fails. Returns whether there is a device; if not,
+ * fault is the reason, and the place is empty. If malloc or realloc returns NULL, that is
+ * BAFOKUN_SHEET_MEMORY or BAFOKUN_DEVICE_MEMORY, and all memory of the build is freed. If there is a
+ * device, fault is BAFOKUN_FAULT_NONE.
  */
 bool bafokun_build(bafokun_node *node, const char *text, size_t text_length, uint8_t node_id,
                    const bafokun_config *config, bafokun_fault *fault);
@@ -169,19 +181,21 @@ void bafokun_free(bafokun_node *node);
  * Inputs. Each puts the frames that the device then sends into frames, as many as there is room
  * for, in the order in which they are to be sent. It returns how many there are, at most
  * BAFOKUN_MOST_FRAMES. If there is no room for all, bafokun_sent returns the others, until the next
- * input.
+ * input. Places of the array past them stay as they are.
  */
 
 /*
  * The boot-up (CiA 301, 7.2.8.3.3): one frame, to be sent once after the build. Another call puts the
  * same frame again, 700h + node-ID with a byte 0, and changes neither the NMT state nor the answer.
- * The boot-up after a reset comes by itself.
+ * The boot-up after a reset comes by itself. The device works without this call too.
  */
 size_t bafokun_boot(bafokun_node *node, bafokun_frame *frames, size_t room);
 
 /*
- * A frame was received. A frame with an identifier above 7FFh, or with more than 8 bytes, is
- * ignored.
+ * A data frame with an identifier of 11 bits was received from another node: no remote frame, no
+ * error frame of the driver, no frame that this device sent. One with an identifier above 7FFh, or
+ * with more than 8 bytes, is no input: it sends nothing, and bafokun_sent and bafokun_answer still
+ * return what they did.
  */
 size_t bafokun_take(bafokun_node *node, const bafokun_frame *frame, bafokun_frame *frames, size_t room);
 
@@ -196,14 +210,17 @@ size_t bafokun_tick(bafokun_node *node, bafokun_frame *frames, size_t room);
  *     for (; late > 0; late -= elapsed)
  *         send(frames, bafokun_ticks(&node, late, &elapsed, frames, BAFOKUN_MOST_FRAMES));
  *
- * For an empty node all elapse, and nothing happens.
+ * It takes some 10 ns for each ms on a PC, about a second for a day. For an empty node all elapse, and
+ * nothing happens. With most 0 none elapses, and bafokun_sent then returns no frame.
  */
 size_t bafokun_ticks(bafokun_node *node, uint32_t most, uint32_t *elapsed, bafokun_frame *frames, size_t room);
 
 /*
  * The application writes an entry, even if SDO clients may only read it: all its bytes, as many as
  * its type has. bafokun_answer returns whether it was done: an entry that is BAFOKUN_CONST, or a
- * parameter of an SDO channel (1200h to 127Fh), is refused with the SDO abort code 06010002h.
+ * parameter of an SDO channel (1200h to 127Fh), is refused with the SDO abort code 06010002h. A
+ * missing entry, another number of bytes or a value outside the limits is refused with the code that
+ * an SDO client gets.
  */
 size_t bafokun_write(bafokun_node *node, uint16_t index, uint8_t sub_index, const uint8_t *bytes, size_t length,
                      bafokun_frame *frames, size_t room);
@@ -229,27 +246,35 @@ size_t bafokun_changed(bafokun_node *node, uint16_t index, uint8_t sub_index, ba
 /*
  * An error is raised: its emergency error code, other than 0, the bits that it sets in the error
  * register (1001h) besides bit 0, and five manufacturer-specific bytes (CiA 301, 7.2.7). Code 0 is
- * refused. Each call sends an emergency, also if the bits are set: call it once an error. At most
- * eight emergencies wait, as while the device is stopped; a ninth overwrites the oldest, and the
- * answer is BAFOKUN_DONE all the same.
+ * refused with the SDO abort code 06090030h. Each call sends an emergency, also if the bits are set:
+ * call it once an error. It is sent at once, or when the inhibit time of 1015h is over; it waits while
+ * the device is stopped, or 1014h is no valid COB-ID. At most eight emergencies wait; a ninth
+ * overwrites the oldest, and the answer is BAFOKUN_DONE all the same.
  */
 size_t bafokun_raise(bafokun_node *node, uint16_t code, uint8_t bits, const uint8_t manufacturer[5],
                      bafokun_frame *frames, size_t room);
 
 /*
- * Errors are gone: these bits of the error register are cleared, and no others. Add bit 0 when the
- * last error ends. Each call sends an emergency of code 0 with the bits that are left, also if none
- * changes, as with bits 0: call it once an error that ends. The device clears bits at a reset alone,
- * so those of the errors that it finds itself (8130h, 8200h, 8210h, 8220h, 8240h) stay too: bits 0
- * and 4.
+ * Errors are gone: these bits of the error register are cleared, whichever error set them, and no
+ * others. Add bit 0 when the last error ends; error passive is one too, and has bits 0 and 4. Each call
+ * sends an emergency of code 0 with the bits that are left, also if none changes, as with bits 0: call
+ * it once an error that ends. The device clears bits at a reset and at BAFOKUN_BUS_ACTIVE alone, so
+ * those of the errors that it finds itself (8130h, 8200h, 8210h, 8220h, 8240h) stay too: bits 0 and 4.
  */
 size_t bafokun_clear(bafokun_node *node, uint8_t bits, bafokun_frame *frames, size_t room);
 
 /*
  * The CAN controller changed. BAFOKUN_BUS_PASSIVE raises error 8120h, BAFOKUN_BUS_RECOVERED 8140h,
- * each with bit 4 of the error register, communication error. BAFOKUN_BUS_ACTIVE clears that bit,
- * and bit 0 if no other is left, whichever error set them. If another error that has bit 4 lasts, as
- * 8130h, call bafokun_clear with bits 0 in its place; if only one that has bit 0 alone, with 10h.
+ * each with bit 4 of the error register, communication error. BAFOKUN_BUS_ACTIVE ends them: it clears
+ * bit 4 if they alone have set it, and bit 0 if no other bit is left then; it sends an emergency of
+ * code 0 with the bits that are left.
+ * - Bit 4 stays if another error had set it when they were raised, or if since then a heartbeat was
+ *   lost (8130h), bafokun_raise raised an error that has it, or bafokun_write wrote it into 1001h.
+ * - Bit 0 stays if bafokun_raise raised an error that has no other bit, or bafokun_write wrote bit 0
+ *   into 1001h, before them or since: until bafokun_clear clears bit 0, or a reset.
+ * - Not known is an error that the device finds in an RPDO or a SYNC while bit 4 is set by them (8200h,
+ *   8210h, 8220h, 8240h), nor what an SDO client or an RPDO writes into 1001h, where the EDS permits it:
+ *   bit 4 is cleared all the same. To keep it, write the value of 1001h into it by bafokun_write.
  *
  * BAFOKUN_BUS_OFF changes the NMT state by 1029:01, as a lost heartbeat does: 0, or a missing entry,
  * leaves operational for pre-operational, 2 enters stopped, any other value changes nothing. A
@@ -264,13 +289,13 @@ size_t bafokun_bus(bafokun_node *node, uint8_t change, bafokun_frame *frames, si
 
 /*
  * The frames of the last input, starting with number from (0 is the first): put and counted as by
- * an input.
+ * an input, so the result is how many there are from that one on.
  */
 size_t bafokun_sent(bafokun_node *node, size_t from, bafokun_frame *frames, size_t room);
 
 /*
- * Questions: none changes the state of the device. bafokun_next_changed and bafokun_happened forget
- * what they returned.
+ * Questions: none changes the state of the device, nor what bafokun_sent returns.
+ * bafokun_next_changed and bafokun_happened forget what they returned.
  */
 
 /*
@@ -333,10 +358,10 @@ uint8_t bafokun_state(bafokun_node *node);
 
 /*
  * During this many ms the device sends nothing, and its entries and its NMT state stay the same, if
- * it gets no other input: a lower bound, which any input may change. BAFOKUN_FOREVER: no timer runs,
- * so nothing becomes due however long nothing is received; also for an empty node. A program may wait
- * for a frame until one ms more has elapsed, and then pass these ms at once, by bafokun_ticks, which
- * takes time for each: so wait a minute at most.
+ * it gets no other input: a lower bound, which any input may change. BAFOKUN_FOREVER: nothing waits
+ * for time, so nothing becomes due however long nothing is received; also for an empty node. A
+ * program may wait for a frame until one ms more has elapsed, and then pass these ms at once, by
+ * bafokun_ticks, which takes time for each: so wait a minute at most.
  *
  *     idle = bafokun_idle(&node);
  *     poll(&bus, 1, idle < 60000 ? (int)idle + 1 : 60000);
@@ -358,7 +383,8 @@ bool bafokun_happened(bafokun_node *node, bafokun_events *events);
  * The answer to the last input: BAFOKUN_DONE, or BAFOKUN_REFUSED with the SDO abort code in
  * abort_code, which is 0 otherwise; a refused event changes nothing. BAFOKUN_NO_EVENT if the last
  * input was no event of the application, but a frame, a tick, or a BAFOKUN_BUS_OFF that had an
- * effect; the other changes of bafokun_bus are events.
+ * effect, or if there was none since the build; the other changes of bafokun_bus are events.
+ * bafokun_boot leaves the answer as it is.
  */
 uint8_t bafokun_answer(bafokun_node *node, uint32_t *abort_code);
 
