@@ -17,8 +17,8 @@ use Rattle.co_sheet.specs.ObjectLists.{is_one_of}
 use Rattle.co_sheet_changes.specs.declared.change.ChangeKind.TheVariants.{CompactPdo, ListCount}
 use Rattle.co_sheet_changes.specs.Groups.{Given, Group, number_in_group, property_in}
 use Rattle.co_sheet_changes.specs.Pieces.{Mended, mended, assigned, Piece, added_lines}
-use Rattle.co_sheet_adapt.specs.declared.compact_pdo.Part.{Part}
-use Rattle.co_sheet_adapt.specs.declared.compact_pdo.Part.TheVariants.{Communication, Mapping, CobId, TransmissionType, InhibitTime, Reserved, EventTimer, SyncStart, MappingCount, MappingWord}
+use Rattle.co_sheet_adapt.specs.declared.pdo_sections.Part.{Part}
+use Rattle.co_sheet_adapt.specs.declared.pdo_sections.Part.TheVariants.{Communication, Mapping, CobId, TransmissionType, InhibitTime, Reserved, EventTimer, SyncStart, MappingCount, MappingWord}
 use Rattle.co_sheet_adapt.specs.Compact.{first_section, sub_head, sub_sections}
 
 -- what sections say of PDOs: the sub-indices of their communication objects, bit 0 for sub-index 1,

@@ -31,6 +31,7 @@ mod facts;
 mod left_out;
 mod meant;
 mod named;
+mod pdo_sections;
 mod pieces;
 mod values;
 mod whole;

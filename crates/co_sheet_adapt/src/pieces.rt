@@ -35,11 +35,12 @@ ghost use Rattle.co_sheet_changes.specs.Pieces.{mended_view, piece_view};
 ghost use Rattle.co_sheet_changes.specs.Views.{group_view, line_view};
 
 use crate::compact::{Compact, is_mapping};
-use crate::compact_pdo::{PdoForm, pdo_change, push_pdos};
+use crate::compact_pdo::{PdoForm, pdo_change};
 use crate::entry::entry_change;
 use crate::facts::Facts;
 use crate::meant::all_meant;
 use crate::named::Texts;
+use crate::pdo_sections::push_pdos;
 use co_sheet::GREATEST_SIZE;
 use co_sheet_changes::{
     AdaptFault, ChangeKind, Group, Line, Mended, Piece, assigned, before_sections, groups_in,

@@ -18,8 +18,8 @@ ghost use Rattle.co_sheet_adapt.specs.private.Named.{texts_at};
 ghost use Rattle.co_sheet_adapt.specs.private.Pdos.{form_view};
 
 use crate::compact::Compact;
-use crate::compact_pdo::push_pdo_objects;
 use crate::facts::Facts;
+use crate::pdo_sections::push_pdo_objects;
 use crate::pieces::Tables;
 use co_sheet::GREATEST_SIZE;
 use co_sheet_changes::{Group, Line, groups_in, joined, lines_in};

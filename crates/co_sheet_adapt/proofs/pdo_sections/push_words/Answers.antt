@@ -1,9 +1,9 @@
 use Rattle.std.proofs.Common.{◌∙◌, ◌+◌, append_assoc}
 use Rattle.co_sheet_adapt.specs.Compact.{sub_head}
 use Rattle.co_sheet_adapt.specs.CompactPdo.{keys_of, word_section}
-use Rattle.co_sheet_adapt.specs.declared.compact_pdo.Part.TheVariants.{MappingWord}
+use Rattle.co_sheet_adapt.specs.declared.pdo_sections.Part.TheVariants.{MappingWord}
 use Rattle.co_sheet_adapt.proofs.CompactLemmas.{section_added}
-use Rattle.co_sheet_adapt.proofs.compact_pdo.push_words.Goals as goal
+use Rattle.co_sheet_adapt.proofs.pdo_sections.push_words.Goals as goal
 
 pub loop-before-preserved : goal.loop-before-preserved
 loop-before-preserved c =
