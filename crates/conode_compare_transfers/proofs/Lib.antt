@@ -1,3 +1,4 @@
 mod BlockEndExamples
 mod Examples
 mod RequestExamples
+mod TimeoutExamples
