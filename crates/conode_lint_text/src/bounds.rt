@@ -23,8 +23,9 @@ ghost use Rattle.conode_lint_text.specs.Bounds.{
 };
 
 use crate::fact::Fact;
-use crate::facts::{key_value, section_before};
+use crate::facts::section_before;
 use crate::finding::About;
+use crate::line_facts::key_value;
 use co_sheet::{Preset, at_most, data_type_with, is_in_type, numeric_default};
 use co_sheet_text::TextSection;
 use co_value::DataType;

@@ -18,6 +18,7 @@ mod fact;
 mod facts;
 mod finding;
 mod json_form;
+mod line_facts;
 mod lists;
 mod meant_section;
 mod member;
@@ -34,12 +35,15 @@ pub use bounds::{bad_default, bad_limits};
 pub use characters::push_all_shown;
 pub use fact::Fact;
 pub use facts::{
-    ambiguous_number, bad_access, bad_line, bad_number, bad_type, device_info, duplicate_key,
-    duplicate_section, file_info, first_at, key_value, missing_key, missing_section, misspelt_key,
-    misspelt_section, reserved_value, too_large, utf8, wrong_access, wrong_list, wrong_type,
+    bad_type, device_info, duplicate_key, duplicate_section, file_info, first_at, missing_key,
+    misspelt_key, reserved_value, wrong_access, wrong_type,
 };
 pub use finding::{About, Finding, Place, Rule, Severity};
 pub use json_form::{put_document_end, put_document_head, put_file};
+pub use line_facts::{
+    ambiguous_number, bad_access, bad_line, bad_number, key_value, missing_section,
+    misspelt_section, too_large, utf8, wrong_list,
+};
 pub use lists::{bad_list, is_listed_nowhere, listed_twice, missing_mandatory};
 pub use meant_section::MeantSection;
 pub use numbers::{identity_number, pdo_count, sub_index_0, sub_number};

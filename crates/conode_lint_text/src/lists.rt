@@ -26,8 +26,9 @@ ghost use Rattle.conode_lint_text.specs.Facts.{
 };
 
 use crate::fact::Fact;
-use crate::facts::{key_number, section_on};
+use crate::facts::section_on;
 use crate::finding::About;
+use crate::line_facts::key_number;
 use co_sheet_text::{Property, TextSection, number_in};
 
 fn is_key_to(most: u64, name: &[u8]) -> bool

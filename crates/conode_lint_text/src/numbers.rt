@@ -23,8 +23,9 @@ ghost use Rattle.conode_lint_text.specs.Facts.{
 };
 
 use crate::fact::Fact;
-use crate::facts::{key_name, key_number, section_before};
+use crate::facts::section_before;
 use crate::finding::About;
+use crate::line_facts::{key_name, key_number};
 use co_sheet::section_at;
 use co_sheet_text::{SectionKind, TextSection, same_name};
 use co_sheet_text_warnings::object_count;

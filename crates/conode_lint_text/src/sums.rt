@@ -17,8 +17,9 @@ ghost use Rattle.conode_lint_text.specs.Sums.{
 };
 
 use crate::bounds::{bound_at, numeric_type};
-use crate::facts::{key_value, section_before};
+use crate::facts::section_before;
 use crate::finding::About;
+use crate::line_facts::key_value;
 use co_sheet::{Preset, numeric_default};
 use co_sheet_text::TextSection;
 use co_value::{DataType, Key};
