@@ -20,7 +20,8 @@ ghost use Rattle.conode_compare_nmt.specs.Heartbeats.{
 use crate::clients::is_channel;
 use crate::heartbeats::{Heartbeats, LONGEST_PERIOD, allowance};
 use crate::limits::Limits;
-use crate::nmt::{Nmt, same_state, state_of};
+use crate::nmt::Nmt;
+use crate::states::{same_state, state_of};
 use co_frame::Frame;
 use co_profile::keys::PRODUCER_HEARTBEAT;
 use co_value::Key;

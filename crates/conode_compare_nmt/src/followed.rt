@@ -13,7 +13,8 @@ ghost use Rattle.conode_compare_nmt.specs.States.{
 
 use crate::finding::NmtState;
 use crate::limits::Limits;
-use crate::nmt::{Nmt, same_state};
+use crate::nmt::Nmt;
+use crate::states::same_state;
 use conode_compare_transfers::is_past;
 
 /// Whether a device in this state sends no PDOs: they are sent while operational alone (CiA 301,

@@ -34,7 +34,7 @@ ghost use Rattle.conode_compare_nmt.specs.Heartbeats.{
 use crate::entries::{Entries, shown_period};
 use crate::finding::{Finding, Remark};
 use crate::limits::{Limits, drift_of, most_passed};
-use crate::nmt::is_guarded_state;
+use crate::states::is_guarded_state;
 use conode_compare_transfers::{is_past, micros_of};
 use conode_explain_transfers::{Direction, Ended};
 

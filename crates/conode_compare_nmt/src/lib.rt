@@ -12,6 +12,7 @@ mod leaving;
 mod limits;
 mod nmt;
 mod repeated;
+mod states;
 mod turns;
 
 pub use changed_period::{former_asked, newest_asked, period_asked_by};
@@ -22,5 +23,6 @@ pub use followed::is_idle;
 pub use heartbeats::{Heartbeats, LONGEST_PERIOD, Since, follows_closely, is_gap};
 pub use leaving::Leaving;
 pub use limits::{Limits, Subject, drift_of};
-pub use nmt::{Commanded, Nmt, is_reset};
+pub use nmt::{Commanded, Nmt};
 pub use repeated::Odd;
+pub use states::is_reset;

@@ -5,7 +5,8 @@ ghost use Rattle.conode_compare_nmt.specs.States.{after_turn, judged_state, stra
 
 use crate::finding::NmtState;
 use crate::limits::Subject;
-use crate::nmt::{Nmt, is_state, is_wrong, same_state, state_of};
+use crate::nmt::Nmt;
+use crate::states::{is_state, is_wrong, same_state, state_of};
 
 impl Nmt {
     /// Whether a heartbeat shows a state that the device can't have reached by itself; the bus was
