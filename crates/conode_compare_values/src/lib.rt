@@ -4,6 +4,7 @@
 //! that is held to that.
 #![tactic(auto)]
 
+mod downloads;
 mod entries;
 mod mismatch;
 mod rooms;
@@ -11,12 +12,13 @@ mod rpdo_writes;
 mod values;
 mod written;
 
+pub use downloads::{beyond_mismatch, has_limits, is_closed, is_read_only, is_within};
 pub use entries::{HeldEntries, HeldEntry, HeldFault, held_width};
 pub use mismatch::Mismatch;
 pub use rooms::Rooms;
 pub use rpdo_writes::{Brought, RpdoValue, RpdoWrites, all_fit};
 pub use values::{
-    beyond_mismatch, has_limits, is_closed, is_comparable, is_held, is_other_text, is_read_only,
-    is_readable, is_stored, is_within, mismatch_at, profile_in, shown_number,
+    is_comparable, is_held, is_other_text, is_readable, is_stored, mismatch_at, profile_in,
+    shown_number,
 };
 pub use written::{HeldMismatch, Written, differs, is_done, is_restricted, number_written};

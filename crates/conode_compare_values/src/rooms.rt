@@ -11,8 +11,8 @@ ghost use Rattle.conode_compare_values.specs.SheetValues.{
   room_of,
 };
 
+use crate::downloads::is_read_only;
 use crate::mismatch::Mismatch;
-use crate::values::is_read_only;
 use co_sheet::EntryRow;
 use co_sheet_rows::Preset;
 use co_value::DataType;

@@ -40,8 +40,8 @@ ghost use Rattle.conode_compare_values.specs.RpdoWrites.{
   without_values,
 };
 
+use crate::downloads::is_within;
 use crate::entries::{HeldEntries, HeldEntry};
-use crate::values::is_within;
 use crate::written::Written;
 use co_profile::Access;
 use co_sheet::EntryRow;
