@@ -5,6 +5,7 @@
 mod answers;
 mod channel;
 mod emergencies;
+mod error_control;
 mod followed;
 mod gaps;
 mod kind;
