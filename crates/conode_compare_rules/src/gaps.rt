@@ -186,9 +186,9 @@ impl Progress {
     }
 
     /// A frame comes. Where the recording begins anew, nothing is known, but that an answer which
-    /// may take long is awaited, and that a sub-block may be open; where it was quiet, or after a wrong
-    /// answer, no request is known. After a bad line a client may have asked to write until now. A command that came before
-    /// may still be followed.
+    /// may take long is awaited, and that a sub-block may be open; where it was quiet, or after a
+    /// wrong answer, no request is known. After a bad line a client may have asked to write until
+    /// now. A command that came before may still be followed.
     #[tactic(auto, unfolding(crate::specs::Gaps::begun))]
     pub(crate) fn begin(&mut self, subject: &Subject, micros: u64)
         ensures { self.new ≡ begun subject.now self.old micros }

@@ -143,8 +143,8 @@ fn add_pdos_of(
     id: u16,
 ) -> Result<(), AllocError>
     ensures { OnOk result (claims.new.items ≡ claims.old.items
-        ++ filter_map (sheet_claim (bus_view bus.entry) (map known_view earlier.now) (names_view sheet.now.names).only range id)
-        sheet.now.pdos.items) }
+        ++ filter_map (sheet_claim (bus_view bus.entry) (map known_view earlier.now)
+        (names_view sheet.now.names).only range id) sheet.now.pdos.items) }
 {
     let pdos = sheet.pdos.as_slice();
     for pdo in pdos {

@@ -13,9 +13,12 @@ ghost use Rattle.conode_explain_laws.specs.Downloads.{downloads_done, downloads_
 /// channel sets, and of no other. `plain_is_orderly`: they are where each frame has eight bytes and
 /// none begins a block download. This is a law: a call of it changes nothing.
 pub fn all_downloads()
-    ensures done_is_set { (stamp : ℕ → ℕ) (d : Description) (inputs : List Input) → AreInputs d inputs →
+    ensures done_is_set { (stamp : ℕ → ℕ) (d : Description) (inputs : List Input) →
+        AreInputs d inputs →
         AreSome (downloads_done d.rows (recorded stamp d inputs)) (downloads_set stamp d inputs) }
-    ensures set_is_done { (stamp : ℕ → ℕ) (d : Description) (inputs : List Input) → AreInputs d inputs → AreOrderly d inputs →
+    ensures set_is_done { (stamp : ℕ → ℕ) (d : Description) (inputs : List Input) →
+        AreInputs d inputs → AreOrderly d inputs →
         downloads_done d.rows (recorded stamp d inputs) ≡ downloads_set stamp d inputs }
-    ensures plain_is_orderly { (d : Description) (inputs : List Input) → AreInputs d inputs → ArePlain inputs → AreOrderly d inputs }
+    ensures plain_is_orderly { (d : Description) (inputs : List Input) →
+        AreInputs d inputs → ArePlain inputs → AreOrderly d inputs }
 {}

@@ -15,8 +15,10 @@ ghost use Rattle.conode_explain_laws.specs.Uploads.{uploads_done, uploads_served
 /// each one that the channel serves whole, and of no other. This is a law: a call of it changes
 /// nothing.
 pub fn all_uploads()
-    ensures done_is_served { (stamp : ℕ → ℕ) (d : Description) (inputs : List Input) → AreInputs d inputs →
+    ensures done_is_served { (stamp : ℕ → ℕ) (d : Description) (inputs : List Input) →
+        AreInputs d inputs →
         AreSome (uploads_done (recorded stamp d inputs)) (uploads_served stamp d inputs) }
-    ensures served_is_done { (stamp : ℕ → ℕ) (d : Description) (inputs : List Input) → AreInputs d inputs → AreOrderly d inputs →
+    ensures served_is_done { (stamp : ℕ → ℕ) (d : Description) (inputs : List Input) →
+        AreInputs d inputs → AreOrderly d inputs →
         uploads_done (recorded stamp d inputs) ≡ uploads_served stamp d inputs }
 {}

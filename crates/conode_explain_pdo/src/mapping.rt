@@ -1,7 +1,23 @@
 //! What a mapping says of data. Each function appends a text; on an `Err` memory ran out, and a
 //! part of it may be there.
 
-ghost use Rattle.std.specs.Prelude.{◌≡◌, ◌+◌, ◌*◌, ◌/◌, ◌%◌, ◌^◌, ◌++◌, ◌≤◌, [], OnOk, is_some, length, option_map, string_bytes, take};
+ghost use Rattle.std.specs.Prelude.{
+  ◌≡◌,
+  ◌+◌,
+  ◌*◌,
+  ◌/◌,
+  ◌%◌,
+  ◌^◌,
+  ◌++◌,
+  ◌≤◌,
+  [],
+  OnOk,
+  is_some,
+  length,
+  option_map,
+  string_bytes,
+  take,
+};
 ghost use Rattle.std.specs.Option.{option_copied};
 ghost use Rattle.co_value.specs.Numbers.{low_bytes, unsigned_of};
 ghost use Rattle.co_sheet.specs.SheetViews.{row_view};

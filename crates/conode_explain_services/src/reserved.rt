@@ -1,7 +1,13 @@
 //! Identifiers that the standard reserves (CiA 301, 7.3.5).
 
 ghost use Rattle.std.specs.Prelude.{◌≡◌};
-ghost use Rattle.conode_explain_services.specs.Reserved.{is_lss_id, is_reserved, lss_answer_id, lss_request_id, reserved_words};
+ghost use Rattle.conode_explain_services.specs.Reserved.{
+  is_lss_id,
+  is_reserved,
+  lss_answer_id,
+  lss_request_id,
+  reserved_words,
+};
 
 /// What an LSS master asks (CiA 305).
 pub(crate) const LSS_REQUEST: u16 = 0x7E5;

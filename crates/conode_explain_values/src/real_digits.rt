@@ -1,7 +1,22 @@
 //! The digits of a decimal number. Each function appends a text; on an `Err` memory ran out, and a
 //! part of it may be there.
 
-ghost use Rattle.std.specs.Prelude.{◌≡◌, ◌++◌, ◌-◌, ◌*◌, ◌≤◌, ◌<◌, ◌^◌, OnOk, IfOk, true, codes, decimal, length, string_bytes};
+ghost use Rattle.std.specs.Prelude.{
+  ◌≡◌,
+  ◌++◌,
+  ◌-◌,
+  ◌*◌,
+  ◌≤◌,
+  ◌<◌,
+  ◌^◌,
+  OnOk,
+  IfOk,
+  true,
+  codes,
+  decimal,
+  length,
+  string_bytes,
+};
 ghost use Rattle.co_text.specs.Printed.{digits_text};
 ghost use Rattle.conode_explain_values.specs.Reals.{
   digits_shown,

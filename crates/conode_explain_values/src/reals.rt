@@ -1,6 +1,21 @@
 //! The text of REAL32 and REAL64: few digits that are read as the same bits.
 
-ghost use Rattle.std.specs.Prelude.{◌≡◌, ◌==◌, ◌≤◌, ◌<◌, ◌*◌, ◌^◌, ◌++◌, ℕ, false, IfOk, IfSome, Some, option_map, string_bytes};
+ghost use Rattle.std.specs.Prelude.{
+  ◌≡◌,
+  ◌==◌,
+  ◌≤◌,
+  ◌<◌,
+  ◌*◌,
+  ◌^◌,
+  ◌++◌,
+  ℕ,
+  false,
+  IfOk,
+  IfSome,
+  Some,
+  option_map,
+  string_bytes,
+};
 ghost use Rattle.std.specs.Float.Ieee.{Format, ones};
 ghost use Rattle.conode_explain_values.specs.Reals.{
   exponent_of,

@@ -1,7 +1,15 @@
 //! The words of a finding.
 
 ghost use Rattle.std.specs.Prelude.{◌≡◌, ◌++◌, OnOk, string_bytes};
-ghost use Rattle.conode_lint_text.specs.Findings.{about_message, access_text, fact_fix, fix_of, help_of, message_of, severity_name};
+ghost use Rattle.conode_lint_text.specs.Findings.{
+  about_message,
+  access_text,
+  fact_fix,
+  fix_of,
+  help_of,
+  message_of,
+  severity_name,
+};
 
 use crate::fact::{Fact, push_fact};
 use crate::finding::{About, Finding, Severity};

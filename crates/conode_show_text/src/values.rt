@@ -143,8 +143,8 @@ fn number_for(data_type: DataType, node: Option<u8>, value: Preset<'static>) -> 
     }
 }
 
-/// The number of a text, if the type is numeric and it is one of the type; a sum with the node-ID needs the given node, and has
-/// to be one of the type.
+/// The number of a text, if the type is numeric and it is one of the type; a sum with the node-ID
+/// needs the given node, and has to be one of the type.
 pub fn value_number(node: Option<u8>, data_type: Option<DataType>, value: &[u8]) -> Option<i128>
     ensures { result ≡ value_number node data_type value.now }
 {
