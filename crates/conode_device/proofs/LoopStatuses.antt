@@ -1,5 +1,5 @@
 -- When the status is 0.
-use Rattle.std.proofs.Common.{◌≡◌, ℕ, List, Option, Result, Ok, Err, sym, ◌∙◌}
+use Rattle.std.proofs.Common.{◌≡◌, ℕ, List, Option, Some, Result, Ok, Err, IsSomeAnd, sym, subst, ◌∙◌}
 use Rattle.std.specs.Prelude.{IfOk, OnOk}
 use Rattle.std.specs.List.{flat_map}
 use Rattle.std.specs.Io.KnownBytes.{Keeps}
@@ -25,3 +25,10 @@ ends_done k before key bytes mode old mid new (Ok state) is at written kept = re
   written = Appends-kept old mid new (flat_map (λ (line : List ℕ). line) (loop_lines (download_of k key bytes mode) before)) written kept;
 }
 ends_done k before key bytes mode old mid new (Err fault) is at written kept = cc
+
+-- what holds of two words, once they are read
+pub of_words : {A B : Type 0} (P : A → B → Type 0) (first : Option A) (second : Option B) (x : A) (y : B) → first ≡ Some x → second ≡ Some y
+    → P x y → IsSomeAnd first (λ u. IsSomeAnd second (P u))
+of_words {A = A} {B = B} P first second x y one two holds =
+    subst (λ (a : Option A). IsSomeAnd a (λ u. IsSomeAnd second (P u))) (sym one)
+    (subst (λ (b : Option B). IsSomeAnd b (P x)) (sym two) holds)

@@ -1,4 +1,5 @@
 pub mod Counts
+pub mod Files
 pub mod Lines
 pub mod Printed
 pub mod Runs

@@ -1,12 +1,13 @@
 //! A download looped against the node of a data sheet's file.
 
-ghost use Rattle.std.specs.Prelude.{◌≡◌, ◌⊎◌, ◌≤◌, [], length, None, Some, IfOk, IfSome, IsSomeAnd, option_map};
+ghost use Rattle.std.specs.Prelude.{ℕ, ◌≡◌, ◌⊎◌, ◌≤◌, List, [], length, None, Some, IfOk, IfSome, IsSomeAnd, option_map};
 ghost use Rattle.std.specs.Option.{option_or};
 ghost use Rattle.std.specs.Process.{exit_status};
 ghost use Rattle.co_value.specs.KeyTexts.{key_in};
 ghost use Rattle.co_node_model.specs.Inputs.{Inputs};
 ghost use Rattle.co_node_model.specs.Moments.{Constants};
 ghost use Rattle.co_node.specs.Nodes.{Stands, built_constants, planned};
+ghost use Rattle.conode_device.specs.Files.{OfSheet};
 ghost use Rattle.conode_device.specs.Standing.{EndsDone};
 ghost use Rattle.conode_device.specs.Words.{bytes_in};
 
@@ -154,6 +155,9 @@ fn loop_text<O: Write, E: Write>(
     ensures given { IfSome node (λ id. (exit_status result ≡ 0) ⊎ (exit_status result ≡ 1)) }
     ensures status { (exit_status result ≡ 0) ⊎ (exit_status result ≡ 1)
         ⊎ (exit_status result ≡ 2) }
+    ensures done { exit_status result ≡ 0 → OfSheet text.now node config.now (λ k.
+        EndsDone k [] job.now.key job.now.bytes.now job.now.mode
+        (O.contents out.old) (O.contents out.new)) }
 {
     match read(alloc, text) {
         Ok(sheet) => loop_sheet(alloc, &sheet, job, node, config, out, err),
@@ -175,6 +179,9 @@ fn loop_path<R: Files + AllocGlobal, O: Write, E: Write>(
     ensures given { IfSome node (λ id. (exit_status result ≡ 0) ⊎ (exit_status result ≡ 1)) }
     ensures status { (exit_status result ≡ 0) ⊎ (exit_status result ≡ 1)
         ⊎ (exit_status result ≡ 2) }
+    ensures done { exit_status result ≡ 0 → (text : List ℕ) × OfSheet text node config.now (λ k.
+        EndsDone k [] job.now.key job.now.bytes.now job.now.mode
+        (O.contents out.old) (O.contents out.new)) }
 {
     match file_text(rt, path) {
         Ok(text) => loop_text(rt.alloc(), text.as_slice(), job, node, config, out, err),
@@ -209,6 +216,12 @@ pub fn loop_files<R: Files + AllocGlobal, O: Write, E: Write>(
         IfSome node (λ id. (exit_status result ≡ 0) ⊎ (exit_status result ≡ 1)))) }
     ensures status { (exit_status result ≡ 0) ⊎ (exit_status result ≡ 1)
         ⊎ (exit_status result ≡ 2) }
+    // The client has downloaded what the words say to the device of a text that is a data sheet,
+    // and all lines are written.
+    ensures done { exit_status result ≡ 0 → IsSomeAnd (key_in key.now) (λ at.
+        IsSomeAnd (bytes_in hex.now) (λ bytes. (text : List ℕ) ×
+        OfSheet text node config.now (λ k. EndsDone k [] at bytes mode
+        (O.contents out.old) (O.contents out.new)))) }
 {
     let Some(key) = Key::parse(key.as_bytes()) else {
         return bad_word("bad key", err);

@@ -5,6 +5,7 @@ ghost use Rattle.std.specs.Option.{option_or};
 ghost use Rattle.std.specs.Process.{exit_status};
 ghost use Rattle.co_node.specs.Nodes.{built_constants, planned};
 ghost use Rattle.conode_io.specs.TraceTexts.{GaveText};
+ghost use Rattle.conode_device.specs.Files.{OfSheet, ReplaysTrace};
 ghost use Rattle.conode_device.specs.Runs.{AfterAny, ReplaysAll};
 
 use crate::replayed_trace::replay_from;
@@ -170,6 +171,8 @@ fn replay_text<R: Files + AllocGlobal + Input, O: Write, E: Write>(
     ensures given { IfSome node (λ id. (exit_status result ≡ 0) ⊎ (exit_status result ≡ 1)) }
     ensures status { (exit_status result ≡ 0) ⊎ (exit_status result ≡ 1)
         ⊎ (exit_status result ≡ 2) }
+    ensures whole { exit_status result ≡ 0 → OfSheet text.now node config.now
+        (ReplaysTrace (O.contents out.old) (O.contents out.new)) }
 {
     match read(rt.alloc(), text) {
         Ok(sheet) => replay_sheet(rt, &sheet, trace, node, config, out, err),
@@ -198,6 +201,10 @@ pub fn replay_files<R: Files + AllocGlobal + Input, O: Write, E: Write>(
     ensures given { IfSome node (λ id. (exit_status result ≡ 0) ⊎ (exit_status result ≡ 1)) }
     ensures status { (exit_status result ≡ 0) ⊎ (exit_status result ≡ 1)
         ⊎ (exit_status result ≡ 2) }
+    // The device is that of a text that is a data sheet; it took a whole trace without a bad line,
+    // and the boot-up, the lines and the totals are written.
+    ensures whole { exit_status result ≡ 0 → (text : List ℕ) × OfSheet text node config.now
+        (ReplaysTrace (O.contents out.old) (O.contents out.new)) }
 {
     match file_text(rt, sheet) {
         Ok(text) => replay_text(rt, text.as_slice(), trace, node, config, out, err),
