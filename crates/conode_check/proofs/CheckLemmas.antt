@@ -1,6 +1,6 @@
 -- What is written of a text that was read as a sheet.
 use Rattle.std.proofs.Common.{◌≡◌, ◌∙◌, ℕ, List, [], ◌∷◌, ◌++◌, map, Option, Some, None, Result, Ok, Err, inl, inr, refl, sym, ap, subst, append_assoc}
-use Rattle.std.specs.Prelude.{◌⊎◌, ◌≢◌, Bool, take, is_none, IfErr, OnOk}
+use Rattle.std.specs.Prelude.{◌⊎◌, ◌≢◌, Bool, true, false, take, is_none, IfErr, IfOk, OnOk}
 use Rattle.std.specs.List.{flat_map}
 use Rattle.std.specs.Option.{option_map_or}
 use Rattle.std.specs.Io.KnownBytes.{Appends, Keeps}
@@ -13,7 +13,7 @@ use Rattle.conode_io.specs.declared.ending.Ending.{Ending}
 use Rattle.conode_io.specs.declared.ending.Ending.TheVariants.{Said, Unsaid}
 use Rattle.conode_io.specs.Written.{WritesFront, WritesFrontOrLines, WritesLines, WritesSome}
 use Rattle.conode_io.proofs.WriteLemmas.{line_alone, lines_after, no_lines}
-use Rattle.conode_check.specs.CheckEndings.{IsCheckEnding, SomeThenMemory, memory_line}
+use Rattle.conode_check.specs.CheckEndings.{IsCheckEnding, SomeThenMemory, checked_status, memory_line}
 use Rattle.co_sheet.specs.Content.{IsSheet, SheetContent}
 use Rattle.co_sheet.specs.Accepted.{first_fault}
 use Rattle.co_sheet_rows.specs.declared.fault.SheetFault.{SheetFault}
@@ -82,3 +82,10 @@ check_ending ending fault (inl is) (inl write) = inr (inl (is ∙ ap Said write)
 check_ending ending fault (inr is) (inl write) = inr (inr (is ∙ ap Unsaid write))
 check_ending ending fault (inl is) (inr memory) = inl (inl (is ∙ ap Said memory))
 check_ending ending fault (inr is) (inr memory) = inl (inr (is ∙ ap Unsaid memory))
+
+-- the status is 0 only where the text is good, and all is written of it
+pub good_only : {P : Type 0} (outcome : Result Bool Ending) (good : Bool) (status : ℕ) → status ≡ checked_status outcome → status ≡ 0
+    → IfOk outcome (λ found. found ≡ good) → OnOk outcome P → (good ≡ true) × P
+good_only (Ok true) good status is zero found written = (sym found, written)
+good_only (Ok false) good status is zero found written = let one : 0 ≡ 1 = sym zero ∙ is in cc
+good_only (Err ending) good status is zero found written = let one : 0 ≡ 1 = sym zero ∙ is in cc

@@ -23,6 +23,8 @@ use Rattle.conode_io.specs.declared.ending.Ending.{Ending}
 use Rattle.conode_io.specs.declared.ending.Ending.TheVariants.{Said, Unsaid}
 use Rattle.conode_io.specs.declared.fault.CmdFault.TheVariants.{Write, Memory}
 use Rattle.conode_io.specs.Written.{WritesLines}
+use Rattle.co_dict_build.specs.Capacities.{Limits}
+use Rattle.conode_check.specs.SheetTexts.{checked_lines, is_good}
 
 -- the line that says that memory ran out
 abbrev pub memory_line : List ℕ
@@ -44,3 +46,7 @@ abbrev pub checked_status : Result Bool Ending → ℕ
 checked_status (Ok true) = 0
 checked_status (Ok false) = 1
 checked_status (Err ending) = 1
+
+-- a text without a fault as a sheet, and without one of its build, is checked, and all is written of it
+abbrev pub ChecksGood : Option ℕ → Limits → Option (List ℕ) → Option (List ℕ) → List ℕ → Type 0
+ChecksGood node limits old new text = (is_good text node limits ≡ true) × WritesLines old new (checked_lines text node limits)

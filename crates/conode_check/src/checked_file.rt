@@ -1,10 +1,16 @@
 //! The file of a data sheet, checked.
 
-ghost use Rattle.std.specs.Prelude.{◌≡◌, ◌⊎◌, [], Err, IfOk, IfErr, OnOk};
+ghost use Rattle.std.specs.Prelude.{ℕ, ◌≡◌, ◌⊎◌, List, [], Err, IfOk, IfErr, OnOk};
 ghost use Rattle.std.specs.Io.KnownBytes.{Appends, Keeps};
 ghost use Rattle.std.specs.Process.{exit_status};
 ghost use Rattle.co_dict_build.specs.Capacities.{limits_view};
-ghost use Rattle.conode_check.specs.CheckEndings.{IsCheckEnding, SomeThenMemory, checked_status, memory_line};
+ghost use Rattle.conode_check.specs.CheckEndings.{
+  ChecksGood,
+  IsCheckEnding,
+  SomeThenMemory,
+  checked_status,
+  memory_line,
+};
 ghost use Rattle.conode_check.specs.SheetTexts.{checked_lines, is_good};
 ghost use Rattle.conode_io.specs.Endings.{WritesStopped, stopped_line};
 ghost use Rattle.conode_io.specs.Written.{WritesFrontOrLines, WritesLines};
@@ -110,7 +116,9 @@ pub fn check_file<R: Files + AllocGlobal, O: Write, E: Write>(
     out: &mut O,
     err: &mut E,
 ) -> ExitCode
-    ensures { (exit_status result ≡ 0) ⊎ (exit_status result ≡ 1) }
+    ensures status { (exit_status result ≡ 0) ⊎ (exit_status result ≡ 1) }
+    ensures good { exit_status result ≡ 0 → (text : List ℕ) ×
+        ChecksGood node (limits_view limits.now) (O.contents out.old) (O.contents out.new) text }
 {
     match file_text(rt, path) {
         Ok(text) => status_of(check_text(rt.alloc(), text.as_slice(), node, limits, out, err)),
