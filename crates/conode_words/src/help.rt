@@ -1,7 +1,7 @@
 //! The longer texts of help, in lines of at most 80 columns.
 
 /// What `--version` prints after the program's name: its version, and the kit that proves it.
-pub const VERSION: &str = "0.36.0, proved with rattle-kit-13f logic dac8208d650f15bf";
+pub const VERSION: &str = "0.37.0, proved with rattle-kit-13f logic dac8208d650f15bf";
 
 /// What the program does without a command.
 pub const TRACES: &str = "\
@@ -197,8 +197,8 @@ aren't valid, with mappings of 0 entries, since the sheet doesn't say more.
 --leading-zeros octal reads 010 as 8, --leading-zeros decimal as 10; without the
 option it stays, and is reported with both readings. --force also makes changes
 that lose something: a limit that is no number of its type becomes a comment,
-faulty mappings, such as those of single bits, get 0 entries, and bit 30 of
-1005h is cleared.
+faulty mappings, such as those of single bits, get 0 entries (a LowLimit above 0
+there becomes a comment too), and bit 30 of 1005h is cleared.
 
 If faults remain that no rule fixes, no sheet is printed, only the faults, on
 standard error; `lint` says more of each. A sheet that is accepted already stays
