@@ -71,6 +71,31 @@ emptied_open_section : line_as (Some Emptied) None (line 1 (codes " [2000")) [] 
 unfolding line_as
 emptied_open_section = refl
 
+-- an object type in a word becomes its number, in any case of letters, with blanks around it
+domain_word : line_as (Some Emptied) None (line 1 (codes "ObjectType=DOMAIN")) [] ≡ codes "ObjectType=2\n"
+unfolding line_as assigned
+domain_word = refl
+
+var_word : line_as (Some Emptied) None (line 1 (codes "ObjectType=var")) [] ≡ codes "ObjectType=7\n"
+unfolding line_as assigned
+var_word = refl
+
+array_word : line_as (Some Emptied) None (line 1 (codes "objecttype = Array ")) [] ≡ codes "ObjectType=8\n"
+unfolding line_as assigned
+array_word = refl
+
+record_word : line_as (Some Emptied) None (line 1 (codes " ObjectType=\trecord ")) [] ≡ codes "ObjectType=9\n"
+unfolding line_as assigned
+record_word = refl
+
+-- a word of no object that a sheet lists, two words, a part of one, numbers, no value, another property, no property
+no_word : map (λ bytes. line_as (Some Emptied) None (line 1 bytes) [])
+    (codes "ObjectType=DEFSTRUCT" ∷ codes "ObjectType=RECORD 9" ∷ codes "ObjectType=RECOR" ∷ codes "ObjectType=09" ∷ codes "ObjectType=" ∷ codes "DataType=RECORD"
+    ∷ codes "ObjectType RECORD" ∷ codes ";ObjectType=RECORD" ∷ [])
+    ≡ codes "\n" ∷ codes "\n" ∷ codes "\n" ∷ codes "\n" ∷ codes "\n" ∷ codes "\n" ∷ codes "\n" ∷ codes "\n" ∷ []
+unfolding line_as assigned
+no_word = refl
+
 bytes_of_type : line_as (Some Typed) None (line 1 (codes "datatype = 0x0099")) [] ≡ codes "DataType=15\n"
 unfolding line_as type_code assigned digits
 bytes_of_type = refl
@@ -97,6 +122,10 @@ own_type = refl
 no_object_type : line_as (Some Typed) None (line 1 (codes "ObjectType=0x99")) [] ≡ codes "\n"
 unfolding line_as assigned
 no_object_type = refl
+
+no_object_code : line_as (Some Typed) None (line 1 (codes "ObjectType=77")) [] ≡ codes "\n"
+unfolding line_as assigned
+no_object_code = refl
 
 -- of a section line that line, and a VAR
 no_domain : line_as (Some Typed) (Some (record { index = 0x1017; sub = 0 })) (line 4 (codes "[1017]")) [] ≡ codes "[1017]\nObjectType=7\n"
@@ -222,6 +251,21 @@ one_round = refl
 two_rounds : mended_in 2 (joined two_faults) ≡ Some (joined without_faults)
 unfolding mended_in repair_at repair_for line_as type_code assigned digits
 two_rounds = refl
+
+-- an object type in a word: the object has its sub-indices; a second one, which is dropped in the next round
+abbrev in_a_word : List (List ℕ)
+in_a_word = codes "[MandatoryObjects]" ∷ codes "SupportedObjects=3" ∷ codes "1=0x1000" ∷ codes "2=0x1001" ∷ codes "3=0x1018"
+    ∷ codes "[1000]" ∷ codes "DataType=7" ∷ codes "AccessType=ro" ∷ codes "[1001]" ∷ codes "DataType=5" ∷ codes "AccessType=ro"
+    ∷ codes "[1018]" ∷ codes "ParameterName=C" ∷ codes "ObjectType=RECORD" ∷ codes "objecttype=record" ∷ codes "[1018sub0]" ∷ codes "ParameterName=D" ∷ codes "DataType=5" ∷ codes "AccessType=ro" ∷ []
+
+abbrev in_a_number : List (List ℕ)
+in_a_number = codes "[MandatoryObjects]" ∷ codes "SupportedObjects=3" ∷ codes "1=0x1000" ∷ codes "2=0x1001" ∷ codes "3=0x1018"
+    ∷ codes "[1000]" ∷ codes "DataType=7" ∷ codes "AccessType=ro" ∷ codes "[1001]" ∷ codes "DataType=5" ∷ codes "AccessType=ro"
+    ∷ codes "[1018]" ∷ codes "ParameterName=C" ∷ codes "ObjectType=9" ∷ codes "" ∷ codes "[1018sub0]" ∷ codes "ParameterName=D" ∷ codes "DataType=5" ∷ codes "AccessType=ro" ∷ []
+
+word_read : mended_in 2 (joined in_a_word) ≡ Some (joined in_a_number)
+unfolding mended_in repair_at repair_for line_as type_code assigned digits
+word_read = refl
 
 -- objects with a name, a sub-index without one, and an object without a section
 abbrev some_entries : List SectionKind

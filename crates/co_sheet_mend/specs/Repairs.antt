@@ -145,6 +145,21 @@ typed key = assigned (codes "DataType") (decimal (type_code key))
 abbrev pub lacking_type : Option Key → List Line → List ℕ
 lacking_type key lines = if gives_any (codes "DataType") lines then [] else typed key
 
+-- the object code that a word names (CiA 301, object codes), in digits; the others, 0, 5 and 6, are
+-- of no object that a sheet may list
+abbrev pub code_named : List ℕ → Option (List ℕ)
+code_named word =
+    if same_name word (codes "DOMAIN") then Some (codes "2")
+    else (if same_name word (codes "VAR") then Some (codes "7")
+    else (if same_name word (codes "ARRAY") then Some (codes "8")
+    else (if same_name word (codes "RECORD") then Some (codes "9") else None)))
+
+-- and that a line gives in a word, as `ObjectType=RECORD`
+abbrev pub code_given : Line → Option (List ℕ)
+code_given line =
+    option_and_then (λ given. if same_name given.name (codes "ObjectType") then code_named given.value else None)
+    (property_in line)
+
 -- ---- of an object list (CiA 306, lists of objects)
 
 -- an index of more than 16 bits names no object
@@ -174,6 +189,10 @@ list_text lines = counted_text (objects_named lines)
 
 -- ---- what a line becomes, which these lines follow
 
+-- nothing; but of an object type in a word its number, so that the object keeps its sub-indices
+abbrev pub dropped : Line → List ℕ
+dropped line = option_map_or (assigned (codes "ObjectType")) (code_given line) (ended (emptied line).bytes)
+
 -- A type that is the entry's own is at fault since its object is a DOMAIN: it is dropped. So a
 -- section line is at fault where a DOMAIN states no type and CiA 301 fixes another: it becomes a
 -- VAR, and its own ObjectType is at fault in the next round.
@@ -195,7 +214,7 @@ numbered line = option_map_or sub0_text (section_in line) [] ++ ended line.bytes
 
 unfoldable pub line_as : Option Repair → Option Key → Line → List Line → List ℕ
 line_as None key line more = ended line.bytes
-line_as (Some Emptied) key line more = ended (emptied line).bytes
+line_as (Some Emptied) key line more = dropped line
 line_as (Some Typed) key line more = retyped key line
 line_as (Some ReadWrite) key line more = assigned (codes "AccessType") (codes "rw")
 line_as (Some Completed) key line more = completed key line more

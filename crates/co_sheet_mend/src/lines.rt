@@ -8,8 +8,11 @@ ghost use Rattle.co_sheet_changes.specs.Views.{line_view};
 ghost use Rattle.co_sheet_mend.specs.Repairs.{
   begins_list,
   begins_mandatory,
+  code_given,
+  code_named,
   completed,
   counted_text,
+  dropped,
   ended,
   ends_in_return,
   gives,
@@ -49,8 +52,15 @@ const ACCESS_TYPE: &[u8] = b"AccessType";
 
 const OBJECT_TYPE: &[u8] = b"ObjectType";
 
-/// The object type of a VAR (CiA 306).
+// the object codes (CiA 301) of the objects that a sheet lists, in digits
+
+const DOMAIN: &[u8] = b"2";
+
 const VAR: &[u8] = b"7";
+
+const ARRAY: &[u8] = b"8";
+
+const RECORD: &[u8] = b"9";
 
 const READ_WRITE: &[u8] = b"rw";
 
@@ -228,6 +238,44 @@ fn emptied(line: &Line<'_>) -> &'static [u8]
     }
 }
 
+// the object code that a word names, in digits
+fn code_named(word: &[u8]) -> Option<&'static [u8]>
+    ensures { option_copied result ≡ code_named word.now }
+{
+    if same_name(word, b"DOMAIN") {
+        Some(DOMAIN)
+    } else if same_name(word, b"VAR") {
+        Some(VAR)
+    } else if same_name(word, b"ARRAY") {
+        Some(ARRAY)
+    } else if same_name(word, b"RECORD") {
+        Some(RECORD)
+    } else {
+        None
+    }
+}
+
+// the object code that a line gives in a word
+fn code_given(line: &Line<'_>) -> Option<&'static [u8]>
+    ensures { option_copied result ≡ code_given (line_view line.now) }
+{
+    let (name, value) = line.property()?;
+    if same_name(name, OBJECT_TYPE) {
+        code_named(value)
+    } else {
+        None
+    }
+}
+
+fn push_dropped(made: &mut Vec<u8>, line: &Line<'_>) -> Result<(), AllocError>
+    ensures { OnOk result (made.new.items ≡ made.old.items ++ dropped (line_view line.now)) }
+{
+    match code_given(line) {
+        Some(code) => push_assigned(made, OBJECT_TYPE, code),
+        None => push_ended(made, emptied(line)),
+    }
+}
+
 // the entry that a section is about
 fn key_in(kind: SectionKind) -> Option<Key>
     ensures { result ≡ key_in kind }
@@ -377,7 +425,7 @@ pub(crate) fn push_line(
 {
     match repair {
         None => push_ended(made, line.bytes),
-        Some(Repair::Emptied) => push_ended(made, emptied(line)),
+        Some(Repair::Emptied) => push_dropped(made, line),
         Some(Repair::Typed) => push_retyped(alloc, made, key, line),
         Some(Repair::ReadWrite) => push_assigned(made, ACCESS_TYPE, READ_WRITE),
         Some(Repair::Completed) => push_completed(alloc, made, key, line, more),
