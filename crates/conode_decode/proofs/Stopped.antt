@@ -1,5 +1,5 @@
 -- What a writer holds where decoding stopped and said why.
-use Rattle.std.proofs.Common.{◌≡◌, ℕ, List, Option, None, Some, IfSome, Result, Ok, Err, inl, inr, ⊎_elim, ap, subst}
+use Rattle.std.proofs.Common.{◌≡◌, ℕ, List, [], Option, None, Some, IfSome, Result, Ok, Err, inl, inr, ⊎_elim, ap, subst}
 use Rattle.std.specs.Prelude.{◌⊎◌, IfErr, OnOk}
 use Rattle.std.specs.List.{flat_map}
 use Rattle.std.specs.Io.KnownBytes.{Appends, Keeps}
@@ -9,9 +9,9 @@ use Rattle.conode_io.specs.declared.fault.CmdFault.TheVariants.{Read, Write, Bad
 use Rattle.conode_io.specs.Endings.{stopped_line, SomeStopped, WritesStopped}
 use Rattle.conode_io.specs.Written.{WritesFrontOrLines, WritesLines, WritesSome}
 use Rattle.conode_io.proofs.StoppedLemmas.{some_stopped, stopped_after}
-use Rattle.conode_io.specs.TraceTexts.{FailsWithinLine, trace_in}
+use Rattle.conode_io.specs.TraceTexts.{FailsWithinLine, GaveText, trace_in}
 use Rattle.co_sheet_changes.specs.Names.{Names}
-use Rattle.conode_decode.specs.DecodedTraces.{Decoded, lines_of, trace_lines}
+use Rattle.conode_decode.specs.DecodedTraces.{Decoded, DecodesAll, lines_of, trace_lines}
 
 -- ---- how decoding ended, by its result
 
@@ -100,3 +100,13 @@ at_own outcome fault known rest old mid of is h which =
 pub reader_is_other : (fault : CmdFault) → (fault ≡ Read) ⊎ (fault ≡ NeverEnds) → fault ≡ Write → ⊥
 reader_is_other fault (inl is) write = absurd cc
 reader_is_other fault (inr is) write = absurd cc
+
+-- ---- all is decoded
+
+module _ (names : Names) (before after old mid new : Option (List ℕ)) where
+  pub all_decoded : (outcome : Result (Unit {0}) CmdFault) (done : Unit {0}) → outcome ≡ Ok done
+      → GaveText before after (λ text. Decoded names (Some text) (Some []) old mid outcome) → Keeps mid new
+      → GaveText before after (DecodesAll names old new)
+  all_decoded (Ok _) done is (text, taken, h) kept =
+      (text, taken, (h.0, Appends-kept old mid new (flat_map (λ (line : List ℕ). line) (trace_lines names text)) h.1 kept))
+  all_decoded (Err fault) done is given kept = cc

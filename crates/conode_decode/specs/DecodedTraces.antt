@@ -1,7 +1,7 @@
 -- The lines that are written when a trace is decoded.
-use Rattle.std.specs.Prelude.{◌≡◌, ℕ, List, [], ◌∷◌, Option, Some, None, Result, Ok, Err, IfSome}
+use Rattle.std.specs.Prelude.{◌≡◌, ℕ, Bool, true, false, List, [], ◌∷◌, Option, Some, None, Result, Ok, Err, IfSome}
 use Rattle.std.specs.List.{flat_map}
-use Rattle.co_sheet.specs.Content.{SheetContent}
+use Rattle.co_sheet.specs.Content.{IsSheet, SheetContent}
 use Rattle.conode_trace.specs.declared.trace_line.TraceLine.{TraceLine}
 use Rattle.conode_trace.specs.declared.trace_line.TraceLine.TheVariants.{Data}
 use Rattle.conode_trace.specs.Traces.{Input, frame, tick, app, TimedInput, trace_of}
@@ -52,3 +52,12 @@ Decoded names known rest old new (Err Write) = IfSome known (λ text. WritesFron
 Decoded names known rest old new (Err Memory) = IfSome known (λ text. WritesSome old new (trace_lines names text))
 Decoded names known rest old new (Err Read) = FailsWithinLine known rest (λ taken. WritesLines old new (lines_of names taken))
 Decoded names known rest old new (Err NeverEnds) = FailsWithinLine known rest (λ taken. WritesLines old new (lines_of names taken))
+
+-- a trace without a bad line is decoded: the lines of its frames are written
+abbrev pub DecodesAll : Names → Option (List ℕ) → Option (List ℕ) → List ℕ → Type 0
+DecodesAll names old new text = ((trace_in text).bad ≡ None) × WritesLines old new (trace_lines names text)
+
+-- the names that a trace is decoded with: those of a text that is a data sheet, where one is asked for
+abbrev pub AreNames : Bool → Option ℕ → Names → Type 0
+AreNames false node names = names ≡ names_in None node
+AreNames true node names = (text : List ℕ) × (content : SheetContent) × IsSheet text content × (names ≡ names_in (Some content) node)

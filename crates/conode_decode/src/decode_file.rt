@@ -1,10 +1,18 @@
 //! The file of a trace, decoded.
 
-ghost use Rattle.std.specs.Prelude.{◌≡◌, ◌⊎◌, ℕ, [], IfSome, Some, None};
+ghost use Rattle.std.specs.Prelude.{◌≡◌, ◌⊎◌, ℕ, List, [], IfSome, Some, None, is_some};
 ghost use Rattle.std.specs.Option.{option_copied};
 ghost use Rattle.std.specs.Process.{exit_status};
-ghost use Rattle.conode_io.specs.TraceTexts.{trace_in, FailsWithinLine};
-ghost use Rattle.conode_decode.specs.DecodedTraces.{lines_of, names_in, trace_lines};
+ghost use Rattle.co_sheet.specs.Content.{IsSheet, SheetContent};
+ghost use Rattle.co_sheet_changes.specs.Names.{Names};
+ghost use Rattle.conode_io.specs.TraceTexts.{GaveText, trace_in, FailsWithinLine};
+ghost use Rattle.conode_decode.specs.DecodedTraces.{
+  AreNames,
+  DecodesAll,
+  lines_of,
+  names_in,
+  trace_lines,
+};
 ghost use Rattle.conode_io.specs.Endings.{SomeStopped, WritesStopped};
 ghost use Rattle.conode_io.specs.Written.{WritesFrontOrLines, WritesLines};
 
@@ -39,6 +47,11 @@ pub fn decode_input<R: Read, P: Waits<R>, O: Write, E: Write>(
     ensures decoded { result ≡ Ending.Whole → IfSome (R.remaining input.old) (λ text.
         WritesLines (O.contents out.old) (O.contents out.new)
         (trace_lines (names_in (option_copied sheet.entry) node) text)) }
+    // For every reader: it gave some text, and this holds for that text.
+    ensures whole { result ≡ Ending.Whole →
+        GaveText (R.remaining input.old) (R.remaining input.new)
+        (DecodesAll (names_in (option_copied sheet.entry) node)
+        (O.contents out.old) (O.contents out.new)) }
 
     // There is a bad line: the lines of the frames before the first one are written, and then it is
     // named.
@@ -87,7 +100,10 @@ fn decode_buffered<R: Read + Drop, O: Write, E: Write>(
     out: &mut O,
     err: &mut E,
 ) -> ExitCode
-    ensures { (exit_status result ≡ 0) ⊎ (exit_status result ≡ 1) }
+    ensures status { (exit_status result ≡ 0) ⊎ (exit_status result ≡ 1) }
+    ensures whole { exit_status result ≡ 0 → (text : List ℕ) ×
+        DecodesAll (names_in (option_copied sheet.entry) node)
+        (O.contents out.old) (O.contents out.new) text }
 {
     let Ok(mut input) = BufReader::new(alloc, input) else {
         return stopped(CmdFault::Memory, out, err).status();
@@ -106,7 +122,10 @@ fn decode_trace<R: Files + AllocGlobal + Input, O: Write, E: Write>(
     out: &mut O,
     err: &mut E,
 ) -> ExitCode
-    ensures { (exit_status result ≡ 0) ⊎ (exit_status result ≡ 1) }
+    ensures status { (exit_status result ≡ 0) ⊎ (exit_status result ≡ 1) }
+    ensures whole { exit_status result ≡ 0 → (text : List ℕ) ×
+        DecodesAll (names_in (option_copied sheet.entry) node)
+        (O.contents out.old) (O.contents out.new) text }
 {
     if path == STANDARD_INPUT {
         return decode_buffered(rt.alloc(), rt.reader(), sheet, node, out, err);
@@ -126,7 +145,11 @@ fn decode_named<R: Files + AllocGlobal + Input, O: Write, E: Write>(
     out: &mut O,
     err: &mut E,
 ) -> ExitCode
-    ensures { (exit_status result ≡ 0) ⊎ (exit_status result ≡ 1) }
+    ensures status { (exit_status result ≡ 0) ⊎ (exit_status result ≡ 1) }
+    ensures whole { exit_status result ≡ 0 → (content : SheetContent) ×
+        IsSheet text.now content × (trace : List ℕ) ×
+        DecodesAll (names_in (Some content) node)
+        (O.contents out.old) (O.contents out.new) trace }
 {
     match read(rt.alloc(), text) {
         Ok(sheet) => decode_trace(rt, path, Some(&sheet), node, out, err),
@@ -145,7 +168,11 @@ pub fn decode_files<R: Files + AllocGlobal + Input, O: Write, E: Write>(
     out: &mut O,
     err: &mut E,
 ) -> ExitCode
-    ensures { (exit_status result ≡ 0) ⊎ (exit_status result ≡ 1) }
+    ensures status { (exit_status result ≡ 0) ⊎ (exit_status result ≡ 1) }
+    // A trace without a bad line is decoded, with the names of the data sheet that is asked for, and
+    // all lines are written.
+    ensures whole { exit_status result ≡ 0 → (names : Names) × AreNames (is_some sheet.entry) node names ×
+        (text : List ℕ) × DecodesAll names (O.contents out.old) (O.contents out.new) text }
 {
     let Some(sheet) = sheet else {
         return decode_trace(rt, trace, None, node, out, err);

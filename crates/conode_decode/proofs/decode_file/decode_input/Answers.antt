@@ -3,7 +3,7 @@ use Rattle.std.proofs.KnownBytes.{Keeps-trans}
 use Rattle.conode_io.specs.declared.fault.CmdFault.TheVariants.{BadLine, Memory, Write}
 use Rattle.conode_io.proofs.StoppedLemmas.{bad_line_is_other, memory_is_other, outcome_was, said_own, said_on_err, said_on_out, text_stopped}
 use Rattle.conode_decode.specs.DecodedTraces.{lines_of, names_in, trace_lines}
-use Rattle.conode_decode.proofs.Stopped.{at_own, lines_before, lines_made, lines_whole, lines_within, lines_written, reader_is_other, some_known_stopped, within_line_stopped, writer_failed}
+use Rattle.conode_decode.proofs.Stopped.{all_decoded, at_own, lines_before, lines_made, lines_whole, lines_within, lines_written, reader_is_other, some_known_stopped, within_line_stopped, writer_failed}
 use Rattle.conode_decode.proofs.decode_file.decode_input.Goals as goal
 
 pub returns-in-Err-clause-before : goal.returns-in-Err-clause-before
@@ -51,3 +51,9 @@ returns-in-Err-clause-write g c said =
 pub returns-in-Err-clause-write_said : goal.returns-in-Err-clause-write_said
 returns-in-Err-clause-write_said g c said =
     said_on_err c.stopped.result c.in-Err.fault (g.E.Write.contents c.args.err.now) (g.E.Write.contents c.stopped.new.err) c.stopped.ensures.fault c.stopped.ensures.on_err said
+
+pub returns-in-Ok-clause-whole : goal.returns-in-Ok-clause-whole
+returns-in-Ok-clause-whole g c = λ whole.
+    all_decoded (names_in (option_copied c.args.sheet) c.args.node) (g.R.Read.remaining c.args.input.now) (g.R.Read.remaining c.decode_from-outcome.new.reader)
+    (g.O.Write.contents c.args.out.now) (g.O.Write.contents c.decode_from-outcome.new.writer) (g.O.Write.contents c.flushed.new.writer)
+    c.decode_from-outcome.result tt c.in-Ok.ensures.ok c.decode_from-outcome.ensures.any_reader c.flushed.ensures.text
