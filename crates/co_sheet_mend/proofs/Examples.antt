@@ -71,30 +71,35 @@ emptied_open_section : line_as (Some Emptied) None (line 1 (codes " [2000")) [] 
 unfolding line_as
 emptied_open_section = refl
 
--- an object type in a word becomes its number, in any case of letters, with blanks around it
-domain_word : line_as (Some Emptied) None (line 1 (codes "ObjectType=DOMAIN")) [] ≡ codes "ObjectType=2\n"
-unfolding line_as assigned
-domain_word = refl
+-- the object type ARRAY or RECORD becomes its number, in any case of letters, with blanks around it, where a section of a sub-index is next
+abbrev dropped_before : List Line → List ℕ → List ℕ
+dropped_before more bytes = line_as (Some Emptied) (Some (record { index = 0x2000; sub = 0 })) (line 1 bytes) more
 
-var_word : line_as (Some Emptied) None (line 1 (codes "ObjectType=var")) [] ≡ codes "ObjectType=7\n"
-unfolding line_as assigned
-var_word = refl
+abbrev sub_next : List Line
+sub_next = line 2 (codes "SubNumber=2") ∷ line 3 (codes "[2000sub0]") ∷ line 4 (codes "[2001]") ∷ []
 
-array_word : line_as (Some Emptied) None (line 1 (codes "objecttype = Array ")) [] ≡ codes "ObjectType=8\n"
+array_word : dropped_before sub_next (codes "objecttype = Array ") ≡ codes "ObjectType=8\n"
 unfolding line_as assigned
 array_word = refl
 
-record_word : line_as (Some Emptied) None (line 1 (codes " ObjectType=\trecord ")) [] ≡ codes "ObjectType=9\n"
+record_word : dropped_before sub_next (codes " ObjectType=\trecord ") ≡ codes "ObjectType=9\n"
 unfolding line_as assigned
 record_word = refl
 
--- a word of no object that a sheet lists, two words, a part of one, numbers, no value, another property, no property
-no_word : map (λ bytes. line_as (Some Emptied) None (line 1 bytes) [])
-    (codes "ObjectType=DEFSTRUCT" ∷ codes "ObjectType=RECORD 9" ∷ codes "ObjectType=RECOR" ∷ codes "ObjectType=09" ∷ codes "ObjectType=" ∷ codes "DataType=RECORD"
-    ∷ codes "ObjectType RECORD" ∷ codes ";ObjectType=RECORD" ∷ [])
-    ≡ codes "\n" ∷ codes "\n" ∷ codes "\n" ∷ codes "\n" ∷ codes "\n" ∷ codes "\n" ∷ codes "\n" ∷ codes "\n" ∷ []
+-- a word of no object with sub-indices, two words, a part of one, numbers, no value, another property, no property
+no_word : map (dropped_before sub_next)
+    (codes "ObjectType=VAR" ∷ codes "ObjectType=DOMAIN" ∷ codes "ObjectType=DEFSTRUCT" ∷ codes "ObjectType=RECORD 9" ∷ codes "ObjectType=RECOR" ∷ codes "ObjectType=09"
+    ∷ codes "ObjectType=" ∷ codes "DataType=RECORD" ∷ codes "ObjectType RECORD" ∷ codes ";ObjectType=RECORD" ∷ [])
+    ≡ codes "\n" ∷ codes "\n" ∷ codes "\n" ∷ codes "\n" ∷ codes "\n" ∷ codes "\n" ∷ codes "\n" ∷ codes "\n" ∷ codes "\n" ∷ codes "\n" ∷ []
 unfolding line_as assigned
 no_word = refl
+
+-- the next section is another object, one of another object's sub-index, or there is none
+no_sub_next : map (λ more. dropped_before more (codes "ObjectType=RECORD"))
+    ((line 2 (codes "[2001]") ∷ line 3 (codes "[2000sub1]") ∷ []) ∷ (line 2 (codes "[2001sub1]") ∷ []) ∷ (line 2 (codes "CompactSubObj=2") ∷ []) ∷ [])
+    ≡ codes "\n" ∷ codes "\n" ∷ codes "\n" ∷ []
+unfolding line_as assigned
+no_sub_next = refl
 
 bytes_of_type : line_as (Some Typed) None (line 1 (codes "datatype = 0x0099")) [] ≡ codes "DataType=15\n"
 unfolding line_as type_code assigned digits

@@ -1,6 +1,6 @@
 -- What comes in place of a line, by its repair, and what that is to an entry.
 use Rattle.std.proofs.Common.{◌≡◌, ℕ, Bool, true, false, cond, List, [], ◌∷◌, ◌++◌, Option, Some, None, refl, sym, ap, ◌∙◌, codes}
-use Rattle.std.specs.Prelude.{is_some, option_and_then}
+use Rattle.std.specs.Prelude.{◌&&◌, is_some, option_and_then, take}
 use Rattle.std.specs.Option.{option_map_or}
 use Rattle.std.proofs.lemmas.List.{append_assoc}
 use Rattle.co_value.specs.declared.key.Key.{Key}
@@ -14,7 +14,7 @@ use Rattle.co_sheet_changes.specs.Pieces.{assigned}
 use Rattle.co_sheet_mend.specs.declared.repair.Repair.{Repair}
 use Rattle.co_sheet_mend.specs.declared.repair.Repair.TheVariants.{Emptied, Typed, ReadWrite, Completed, Counted, Numbered}
 use Rattle.co_sheet_mend.specs.NameLaws.{is_entry, keeps_section}
-use Rattle.co_sheet_mend.specs.Repairs.{code_given, code_named, ended, gives, lacking, lacking_type, line_as, list_text, states, sub0_text, type_code, typed}
+use Rattle.co_sheet_mend.specs.Repairs.{code_given, code_named, ended, gives, is_sub_of, lacking, lacking_type, line_as, list_text, most_looked_at, next_section, states, sub0_text, type_code, typed}
 use Rattle.co_sheet_mend.proofs.LookLemmas.{Look, begins, ends, names, other, named, named-other, named-before, named-end, is_begin, is_end, look, emptied-never, emptied-other, emptied-end}
 use Rattle.co_sheet_mend.proofs.NameLemmas.{gives-none}
 use Rattle.co_sheet_mend.proofs.NameReadLemmas.{is_long_line, look_line}
@@ -43,32 +43,29 @@ after-one other true xs ys h = h true
 
 -- ---- an object code in digits has no line feed
 
-abbrev code_of_given : Option Given → Option (List ℕ)
-code_of_given given = option_and_then (λ (g : Given). cond (same_name g.name (codes "ObjectType")) (code_named g.value) None) given
+abbrev code_of_given : Bool → Option Given → Option (List ℕ)
+code_of_given has_sub given = option_and_then (λ (g : Given). cond (has_sub && same_name g.name (codes "ObjectType")) (code_named g.value) None) given
 
 abbrev is_code_line : Option (List ℕ) → Bool
 is_code_line code = option_map_or is_line code true
 
-codes-lines : (d v a r : Bool)
-    → is_code_line (cond d (Some (codes "2")) (cond v (Some (codes "7")) (cond a (Some (codes "8")) (cond r (Some (codes "9")) None)))) ≡ true
-codes-lines true v a r = refl
-codes-lines false true a r = refl
-codes-lines false false true r = refl
-codes-lines false false false true = refl
-codes-lines false false false false = refl
+codes-lines : (a r : Bool) → is_code_line (cond a (Some (codes "8")) (cond r (Some (codes "9")) None)) ≡ true
+codes-lines true r = refl
+codes-lines false true = refl
+codes-lines false false = refl
 
 if-line : (b : Bool) (code : Option (List ℕ)) → is_code_line code ≡ true → is_code_line (cond b code None) ≡ true
 if-line true code h = h
 if-line false code h = refl
 
-given-code : (given : Option Given) → is_code_line (code_of_given given) ≡ true
-given-code None = refl
-given-code (Some g) =
-    if-line (same_name g.name (codes "ObjectType")) (code_named g.value)
-    (codes-lines (same_name g.value (codes "DOMAIN")) (same_name g.value (codes "VAR")) (same_name g.value (codes "ARRAY")) (same_name g.value (codes "RECORD")))
+given-code : (has_sub : Bool) (given : Option Given) → is_code_line (code_of_given has_sub given) ≡ true
+given-code has_sub None = refl
+given-code has_sub (Some g) =
+    if-line (has_sub && same_name g.name (codes "ObjectType")) (code_named g.value)
+    (codes-lines (same_name g.value (codes "ARRAY")) (same_name g.value (codes "RECORD")))
 
-code-line : (l : Line) (code : List ℕ) → code_given l ≡ Some code → is_line code ≡ true
-code-line l code given = sym (ap is_code_line given) ∙ given-code (property_in l)
+code-line : (has_sub : Bool) (l : Line) (code : List ℕ) → code_given has_sub l ≡ Some code → is_line code ≡ true
+code-line has_sub l code given = sym (ap is_code_line given) ∙ given-code has_sub (property_in l)
 
 module _ (entry : SectionKind) (is : is_entry entry ≡ true) where
   -- a text that is to the entry what a line is
@@ -99,11 +96,12 @@ module _ (entry : SectionKind) (is : is_entry entry ≡ true) where
   dropped_by l code = option_map_or (assigned (codes "ObjectType")) code (ended (emptied l).bytes)
 
   -- it passes as it does without such a code
-  dropped-passes : (l : Line) (code : Option (List ℕ)) → code_given l ≡ code → (inside : Bool) (rest : List ℕ)
+  dropped-passes : (has_sub : Bool) (l : Line) (code : Option (List ℕ)) → code_given has_sub l ≡ code → (inside : Bool) (rest : List ℕ)
       → named inside (look entry (emptied l).bytes ∷ looks entry rest) ≡ named inside (looks entry rest)
       → named inside (looks entry (dropped_by l code ++ rest)) ≡ named inside (looks entry rest)
-  dropped-passes l None given inside rest empty = acts-emptied l inside rest ∙ empty
-  dropped-passes l (Some code) given inside rest empty = passes-assigned entry (codes "ObjectType") code (refl, refl) (code-line l code given) inside rest
+  dropped-passes has_sub l None given inside rest empty = acts-emptied l inside rest ∙ empty
+  dropped-passes has_sub l (Some code) given inside rest empty =
+      passes-assigned entry (codes "ObjectType") code (refl, refl) (code-line has_sub l code given) inside rest
 
   -- the parts of a line whose type is at fault
   module _ (key : Option Key) (l : Line) where
@@ -152,7 +150,8 @@ module _ (entry : SectionKind) (is : is_entry entry ≡ true) where
   unfolding line_as
   before-piece None key l more h lines not other_repair rest = acts-alone l.bytes h false rest ∙ named-before (look_line entry l) (looks entry rest) not
   before-piece (Some Emptied) key l more h lines not other_repair rest =
-      dropped-passes l (code_given l) refl false rest (named-before (look entry (emptied l).bytes) (looks entry rest) (emptied-never entry is (line_form l)))
+      let has_sub = is_sub_of key (next_section (take most_looked_at more)) in
+      dropped-passes has_sub l (code_given has_sub l) refl false rest (named-before (look entry (emptied l).bytes) (looks entry rest) (emptied-never entry is (line_form l)))
   before-piece (Some Typed) key l more h lines not other_repair rest =
       retyped-before key l (gives (codes "DataType") l) (states (type_code key) l) (is_some (section_in l)) h not rest
   before-piece (Some ReadWrite) key l more h lines not other_repair rest = passes-access entry false rest
@@ -183,7 +182,8 @@ module _ (entry : SectionKind) (is : is_entry entry ≡ true) where
   unfolding line_as
   end-piece None key l more h lines end written numbered rest = acts-alone l.bytes h true rest ∙ named-end (look_line entry l) (looks entry rest) end
   end-piece (Some Emptied) key l more h lines end written numbered rest =
-      ap (λ (o : Option Given). named true (looks entry (dropped_by l (code_of_given o) ++ rest))) (end-property entry is l end)
+      let has_sub = is_sub_of key (next_section (take most_looked_at more)) in
+      ap (λ (o : Option Given). named true (looks entry (dropped_by l (code_of_given has_sub o) ++ rest))) (end-property entry is l end)
       ∙ acts-emptied l true rest ∙ ap (λ (k : Look). named true (k ∷ looks entry rest)) (emptied-end entry is (is_long_line l) (line_form l) end)
   end-piece (Some Typed) key l more h lines end written numbered rest =
       retyped-end key l (gives (codes "DataType") l) (states (type_code key) l) (is_some (section_in l)) h
@@ -199,7 +199,8 @@ module _ (entry : SectionKind) (is : is_entry entry ≡ true) where
   unfolding line_as
   other-piece None key l more h lines aside rest = acts-alone l.bytes h true rest ∙ named-other true (look_line entry l) (looks entry rest) aside
   other-piece (Some Emptied) key l more h lines aside rest =
-      dropped-passes l (code_given l) refl true rest (named-other true (look entry (emptied l).bytes) (looks entry rest) (emptied-other entry is (is_long_line l) (line_form l) aside))
+      let has_sub = is_sub_of key (next_section (take most_looked_at more)) in
+      dropped-passes has_sub l (code_given has_sub l) refl true rest (named-other true (look entry (emptied l).bytes) (looks entry rest) (emptied-other entry is (is_long_line l) (line_form l) aside))
   other-piece (Some Typed) key l more h lines aside rest =
       retyped-other key l (gives (codes "DataType") l) (states (type_code key) l) (is_some (section_in l)) (ap is_some (other-section entry is l aside)) aside rest
   other-piece (Some ReadWrite) key l more h lines aside rest = passes-access entry true rest

@@ -1,5 +1,5 @@
 -- What comes in place of the lines at fault of a data sheet's text (CiA 306).
-use Rattle.std.specs.Prelude.{ℕ, suc, ◌-◌, ◌==◌, nat_le, nat_lt, Bool, true, false, not, ◌&&◌, if◌then◌else◌, List, [], ◌∷◌, ◌++◌, codes, decimal, length, Option, Some, None, is_some, option_and_then, unwrap_or, slice_index}
+use Rattle.std.specs.Prelude.{ℕ, suc, ◌-◌, ◌==◌, nat_le, nat_lt, Bool, true, false, not, ◌&&◌, if◌then◌else◌, List, [], ◌∷◌, ◌++◌, codes, decimal, length, take, Option, Some, None, is_some, option_and_then, unwrap_or, slice_index}
 use Rattle.std.specs.List.{filter_map, list_any}
 use Rattle.std.specs.Option.{option_map_or}
 use Rattle.std.specs.Result.{result_ok}
@@ -145,19 +145,30 @@ typed key = assigned (codes "DataType") (decimal (type_code key))
 abbrev pub lacking_type : Option Key → List Line → List ℕ
 lacking_type key lines = if gives_any (codes "DataType") lines then [] else typed key
 
--- the object code that a word names (CiA 301, object codes), in digits; the others, 0, 5 and 6, are
--- of no object that a sheet may list
+-- how many lines are looked at for the next section, so that the time stays in proportion to the text
+abbrev pub most_looked_at : ℕ
+most_looked_at = 32
+
+-- the section that the first section line of lines begins
+abbrev pub next_section : List Line → Option SectionKind
+next_section [] = None
+next_section (line ∷ more) = option_map_or (λ name. Some (kind_of name)) (section_in line) (next_section more)
+
+-- a section is of a sub-index of the object that this entry is of
+abbrev pub is_sub_of : Option Key → Option SectionKind → Bool
+is_sub_of (Some key) (Some (SubIndex sub)) = sub.index == key.index
+is_sub_of key kind = false
+
+-- the object code that a word names of an object with sub-indices (CiA 301, object codes), in digits
 abbrev pub code_named : List ℕ → Option (List ℕ)
 code_named word =
-    if same_name word (codes "DOMAIN") then Some (codes "2")
-    else (if same_name word (codes "VAR") then Some (codes "7")
-    else (if same_name word (codes "ARRAY") then Some (codes "8")
-    else (if same_name word (codes "RECORD") then Some (codes "9") else None)))
+    if same_name word (codes "ARRAY") then Some (codes "8")
+    else (if same_name word (codes "RECORD") then Some (codes "9") else None)
 
--- and that a line gives in a word, as `ObjectType=RECORD`
-abbrev pub code_given : Line → Option (List ℕ)
-code_given line =
-    option_and_then (λ given. if same_name given.name (codes "ObjectType") then code_named given.value else None)
+-- and that a line gives in a word, as `ObjectType=RECORD`, where the next section is of a sub-index
+abbrev pub code_given : Bool → Line → Option (List ℕ)
+code_given has_sub line =
+    option_and_then (λ given. if has_sub && same_name given.name (codes "ObjectType") then code_named given.value else None)
     (property_in line)
 
 -- ---- of an object list (CiA 306, lists of objects)
@@ -189,9 +200,11 @@ list_text lines = counted_text (objects_named lines)
 
 -- ---- what a line becomes, which these lines follow
 
--- nothing; but of an object type in a word its number, so that the object keeps its sub-indices
-abbrev pub dropped : Line → List ℕ
-dropped line = option_map_or (assigned (codes "ObjectType")) (code_given line) (ended (emptied line).bytes)
+-- nothing; but of the object type ARRAY or RECORD soon before a section of a sub-index its number, so that
+-- the object keeps its sub-indices
+abbrev pub dropped : Option Key → Line → List Line → List ℕ
+dropped key line more =
+    option_map_or (assigned (codes "ObjectType")) (code_given (is_sub_of key (next_section (take most_looked_at more))) line) (ended (emptied line).bytes)
 
 -- A type that is the entry's own is at fault since its object is a DOMAIN: it is dropped. So a
 -- section line is at fault where a DOMAIN states no type and CiA 301 fixes another: it becomes a
@@ -214,7 +227,7 @@ numbered line = option_map_or sub0_text (section_in line) [] ++ ended line.bytes
 
 unfoldable pub line_as : Option Repair → Option Key → Line → List Line → List ℕ
 line_as None key line more = ended line.bytes
-line_as (Some Emptied) key line more = dropped line
+line_as (Some Emptied) key line more = dropped key line more
 line_as (Some Typed) key line more = retyped key line
 line_as (Some ReadWrite) key line more = assigned (codes "AccessType") (codes "rw")
 line_as (Some Completed) key line more = completed key line more

@@ -1,6 +1,6 @@
 //! Lines and what becomes of them.
 
-ghost use Rattle.std.specs.Prelude.{◌≡◌, ◌++◌, codes, decimal, map, IfOk, OnOk};
+ghost use Rattle.std.specs.Prelude.{◌≡◌, ◌++◌, codes, decimal, map, take, IfOk, OnOk};
 ghost use Rattle.std.specs.List.{list_any};
 ghost use Rattle.std.specs.Option.{option_copied};
 ghost use Rattle.co_sheet_changes.specs.Pieces.{assigned};
@@ -17,6 +17,7 @@ ghost use Rattle.co_sheet_mend.specs.Repairs.{
   ends_in_return,
   gives,
   gives_any,
+  is_sub_of,
   key_at,
   key_in,
   lacking,
@@ -25,7 +26,9 @@ ghost use Rattle.co_sheet_mend.specs.Repairs.{
   list_text,
   listed,
   mandatory_sections,
+  most_looked_at,
   names_object,
+  next_section,
   numbered,
   numbered_from,
   objects_named,
@@ -52,17 +55,19 @@ const ACCESS_TYPE: &[u8] = b"AccessType";
 
 const OBJECT_TYPE: &[u8] = b"ObjectType";
 
-// the object codes (CiA 301) of the objects that a sheet lists, in digits
-
-const DOMAIN: &[u8] = b"2";
-
+/// The object type of a VAR (CiA 306).
 const VAR: &[u8] = b"7";
 
+/// Those of objects with sub-indices.
 const ARRAY: &[u8] = b"8";
 
 const RECORD: &[u8] = b"9";
 
 const READ_WRITE: &[u8] = b"rw";
+
+/// How many lines are looked at for the next section, so that the time stays in proportion to the
+/// text.
+const MOST_LOOKED_AT: usize = 32;
 
 /// The sections of the device type and of the error register.
 const VALUES: &[u8] = b"[1000]\nDataType=7\nAccessType=ro\n[1001]\nDataType=5\nAccessType=ro\n";
@@ -238,15 +243,41 @@ fn emptied(line: &Line<'_>) -> &'static [u8]
     }
 }
 
+// the lines that are looked at for the next section
+fn near<'l, 'a>(lines: &'l [Line<'a>]) -> &'l [Line<'a>]
+    ensures { map line_view result.now ≡ take most_looked_at (map line_view lines.entry.now) }
+{
+    let (near, _) = lines.split_at(MOST_LOOKED_AT.min(lines.len()));
+    near
+}
+
+// the section that the first section line of lines begins
+fn next_section(lines: &[Line<'_>]) -> Option<SectionKind>
+    ensures { result ≡ next_section (map line_view lines.now) }
+{
+    for line in lines {
+        if let Some(name) = line.section() {
+            return Some(SectionKind::of_name(name));
+        }
+    }
+    None
+}
+
+// whether a section is of a sub-index of the object that this entry is of
+fn is_sub_of(key: Option<Key>, kind: Option<SectionKind>) -> bool
+    ensures { result ≡ is_sub_of key kind }
+{
+    match (key, kind) {
+        (Some(key), Some(SectionKind::SubIndex(sub))) => sub.index == key.index,
+        _ => false,
+    }
+}
+
 // the object code that a word names, in digits
 fn code_named(word: &[u8]) -> Option<&'static [u8]>
     ensures { option_copied result ≡ code_named word.now }
 {
-    if same_name(word, b"DOMAIN") {
-        Some(DOMAIN)
-    } else if same_name(word, b"VAR") {
-        Some(VAR)
-    } else if same_name(word, b"ARRAY") {
+    if same_name(word, b"ARRAY") {
         Some(ARRAY)
     } else if same_name(word, b"RECORD") {
         Some(RECORD)
@@ -255,22 +286,28 @@ fn code_named(word: &[u8]) -> Option<&'static [u8]>
     }
 }
 
-// the object code that a line gives in a word
-fn code_given(line: &Line<'_>) -> Option<&'static [u8]>
-    ensures { option_copied result ≡ code_given (line_view line.now) }
+// the object code that a line gives in a word, where the next section is of a sub-index
+fn code_given(has_sub: bool, line: &Line<'_>) -> Option<&'static [u8]>
+    ensures { option_copied result ≡ code_given has_sub (line_view line.now) }
 {
     let (name, value) = line.property()?;
-    if same_name(name, OBJECT_TYPE) {
+    if has_sub && same_name(name, OBJECT_TYPE) {
         code_named(value)
     } else {
         None
     }
 }
 
-fn push_dropped(made: &mut Vec<u8>, line: &Line<'_>) -> Result<(), AllocError>
-    ensures { OnOk result (made.new.items ≡ made.old.items ++ dropped (line_view line.now)) }
+fn push_dropped(
+    made: &mut Vec<u8>,
+    key: Option<Key>,
+    line: &Line<'_>,
+    more: &[Line<'_>],
+) -> Result<(), AllocError>
+    ensures { OnOk result (made.new.items
+        ≡ made.old.items ++ dropped key (line_view line.now) (map line_view more.now)) }
 {
-    match code_given(line) {
+    match code_given(is_sub_of(key, next_section(near(more))), line) {
         Some(code) => push_assigned(made, OBJECT_TYPE, code),
         None => push_ended(made, emptied(line)),
     }
@@ -425,7 +462,7 @@ pub(crate) fn push_line(
 {
     match repair {
         None => push_ended(made, line.bytes),
-        Some(Repair::Emptied) => push_dropped(made, line),
+        Some(Repair::Emptied) => push_dropped(made, key, line, more),
         Some(Repair::Typed) => push_retyped(alloc, made, key, line),
         Some(Repair::ReadWrite) => push_assigned(made, ACCESS_TYPE, READ_WRITE),
         Some(Repair::Completed) => push_completed(alloc, made, key, line, more),

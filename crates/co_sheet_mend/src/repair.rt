@@ -8,8 +8,9 @@ use co_sheet_faults::FaultKind;
 /// What comes in place of a line at fault.
 #[derive(Clone, Copy)]
 pub enum Repair {
-    /// Nothing; of a section line one that begins a section which nothing reads, and of an object
-    /// type in a word, as RECORD, its number (CiA 301, object codes).
+    /// Nothing; of a section line one that begins a section which nothing reads, and of the object
+    /// type ARRAY or RECORD, where a section of a sub-index is next, its number (CiA 301, object
+    /// codes).
     Emptied,
     /// Of a data type the one that CiA 301 fixes for the entry, else DOMAIN, whose values are
     /// bytes; of a section line that line, and a VAR; nothing of another property.
