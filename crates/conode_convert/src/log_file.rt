@@ -1,7 +1,9 @@
 //! The file of a log, converted.
 
-ghost use Rattle.std.specs.Prelude.{◌≡◌, ◌⊎◌};
+ghost use Rattle.std.specs.Prelude.{ℕ, ◌≡◌, ◌⊎◌, List, IfSome};
 ghost use Rattle.std.specs.Process.{exit_status};
+ghost use Rattle.conode_io.specs.TraceTexts.{GaveText};
+ghost use Rattle.conode_convert.specs.Taking.{Converts};
 
 use crate::converted::convert;
 use conode_io::{cannot_read, flushed, stopped};
@@ -24,7 +26,13 @@ fn convert_input<R: Read, O: Write, E: Write>(
     out: &mut O,
     err: &mut E,
 ) -> ExitCode
-    ensures { (exit_status result ≡ 0) ⊎ (exit_status result ≡ 1) }
+    ensures status { (exit_status result ≡ 0) ⊎ (exit_status result ≡ 1) }
+    // All lines are converted and written, and none of them is bad.
+    ensures known { exit_status result ≡ 0 → IfSome (R.remaining input.old)
+        (Converts form (O.contents out.old) (O.contents out.new) 0) }
+    ensures any_reader { exit_status result ≡ 0 →
+        GaveText (R.remaining input.old) (R.remaining input.new)
+        (Converts form (O.contents out.old) (O.contents out.new) 0) }
 {
     let outcome = convert(alloc, input, form, out, err);
     match flushed(out, outcome) {
@@ -47,7 +55,10 @@ pub fn convert_file<R: Files + AllocGlobal + Input, O: Write, E: Write>(
     out: &mut O,
     err: &mut E,
 ) -> ExitCode
-    ensures { (exit_status result ≡ 0) ⊎ (exit_status result ≡ 1) }
+    ensures status { (exit_status result ≡ 0) ⊎ (exit_status result ≡ 1) }
+    // A text was read: all its lines are converted and written, and none of them is bad.
+    ensures whole { exit_status result ≡ 0 → (text : List ℕ) ×
+        Converts form (O.contents out.old) (O.contents out.new) 0 text }
 {
     if path == STANDARD_INPUT {
         return convert_input(rt.alloc(), &mut rt.reader(), form, out, err);
