@@ -1,5 +1,6 @@
 -- What is written for a text.
 use Rattle.std.specs.Prelude.{
+  ◌≡◌,
   ℕ,
   nat_lt,
   Bool,
@@ -17,6 +18,7 @@ use Rattle.std.specs.Prelude.{
 }
 use Rattle.std.specs.List.{list_any}
 use Rattle.std.specs.Option.{option_map_or}
+use Rattle.std.specs.Io.KnownBytes.{Appends}
 use Rattle.co_sheet_rows.specs.declared.fault.FaultKind.TheVariants.{TooLarge}
 use Rattle.co_sheet_rows.specs.FaultTexts.{fault_text}
 use Rattle.co_sheet.specs.Faults.{fault_at}
@@ -113,3 +115,7 @@ shown_unless form node why text = option_map_or (reason_in form) why (document_o
 -- the document of a text, or what is written where it isn't shown
 unfoldable pub shown : Form → Option ℕ → List ℕ → List ℕ
 shown form node text = shown_unless form node (reason text) (whole_text text (expanded text))
+
+-- the dictionary of this text is shown: there is no reason against it, and its document is written
+abbrev pub IsShown : Form → Option ℕ → Option (List ℕ) → Option (List ℕ) → List ℕ → Type 0
+IsShown form node old new text = (reason text ≡ None) × Appends old new (shown form node text)

@@ -1,15 +1,19 @@
 //! The file of a data sheet, shown.
 
 ghost use Rattle.std.specs.Prelude.{
+  ℕ,
   ◌≡◌,
   ◌⊎◌,
   ◌≤◌,
+  List,
   length,
   map,
+  None,
   Some,
   IfOk,
   IfErr,
   OnOk,
+  Ok,
   Err,
 };
 ghost use Rattle.std.specs.Option.{option_copied};
@@ -23,6 +27,7 @@ ghost use Rattle.co_sheet_text.specs.Text.{lines_of};
 ghost use Rattle.conode_show_text.specs.Document.{ordered};
 ghost use Rattle.conode_show.specs.Retyped.{retyped_view};
 ghost use Rattle.conode_show.specs.Shown.{
+  IsShown,
   document_in,
   document_of,
   empty_reason,
@@ -332,7 +337,11 @@ fn status_of<O: Write, E: Write>(
     out: &mut O,
     err: &mut E,
 ) -> ExitCode
-    ensures { (exit_status result ≡ 0) ⊎ (exit_status result ≡ 1) }
+    ensures status { (exit_status result ≡ 0) ⊎ (exit_status result ≡ 1) }
+    // The status is 0 only if the dictionary was shown.
+    ensures shown { exit_status result ≡ 0 → outcome.entry ≡ Ok None }
+    // After a document nothing more is written, also after that of a text that isn't shown.
+    ensures kept { OnOk outcome.entry (Keeps (O.contents out.old) (O.contents out.new)) }
 {
     match flushed(out, outcome) {
         Ok(None) => ExitCode::SUCCESS,
@@ -357,7 +366,11 @@ pub fn show_file<R: Files + AllocGlobal + Input, O: Write, E: Write>(
     out: &mut O,
     err: &mut E,
 ) -> ExitCode
-    ensures { (exit_status result ≡ 0) ⊎ (exit_status result ≡ 1) }
+    ensures status { (exit_status result ≡ 0) ⊎ (exit_status result ≡ 1) }
+    // The dictionary of a text is shown, for this node-ID and in this form, and nothing else is
+    // written.
+    ensures shown { exit_status result ≡ 0 → (text : List ℕ) ×
+        IsShown form node (O.contents out.old) (O.contents out.new) text }
 {
     match text_of(rt, path) {
         Ok(text) => {
