@@ -169,8 +169,8 @@ pub fn decode_files<R: Files + AllocGlobal + Input, O: Write, E: Write>(
     err: &mut E,
 ) -> ExitCode
     ensures status { (exit_status result ≡ 0) ⊎ (exit_status result ≡ 1) }
-    // A trace without a bad line is decoded, with the names of the data sheet that is asked for, and
-    // all lines are written.
+    // Some trace without a bad line is decoded, with the names of some data sheet, if one is asked
+    // for, and all lines are written.
     ensures whole { exit_status result ≡ 0 → (names : Names) × AreNames (is_some sheet.entry) node names ×
         (text : List ℕ) × DecodesAll names (O.contents out.old) (O.contents out.new) text }
 {

@@ -1,4 +1,4 @@
--- What a command comes to whose status is 0, by the text of the data sheet that it read.
+-- What a command comes to whose status is 0, by the text of a data sheet.
 use Rattle.std.specs.Prelude.{ℕ, List, [], Option, IsSomeAnd}
 use Rattle.std.specs.Option.{option_or}
 use Rattle.co_sheet.specs.Content.{IsSheet, SheetContent}
