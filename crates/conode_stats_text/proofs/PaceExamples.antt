@@ -5,10 +5,9 @@ use Rattle.std.specs.Fmt.{digits}
 use Rattle.co_text.specs.Printed.{digits_text}
 use Rattle.conode_stats_counts.specs.declared.heartbeats.Heartbeats.{Heartbeats}
 use Rattle.conode_stats_text.specs.declared.pace.Pace.TheVariants.{Written, Sheet, Median, Pdos}
-use Rattle.conode_stats_text.specs.declared.excerpt.Excerpt.{Excerpt}
-use Rattle.conode_stats_text.specs.declared.finding.Finding.TheVariants.{Late, Lost, Restarted}
+use Rattle.conode_stats_text.specs.declared.finding.Finding.TheVariants.{Late, Lost}
 use Rattle.conode_stats_text.specs.Cells.{seconds, thousandths}
-use Rattle.conode_stats_text.specs.Findings.{is_listed, late_in, listed, lost_in, passed}
+use Rattle.conode_stats_text.specs.Findings.{late_in, lost_in}
 use Rattle.conode_stats_text.specs.StatsLines.{node_front}
 use Rattle.conode_stats_text.specs.Paces.{is_long, late_line, lost_line, median, pace_of, silent_line, usual_pace}
 
@@ -129,26 +128,3 @@ by_the_sheet : lost_line (codes "can0") 5 300000 (Sheet 100)
     ≡ codes "  can0: node 5 heartbeats up to 300.000 ms apart, 1017h of the sheet 100 ms\n"
 unfolding lost_line node_front thousandths digits_text digits
 by_the_sheet = refl
-
--- ---- which are listed: the second and the third
-
-abbrev excerpt : ℕ → Excerpt
-excerpt seen = record { seen = seen; from = 1; until = 3 }
-
-before : listed (excerpt 0) (codes "can0") 5 (Some (Restarted 2 1130000)) ≡ []
-before = refl
-
-first : is_listed (excerpt 1) ≡ true
-first = refl
-
-last : is_listed (excerpt 2) ≡ true
-last = refl
-
-after : is_listed (excerpt 3) ≡ false
-after = refl
-
-one_more : passed (excerpt 2) (Some (Restarted 2 1130000)) ≡ excerpt 3
-one_more = refl
-
-none_more : passed (excerpt 2) None ≡ excerpt 2
-none_more = refl

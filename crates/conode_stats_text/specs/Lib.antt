@@ -4,6 +4,7 @@ pub mod Figures
 pub mod Findings
 pub mod NodeLines
 pub mod Paces
+pub mod Pages
 pub mod Papers
 pub mod Pieces
 pub mod SheetFacts

@@ -3,9 +3,15 @@
 ghost use Rattle.std.specs.Prelude.{◌≡◌, ◌<◌};
 ghost use Rattle.conode_stats_text.specs.FailureLines.{is_waiting};
 ghost use Rattle.conode_stats_text.specs.Findings.{
+  bus_finding,
   counted_in,
   counted_words,
+  error_frames,
+  error_frames_of,
+  further_words,
+  is_of_errors,
   late_in,
+  long_pause,
   lost_in,
   node_finding,
   open_finding,
@@ -124,7 +130,9 @@ fn counted_in(kind: Kind, count: u64) -> Option<Finding>
 }
 
 // the longest time between two frames, in whole seconds, if it is more than an hour
-fn long_pause(all: &Tally) -> u64 {
+fn long_pause(all: &Tally) -> u64
+    ensures { result ≡ long_pause all.now }
+{
     let seconds = all.greatest / 1_000_000;
     if all.greatest > LONG_PAUSE * 1_000_000 {
         seconds
@@ -134,17 +142,31 @@ fn long_pause(all: &Tally) -> u64 {
 }
 
 // whether a row is of error frames
-fn is_of_errors(row: &Row) -> bool {
+fn is_of_errors(row: &Row) -> bool
+    ensures { result ≡ is_of_errors row.now }
+{
     row.can_id >= ERROR_FRAME && row.can_id < EXTENDED
 }
 
+// how many frames of a row are error frames
+fn error_frames_of(row: &Row) -> u64
+    ensures { result ≡ error_frames_of row.now }
+{
+    if is_of_errors(row) {
+        row.tally.frames
+    } else {
+        0
+    }
+}
+
 // how many error frames there are
-fn error_frames(rows: &[Row]) -> u64 {
+#[tactic(auto, unfolding(crate::specs::Findings::error_frames))]
+fn error_frames(rows: &[Row]) -> u64
+    ensures { result ≡ error_frames rows.now }
+{
     let mut count: u64 = 0;
     for row in rows {
-        if is_of_errors(row) {
-            count = count.saturating_add(row.tally.frames);
-        }
+        count = count.saturating_add(error_frames_of(row));
     }
     count
 }
@@ -185,7 +207,9 @@ impl Kind {
     }
 
     /// What a bus shows of this kind.
-    pub(crate) fn of_bus(self, bus: &Bus) -> Option<Finding> {
+    pub(crate) fn of_bus(self, bus: &Bus) -> Option<Finding>
+        ensures { result ≡ bus_finding self bus.now }
+    {
         let count = match self {
             Kind::Pause => long_pause(&bus.all()),
             Kind::StepsBack => bus.all().steps_back,
@@ -214,7 +238,9 @@ impl Kind {
     }
 
     /// The words about findings of this kind that aren't among the first.
-    pub(crate) fn further(self) -> &'static str {
+    pub(crate) fn further(self) -> &'static str
+        ensures { result.now ≡ further_words self }
+    {
         match self {
             Kind::Silence => "further silent nodes, at the end of the page",
             Kind::Lateness | Kind::Loss =>

@@ -1,6 +1,44 @@
 //! The page.
 
-ghost use Rattle.std.specs.Prelude.{◌≤◌, IfSome};
+ghost use Rattle.std.specs.Prelude.{◌≡◌, ◌≤◌, IfOk, IfSome, length, string_bytes};
+ghost use Rattle.std.specs.List.{flat_map, list_any};
+ghost use Rattle.conode_stats_counts.specs.Gaps.{counted};
+ghost use Rattle.conode_stats_text.specs.Findings.{IsListed};
+ghost use Rattle.conode_stats_text.specs.Pages.{
+  by_id,
+  count_of,
+  end_lines,
+  found,
+  found_lines,
+  found_on,
+  front_lines,
+  has_nodes,
+  id_lines,
+  kind_lines_of,
+  line_of,
+  lines_on,
+  load_lines,
+  loads,
+  most_at_top,
+  node_found,
+  node_lines,
+  node_table,
+  nodes_found,
+  nothing_line,
+  nothing_words,
+  open_found,
+  open_found_on,
+  page_lines,
+  row_found,
+  rows_found,
+  rows_found_of,
+  table_head,
+  table_lines,
+  top_lines,
+  unknown_line,
+};
+ghost use Rattle.conode_stats_text.specs.Papers.{IsAppended};
+ghost use Rattle.conode_stats_text.specs.StatsLines.{row_line};
 
 use crate::excerpt::Excerpt;
 use crate::finding::{Kind, open_finding};
@@ -10,7 +48,8 @@ use crate::paper::Paper;
 use crate::pieces::Piece;
 use crate::sheet_facts::{SheetFacts, sheet_rate, sheet_time};
 use crate::wrong::push_listed;
-use conode_stats_counts::{Bus, Counts, FailureRow, Load, Row, Tally};
+use conode_explain_transfers::Track;
+use conode_stats_counts::{Bus, Counts, FailureRow, Row};
 use std::alloc::{AllocError, Global};
 
 /// The contents of the page.
@@ -61,11 +100,33 @@ const MOST_FINDINGS: u64 = 20;
 /// Of more than these so many of each kind.
 const MOST_OF_KIND: u64 = 2;
 
-/// The identifiers of a bus, the smallest first.
-pub fn sorted_rows(alloc: Global, bus: &Bus) -> Result<Vec<Row>, AllocError> {
+/// The identifiers of a bus, the smallest first. `Err`: out of memory.
+pub fn sorted_rows(alloc: Global, bus: &Bus) -> Result<Vec<Row>, AllocError>
+    ensures { IfOk result (λ rows. rows.items ≡ by_id bus.now.rows) }
+{
     let mut rows = attempt!(bus.rows().to_vec(alloc));
     attempt!(rows.sort_by_key(|row| row.can_id));
     Ok(rows)
+}
+
+// what looks wrong in one way with a node
+fn push_node_wrong(
+    paper: &mut Paper,
+    excerpt: &mut Excerpt,
+    sheets: &[SheetFacts<'_>],
+    bus: &Bus,
+    kind: Kind,
+    number: u8,
+)
+    ensures { IsListed paper.old excerpt.old
+        (node_found kind sheets.now bus.now number)
+        paper.new excerpt.new }
+{
+    if let Some(node) = bus.nodes().get(number as usize) {
+        let time = sheet_time(sheets, bus.interface(), number);
+        let finding = kind.of_node(bus, time, number, node);
+        push_listed(paper, excerpt, bus.interface(), number as u32, &finding);
+    }
 }
 
 // what looks wrong in one way with the nodes of a bus, by node
@@ -75,13 +136,29 @@ fn push_nodes_wrong(
     sheets: &[SheetFacts<'_>],
     bus: &Bus,
     kind: Kind,
-) {
+)
+    ensures { IsListed paper.old excerpt.old (nodes_found kind sheets.now bus.now)
+        paper.new excerpt.new }
+{
     for number in 1..128u8 {
-        if let Some(node) = bus.nodes().get(number as usize) {
-            let time = sheet_time(sheets, bus.interface(), number);
-            let finding = kind.of_node(bus, time, number, node);
-            push_listed(paper, excerpt, bus.interface(), number as u32, &finding);
-        }
+        push_node_wrong(paper, excerpt, sheets, bus, kind, number);
+    }
+}
+
+// a row, if it is of a node
+fn push_row_wrong(
+    paper: &mut Paper,
+    excerpt: &mut Excerpt,
+    interface: &[u8],
+    row: &FailureRow,
+    kind: Kind,
+    node: u8,
+)
+    ensures { IsListed paper.old excerpt.old (row_found kind interface.now node row.now)
+        paper.new excerpt.new }
+{
+    if row.cause.node == node {
+        push_listed(paper, excerpt, interface, node as u32, &kind.of_row(row));
     }
 }
 
@@ -93,12 +170,12 @@ fn push_rows_of(
     rows: &[FailureRow],
     kind: Kind,
     node: u8,
-) {
+)
+    ensures { IsListed paper.old excerpt.old (rows_found_of kind interface.now rows.now node)
+        paper.new excerpt.new }
+{
     for row in rows {
-        if row.cause.node == node {
-            let finding = kind.of_row(row);
-            push_listed(paper, excerpt, interface, node as u32, &finding);
-        }
+        push_row_wrong(paper, excerpt, interface, row, kind, node);
     }
 }
 
@@ -109,19 +186,31 @@ fn push_rows_wrong(
     interface: &[u8],
     rows: &[FailureRow],
     kind: Kind,
-) {
+)
+    ensures { IsListed paper.old excerpt.old (rows_found kind interface.now rows.now)
+        paper.new excerpt.new }
+{
     for node in 1..128u8 {
         push_rows_of(paper, excerpt, interface, rows, kind, node);
     }
 }
 
-// the SDO transfers that are open on a bus
-fn push_open_on(paper: &mut Paper, excerpt: &mut Excerpt, bus: &Bus) {
+// the SDO transfer that is open on a channel of a bus
+fn push_open_in(paper: &mut Paper, excerpt: &mut Excerpt, bus: &Bus, track: &Track)
+    ensures { IsListed paper.old excerpt.old (open_found_on bus.now track.now)
+        paper.new excerpt.new }
+{
     let all = bus.all();
+    let finding = open_finding(&all, &track.channel.unfinished(all.last));
+    push_listed(paper, excerpt, bus.interface(), track.node as u32, &finding);
+}
+
+// the SDO transfers that are open on a bus
+fn push_open_on(paper: &mut Paper, excerpt: &mut Excerpt, bus: &Bus)
+    ensures { IsListed paper.old excerpt.old (open_found bus.now) paper.new excerpt.new }
+{
     for track in bus.transfers().channels() {
-        let finding = open_finding(&all, &track.channel.unfinished(all.last));
-        let node = track.node as u32;
-        push_listed(paper, excerpt, bus.interface(), node, &finding);
+        push_open_in(paper, excerpt, bus, track);
     }
 }
 
@@ -132,7 +221,10 @@ fn push_kind_on(
     sheets: &[SheetFacts<'_>],
     bus: &Bus,
     kind: Kind,
-) {
+)
+    ensures { IsListed paper.old excerpt.old (found_on kind sheets.now bus.now)
+        paper.new excerpt.new }
+{
     let interface = bus.interface();
     match kind {
         Kind::Silence | Kind::Lateness | Kind::Loss | Kind::Restarts => {
@@ -148,104 +240,208 @@ fn push_kind_on(
 }
 
 // what looks wrong in one way, by bus
-fn push_kind(paper: &mut Paper, excerpt: &mut Excerpt, page: &Page<'_>, kind: Kind) {
+fn push_kind(paper: &mut Paper, excerpt: &mut Excerpt, page: &Page<'_>, kind: Kind)
+    ensures { IsListed paper.old excerpt.old (found page.now kind) paper.new excerpt.new }
+{
     for bus in page.counts.buses() {
         push_kind_on(paper, excerpt, page.sheets, bus, kind);
     }
 }
 
-// What looks wrong, of each kind from a place until another, and how many more there are; nothing
-// until place 0. Returns how many there are of all kinds.
-fn push_findings(paper: &mut Paper, page: &Page<'_>, from: u64, until: u64) -> u64 {
-    let mut all: u64 = 0;
-    for kind in &KINDS {
-        let mut excerpt = Excerpt::new(from, until);
-        push_kind(paper, &mut excerpt, page, *kind);
-        if 0 < until {
-            push_count(paper, kind.further(), excerpt.left());
-        }
-        all = all.saturating_add(excerpt.seen);
-    }
-    all
+// how much looks wrong in one way
+fn count_kind(alloc: Global, page: &Page<'_>, kind: Kind) -> u64
+    ensures { result ≡ counted (length (found page.now kind)) }
+{
+    // Nothing is listed.
+    let mut excerpt = Excerpt::new(0, 0);
+    push_kind(&mut Paper::new(alloc), &mut excerpt, page, kind);
+    excerpt.seen
 }
 
-// all that looks wrong, so many of each kind
-fn push_all_wrong(paper: &mut Paper, page: &Page<'_>, most: u64) {
+// how much looks wrong
+fn count_found(alloc: Global, page: &Page<'_>) -> u64
+    ensures { result ≡ count_of page.now }
+{
+    let mut count: u64 = 0;
+    for kind in &KINDS {
+        count = count.saturating_add(count_kind(alloc, page, *kind));
+    }
+    count
+}
+
+// what looks wrong in one way, from a place until another, and how many more there are
+fn push_kind_lines(paper: &mut Paper, page: &Page<'_>, from: u64, until: u64, kind: Kind)
+    ensures { IsAppended paper.old (kind_lines_of from until page.now kind) paper.new }
+{
+    let mut excerpt = Excerpt::new(from, until);
+    push_kind(paper, &mut excerpt, page, kind);
+    push_count(paper, kind.further(), excerpt.left());
+}
+
+// what looks wrong, of each kind from a place until another, and how many more there are
+#[tactic(auto, using(crate::proofs::Appended::none))]
+fn push_found(paper: &mut Paper, page: &Page<'_>, from: u64, until: u64)
+    ensures { IsAppended paper.old (found_lines from until page.now) paper.new }
+{
+    for kind in &KINDS {
+        push_kind_lines(paper, page, from, until, *kind);
+    }
+}
+
+// of so many that look wrong, so many of a kind are at the top
+fn most_at_top(count: u64) -> u64
+    ensures { result ≡ most_at_top count }
+{
+    if MOST_FINDINGS < count {
+        MOST_OF_KIND
+    } else {
+        u64::MAX
+    }
+}
+
+fn nothing_words(page: &Page<'_>) -> &'static str
+    ensures { result.now ≡ nothing_words page.now }
+{
+    if page.counts.buses().is_empty() {
+        "  no frames\n"
+    } else {
+        "  nothing\n"
+    }
+}
+
+// where nothing looks wrong
+#[tactic(auto, using(crate::proofs::Appended::none))]
+fn push_nothing(paper: &mut Paper, page: &Page<'_>, count: u64)
+    ensures { IsAppended paper.old (nothing_line count page.now) paper.new }
+{
+    if count == 0 && page.bad == 0 && page.counts.left_out() == 0 {
+        paper.put(&[Piece::Words(nothing_words(page))]);
+    }
+}
+
+// the top of the page
+fn push_top(paper: &mut Paper, page: &Page<'_>, count: u64)
+    ensures { IsAppended paper.old (top_lines count page.now) paper.new }
+{
     paper.put(&[Piece::Words("What looks wrong\n")]);
-    let before = paper.len();
-    push_findings(paper, page, 0, most);
+    push_found(paper, page, 0, most_at_top(count));
     push_count(paper, "bad lines", page.bad);
     push_count(paper, MORE_INTERFACES, page.counts.left_out());
-    if paper.len() == before {
-        let is_empty = page.counts.buses().is_empty();
-        let words = if is_empty {
-            "  no frames\n"
-        } else {
-            "  nothing\n"
-        };
-        paper.put(&[Piece::Words(words)]);
+    push_nothing(paper, page, count);
+}
+
+// its end, where the top doesn't have all
+#[tactic(auto, using(crate::proofs::Appended::none))]
+fn push_end(paper: &mut Paper, page: &Page<'_>, count: u64)
+    ensures { IsAppended paper.old (end_lines count page.now) paper.new }
+{
+    if MOST_FINDINGS < count {
+        paper.put(&[Piece::Words("More of what looks wrong\n")]);
+        push_found(paper, page, most_at_top(count), u64::MAX);
     }
 }
 
-// how busy a bus is
-fn push_loads(paper: &mut Paper, rate: u32, all: &Tally, load: &Load)
-    requires { rate ≤ 1000000 }
+// frames whose bits aren't known
+#[tactic(auto, using(crate::proofs::Appended::none))]
+fn push_unknown(paper: &mut Paper, count: u64)
+    ensures { IsAppended paper.old (unknown_line count) paper.new }
 {
-    push_load(paper, rate, all, load);
-    if load.unknown != 0 {
+    if count != 0 {
         paper.put(&[
             Piece::Words("    CAN FD and error frames, whose bits aren't known: "),
-            Piece::Number(load.unknown),
+            Piece::Number(count),
             Piece::Words("\n"),
         ]);
     }
 }
 
+// how busy a bus is, where its bit rate is known
+#[tactic(auto, using(crate::proofs::Appended::none))]
+fn push_loads(paper: &mut Paper, bit_rate: Option<u32>, bus: &Bus)
+    requires { IfSome bit_rate (λ rate. rate ≤ 1000000) }
+    ensures { IsAppended paper.old (loads bit_rate bus.now) paper.new }
+{
+    if let Some(rate) = bit_rate {
+        let load = bus.load();
+        push_load(paper, rate, &bus.all(), &load);
+        push_unknown(paper, load.unknown);
+    }
+}
+
+// the gaps and the load of a bus, where its log has stamps
+fn push_stamped(paper: &mut Paper, bus: &Bus, bit_rate: Option<u32>)
+    requires { IfSome bit_rate (λ rate. rate ≤ 1000000) }
+    ensures { IsAppended paper.old (load_lines bit_rate bus.now) paper.new }
+{
+    if bus.all().last == 0 {
+        paper.put(&[Piece::Words("    no stamps, so no gaps, rates and load\n")]);
+    } else {
+        push_loads(paper, bit_rate, bus);
+    }
+}
+
 // the frames of a bus, and how busy it is
+#[tactic(auto, using(crate::proofs::Appended::both), unfolding(crate::specs::Pages::front_lines))]
 fn push_front(paper: &mut Paper, bus: &Bus, bit_rate: Option<u32>)
     requires { IfSome bit_rate (λ rate. rate ≤ 1000000) }
+    ensures { IsAppended paper.old (front_lines bit_rate bus.now) paper.new }
 {
-    let all = bus.all();
-    push_bus(paper, bus.interface(), &all);
-    if all.last == 0 {
-        paper.put(&[Piece::Words("    no stamps, so no gaps, rates and load\n")]);
-    } else if let Some(rate) = bit_rate {
-        push_loads(paper, rate, &all, &bus.load());
+    push_bus(paper, bus.interface(), &bus.all());
+    push_stamped(paper, bus, bit_rate);
+}
+
+// a node of a bus
+#[tactic(auto, using(crate::proofs::Appended::none))]
+fn push_node_at(paper: &mut Paper, bus: &Bus, number: u32)
+    ensures { IsAppended paper.old (line_of bus.now number) paper.new }
+{
+    if let Some(node) = bus.nodes().get(number as usize) {
+        push_node_in(paper, bus.interface(), bus.all().last, number, node);
     }
 }
 
 // the nodes of a bus, by node-ID
-fn push_nodes(paper: &mut Paper, bus: &Bus) {
-    let end = bus.all().last;
+#[tactic(auto, using(crate::proofs::Appended::none), unfolding(crate::specs::Pages::up_to))]
+fn push_nodes(paper: &mut Paper, bus: &Bus)
+    ensures { IsAppended paper.old (node_lines bus.now) paper.new }
+{
     for number in 1..128u32 {
-        if let Some(node) = bus.nodes().get(number as usize) {
-            push_node_in(paper, bus.interface(), end, number, node);
-        }
+        push_node_at(paper, bus, number);
+    }
+}
+
+// rows in their order
+#[tactic(auto, using(crate::proofs::Appended::none))]
+fn push_all_rows(paper: &mut Paper, interface: &[u8], rows: &[Row])
+    ensures { IsAppended paper.old (flat_map (row_line interface.now) rows.now) paper.new }
+{
+    for row in rows {
+        push_row(paper, interface, row);
     }
 }
 
 // the identifiers of a bus, the smallest first
-fn push_rows(alloc: Global, paper: &mut Paper, bus: &Bus) {
+fn push_rows(alloc: Global, paper: &mut Paper, bus: &Bus)
+    ensures { IsAppended paper.old (id_lines bus.now) paper.new }
+{
     match sorted_rows(alloc, bus) {
-        Ok(rows) => {
-            for row in rows.as_slice() {
-                push_row(paper, bus.interface(), row);
-            }
-        }
+        Ok(rows) => push_all_rows(paper, bus.interface(), rows.as_slice()),
         Err(fault) => paper.end(fault),
     }
 }
 
 /// A table of the page, whose lines are by bus.
 #[derive(Clone, Copy)]
-enum Table {
+pub(crate) enum Table {
     Buses,
     Nodes,
     Identifiers,
 }
 
 impl Table {
-    fn head(self) -> &'static str {
+    fn head(self) -> &'static str
+        ensures { result.now ≡ table_head self }
+    {
         match self {
             Table::Buses => "Buses\n",
             Table::Nodes => NODE_HEAD,
@@ -257,6 +453,7 @@ impl Table {
 // the lines of a table that a bus has
 fn push_table_on(alloc: Global, paper: &mut Paper, table: Table, bus: &Bus, page: &Page<'_>)
     requires { IfSome page.now.bit_rate (λ rate. rate ≤ 1000000) }
+    ensures { IsAppended paper.old (lines_on table page.now bus.now) paper.new }
 {
     match table {
         Table::Buses => {
@@ -268,34 +465,50 @@ fn push_table_on(alloc: Global, paper: &mut Paper, table: Table, bus: &Bus, page
     }
 }
 
-// a table
-fn push_table(alloc: Global, paper: &mut Paper, page: &Page<'_>, table: Table)
+// the lines of a table
+#[tactic(auto, using(crate::proofs::Appended::none))]
+fn push_lines(alloc: Global, paper: &mut Paper, page: &Page<'_>, table: Table)
     requires { IfSome page.now.bit_rate (λ rate. rate ≤ 1000000) }
+    ensures { IsAppended paper.old
+        (flat_map (lines_on table page.now) page.now.counts.now.buses) paper.new }
 {
-    paper.put(&[Piece::Words(table.head())]);
     for bus in page.counts.buses() {
         push_table_on(alloc, paper, table, bus, page);
     }
 }
 
+// a table
+fn push_table(alloc: Global, paper: &mut Paper, page: &Page<'_>, table: Table)
+    requires { IfSome page.now.bit_rate (λ rate. rate ≤ 1000000) }
+    ensures { IsAppended paper.old (table_lines table page.now) paper.new }
+{
+    paper.put(&[Piece::Words(table.head())]);
+    push_lines(alloc, paper, page, table);
+}
+
 // whether a node of a bus has a line
-fn has_nodes(bus: &Bus) -> bool {
-    for node in bus.nodes() {
-        if is_shown(node) {
-            return true;
-        }
-    }
-    false
+fn has_nodes(bus: &Bus) -> bool
+    ensures { result ≡ has_nodes bus.now }
+{
+    bus.nodes().iter().any(|node| is_shown(node))
 }
 
 // whether a node has a line
-fn any_has_nodes(buses: &[Bus]) -> bool {
-    for bus in buses {
-        if has_nodes(bus) {
-            return true;
-        }
+fn any_has_nodes(buses: &[Bus]) -> bool
+    ensures { result ≡ list_any has_nodes buses.now }
+{
+    buses.iter().any(|bus| has_nodes(bus))
+}
+
+// the table of nodes, if one has a line
+#[tactic(auto, using(crate::proofs::Appended::none))]
+fn push_node_table(alloc: Global, paper: &mut Paper, page: &Page<'_>)
+    requires { IfSome page.now.bit_rate (λ rate. rate ≤ 1000000) }
+    ensures { IsAppended paper.old (node_table page.now) paper.new }
+{
+    if any_has_nodes(page.counts.buses()) {
+        push_table(alloc, paper, page, Table::Nodes);
     }
-    false
 }
 
 /// The page: what looks wrong, the buses, their nodes, and their identifiers. So that 24 lines show
@@ -303,19 +516,14 @@ fn any_has_nodes(buses: &[Bus]) -> bool {
 /// than 20 in all; the others are then at the end. `Err`: out of memory.
 pub fn page_text(alloc: Global, page: &Page<'_>) -> Result<String, AllocError>
     requires { IfSome page.now.bit_rate (λ rate. rate ≤ 1000000) }
+    ensures { IfOk result (λ text. string_bytes text ≡ page_lines page.now) }
 {
+    let count = count_found(alloc, page);
     let mut paper = Paper::new(alloc);
-    let is_long = MOST_FINDINGS < push_findings(&mut paper, page, 0, 0);
-    let most = if is_long { MOST_OF_KIND } else { u64::MAX };
-    push_all_wrong(&mut paper, page, most);
+    push_top(&mut paper, page, count);
     push_table(alloc, &mut paper, page, Table::Buses);
-    if any_has_nodes(page.counts.buses()) {
-        push_table(alloc, &mut paper, page, Table::Nodes);
-    }
+    push_node_table(alloc, &mut paper, page);
     push_table(alloc, &mut paper, page, Table::Identifiers);
-    if is_long {
-        paper.put(&[Piece::Words("More of what looks wrong\n")]);
-        push_findings(&mut paper, page, most, u64::MAX);
-    }
+    push_end(&mut paper, page, count);
     paper.into_text()
 }

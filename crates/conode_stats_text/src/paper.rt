@@ -1,6 +1,6 @@
 //! A text that is being written.
 
-ghost use Rattle.std.specs.Prelude.{◌≡◌, [], Some, IfOk, string_bytes};
+ghost use Rattle.std.specs.Prelude.{◌≡◌, [], Some, None, IfOk, string_bytes};
 ghost use Rattle.std.specs.List.{flat_map};
 ghost use Rattle.conode_stats_text.specs.Papers.{IsAppended};
 ghost use Rattle.conode_stats_text.specs.Pieces.{cell_text, piece_text};
@@ -65,13 +65,10 @@ impl Paper {
     }
 
     /// Notes that memory ran out.
-    pub(crate) fn end(&mut self, fault: AllocError) {
+    pub(crate) fn end(&mut self, fault: AllocError)
+        ensures { self.new ≡ None }
+    {
         self.fault = Some(fault);
-    }
-
-    /// How many bytes there are.
-    pub(crate) fn len(&self) -> usize {
-        self.text.len()
     }
 
     /// The text. `Err`: memory ran out.

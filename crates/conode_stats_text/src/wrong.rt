@@ -2,7 +2,7 @@
 
 ghost use Rattle.std.specs.Prelude.{◌≡◌, ◌%◌};
 ghost use Rattle.conode_stats_text.specs.FailureLines.{counted_line, emergency_line, failure_line};
-ghost use Rattle.conode_stats_text.specs.Findings.{finding_line, listed, passed};
+ghost use Rattle.conode_stats_text.specs.Findings.{IsListed, finding_line, wrong_with};
 ghost use Rattle.conode_stats_text.specs.Paces.{lost_line};
 ghost use Rattle.conode_stats_text.specs.Papers.{IsAppended};
 ghost use Rattle.conode_stats_text.specs.Pieces.{piece_text};
@@ -164,7 +164,6 @@ fn push_finding(paper: &mut Paper, interface: &[u8], node: u32, finding: &Findin
 
 /// Appends the line of what looks wrong with a node on an interface, or with the interface, if there
 /// is something and it is among those listed.
-#[tactic(auto, using(crate::proofs::Appended::none))]
 pub(crate) fn push_listed(
     paper: &mut Paper,
     excerpt: &mut Excerpt,
@@ -172,12 +171,12 @@ pub(crate) fn push_listed(
     node: u32,
     finding: &Option<Finding>,
 )
-    ensures text { IsAppended paper.old
-        (listed excerpt.old interface.now node finding.now) paper.new }
-    ensures excerpt { excerpt.new ≡ passed excerpt.old finding.now }
+    ensures { IsListed paper.old excerpt.old (wrong_with interface.now node finding.now)
+        paper.new excerpt.new }
 {
-    match finding {
-        Some(finding) if excerpt.pass() => push_finding(paper, interface, node, finding),
-        _ => {}
+    if let Some(finding) = finding {
+        if excerpt.pass() {
+            push_finding(paper, interface, node, finding);
+        }
     }
 }
