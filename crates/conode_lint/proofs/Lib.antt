@@ -8,3 +8,5 @@ mod FoundLaws
 mod SheetLemmas
 mod Examples
 mod ReasonExamples
+mod ReportLemmas
+mod RuleLemmas

@@ -9,3 +9,5 @@ pub mod Statuses
 pub mod Allowed
 pub mod Marks
 pub mod Linted
+pub mod Rules
+pub mod Reports
