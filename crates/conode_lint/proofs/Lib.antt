@@ -9,4 +9,6 @@ mod SheetLemmas
 mod Examples
 mod ReasonExamples
 mod ReportLemmas
+mod SessionLemmas
 mod RuleLemmas
+mod ReportExamples

@@ -11,3 +11,4 @@ pub mod Marks
 pub mod Linted
 pub mod Rules
 pub mod Reports
+pub mod Sessions
