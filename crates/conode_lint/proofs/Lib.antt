@@ -8,3 +8,7 @@ mod FoundLaws
 mod SheetLemmas
 mod Examples
 mod ReasonExamples
+mod ReportLemmas
+mod SessionLemmas
+mod RuleLemmas
+mod ReportExamples

@@ -9,3 +9,6 @@ pub mod Statuses
 pub mod Allowed
 pub mod Marks
 pub mod Linted
+pub mod Rules
+pub mod Reports
+pub mod Sessions

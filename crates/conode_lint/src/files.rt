@@ -1,8 +1,22 @@
 //! Linting files, folders and standard input.
 
-ghost use Rattle.std.specs.Prelude.{◌≡◌, nat_lt, IfOk, string_bytes};
+ghost use Rattle.std.specs.Prelude.{◌≡◌, nat_lt, IfOk, OnOk, string_bytes};
+ghost use Rattle.std.specs.Process.{exit_status};
 ghost use Rattle.conode_json.specs.Characters.{characters_of};
 ghost use Rattle.conode_lint_text.specs.Characters.{shown_all};
+ghost use Rattle.conode_lint.specs.Sessions.{
+  AddsText,
+  Finishes,
+  HandsOver,
+  LintEnds,
+  Lints,
+  NamesUnknown,
+  TakesAll,
+  TakesOne,
+  TakesSome,
+  TakesText,
+  TakesUnread,
+};
 ghost use Rattle.conode_lint.specs.Statuses.{lint_status};
 
 use crate::folder::{Sheets, is_folder, sheets_in};
@@ -68,7 +82,10 @@ impl Session {
         name: &str,
         text: &[u8],
         options: &LintOptions<'_>,
-    ) -> Result<(), AllocError> {
+    ) -> Result<(), AllocError>
+        ensures { OnOk result
+            (AddsText options.now.checks name.now text.now self.old self.new) }
+    {
         match lint_text(alloc, text, &options.checks) {
             Ok(linted) => {
                 self.counts.add(&linted);
@@ -86,10 +103,21 @@ impl Session {
         text: &[u8],
         options: &LintOptions<'_>,
         out: &mut O,
-    ) -> Result<(), CmdFault> {
-        if self.add_text(alloc, name, text, options).is_err() {
-            return Err(CmdFault::Memory);
+    ) -> Result<(), CmdFault>
+        ensures { OnOk result (TakesText options.now.checks name.now text.now
+            self.old (O.contents out.old) self.new (O.contents out.new)) }
+    {
+        match self.add_text(alloc, name, text, options) {
+            Ok(()) => self.hand_over_lines(out),
+            Err(_) => Err(CmdFault::Memory),
         }
+    }
+
+    // hands over the lines that weren't yet
+    fn hand_over_lines<O: Write>(&mut self, out: &mut O) -> Result<(), CmdFault>
+        ensures { OnOk result
+            (HandsOver self.old (O.contents out.old) self.new (O.contents out.new)) }
+    {
         let handed = hand_over(self.report.lines().as_bytes(), out);
         self.report.drop_lines();
         handed
@@ -102,7 +130,9 @@ impl Session {
         name: &str,
         fault: CmdFault,
         err: &mut E,
-    ) -> Result<(), CmdFault> {
+    ) -> Result<(), CmdFault>
+        ensures { OnOk result (TakesUnread name.now self.old self.new) }
+    {
         if fault == CmdFault::Memory {
             return Err(fault);
         }
@@ -112,9 +142,16 @@ impl Session {
             }
             Err(_) => return Err(CmdFault::Memory),
         }
+        self.add_unread(name);
+        Ok(())
+    }
+
+    // counts what can't be read, and adds it to the report
+    fn add_unread(&mut self, name: &str)
+        ensures { TakesUnread name.now self.old self.new }
+    {
         self.counts.unread = self.counts.unread.saturating_add(1);
         self.report.add_unread(name);
-        Ok(())
     }
 
     // lints a file, or standard input for `-`, or names what can't be read
@@ -125,7 +162,10 @@ impl Session {
         options: &LintOptions<'_>,
         out: &mut O,
         err: &mut E,
-    ) -> Result<(), CmdFault> {
+    ) -> Result<(), CmdFault>
+        ensures { OnOk result (TakesOne options.now.checks path.now
+            self.old (O.contents out.old) self.new (O.contents out.new)) }
+    {
         match text_of(rt, path) {
             Ok(text) => self.take_text(rt.alloc(), path, text.as_slice(), options, out),
             Err(fault) => self.take_fault(rt.alloc(), path, fault, err),
@@ -141,7 +181,10 @@ impl Session {
         options: &LintOptions<'_>,
         out: &mut O,
         err: &mut E,
-    ) -> Result<(), CmdFault> {
+    ) -> Result<(), CmdFault>
+        ensures { OnOk result (TakesSome options.now.checks
+            self.old (O.contents out.old) self.new (O.contents out.new)) }
+    {
         for path in &sheets.paths {
             attempt!(self.take_file(rt, path.as_str(), options, out, err));
         }
@@ -162,7 +205,10 @@ impl Session {
         options: &LintOptions<'_>,
         out: &mut O,
         err: &mut E,
-    ) -> Result<(), CmdFault> {
+    ) -> Result<(), CmdFault>
+        ensures { OnOk result (TakesSome options.now.checks
+            self.old (O.contents out.old) self.new (O.contents out.new)) }
+    {
         if path == "-" || !is_folder(rt, path) {
             return self.take_file(rt, path, options, out, err);
         }
@@ -180,7 +226,10 @@ impl Session {
         options: &LintOptions<'_>,
         out: &mut O,
         err: &mut E,
-    ) -> Result<(), CmdFault> {
+    ) -> Result<(), CmdFault>
+        ensures { OnOk result (TakesAll options.now
+            self.old (O.contents out.old) self.new (O.contents out.new)) }
+    {
         self.report.begin(rt.alloc(), options.version);
         for path in paths {
             attempt!(self.take_path(rt, path, options, out, err));
@@ -189,7 +238,10 @@ impl Session {
     }
 
     // hands the last bytes over, and returns how much was found
-    fn finish<O: Write>(self, out: &mut O) -> Result<Counts, CmdFault> {
+    fn finish<O: Write>(self, out: &mut O) -> Result<Counts, CmdFault>
+        ensures { IfOk result (λ counts.
+            Finishes self counts (O.contents out.old) (O.contents out.new)) }
+    {
         let Session { report, counts } = self;
         match report.into_bytes(&counts) {
             Ok(last) => match hand_over(last.as_slice(), out) {
@@ -222,7 +274,10 @@ fn lint_paths<R: Files + AllocGlobal + Input + Clone + Drop, O: Write, E: Write>
     options: &LintOptions<'_>,
     out: &mut O,
     err: &mut E,
-) -> Result<Counts, CmdFault> {
+) -> Result<Counts, CmdFault>
+    ensures { IfOk result (λ counts.
+        Lints options.now counts (O.contents out.old) (O.contents out.new)) }
+{
     let mut session = Session {
         report: Report::new(rt.alloc(), options.form),
         counts: Counts::NONE,
@@ -253,12 +308,9 @@ fn status_of(counts: &Counts, strict: bool) -> u8
 }
 
 // a name to be allowed is that of no finding
-fn no_such_name<O: Write, E: Write>(
-    alloc: Global,
-    name: &str,
-    out: &mut O,
-    err: &mut E,
-) -> ExitCode {
+fn no_such_name<O: Write, E: Write>(alloc: Global, name: &str, out: &mut O, err: &mut E) -> ExitCode
+    ensures { NamesUnknown (exit_status result) }
+{
     match shown_name(alloc, name) {
         Ok(shown) => {
             let _ = writeln!(err, "no finding has the name {shown}");
@@ -279,7 +331,10 @@ pub fn lint_files<R: Files + AllocGlobal + Input + Clone + Drop, O: Write, E: Wr
     options: &LintOptions<'_>,
     out: &mut O,
     err: &mut E,
-) -> ExitCode {
+) -> ExitCode
+    ensures { LintEnds options.now (exit_status result)
+        (O.contents out.old) (O.contents out.new) }
+{
     if let Some(name) = unknown_name(options.checks.allowed) {
         return no_such_name(rt.alloc(), name, out, err);
     }

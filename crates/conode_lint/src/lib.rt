@@ -46,4 +46,4 @@ pub use laws::linted_texts;
 pub use linted_text::{Linted, lint_text};
 pub use marks::Checks;
 pub use other_format::text_format;
-pub use report::{Counts, Form, Report};
+pub use report::{Counts, Form};

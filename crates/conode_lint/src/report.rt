@@ -1,5 +1,29 @@
 //! What is written about many files, in one of three forms.
 
+ghost use Rattle.std.specs.Prelude.{◌≡◌, ◌++◌, [], IfOk, OnOk, Some, string_bytes};
+ghost use Rattle.std.specs.List.{flat_map};
+ghost use Rattle.conode_text.specs.Appended.{Appended};
+ghost use Rattle.conode_json.specs.Characters.{characters_of};
+ghost use Rattle.conode_lint_text.specs.JsonForm.{document_end};
+ghost use Rattle.conode_lint_text.specs.SarifForm.{log_end, result_tokens};
+ghost use Rattle.conode_lint_text.specs.TextForm.{finding_lines, summary_line};
+ghost use Rattle.conode_lint.specs.Reports.{
+  Begins,
+  BeginsLog,
+  Grows,
+  IsEmptyReport,
+  ended_by,
+  file_lines,
+  found_lines,
+  found_tokens,
+  last_bytes,
+  lines_from,
+  scheme_of,
+  unread_tokens,
+  uri_of,
+  with_found,
+};
+
 use crate::linted_text::Linted;
 use crate::rules::add_rules;
 use conode_json::{Document, characters_of};
@@ -7,8 +31,18 @@ use conode_lint_text::{
     Finding, push_finding, push_more, push_summary, put_document_end, put_document_head, put_file,
     put_log_end, put_log_head, put_results,
 };
-use percent_encoding::{NON_ALPHANUMERIC, percent_encode};
+use percent_encoding::{AsciiSet, NON_ALPHANUMERIC, ascii_set, percent_encode};
 use std::alloc::{AllocError, Global};
+
+/// What is escaped in a URI: all but letters, digits and these five.
+const ESCAPED: AsciiSet = ascii_set!(
+    NON_ALPHANUMERIC
+        .remove(b'-')
+        .remove(b'.')
+        .remove(b'_')
+        .remove(b'~')
+        .remove(b'/')
+);
 
 /// The form in which findings are written.
 #[derive(Clone, Copy)]
@@ -46,7 +80,9 @@ impl Counts {
         unread: 0,
     };
 
-    pub(crate) fn add(&mut self, linted: &Linted<'_>) {
+    pub(crate) fn add(&mut self, linted: &Linted<'_>)
+        ensures { self.new ≡ with_found self.old linted.now }
+    {
         self.errors = self.errors.saturating_add(linted.errors);
         self.warnings = self.warnings.saturating_add(linted.warnings);
         self.more = self.more.saturating_add(linted.more);
@@ -54,19 +90,22 @@ impl Counts {
     }
 }
 
-// the URI of a path: a reference for a relative one; all is escaped but letters, digits and these
-// five
-fn push_uri(uri: &mut String, path: &str) -> Result<(), AllocError> {
-    if path.starts_with('/') {
-        attempt!(uri.push_str("file://"));
+fn scheme_of(path: &str) -> &'static str
+    ensures { result.now ≡ scheme_of path.now }
+{
+    match path.as_bytes() {
+        [b'/', ..] => "file://",
+        _ => "",
     }
-    let escaped = NON_ALPHANUMERIC
-        .remove(b'-')
-        .remove(b'.')
-        .remove(b'_')
-        .remove(b'~')
-        .remove(b'/');
-    percent_encode(path.as_bytes(), escaped).append_to(uri)
+}
+
+// the URI of a path: a reference for a relative one
+#[tactic(auto, unfolding(crate::specs::Reports::uri_of))]
+fn push_uri(uri: &mut String, path: &str) -> Result<(), AllocError>
+    ensures { OnOk result (string_bytes uri.new ≡ string_bytes uri.old ++ uri_of path.now) }
+{
+    attempt!(uri.push_str(scheme_of(path)));
+    percent_encode(path.as_bytes(), ESCAPED).append_to(uri)
 }
 
 // appends the lines of findings in a file of this name, in characters
@@ -75,11 +114,29 @@ fn push_findings(
     text: &mut String,
     colours: bool,
     file: &[char],
-    linted: &Linted<'_>,
-) -> Result<(), AllocError> {
-    for finding in &linted.findings {
+    findings: &[Finding<'_>],
+) -> Result<(), AllocError>
+    ensures { OnOk result (string_bytes text.new
+        ≡ string_bytes text.old ++ flat_map (finding_lines colours file.now) findings.now) }
+{
+    for finding in findings {
         attempt!(push_finding(alloc, text, colours, file, finding));
     }
+    Ok(())
+}
+
+// appends the same, and the line that counts the findings that aren't listed, if there are any
+fn push_all(
+    alloc: Global,
+    text: &mut String,
+    colours: bool,
+    file: &[char],
+    linted: &Linted<'_>,
+) -> Result<(), AllocError>
+    ensures { OnOk result (string_bytes text.new
+        ≡ string_bytes text.old ++ lines_from colours file.now linted.now) }
+{
+    attempt!(push_findings(alloc, text, colours, file, linted.findings.as_slice()));
     if linted.more > 0 {
         return push_more(text, file, linted.more);
     }
@@ -93,15 +150,21 @@ fn push_file(
     colours: bool,
     name: &str,
     linted: &Linted<'_>,
-) -> Result<(), AllocError> {
+) -> Result<(), AllocError>
+    ensures { OnOk result (string_bytes text.new
+        ≡ string_bytes text.old ++ file_lines colours name.now linted.now) }
+{
     match characters_of(alloc, name.as_bytes()) {
-        Ok(file) => push_findings(alloc, text, colours, file.as_slice(), linted),
+        Ok(file) => push_all(alloc, text, colours, file.as_slice(), linted),
         Err(fault) => Err(fault),
     }
 }
 
 // writes the results of a file's findings; memory may run out for its URI
-fn put_uri_results(alloc: Global, document: &mut Document, name: &str, findings: &[Finding<'_>]) {
+fn put_uri_results(alloc: Global, document: &mut Document, name: &str, findings: &[Finding<'_>])
+    ensures { Appended document.old
+        (flat_map (result_tokens (uri_of name.now)) findings.now) document.new }
+{
     let mut uri = String::new(alloc);
     match push_uri(&mut uri, name) {
         Ok(()) => put_results(document, uri.as_str(), findings),
@@ -110,7 +173,9 @@ fn put_uri_results(alloc: Global, document: &mut Document, name: &str, findings:
 }
 
 // begins a log of SARIF: the tool with all kinds of findings
-fn begin_log(alloc: Global, document: &mut Document, version: &str) {
+fn begin_log(alloc: Global, document: &mut Document, version: &str)
+    ensures { BeginsLog version.now document.old document.new }
+{
     let mut rules = Vec::new(alloc);
     match add_rules(&mut rules) {
         Ok(()) => put_log_head(document, version, rules.as_slice()),
@@ -121,7 +186,7 @@ fn begin_log(alloc: Global, document: &mut Document, version: &str) {
 /// The report so far: the lines that weren't handed over yet, or the document of JSON or SARIF,
 /// which remembers until `into_bytes` that memory ran out.
 #[derive(Drop)]
-pub struct Report {
+pub(crate) struct Report {
     form: Form,
     text: String,
     document: Document,
@@ -129,7 +194,9 @@ pub struct Report {
 
 impl Report {
     /// A report that isn't begun.
-    pub fn new(alloc: Global, form: Form) -> Report {
+    pub(crate) fn new(alloc: Global, form: Form) -> Report
+        ensures { IsEmptyReport form result }
+    {
         Report {
             form,
             text: String::new(alloc),
@@ -138,7 +205,9 @@ impl Report {
     }
 
     /// Begins the report: no file yet.
-    pub fn begin(&mut self, alloc: Global, version: &str) {
+    pub(crate) fn begin(&mut self, alloc: Global, version: &str)
+        ensures { Begins version.now self.old self.new }
+    {
         match self.form {
             Form::Text { .. } => {}
             Form::Json => put_document_head(&mut self.document),
@@ -147,12 +216,15 @@ impl Report {
     }
 
     /// Adds what was found in a file. `Err`: out of memory, here as for the other calls.
-    pub fn add(
+    pub(crate) fn add(
         &mut self,
         alloc: Global,
         name: &str,
         linted: &Linted<'_>,
-    ) -> Result<(), AllocError> {
+    ) -> Result<(), AllocError>
+        ensures { OnOk result (Grows (found_lines self.old.form name.now linted.now)
+            (found_tokens self.old.form name.now linted.now) self.old self.new) }
+    {
         let findings = linted.findings.as_slice();
         match self.form {
             Form::Text { colours } => {
@@ -168,7 +240,9 @@ impl Report {
     }
 
     /// Adds a file or a folder that can't be read.
-    pub fn add_unread(&mut self, name: &str) {
+    pub(crate) fn add_unread(&mut self, name: &str)
+        ensures { Grows [] (unread_tokens self.old.form name.now) self.old self.new }
+    {
         match self.form {
             Form::Json => put_file(&mut self.document, name, false, (0, 0, 0), &[]),
             Form::Text { .. } | Form::Sarif => {}
@@ -176,45 +250,68 @@ impl Report {
     }
 
     /// The lines that can be handed over now; none before the end in JSON and SARIF.
-    pub fn lines(&self) -> &str {
+    pub(crate) fn lines(&self) -> &str
+        ensures { result.now ≡ string_bytes self.now.text }
+    {
         self.text.as_str()
     }
 
     /// Drops the lines that were handed over.
-    pub fn drop_lines(&mut self) {
+    pub(crate) fn drop_lines(&mut self)
+        ensures form { self.new.form ≡ self.old.form }
+        ensures text { string_bytes self.new.text ≡ [] }
+        ensures document { self.new.document ≡ self.old.document }
+    {
         self.text.clear();
     }
 
     /// The last bytes to hand over: the report's end, after the lines that weren't handed over.
-    pub fn into_bytes(self, counts: &Counts) -> Result<Vec<u8>, AllocError> {
-        let Counts {
-            errors,
-            warnings,
-            more,
-            files,
-            ..
-        } = *counts;
-        let mut report = self;
-        let summed = match report.form {
-            Form::Text { .. } => push_summary(&mut report.text, errors, warnings, files),
-            Form::Json => {
-                put_document_end(&mut report.document, errors, warnings);
-                Ok(())
-            }
-            Form::Sarif => {
-                put_log_end(&mut report.document, more);
-                Ok(())
-            }
-        };
+    pub(crate) fn into_bytes(self, counts: &Counts) -> Result<Vec<u8>, AllocError>
+        ensures { IfOk result (λ bytes.
+            Some bytes.items
+            ≡ last_bytes self.form (string_bytes self.text) self.document counts.now) }
+    {
         let Report {
             form,
             text,
             document,
-        } = report;
-        match (form, summed) {
-            (Form::Json | Form::Sarif, _) => document.into_text(),
-            (Form::Text { .. }, Ok(())) => Ok(text.into_bytes()),
-            (Form::Text { .. }, Err(fault)) => Err(fault),
+        } = self;
+        match form {
+            Form::Text { .. } => ended_lines(text, counts),
+            Form::Json => ended_document(document, counts),
+            Form::Sarif => ended_log(document, counts),
         }
     }
+}
+
+// the lines, and after them the one that counts
+fn ended_lines(text: String, counts: &Counts) -> Result<Vec<u8>, AllocError>
+    ensures { IfOk result (λ bytes. bytes.items ≡ string_bytes text
+        ++ summary_line counts.now.errors counts.now.warnings counts.now.files) }
+{
+    let mut text = text;
+    match push_summary(&mut text, counts.errors, counts.warnings, counts.files) {
+        Ok(()) => Ok(text.into_bytes()),
+        Err(fault) => Err(fault),
+    }
+}
+
+// the document with its end
+fn ended_document(document: Document, counts: &Counts) -> Result<Vec<u8>, AllocError>
+    ensures { IfOk result (λ bytes. Some bytes.items
+        ≡ ended_by (document_end counts.now.errors counts.now.warnings) document) }
+{
+    let mut document = document;
+    put_document_end(&mut document, counts.errors, counts.warnings);
+    document.into_text()
+}
+
+// the log with its end
+fn ended_log(document: Document, counts: &Counts) -> Result<Vec<u8>, AllocError>
+    ensures { IfOk result (λ bytes.
+        Some bytes.items ≡ ended_by (log_end counts.now.more) document) }
+{
+    let mut document = document;
+    put_log_end(&mut document, counts.more);
+    document.into_text()
 }

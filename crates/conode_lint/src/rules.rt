@@ -1,5 +1,23 @@
 //! All kinds of findings, for a log of SARIF and for the names that may be allowed.
 
+ghost use Rattle.std.specs.Prelude.{
+  ◌≡◌,
+  [],
+  Contains,
+  false,
+  IfSome,
+  OnOk,
+  map,
+};
+ghost use Rattle.conode_lint.specs.Rules.{
+  is_known,
+  is_name_of,
+  rule_fix,
+  rule_meaning,
+  rule_of,
+  seen_rule,
+};
+
 use crate::words::{fix_of, meaning_of, name_of, severity_of, subject_of};
 use co_dict_build::BuildFault;
 use co_sheet_faults::FaultKind;
@@ -75,12 +93,17 @@ static SUBJECTS: [Subject; 59] = [
 ];
 
 // the table as a slice: each function that names an array of this length repeats it
-fn subjects() -> &'static [Subject] {
+fn subjects() -> &'static [Subject]
+    ensures { result.now ≡ SUBJECTS }
+{
     &SUBJECTS
 }
 
 // what is wrong and how to fix it, of a kind; of a text of another format without saying which
-fn words_of(subject: Subject) -> (&'static str, &'static str) {
+fn words_of(subject: Subject) -> (&'static str, &'static str)
+    ensures meaning { result.0.now ≡ rule_meaning subject }
+    ensures fix { result.1.now ≡ rule_fix subject }
+{
     match subject {
         Subject::Format(_) => (
             "this is no EDS of CANopen: it is XML, an EDS of EtherNet/IP or DeviceNet, in UTF-16, or \
@@ -92,7 +115,10 @@ fn words_of(subject: Subject) -> (&'static str, &'static str) {
 }
 
 // the rule of a kind
-fn rule_of(subject: Subject) -> Rule<'static> {
+#[tactic(auto, unfolding(crate::specs::Rules::rule_of))]
+fn rule_of(subject: Subject) -> Rule<'static>
+    ensures { seen_rule result ≡ rule_of subject }
+{
     let (meaning, fix) = words_of(subject);
     Rule {
         name: name_of(subject),
@@ -103,16 +129,30 @@ fn rule_of(subject: Subject) -> Rule<'static> {
     }
 }
 
-/// Adds all kinds of findings. `Err`: out of memory.
-pub(crate) fn add_rules(rules: &mut Vec<Rule<'static>>) -> Result<(), AllocError> {
-    for subject in subjects() {
+// adds the rules of these kinds to none
+fn add_rules_of(rules: &mut Vec<Rule<'static>>, subjects: &[Subject]) -> Result<(), AllocError>
+    requires { rules.old.items ≡ [] }
+    ensures { OnOk result (map seen_rule rules.new.items ≡ map rule_of subjects.now) }
+{
+    for subject in subjects {
         attempt_in_memory!(rules.push(rule_of(*subject)));
     }
     Ok(())
 }
 
+/// Adds all kinds of findings to none. `Err`: out of memory.
+pub(crate) fn add_rules(rules: &mut Vec<Rule<'static>>) -> Result<(), AllocError>
+    requires { rules.old.items ≡ [] }
+    ensures { OnOk result (map seen_rule rules.new.items ≡ map rule_of SUBJECTS) }
+{
+    add_rules_of(rules, subjects())
+}
+
 /// The first of these names that no kind of finding has.
-pub(crate) fn unknown_name<'a>(names: &[&'a str]) -> Option<&'a str> {
+pub(crate) fn unknown_name<'a>(names: &[&'a str]) -> Option<&'a str>
+    ensures among { IfSome result (λ name. Contains (map (λ one. one.now) names.now) name.now) }
+    ensures unknown { IfSome result (λ name. is_known name.now ≡ false) }
+{
     for name in names {
         if !is_known(*name) {
             return Some(*name);
@@ -121,8 +161,17 @@ pub(crate) fn unknown_name<'a>(names: &[&'a str]) -> Option<&'a str> {
     None
 }
 
-fn is_known(name: &str) -> bool {
-    for subject in subjects() {
+fn is_known(name: &str) -> bool
+    ensures { result ≡ is_known name.now }
+{
+    is_name_of(subjects(), name)
+}
+
+// findings of one of these kinds have this name
+fn is_name_of(subjects: &[Subject], name: &str) -> bool
+    ensures { result ≡ is_name_of subjects.now name.now }
+{
+    for subject in subjects {
         if name_of(*subject) == name {
             return true;
         }
