@@ -3,7 +3,7 @@ use Rattle.std.proofs.Common.{ℕ, suc, ◌+◌, ◌-◌, ◌<◌, ◌≤◌, �
 use Rattle.std.specs.List.{flat_map}
 use Rattle.std.proofs.lemmas.List.{take_all, take_more}
 use Rattle.std.proofs.lemmas.List.Concat.{flat_map-append}
-use Rattle.conode_stats_text.specs.Pages.{up_to}
+use Rattle.conode_stats_text.specs.NodeIds.{up_to}
 use Rattle.conode_stats_text.specs.Papers.{IsAppended, is_appended}
 
 -- one element more of what a loop goes over

@@ -8,7 +8,8 @@ use Rattle.conode_stats_counts.specs.Gaps.{counted, most}
 use Rattle.conode_stats_text.specs.declared.excerpt.Excerpt.{Excerpt}
 use Rattle.conode_stats_text.specs.declared.finding.Kind.{Kind}
 use Rattle.conode_stats_text.specs.Findings.{IsListed, Wrong, further_words, is_listed, listed, passed, passed_one, wrong_line}
-use Rattle.conode_stats_text.specs.Pages.{kind_lines, up_to}
+use Rattle.conode_stats_text.specs.Found.{kind_lines}
+use Rattle.conode_stats_text.specs.NodeIds.{up_to}
 use Rattle.conode_stats_text.specs.StatsLines.{if_any}
 use Rattle.conode_stats_text.specs.Papers.{IsAppended}
 use Rattle.conode_stats_text.proofs.Appended.{both, flat_map_more, none, up_to_more}

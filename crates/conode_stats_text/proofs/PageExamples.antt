@@ -17,7 +17,10 @@ use Rattle.conode_stats_text.specs.Cells.{seconds, thousandths}
 use Rattle.conode_stats_text.specs.Figures.{ratio}
 use Rattle.conode_stats_text.specs.Findings.{Wrong, count_on, error_frames, long_pause}
 use Rattle.conode_stats_text.specs.NodeLines.{node_line, restart_line}
-use Rattle.conode_stats_text.specs.Pages.{all_found, by_id, count_of, end_lines, found, found_lines, front_lines, id_lines, inserted, kind_lines, load_lines, loads, most_at_top, node_lines, node_table, nodes_found, open_found, page_lines, rows_found, rows_found_of, table_lines, top_lines, unknown_line, up_to}
+use Rattle.conode_stats_text.specs.Found.{all_found, count_of, found, found_lines, kind_lines, nodes_found, open_found, rows_found, rows_found_of}
+use Rattle.conode_stats_text.specs.NodeIds.{up_to}
+use Rattle.conode_stats_text.specs.Pages.{end_lines, most_at_top, page_lines, top_lines}
+use Rattle.conode_stats_text.specs.Tables.{by_id, front_lines, id_lines, inserted, load_lines, loads, node_lines, node_table, table_lines, unknown_line}
 use Rattle.conode_stats_text.specs.StatsLines.{bus_line, count_line, counts_line, id_text, node_front, row_line}
 use Rattle.conode_stats_text.proofs.NodeExamples.{ended_at, node, server}
 

@@ -4,7 +4,7 @@ use Rattle.std.proofs.lemmas.Bool.{cond-true, cond-false, cases_Bool}
 use Rattle.std.proofs.lemmas.Bool.Decides.{nat_tests}
 use Rattle.std.specs.List.Sorted.{ties, IsNonDecreasingBy, IsStableByKey}
 use Rattle.conode_stats_counts.specs.declared.row.Row.{Row}
-use Rattle.conode_stats_text.specs.Pages.{by_id, inserted}
+use Rattle.conode_stats_text.specs.Tables.{by_id, inserted}
 
 abbrev id : Row → ℕ
 id row = row.can_id

@@ -2,6 +2,8 @@ pub mod Cells
 pub mod FailureLines
 pub mod Figures
 pub mod Findings
+pub mod Found
+pub mod NodeIds
 pub mod NodeLines
 pub mod Paces
 pub mod Pages
@@ -10,3 +12,4 @@ pub mod Pieces
 pub mod SheetFacts
 pub mod Silences
 pub mod StatsLines
+pub mod Tables
