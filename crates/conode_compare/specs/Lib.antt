@@ -4,6 +4,7 @@ pub mod ComparedFrames
 pub mod Detailed
 pub mod Documents
 pub mod InterfacesSeen
+pub mod Judged
 pub mod LastLines
 pub mod NodesSeen
 pub mod Noted

@@ -1,12 +1,39 @@
 //! The file of a recording, compared with the data sheet of a device.
 
-ghost use Rattle.std.specs.Prelude.{◌≡◌, ◌⊎◌, ◌≤◌, length, true, OnOk, IfSome};
+ghost use Rattle.std.specs.Prelude.{
+  ℕ,
+  ◌≡◌,
+  ◌⊎◌,
+  ◌≤◌,
+  List,
+  length,
+  map,
+  true,
+  Option,
+  Some,
+  is_some,
+  IfOk,
+  OnOk,
+};
 ghost use Rattle.std.specs.List.{AllPairs};
+ghost use Rattle.std.specs.Option.{option_copied, option_or};
 ghost use Rattle.std.specs.Process.{exit_status};
+ghost use Rattle.co_sheet.specs.Content.{IsSheet};
+ghost use Rattle.co_sheet.specs.SheetViews.{row_view};
+ghost use Rattle.co_sheet_changes.specs.Views.{text_at};
 ghost use Rattle.co_value.specs.Keys.{is_key_before};
+ghost use Rattle.conode_io.specs.TraceTexts.{GaveText};
 ghost use Rattle.conode_io.specs.Written.{WritesLines};
-ghost use Rattle.conode_compare.specs.Compared.{begun_anew};
-ghost use Rattle.conode_compare.specs.Documents.{end_lines, output};
+ghost use Rattle.conode_compare.specs.Compared.{Comparison, begun_anew};
+ghost use Rattle.conode_compare.specs.Documents.{end_lines};
+ghost use Rattle.conode_compare.specs.Judged.{
+  AreHeld,
+  IsAsked,
+  IsAskedOf,
+  IsJudged,
+  Judged,
+  status_after,
+};
 ghost use Rattle.conode_compare.specs.Views.{comparison_view};
 ghost use Rattle.conode_compare.specs.Verdicts.{no_frame, verdict_status};
 
@@ -167,10 +194,11 @@ fn compare_and_write<R: Read, O: Write, E: Write>(
     err: &mut E,
 ) -> Result<Comparing, CmdFault>
     requires { AllPairs (λ e f. is_key_before e.key f.key ≡ true) settings.now.rows.now }
-    ensures written { OnOk result (IfSome (R.remaining input.old) (λ text.
-        WritesLines (O.contents out.old) (O.contents out.new)
-        (output wanted.now.format (comparison_view settings.now)
-        wanted.now.version.now wanted.now.sheet.now form text))) }
+    ensures judged { IfOk result (λ comparing.
+        GaveText (R.remaining input.old) (R.remaining input.new)
+        (Judged wanted.now.format (comparison_view settings.now)
+        wanted.now.version.now wanted.now.sheet.now form
+        (O.contents out.old) (O.contents out.new) (status_after comparing))) }
 {
     let report = attempt_in_memory!(new_report(alloc, settings, wanted.format));
     let comparing = attempt!(compare(alloc, input, settings, form, report, out, err));
@@ -189,7 +217,13 @@ fn compare_input<R: Read, O: Write, E: Write>(
     err: &mut E,
 ) -> ExitCode
     requires { AllPairs (λ e f. is_key_before e.key f.key ≡ true) settings.now.rows.now }
-    ensures { exit_status result ≤ 2 }
+    ensures status { exit_status result ≤ 2 }
+    // A text that the reader gave is compared, all is written, and the status is that of this text.
+    ensures judged { exit_status result ≤ 1 →
+        GaveText (R.remaining input.old) (R.remaining input.new)
+        (Judged wanted.now.format (comparison_view settings.now)
+        wanted.now.version.now wanted.now.sheet.now form
+        (O.contents out.old) (O.contents out.new) (exit_status result)) }
 {
     let outcome = compare_and_write(alloc, input, settings, wanted, form, out, err);
     match flushed(out, outcome) {
@@ -215,7 +249,11 @@ fn compare_path<R: Files + AllocGlobal + Input, O: Write, E: Write>(
     err: &mut E,
 ) -> ExitCode
     requires { AllPairs (λ e f. is_key_before e.key f.key ≡ true) settings.now.rows.now }
-    ensures { exit_status result ≤ 2 }
+    ensures status { exit_status result ≤ 2 }
+    ensures judged { exit_status result ≤ 1 → (text : List ℕ) ×
+        Judged wanted.now.format (comparison_view settings.now)
+        wanted.now.version.now wanted.now.sheet.now form
+        (O.contents out.old) (O.contents out.new) (exit_status result) text }
 {
     let path = settings.recording;
     if path == STANDARD_INPUT {
@@ -241,10 +279,22 @@ fn compare_path<R: Files + AllocGlobal + Input, O: Write, E: Write>(
 // the entries that are held to what was written
 fn held_entries(rows: &[EntryRow<'_>], keys: Option<&str>) -> Result<HeldEntries, HeldFault>
     requires { AllPairs (λ e f. is_key_before e.key f.key ≡ true) rows.now }
+    ensures { IfOk result (λ held.
+        AreHeld (map row_view rows.now) (option_copied keys.entry) held.entries.items) }
 {
     match keys {
         Some(keys) => HeldEntries::read(rows, keys.as_bytes()),
         None => Ok(HeldEntries::none()),
+    }
+}
+
+// the bytes of a name
+fn bytes_of(name: Option<&str>) -> Option<&[u8]>
+    ensures { option_copied result ≡ option_copied name.entry }
+{
+    match name {
+        Some(name) => Some(name.as_bytes()),
+        None => None,
     }
 }
 
@@ -275,7 +325,12 @@ fn compare_sheet<R: Files + AllocGlobal + Input, O: Write, E: Write>(
     out: &mut O,
     err: &mut E,
 ) -> ExitCode
-    ensures { exit_status result ≤ 2 }
+    ensures status { exit_status result ≤ 2 }
+    ensures judged { exit_status result ≤ 1 → IsJudged
+        (IsAskedOf sheet.now (text_at originals.now) (option_copied names.now.vendor)
+        (option_copied names.now.product) master asked.now paths.now.recording.now)
+        asked.now paths.now.sheet.now (O.contents out.old) (O.contents out.new)
+        (exit_status result) }
 {
     let own = sheet.node_id();
     let Some(node) = asked.node.or(own) else {
@@ -293,10 +348,7 @@ fn compare_sheet<R: Files + AllocGlobal + Input, O: Write, E: Write>(
         held,
         rooms: asked.rooms,
     };
-    let interface = match asked.interface {
-        Some(name) => Some(name.as_bytes()),
-        None => None,
-    };
+    let interface = bytes_of(asked.interface);
     let settings = Settings {
         subject,
         rows,
@@ -326,7 +378,11 @@ fn compare_text<R: Files + AllocGlobal + Input, O: Write, E: Write>(
     err: &mut E,
 ) -> ExitCode
     requires { length text.now ≤ 1048576 }
-    ensures { exit_status result ≤ 2 }
+    ensures status { exit_status result ≤ 2 }
+    ensures judged { IsSheet text.now sheet.now → exit_status result ≤ 1 → IsJudged
+        (IsAsked text.now asked.now paths.now.recording.now)
+        asked.now paths.now.sheet.now (O.contents out.old) (O.contents out.new)
+        (exit_status result) }
 {
     match Originals::in_text(rt.alloc(), text) {
         Ok(originals) => {
@@ -388,7 +444,13 @@ pub fn compare_files<R: Files + AllocGlobal + Input, O: Write, E: Write>(
     out: &mut O,
     err: &mut E,
 ) -> ExitCode
-    ensures { exit_status result ≤ 2 }
+    ensures status { exit_status result ≤ 2 }
+    // Some recording was compared with the device of some text that is a data sheet, as it is asked
+    // for: all of its lines, or the document, are written, and the status is 1 exactly where there
+    // is a difference.
+    ensures judged { exit_status result ≤ 1 → (text : List ℕ) ×
+        IsJudged (IsAsked text asked.entry recording.now) asked.entry sheet.now
+        (O.contents out.old) (O.contents out.new) (exit_status result) }
 {
     let text = match file_text(rt, sheet) {
         Ok(text) => text,
