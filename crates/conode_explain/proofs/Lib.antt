@@ -12,6 +12,8 @@ pub mod NodeExamples
 mod OwnWordExamples
 pub mod ServiceLemmas
 pub mod SheetExamples
+mod StatusExamples
+pub mod StatusLemmas
 pub mod TellingLemmas
 mod WhoseExamples
 pub mod WhoseLemmas

@@ -1,5 +1,6 @@
 pub mod AbortWords
 pub mod BadWords
+pub mod ExitStatus
 pub mod Explained
 pub mod Filtered
 pub mod FrameWords

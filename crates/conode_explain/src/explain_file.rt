@@ -1,7 +1,17 @@
 //! The file of a recording, explained.
 
-ghost use Rattle.std.specs.Prelude.{◌≡◌, ◌⊎◌, IfErr};
+ghost use Rattle.std.specs.Prelude.{◌≡◌, ◌⊎◌, IfErr, IfOk, IfSome, OnOk, map};
 ghost use Rattle.std.specs.Process.{exit_status};
+ghost use Rattle.conode_explain_cob_ids.specs.Known.{known_view};
+ghost use Rattle.conode_io.specs.TraceTexts.{GaveText};
+ghost use Rattle.conode_explain.specs.ExitStatus.{
+  Ends,
+  EndsBy,
+  EndsBySome,
+  WritesAll,
+  WritesFile,
+};
+ghost use Rattle.conode_explain.specs.Sheets.{in_order, read_view, sheets_of};
 
 use crate::explained::explain;
 use crate::progress::{Layout, LineFormat};
@@ -33,8 +43,31 @@ fn no_memory<O: Write, E: Write>(out: &mut O, err: &mut E) -> ExitCode
     stopped(CmdFault::Memory, out, err).status()
 }
 
-// Explains an input; the first line of a table of signals comes first. Says on `err` how many lines
-// are bad, or that it is a data sheet, or why it stopped.
+// Explains an input; the first line of a table of signals comes first. Returns the number of bad
+// lines.
+fn explain_whole<R: Read, O: Write, E: Write>(
+    alloc: Global,
+    input: &mut R,
+    settings: &Settings<'_, '_, '_, '_>,
+    out: &mut O,
+    err: &mut E,
+) -> Result<u64, CmdFault>
+    ensures known { IfOk result (λ bad. IfSome (R.remaining input.old)
+        (WritesAll settings.now.form (sheets_of settings.now)
+        (O.contents out.old) (O.contents out.new) bad)) }
+    ensures any_reader { IfOk result (λ bad.
+        GaveText (R.remaining input.old) (R.remaining input.new)
+        (WritesAll settings.now.form (sheets_of settings.now)
+        (O.contents out.old) (O.contents out.new) bad)) }
+{
+    match write_header(alloc, settings, out) {
+        Ok(()) => explain(alloc, input, settings, out, err),
+        Err(fault) => Err(fault),
+    }
+}
+
+// The same, with the status. Says on `err` how many lines are bad, or that it is a data sheet, or
+// why it stopped.
 fn explain_input<R: Read, O: Write, E: Write>(
     alloc: Global,
     input: &mut R,
@@ -42,12 +75,16 @@ fn explain_input<R: Read, O: Write, E: Write>(
     out: &mut O,
     err: &mut E,
 ) -> ExitCode
-    ensures { (exit_status result ≡ 0) ⊎ (exit_status result ≡ 1) }
+    // Of the bytes: with 0 all is written and no line is bad; with 1 one is, or it stopped early.
+    ensures known { Ends (λ bad. IfSome (R.remaining input.old)
+        (WritesAll settings.now.form (sheets_of settings.now)
+        (O.contents out.old) (O.contents out.new) bad)) (exit_status result) }
+    // For every reader: it gave some text, and this holds for that text.
+    ensures any_reader { Ends (λ bad. GaveText (R.remaining input.old) (R.remaining input.new)
+        (WritesAll settings.now.form (sheets_of settings.now)
+        (O.contents out.old) (O.contents out.new) bad)) (exit_status result) }
 {
-    let outcome = match write_header(alloc, settings, out) {
-        Ok(()) => explain(alloc, input, settings, out, err),
-        Err(fault) => Err(fault),
-    };
+    let outcome = explain_whole(alloc, input, settings, out, err);
     match flushed(out, outcome) {
         Ok(0) => ExitCode::SUCCESS,
         Ok(bad) => {
@@ -67,7 +104,8 @@ fn explain_path<R: Files + AllocGlobal + Input, O: Write, E: Write>(
     out: &mut O,
     err: &mut E,
 ) -> ExitCode
-    ensures { (exit_status result ≡ 0) ⊎ (exit_status result ≡ 1) }
+    ensures { Ends (WritesFile settings.now.form (sheets_of settings.now)
+        (O.contents out.old) (O.contents out.new)) (exit_status result) }
 {
     if path == STANDARD_INPUT {
         return explain_input(rt.alloc(), &mut rt.reader(), settings, out, err);
@@ -88,23 +126,18 @@ fn missing_signal<E: Write>(signal: Signal, err: &mut E) -> ExitCode
     ExitCode::from(2)
 }
 
-// explains the recording of a path by data sheets with their PDOs, where all were added, if they have
-// all signals
-#[tactic(auto, using(crate::proofs::WriteLemmas::one_or_two, crate::proofs::WriteLemmas::or_two))]
+// explains the recording of a path by data sheets with their PDOs, if they have all signals
 fn explain_with<R: Files + AllocGlobal + Input, O: Write, E: Write>(
     rt: &R,
     path: &str,
-    added: bool,
     sheets: &[KnownSheet<'_, '_>],
     form: Layout<'_>,
     out: &mut O,
     err: &mut E,
 ) -> ExitCode
-    ensures { (exit_status result ≡ 0) ⊎ ((exit_status result ≡ 1) ⊎ (exit_status result ≡ 2)) }
+    ensures { EndsBy form.entry (map known_view sheets.now)
+        (O.contents out.old) (O.contents out.new) (exit_status result) }
 {
-    if !added {
-        return no_memory(out, err);
-    }
     if let Some(signal) = first_missing(sheets, form.signals) {
         return missing_signal(signal, err);
     }
@@ -119,8 +152,7 @@ fn explain_with<R: Files + AllocGlobal + Input, O: Write, E: Write>(
     explain_path(rt, path, &settings, out, err)
 }
 
-// explains the recording of a path by data sheets
-#[tactic(auto, using(crate::proofs::WriteLemmas::one_or_two))]
+// explains the recording of a path by data sheets, in the order in which they count
 fn explain_by<'s, 't, R: Files + AllocGlobal + Input, O: Write, E: Write>(
     rt: &R,
     path: &str,
@@ -129,11 +161,14 @@ fn explain_by<'s, 't, R: Files + AllocGlobal + Input, O: Write, E: Write>(
     out: &mut O,
     err: &mut E,
 ) -> ExitCode
-    ensures { (exit_status result ≡ 0) ⊎ ((exit_status result ≡ 1) ⊎ (exit_status result ≡ 2)) }
+    ensures { EndsBy form.entry (in_order (map read_view sheets.now))
+        (O.contents out.old) (O.contents out.new) (exit_status result) }
 {
     let mut known: Vec<KnownSheet<'s, 't>> = Vec::new(rt.alloc());
-    let added = add_in_order(rt.alloc(), &mut known, sheets).is_ok();
-    explain_with(rt, path, added, known.as_slice(), form, out, err)
+    match add_in_order(rt.alloc(), &mut known, sheets) {
+        Ok(()) => explain_with(rt, path, known.as_slice(), form, out, err),
+        Err(_) => no_memory(out, err),
+    }
 }
 
 // Adds the data sheet of a text, with its original data types, where there is memory for one more.
@@ -168,8 +203,8 @@ fn add_sheet<'t>(
     }
 }
 
-// Adds the data sheets of these texts. On an `Err` one is at fault, or memory ran out, and it is
-// said.
+// Adds the data sheets of these texts, and writes nothing. On an `Err` one is at fault, or memory
+// ran out, and it is said.
 fn add_sheets<'t, O: Write, E: Write>(
     alloc: Global,
     sheets: &mut Vec<ReadSheet<'t>>,
@@ -177,7 +212,8 @@ fn add_sheets<'t, O: Write, E: Write>(
     out: &mut O,
     err: &mut E,
 ) -> Result<(), ExitCode>
-    ensures { IfErr result (λ status. exit_status status ≡ 1) }
+    ensures kept { OnOk result (O.contents out.new ≡ O.contents out.old) }
+    ensures err { IfErr result (λ status. exit_status status ≡ 1) }
 {
     for text in texts {
         match add_sheet(alloc, sheets, text) {
@@ -200,7 +236,8 @@ fn explain_texts<R: Files + AllocGlobal + Input, O: Write, E: Write>(
     out: &mut O,
     err: &mut E,
 ) -> ExitCode
-    ensures { (exit_status result ≡ 0) ⊎ ((exit_status result ≡ 1) ⊎ (exit_status result ≡ 2)) }
+    ensures { EndsBySome form.entry
+        (O.contents out.old) (O.contents out.new) (exit_status result) }
 {
     let mut sheets = Vec::new(rt.alloc());
     match add_sheets(rt.alloc(), &mut sheets, texts, out, err) {
