@@ -33,6 +33,8 @@ use Rattle.conode_compare_pdos.specs.Deviations.{
   timed,
   timed_since,
   timer_deviation,
+  timer_since,
+  was_settled,
 }
 use Rattle.conode_compare_laws.proofs.TpdoOthers.{is_of}
 
@@ -95,7 +97,8 @@ timed_none : (is : Deviation → Bool) (moment : Moment) (changed timer : Option
     → ((t : ℕ) → timer ≡ Some t → is_of is (timer_deviation moment inhibit t sent) ≡ false) → is_of is (timed moment changed timer inhibit sent) ≡ false
 timed_none is moment changed None inhibit sent p q = if_none is (is_counted moment changed sent) (inhibit_deviation moment inhibit sent) p
 timed_none is moment changed (Some t) inhibit sent p q =
-    first_none is (inhibit_since moment changed inhibit sent) (timer_deviation moment inhibit t sent) (if_none is (is_counted moment changed sent) (inhibit_deviation moment inhibit sent) p) (q t refl)
+    first_none is (inhibit_since moment changed inhibit sent) (timer_since moment inhibit t sent) (if_none is (is_counted moment changed sent) (inhibit_deviation moment inhibit sent) p)
+    (if_none is (was_settled moment moment.commanded sent.free) (timer_deviation moment inhibit t sent) (q t refl))
 
 -- what is to be shown of each of the times, where it is known and a frame came before
 pub record AreTimes (is : Deviation → Bool) (moment : Moment) (parameters : Parameters) (sent : Option Sent) : Type 0 where

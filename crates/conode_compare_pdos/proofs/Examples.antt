@@ -218,10 +218,23 @@ right_after_write : deviation_at (at 99004) true (record sent { changed = Some 5
 unfolding deviation_at time_deviation
 right_after_write = refl
 
--- it is late all the same
-late_since_command : deviation_at (record (at 1121006) { commanded = Some 5 }) true (after_start 5 5) 4 ≡ Some (Timer 1121001 1000)
+-- it is late all the same since a parameter was written or read
+late_since_write : deviation_at (at 1131006) true (record sent { changed = Some 5; sent = Some (record { free = 10005; micros = 10005 }) }) 4 ≡ Some (Timer 1121001 1000)
+unfolding deviation_at time_deviation
+late_since_write = refl
+
+-- and since a command, but where the one before came within the tolerance after that, or waited since then
+late_since_command : deviation_at (record (at 1131007) { commanded = Some 5 }) true (after_start 10006 10006) 4 ≡ Some (Timer 1121001 1000)
 unfolding deviation_at time_deviation
 late_since_command = refl
+
+on_its_way : deviation_at (record (at 1131007) { commanded = Some 5 }) true (after_start 10005 10005) 4 ≡ None
+unfolding deviation_at time_deviation
+on_its_way = refl
+
+on_its_way_for_long : deviation_at (record (at 1131007) { commanded = Some 5 }) true (after_start 10005 10006) 4 ≡ None
+unfolding deviation_at time_deviation
+on_its_way_for_long = refl
 
 -- of types 254 and 255 alone
 type_254 : deviation_at (at 89004) true (record sent { parameters = record event_driven { kind = Some 254 } }) 4 ≡ Some (Inhibit 88999 1000)

@@ -103,13 +103,19 @@ timer_deviation moment inhibit timer sent =
     if (timer == 0) || nat_le (moment.free - sent.micros) (greatest_gap moment inhibit timer) then None
     else Some (Timer (moment.micros - sent.micros) timer)
 
+-- Not where the frame before came within the tolerance after the newest command: it may have been on its way,
+-- and the device may have left operational since, and followed a Start late.
+abbrev pub timer_since : Moment → ℕ → ℕ → Sent → Option Deviation
+timer_since moment inhibit timer sent =
+    if was_settled moment moment.commanded sent.free then timer_deviation moment inhibit timer sent else None
+
 abbrev pub first_of : Option Deviation → Option Deviation → Option Deviation
 first_of (Some deviation) other = Some deviation
 first_of None other = other
 
 abbrev pub timed : Moment → Option ℕ → Option ℕ → ℕ → Sent → Option Deviation
 timed moment changed None inhibit sent = inhibit_since moment changed inhibit sent
-timed moment changed (Some timer) inhibit sent = first_of (inhibit_since moment changed inhibit sent) (timer_deviation moment inhibit timer sent)
+timed moment changed (Some timer) inhibit sent = first_of (inhibit_since moment changed inhibit sent) (timer_since moment inhibit timer sent)
 
 abbrev pub timed_since : Moment → Option ℕ → Parameters → Option ℕ → Option Sent → Option Deviation
 timed_since moment changed parameters None sent = None

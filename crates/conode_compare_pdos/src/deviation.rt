@@ -26,6 +26,7 @@ ghost use Rattle.conode_compare_pdos.specs.Deviations.{
   time_deviation,
   timed,
   timer_deviation,
+  timer_since,
   was_settled,
 };
 
@@ -267,6 +268,18 @@ fn timer_deviation(moment: &Moment, inhibit: u16, timer: u16, sent: Sent) -> Opt
     }
 }
 
+// not where the frame before came within the tolerance after the newest command: it may have been on
+// its way, and the device may have left operational since, and followed a Start late
+fn timer_since(moment: &Moment, inhibit: u16, timer: u16, sent: Sent) -> Option<Deviation>
+    ensures { result ≡ timer_since moment.now inhibit timer sent }
+{
+    if was_settled(moment, moment.commanded, sent.free) {
+        timer_deviation(moment, inhibit, timer, sent)
+    } else {
+        None
+    }
+}
+
 fn timed(
     moment: &Moment,
     changed: Option<u64>,
@@ -278,7 +291,7 @@ fn timed(
 {
     match inhibit_since(moment, changed, inhibit, sent) {
         Some(deviation) => Some(deviation),
-        None => timer_deviation(moment, inhibit, timer?, sent),
+        None => timer_since(moment, inhibit, timer?, sent),
     }
 }
 
