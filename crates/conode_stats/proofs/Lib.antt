@@ -1,3 +1,5 @@
 pub mod Counting
 mod JsonExamples
 pub mod LogLemmas
+mod StatusExamples
+pub mod StatusLemmas

@@ -1,3 +1,4 @@
+pub mod ExitStatus
 pub mod FailureTokens
 pub mod Frames
 pub mod NodeTokens

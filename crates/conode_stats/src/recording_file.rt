@@ -1,7 +1,10 @@
 //! The file of a recording, and the page of its statistics.
 
-ghost use Rattle.std.specs.Prelude.{◌≡◌, ◌⊎◌, ◌≤◌, IfErr, IfSome};
+ghost use Rattle.std.specs.Prelude.{◌≡◌, ◌⊎◌, ◌≤◌, IfErr, IfOk, IfSome, IsOkAnd, OnOk};
 ghost use Rattle.std.specs.Process.{exit_status};
+ghost use Rattle.std.specs.Io.KnownBytes.{Appends};
+ghost use Rattle.conode_io.specs.TraceTexts.{GaveText};
+ghost use Rattle.conode_stats.specs.ExitStatus.{Ends, IsMade, WritesPage};
 
 use crate::bit_rate::rate_of;
 use crate::recording::{Recording, count};
@@ -51,6 +54,8 @@ fn page_of(
     settings: &Settings<'_>,
 ) -> Result<Vec<u8>, AllocError>
     requires { IfSome settings.now.bit_rate (λ rate. rate ≤ 1000000) }
+    ensures { IfOk result (λ made.
+        IsMade settings.now recording.now.counts recording.now.bad made.items) }
 {
     let page = Page {
         counts: &recording.counts,
@@ -68,7 +73,10 @@ fn page_of(
 }
 
 // writes the page
-fn write_page<O: Write>(page: Result<Vec<u8>, AllocError>, out: &mut O) -> Result<(), CmdFault> {
+fn write_page<O: Write>(page: Result<Vec<u8>, AllocError>, out: &mut O) -> Result<(), CmdFault>
+    ensures { OnOk result (IsOkAnd page (λ made.
+        Appends (O.contents out.old) (O.contents out.new) made.items)) }
+{
     match page {
         Ok(page) => hand_over(page.as_slice(), out),
         Err(_) => Err(CmdFault::Memory),
@@ -84,6 +92,11 @@ fn stats<R: Read, O: Write, E: Write>(
     err: &mut E,
 ) -> Result<u64, CmdFault>
     requires { IfSome settings.now.bit_rate (λ rate. rate ≤ 1000000) }
+    ensures known { IfOk result (λ bad. IfSome (R.remaining input.old)
+        (WritesPage settings.now (O.contents out.old) (O.contents out.new) bad)) }
+    ensures any_reader { IfOk result (λ bad.
+        GaveText (R.remaining input.old) (R.remaining input.new)
+        (WritesPage settings.now (O.contents out.old) (O.contents out.new) bad)) }
 {
     let recording = attempt!(count(alloc, input, settings.log, err));
     match write_page(page_of(alloc, &recording, settings), out) {
@@ -101,7 +114,15 @@ fn stats_input<R: Read, O: Write, E: Write>(
     err: &mut E,
 ) -> ExitCode
     requires { IfSome settings.now.bit_rate (λ rate. rate ≤ 1000000) }
-    ensures { (exit_status result ≡ 0) ⊎ (exit_status result ≡ 1) }
+    ensures status { (exit_status result ≡ 0) ⊎ (exit_status result ≡ 1) }
+    // Of the bytes: with 0 no line is bad, with 1 a line is, or it stopped early.
+    ensures known { Ends (λ bad. IfSome (R.remaining input.old)
+        (WritesPage settings.now (O.contents out.old) (O.contents out.new) bad))
+        (exit_status result) }
+    // For any reader: it gave a text, and this holds of that text.
+    ensures any_reader { Ends (λ bad. GaveText (R.remaining input.old) (R.remaining input.new)
+        (WritesPage settings.now (O.contents out.old) (O.contents out.new) bad))
+        (exit_status result) }
 {
     let outcome = stats(alloc, input, settings, out, err);
     match flushed(out, outcome) {
