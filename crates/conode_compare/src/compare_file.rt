@@ -48,6 +48,7 @@ use conode_compare_nmt::{Limits, Subject, facts_of};
 use conode_compare_report::{SheetNames, is_boot_up_master};
 use conode_compare_text::Tally;
 use conode_compare_values::{HeldEntries, HeldFault, Rooms};
+use conode_convert::SAYS_NOT_TEXT;
 use conode_io::{
     CmdFault, bad_word, cannot_read, faulty_sheet, file_text, flushed, no_node_id, no_text,
     out_of_memory, stopped,
@@ -206,6 +207,15 @@ fn compare_and_write<R: Read, O: Write, E: Write>(
     Ok(comparing)
 }
 
+// what is said of a file that is no recording: a data sheet, whose line is 0, or no text
+fn no_recording(number: u64) -> &'static str {
+    if number == 0 {
+        SHEET_AS_TRACE
+    } else {
+        SAYS_NOT_TEXT
+    }
+}
+
 // compares an input
 fn compare_input<R: Read, O: Write, E: Write>(
     alloc: Global,
@@ -231,7 +241,7 @@ fn compare_input<R: Read, O: Write, E: Write>(
             say_ends(settings.subject.node, &comparing, err);
             ExitCode::from(verdict_status(comparing.tally, comparing.several))
         }
-        Err(CmdFault::BadLine(_)) => bad_word(SHEET_AS_TRACE, err),
+        Err(CmdFault::BadLine(number)) => bad_word(no_recording(number), err),
         Err(fault) => {
             let _ = stopped(fault, out, err);
             ExitCode::from(NOT_COMPARED)

@@ -19,7 +19,7 @@ use crate::comparing::{Comparing, may_have_frame};
 use crate::writes::Settings;
 use co_stream::{BoundedLines, Found};
 use conode_compare_report::Report;
-use conode_convert::{add_frame, name_bad_line, read_fault};
+use conode_convert::{NOT_TEXT, add_frame, is_not_text, name_bad_line, read_fault};
 use conode_io::{CmdFault, flush};
 use conode_logs::{Form, Log};
 use conode_record::{BadLogLine, LogLine, RecordLine};
@@ -110,12 +110,15 @@ fn set_record_line(
     }
 }
 
-// A bad line that is a section line of a data sheet, before the first line that shows the form of a
-// log, ends it.
+// A bad line before the first line that shows the form of a log ends it where it is a section line of
+// a data sheet, or isn't text.
 fn unless_sheet(form: Form, line: &[u8]) -> Result<(), CmdFault> {
     if let Form::Unknown = form {
         if is_section_line(line) {
             return Err(IS_SHEET);
+        }
+        if is_not_text(form, line) {
+            return Err(NOT_TEXT);
         }
     }
     Ok(())

@@ -20,6 +20,7 @@ use std::io::{Read, Write};
 ///
 /// * `Read`: the reader failed. `NeverEnds`: there are 2^64 - 1 lines.
 /// * `Write`: `out` failed. `Memory`: memory ran out.
+/// * `NOT_TEXT`: a line has a byte 0, and no line before it shows the form of a log.
 pub fn convert<R: Read, W: Write, E: Write>(
     alloc: Global,
     reader: &mut R,

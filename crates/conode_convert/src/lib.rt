@@ -19,7 +19,9 @@ mod log_file;
 mod step;
 mod text;
 
-pub use bad_lines::{TOO_LONG, name_bad_line, name_step_back, read_fault};
+pub use bad_lines::{
+    NOT_TEXT, SAYS_NOT_TEXT, TOO_LONG, is_not_text, name_bad_line, name_step_back, read_fault, say_not_text,
+};
 pub use conode_logs::Form;
 pub use converted::convert;
 pub use cut_off::name_cut;

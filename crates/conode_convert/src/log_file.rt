@@ -5,8 +5,9 @@ ghost use Rattle.std.specs.Process.{exit_status};
 ghost use Rattle.conode_io.specs.TraceTexts.{GaveText};
 ghost use Rattle.conode_convert.specs.Taking.{Converts};
 
+use crate::bad_lines::say_not_text;
 use crate::converted::convert;
-use conode_io::{cannot_read, flushed, stopped};
+use conode_io::{CmdFault, cannot_read, flushed, stopped};
 use conode_logs::Form;
 use std::alloc::Global;
 use std::fs;
@@ -41,6 +42,7 @@ fn convert_input<R: Read, O: Write, E: Write>(
             let _ = writeln!(err, "bad lines: {bad}");
             ExitCode::FAILURE
         }
+        Err(CmdFault::BadLine(_)) => say_not_text(err),
         Err(fault) => stopped(fault, out, err).status(),
     }
 }

@@ -10,12 +10,12 @@ ghost use Rattle.conode_convert.specs.Converted.{at_start, faults_in, written_of
 ghost use Rattle.conode_convert.specs.Printed.{line_text};
 ghost use Rattle.conode_convert.specs.Taking.{Takes};
 
-use crate::bad_lines::{TOO_LONG, name_bad_line, name_step_back, read_fault};
+use crate::bad_lines::{NOT_TEXT, TOO_LONG, is_not_text, name_bad_line, name_step_back, read_fault};
 use crate::cut_off::name_cut;
 use crate::text::add_line;
 use co_stream::{BoundedLines, Found};
 use conode_io::{CmdFault, flush, hand_over};
-use conode_logs::{Form, Log, LogFrame, LogLine};
+use conode_logs::{BadLogLine, Form, Log, LogFrame, LogLine};
 use std::alloc::Global;
 use std::io::{Read, Write};
 
@@ -60,6 +60,24 @@ fn write_as_it_is<W: Write>(room: &mut Vec<u8>, line: &[u8], out: &mut W) -> Res
     hand_over(room.as_slice(), out)
 }
 
+// Names a line that this log's reader doesn't know, and returns 1. One that shows that the log isn't
+// text ends it.
+fn name_unknown<E: Write>(
+    form: Form,
+    number: u64,
+    line: &[u8],
+    bad: BadLogLine,
+    err: &mut E,
+) -> Result<u64, CmdFault>
+    ensures { IfOk result (λ bad. bad ≡ 1) }
+{
+    if is_not_text(form, line) {
+        return Err(NOT_TEXT);
+    }
+    name_bad_line(number, bad.words(), err);
+    Ok(1)
+}
+
 // Converts a line. Returns 1 and names the line if it is bad, else 0.
 fn convert_line<W: Write, E: Write>(
     room: &mut Vec<u8>,
@@ -73,7 +91,6 @@ fn convert_line<W: Write, E: Write>(
         (written_of line.now (says log.old line.now).1)) }
     ensures log { OnOk result (log.new ≡ (says log.old line.now).0) }
     ensures bad { IfOk result (λ bad. bad ≡ faults_in (says log.old line.now).1) }
-    ensures err { IfErr result (λ fault. (fault ≡ CmdFault.Write) ⊎ (fault ≡ CmdFault.Memory)) }
 {
     match log.read(line) {
         Ok(LogLine::Skipped) => Ok(0),
@@ -89,10 +106,7 @@ fn convert_line<W: Write, E: Write>(
                 Err(fault) => Err(fault),
             }
         }
-        Err(bad) => {
-            name_bad_line(number, bad.words(), err);
-            Ok(1)
-        }
+        Err(bad) => name_unknown(log.form, number, line, bad, err),
     }
 }
 

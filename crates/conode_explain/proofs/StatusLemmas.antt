@@ -13,7 +13,8 @@ use Rattle.conode_io.proofs.WriteLemmas.{lines_after}
 use Rattle.conode_explain_cob_ids.specs.Known.{KnownSheet}
 use Rattle.conode_explain.specs.declared.progress.Layout.{Layout}
 use Rattle.conode_explain.specs.Explained.{explained, header_lines}
-use Rattle.conode_explain.specs.ExitStatus.{Ends, EndsBy, WritesAll, WritesFile, explain_status, output}
+use Rattle.conode_explain.specs.ExitStatus.{Ends, EndsBy, EndsBySome, ExplainsAll, WritesAll, WritesFile, explain_status, output}
+use Rattle.conode_explain.specs.Sheets.{in_order}
 use Rattle.conode_explain.specs.Taking.{Explains}
 use Rattle.conode_explain.proofs.WriteLemmas.{or_two}
 
@@ -116,3 +117,18 @@ pub of_file : (form : Layout) (sheets : List KnownSheet) (old new before after :
 of_file form sheets old new before after status h =
     ends_as (λ bad. GaveText before after (WritesAll form sheets old new bad)) (WritesFile form sheets old new) status
     (λ bad p. (p.0, p.2)) h
+
+-- ---- as it is asked for
+
+all_by : (form : Layout) (sheets : List KnownSheet) (old new : Option (List ℕ)) → EndsBy form sheets old new 0 → WritesFile form sheets old new 0
+all_by form sheets old new (inl h) = absurd (omega h.0)
+all_by form sheets old new (inr h) = at_zero (WritesFile form sheets old new) h
+
+pub explains_all : (form : Layout) (old new : Option (List ℕ)) (status : ℕ) → EndsBySome form old new status → status ≡ 0 → ExplainsAll form old new
+explains_all form old new status h is =
+    (h.0, all_by form (in_order h.0) old new (subst (λ (s : ℕ). EndsBy form (in_order h.0) old new s) is h.1))
+
+-- another status
+pub not_zero : {P : Type 0} (status : ℕ) → (status ≡ 1) ⊎ (status ≡ 2) → status ≡ 0 → P
+not_zero status (inl one) is = absurd (omega arith)
+not_zero status (inr two) is = absurd (omega arith)

@@ -1,9 +1,14 @@
 -- How a command that explains a recording ends: what is written, and its exit status.
-use Rattle.std.specs.Prelude.{◌≡◌, ℕ, zero, suc, ◌⊎◌, List, ◌++◌, Option, IsSome, Result, Ok, Err, IfOk}
+use Rattle.std.specs.Prelude.{◌≡◌, ℕ, zero, suc, ◌⊎◌, List, [], ◌++◌, Option, None, Some, IsSome, Result, Ok, Err, IfOk}
+use Rattle.std.specs.Option.{option_copied}
 use Rattle.conode_io.specs.declared.fault.CmdFault.{CmdFault}
 use Rattle.conode_io.specs.Written.{WritesLines}
 use Rattle.conode_explain_cob_ids.specs.Known.{KnownSheet}
+use Rattle.conode_explain_filter.specs.Filters.{IsFilter}
 use Rattle.conode_explain_forms.specs.Lines.{first_missing}
+use Rattle.conode_explain_forms.specs.Words.{signals_in}
+use Rattle.conode_explain_forms.specs.declared.signal.Signal.{Signal}
+use Rattle.conode_explain.specs.declared.explain_file.ExplainOptions.{ExplainOptions}
 use Rattle.conode_explain.specs.declared.progress.Layout.{Layout}
 use Rattle.conode_explain.specs.Explained.{bad_read, explained, header_lines}
 use Rattle.conode_explain.specs.Sheets.{in_order}
@@ -49,3 +54,30 @@ EndsBy form sheets old new status =
 -- by some data sheets, in the order in which they count
 abbrev pub EndsBySome : Layout → Option (List ℕ) → Option (List ℕ) → ℕ → Type 0
 EndsBySome form old new status = (sheets : List KnownSheet) × EndsBy form (in_order sheets) old new status
+
+-- all of some text is explained by some data sheets, and none of the lines that were read is bad
+abbrev pub ExplainsAll : Layout → Option (List ℕ) → Option (List ℕ) → Type 0
+ExplainsAll form old new = (sheets : List KnownSheet) × WritesFile form (in_order sheets) old new 0
+
+-- ---- as options ask for it
+
+-- the signals that a word has; none without one
+abbrev pub signals_asked : Option (List ℕ) → Result (List Signal) (List ℕ)
+signals_asked None = Ok []
+signals_asked (Some text) = signals_in text
+
+-- the form that options ask for: the filter has the conditions that their words say
+pub record IsLayout (options : ExplainOptions) (form : Layout) : Type 0 where
+  pub stamps : form.stamps ≡ options.stamps
+  pub transfers : form.transfers ≡ options.transfers
+  pub changes : form.changes ≡ options.changes
+  pub stop : form.stop ≡ options.stop
+  pub format : form.format ≡ options.format
+  pub colours : form.colours ≡ options.colours
+  pub log : form.log ≡ options.log
+  pub filter : IsFilter options.filter form.filter.now
+  pub signals : signals_asked (option_copied options.signals) ≡ Ok form.signals.now
+
+-- all of some text is explained as options ask for it
+abbrev pub ExplainsAsked : ExplainOptions → Option (List ℕ) → Option (List ℕ) → Type 0
+ExplainsAsked options old new = (form : Layout) × IsLayout options form × ExplainsAll form old new

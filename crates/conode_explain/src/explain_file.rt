@@ -1,15 +1,20 @@
 //! The file of a recording, explained.
 
-ghost use Rattle.std.specs.Prelude.{◌≡◌, ◌⊎◌, IfErr, IfOk, IfSome, OnOk, map};
+ghost use Rattle.std.specs.Prelude.{◌≡◌, ◌⊎◌, IfErr, IfOk, IfSome, Ok, OnOk, map};
+ghost use Rattle.std.specs.Option.{option_copied};
 ghost use Rattle.std.specs.Process.{exit_status};
 ghost use Rattle.conode_explain_cob_ids.specs.Known.{known_view};
+ghost use Rattle.conode_explain_filter.specs.Filters.{IsFilter};
 ghost use Rattle.conode_io.specs.TraceTexts.{GaveText};
 ghost use Rattle.conode_explain.specs.ExitStatus.{
   Ends,
   EndsBy,
   EndsBySome,
+  ExplainsAll,
+  ExplainsAsked,
   WritesAll,
   WritesFile,
+  signals_asked,
 };
 ghost use Rattle.conode_explain.specs.Sheets.{in_order, read_view, sheets_of};
 
@@ -20,6 +25,7 @@ use crate::sheets::{ReadSheet, add_in_order};
 use crate::writes::write_header;
 use co_sheet::{FaultKind, SheetFault, read};
 use co_sheet_changes::Originals;
+use conode_convert::say_not_text;
 use conode_explain_cob_ids::KnownSheet;
 use conode_explain_filter::{Filter, FilterFault, FilterWords};
 use conode_explain_forms::{Signal, SignalFault, channels_of, first_missing};
@@ -66,7 +72,18 @@ fn explain_whole<R: Read, O: Write, E: Write>(
     }
 }
 
-// The same, with the status. Says on `err` how many lines are bad, or that it is a data sheet, or
+// says that a file is no recording: a data sheet, whose line is 0, or no text
+fn no_recording<E: Write>(number: u64, err: &mut E) -> ExitCode
+    ensures { exit_status result ≡ 1 }
+{
+    if number == 0 {
+        sheet_as_recording(err)
+    } else {
+        say_not_text(err)
+    }
+}
+
+// The same, with the status. Says on `err` how many lines are bad, or that it is no recording, or
 // why it stopped.
 fn explain_input<R: Read, O: Write, E: Write>(
     alloc: Global,
@@ -91,7 +108,7 @@ fn explain_input<R: Read, O: Write, E: Write>(
             let _ = writeln!(err, "bad lines: {bad}");
             ExitCode::FAILURE
         }
-        Err(CmdFault::BadLine(_)) => sheet_as_recording(err),
+        Err(CmdFault::BadLine(number)) => no_recording(number, err),
         Err(fault) => stopped(fault, out, err).status(),
     }
 }
@@ -256,7 +273,9 @@ fn explain_named<R: Files + AllocGlobal + Input, O: Write, E: Write>(
     out: &mut O,
     err: &mut E,
 ) -> ExitCode
-    ensures { (exit_status result ≡ 0) ⊎ ((exit_status result ≡ 1) ⊎ (exit_status result ≡ 2)) }
+    ensures status { (exit_status result ≡ 0) ⊎ ((exit_status result ≡ 1) ⊎ (exit_status result ≡ 2)) }
+    ensures whole { exit_status result ≡ 0 →
+        ExplainsAll form.entry (O.contents out.old) (O.contents out.new) }
 {
     match readable_texts(rt, words, out, err) {
         Ok(texts) => explain_texts(rt, path, texts.as_slice(), form, out, err),
@@ -337,7 +356,9 @@ fn bad_signal<O: Write, E: Write>(fault: SignalFault<'_>, out: &mut O, err: &mut
 }
 
 // the signals that are asked for; none without the option
-fn signals_in<'a>(alloc: Global, text: Option<&'a str>) -> Result<Vec<Signal>, SignalFault<'a>> {
+fn signals_in<'a>(alloc: Global, text: Option<&'a str>) -> Result<Vec<Signal>, SignalFault<'a>>
+    ensures { IfOk result (λ found. signals_asked (option_copied text) ≡ Ok found.items) }
+{
     match text {
         Some(text) => Signal::read_all(alloc, text),
         None => Ok(Vec::new(alloc)),
@@ -355,7 +376,10 @@ fn explain_filtered<R: Files + AllocGlobal + Input, O: Write, E: Write>(
     out: &mut O,
     err: &mut E,
 ) -> ExitCode
-    ensures { (exit_status result ≡ 0) ⊎ ((exit_status result ≡ 1) ⊎ (exit_status result ≡ 2)) }
+    requires { IsFilter options.now.filter filter.now }
+    ensures status { (exit_status result ≡ 0) ⊎ ((exit_status result ≡ 1) ⊎ (exit_status result ≡ 2)) }
+    ensures whole { exit_status result ≡ 0 →
+        ExplainsAsked options.now (O.contents out.old) (O.contents out.new) }
 {
     match signals_in(rt.alloc(), options.signals) {
         Ok(signals) => {
@@ -393,7 +417,10 @@ pub fn explain_files<R: Files + AllocGlobal + Input, O: Write, E: Write>(
     out: &mut O,
     err: &mut E,
 ) -> ExitCode
-    ensures { (exit_status result ≡ 0) ⊎ ((exit_status result ≡ 1) ⊎ (exit_status result ≡ 2)) }
+    ensures status { (exit_status result ≡ 0) ⊎ ((exit_status result ≡ 1) ⊎ (exit_status result ≡ 2)) }
+    // With 0 a recording is explained as the options ask for it: all is written, and no line is bad.
+    ensures whole { exit_status result ≡ 0 →
+        ExplainsAsked options.now (O.contents out.old) (O.contents out.new) }
 {
     if let Some(what) = options.other_lines() {
         return bad_word(what, err);

@@ -37,7 +37,9 @@ use crate::progress::Progress;
 use crate::settings::Settings;
 use crate::writes::{Room, write_frame};
 use co_stream::{BoundedLines, Found};
-use conode_convert::{TOO_LONG, add_frame, name_bad_line, name_cut, name_step_back, read_fault};
+use conode_convert::{
+    NOT_TEXT, TOO_LONG, add_frame, is_not_text, name_bad_line, name_cut, name_step_back, read_fault,
+};
 use conode_explain_cob_ids::Claim;
 use conode_io::{CmdFault, flush};
 use conode_logs::{Form, Log};
@@ -125,8 +127,8 @@ fn take_any(text: &mut Vec<u8>, log: &mut Log, line: &[u8]) -> Result<Said, Allo
     }
 }
 
-// What is wrong with a line that this log's reader doesn't know. A section line of a data sheet
-// before the first line that shows the form of a log ends it.
+// What is wrong with a line that this log's reader doesn't know. Before the first line that shows the
+// form of a log a section line of a data sheet ends it, and so does a line that isn't text.
 #[inline(never)]
 fn unless_sheet(
     form: Form,
@@ -138,6 +140,9 @@ fn unless_sheet(
     if let Form::Unknown = form {
         if is_section_line(line) {
             return Err(IS_SHEET);
+        }
+        if is_not_text(form, line) {
+            return Err(NOT_TEXT);
         }
     }
     Ok(Some(words))

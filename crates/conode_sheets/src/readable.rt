@@ -1,6 +1,6 @@
 //! Data sheets with faults, read all the same.
 
-ghost use Rattle.std.specs.Prelude.{◌≡◌, ◌⊎◌, IfErr};
+ghost use Rattle.std.specs.Prelude.{◌≡◌, ◌⊎◌, IfErr, OnOk};
 ghost use Rattle.std.specs.Process.{exit_status};
 
 use crate::sheet_text::{SheetText, bad_sheet_word, texts_of};
@@ -39,14 +39,15 @@ fn make_readable<E: Write>(
 /// is read as Windows-1252. A text that isn't accepted (CiA 306) is as `readable` of `co_sheet_mend`
 /// has it, so that entries without a fault keep what they have; where something is left out, `err`
 /// names the file. On an `Err` a word names no sheet (status 2), or a file can't be read or memory
-/// ran out (status 1), and it is said.
+/// ran out (status 1), and it is said; else nothing is written to `out`.
 pub fn readable_texts<'a, R: Files + AllocGlobal, O: Write, E: Write>(
     rt: &R,
     words: &[&'a str],
     out: &mut O,
     err: &mut E,
 ) -> Result<Vec<SheetText<'a>>, ExitCode>
-    ensures { IfErr result (λ status. (exit_status status ≡ 1) ⊎ (exit_status status ≡ 2)) }
+    ensures kept { OnOk result (O.contents out.new ≡ O.contents out.old) }
+    ensures err { IfErr result (λ status. (exit_status status ≡ 1) ⊎ (exit_status status ≡ 2)) }
 {
     let named = match sheet_words(rt.alloc(), words) {
         Ok(named) => named,

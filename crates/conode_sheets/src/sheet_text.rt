@@ -98,14 +98,15 @@ pub fn no_sheet<E: Write>(path: &str, err: &mut E) -> ExitCode
 
 /// The texts of the data sheets that words name, in UTF-8: a line that isn't is read as
 /// Windows-1252. On an `Err` a file can't be read, or has no section, or memory ran out, and it is
-/// said.
+/// said; else nothing is written to `out`.
 pub(crate) fn texts_of<'a, R: Files + AllocGlobal, O: Write, E: Write>(
     rt: &R,
     words: &[SheetWord<'a>],
     out: &mut O,
     err: &mut E,
 ) -> Result<Vec<SheetText<'a>>, ExitCode>
-    ensures { IfErr result (λ status. exit_status status ≡ 1) }
+    ensures kept { OnOk result (O.contents out.new ≡ O.contents out.old) }
+    ensures err { IfErr result (λ status. exit_status status ≡ 1) }
 {
     let mut texts = Vec::new(rt.alloc());
     for word in words {

@@ -39,6 +39,15 @@ negative : number_text 2 (negsuc 99) ≡ codes "-100 (FF9Ch)"
 unfolding number_text in_parentheses hex_text digits
 negative = refl
 
+-- the least number of the type, and one that it doesn't have
+least : number_text 1 (negsuc 127) ≡ codes "-128 (80h)"
+unfolding number_text in_parentheses hex_text digits
+least = refl
+
+below_least : number_text 1 (negsuc 128) ≡ codes "-129"
+unfolding number_text in_parentheses digits
+below_least = refl
+
 minus_one : number_text 1 (negsuc 0) ≡ codes "-1 (FFh)"
 unfolding number_text in_parentheses hex_text digits
 minus_one = refl

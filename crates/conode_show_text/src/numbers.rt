@@ -12,8 +12,7 @@ ghost use Rattle.std.specs.Prelude.{
   pos,
 };
 ghost use Rattle.std.specs.Fmt.{signed_decimal};
-ghost use Rattle.co_value.specs.Numbers.{bits_of};
-ghost use Rattle.conode_show_text.specs.Numbers.{if_small, is_one_digit, number_text};
+ghost use Rattle.conode_show_text.specs.Numbers.{is_one_digit, number_text, small_bits};
 ghost use Rattle.conode_show_text.specs.Phrases.{phrase_text};
 ghost use Rattle.conode_show_text.specs.Values.{addend_text};
 
@@ -34,23 +33,28 @@ fn power_of_two(bits: usize) -> i128
     (1u128 << bits) as i128
 }
 
-// the bits of a number, if 64 are enough; a negative one is in two's complement
+// the bits of a number, if 64 are enough; a negative one is in two's complement, if the type has it
 fn small_bits(width: usize, number: i128) -> Option<u64>
     requires { width ≤ 8 }
-    ensures { result ≡ if_small (bits_of (8 * width) number) }
+    ensures { result ≡ small_bits (8 * width) number }
 {
-    let bits = if number < 0 {
-        number + power_of_two(8 * width)
-    } else {
-        number
-    };
-    if bits < 0 {
-        return Some(0);
+    if number >= 0 {
+        return if number > u64::MAX as i128 {
+            None
+        } else {
+            Some(number as u64)
+        };
     }
-    if bits > u64::MAX as i128 {
+    let power = power_of_two(8 * width);
+    if number < -power {
         return None;
     }
-    Some(bits as u64)
+    let bits = number + power;
+    if 2 * bits < power {
+        None
+    } else {
+        Some(bits as u64)
+    }
 }
 
 fn is_one_digit(number: i128) -> bool

@@ -8,8 +8,10 @@ use Rattle.conode_io.specs.declared.fault.CmdFault.{CmdFault}
 use Rattle.conode_io.specs.Endings.{ending_status}
 use Rattle.conode_io.specs.TraceTexts.{GaveText}
 use Rattle.conode_stats_counts.specs.Buses.{Counted}
+use Rattle.conode_stats_text.specs.declared.page.Page.{Page}
+use Rattle.conode_stats_text.specs.Pages.{page_lines}
 use Rattle.conode_stats.specs.declared.recording_file.Settings.{Settings}
-use Rattle.conode_stats.specs.ExitStatus.{Ends, IsMade, WritesPage, stats_status}
+use Rattle.conode_stats.specs.ExitStatus.{CountsAll, Ends, IsMade, IsPageBy, WritesPage, stats_status}
 use Rattle.conode_stats.specs.Taking.{CountsText}
 
 -- ---- what a status says
@@ -88,3 +90,30 @@ module _ (settings : Settings) (bad : ℕ) (old mid new : Option (List ℕ)) (ke
 
   pub flushed_any : (before after : Option (List ℕ)) → GaveText before after (WritesPage settings old mid bad) → GaveText before after (WritesPage settings old new bad)
   flushed_any before after h = (h.0, h.1, after_flush h.0 h.2)
+
+-- ---- as it is asked for
+
+-- of a page by settings that of a bit rate
+by_rate : (settings : Settings) (counts : Counted) (made : List ℕ) → IsMade settings counts 0 made
+    → settings.json ≡ false → (page : Page) × IsPageBy settings.bit_rate counts page × (made ≡ page_lines page)
+by_rate settings counts made h text =
+    let page = h text in
+    (page.0, record { counted = page.1.counted; wrong = page.1.wrong; by = page.1.rate }, page.2)
+
+all_counted : (settings : Settings) (old new before after : Option (List ℕ)) → GaveText before after (WritesPage settings old new 0)
+    → CountsAll settings.bit_rate settings.json settings.log old new
+all_counted settings old new before after h =
+    let page = h.2 in
+    (h.0, sym page.3, page.0, page.1, by_rate settings _ page.0 page.2)
+
+pub counts_all : (settings : Settings) (old new before after : Option (List ℕ)) (status : ℕ)
+    → Ends (λ bad. GaveText before after (WritesPage settings old new bad)) status → status ≡ 0
+    → CountsAll settings.bit_rate settings.json settings.log old new
+counts_all settings old new before after status h is =
+    all_counted settings old new before after
+    (at_zero (λ bad. GaveText before after (WritesPage settings old new bad)) (subst (λ (s : ℕ). Ends (λ bad. GaveText before after (WritesPage settings old new bad)) s) is h))
+
+-- another status
+pub not_zero : {P : Type 0} (status : ℕ) → (status ≡ 1) ⊎ (status ≡ 2) → status ≡ 0 → P
+not_zero status (inl one) is = absurd (omega arith)
+not_zero status (inr two) is = absurd (omega arith)

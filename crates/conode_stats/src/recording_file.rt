@@ -4,13 +4,14 @@ ghost use Rattle.std.specs.Prelude.{◌≡◌, ◌⊎◌, ◌≤◌, IfErr, IfOk
 ghost use Rattle.std.specs.Process.{exit_status};
 ghost use Rattle.std.specs.Io.KnownBytes.{Appends};
 ghost use Rattle.conode_io.specs.TraceTexts.{GaveText};
-ghost use Rattle.conode_stats.specs.ExitStatus.{Ends, IsMade, WritesPage};
+ghost use Rattle.conode_stats.specs.ExitStatus.{CountsAll, CountsAsked, Ends, IsMade, WritesPage};
 
 use crate::bit_rate::rate_of;
 use crate::recording::{Recording, count};
 use crate::sheet_facts::facts_of;
 use crate::tokens::page_json;
 use co_sheet::{FaultKind, SheetFault, read};
+use conode_convert::say_not_text;
 use conode_io::{CmdFault, cannot_read, flushed, hand_over, stopped};
 use conode_logs::Form;
 use conode_sheets::{SheetText, bad_sheet, readable_texts, sheet_as_recording};
@@ -105,6 +106,17 @@ fn stats<R: Read, O: Write, E: Write>(
     }
 }
 
+// says that a file is no recording: a data sheet, whose line is 0, or no text
+fn no_recording<E: Write>(number: u64, err: &mut E) -> ExitCode
+    ensures { exit_status result ≡ 1 }
+{
+    if number == 0 {
+        sheet_as_recording(err)
+    } else {
+        say_not_text(err)
+    }
+}
+
 // the same, with the status
 fn stats_input<R: Read, O: Write, E: Write>(
     alloc: Global,
@@ -128,7 +140,7 @@ fn stats_input<R: Read, O: Write, E: Write>(
     match flushed(out, outcome) {
         Ok(0) => ExitCode::SUCCESS,
         Ok(_) => ExitCode::FAILURE,
-        Err(CmdFault::BadLine(_)) => sheet_as_recording(err),
+        Err(CmdFault::BadLine(number)) => no_recording(number, err),
         Err(fault) => stopped(fault, out, err).status(),
     }
 }
@@ -142,7 +154,10 @@ fn stats_path<R: Files + AllocGlobal + Input, O: Write, E: Write>(
     err: &mut E,
 ) -> ExitCode
     requires { IfSome settings.now.bit_rate (λ rate. rate ≤ 1000000) }
-    ensures { (exit_status result ≡ 0) ⊎ (exit_status result ≡ 1) }
+    ensures status { (exit_status result ≡ 0) ⊎ (exit_status result ≡ 1) }
+    ensures whole { exit_status result ≡ 0 →
+        CountsAll settings.now.bit_rate settings.now.json settings.now.log
+        (O.contents out.old) (O.contents out.new) }
 {
     if path == STANDARD_INPUT {
         return stats_input(rt.alloc(), &mut rt.reader(), settings, out, err);
@@ -170,8 +185,8 @@ fn add_facts<'a>(
     Ok(())
 }
 
-// Adds what the texts of sheets have. On an `Err` one is at fault, or memory ran out, and it is
-// said.
+// Adds what the texts of sheets have, and writes nothing. On an `Err` one is at fault, or memory
+// ran out, and it is said.
 fn take_all<'a, O: Write, E: Write>(
     alloc: Global,
     facts: &mut Vec<SheetFacts<'a>>,
@@ -179,7 +194,8 @@ fn take_all<'a, O: Write, E: Write>(
     out: &mut O,
     err: &mut E,
 ) -> Result<(), ExitCode>
-    ensures { IfErr result (λ status. exit_status status ≡ 1) }
+    ensures kept { OnOk result (O.contents out.new ≡ O.contents out.old) }
+    ensures err { IfErr result (λ status. exit_status status ≡ 1) }
 {
     for text in texts {
         if let Err(fault) = add_facts(alloc, facts, text) {
@@ -199,7 +215,10 @@ fn stats_in<R: Files + AllocGlobal + Input, O: Write, E: Write>(
     err: &mut E,
 ) -> ExitCode
     requires { IfSome settings.bit_rate (λ rate. rate ≤ 1000000) }
-    ensures { (exit_status result ≡ 0) ⊎ ((exit_status result ≡ 1) ⊎ (exit_status result ≡ 2)) }
+    ensures status { (exit_status result ≡ 0) ⊎ ((exit_status result ≡ 1) ⊎ (exit_status result ≡ 2)) }
+    ensures whole { exit_status result ≡ 0 →
+        CountsAll settings.bit_rate settings.json settings.log
+        (O.contents out.old) (O.contents out.new) }
 {
     let texts = match readable_texts(rt, words, out, err) {
         Ok(texts) => texts,
@@ -242,7 +261,10 @@ pub fn stats_file<R: Files + AllocGlobal + Input, O: Write, E: Write>(
     out: &mut O,
     err: &mut E,
 ) -> ExitCode
-    ensures { (exit_status result ≡ 0) ⊎ ((exit_status result ≡ 1) ⊎ (exit_status result ≡ 2)) }
+    ensures status { (exit_status result ≡ 0) ⊎ ((exit_status result ≡ 1) ⊎ (exit_status result ≡ 2)) }
+    // With 0 a recording is counted as the words ask for it: its page is written, no line is bad.
+    ensures whole { exit_status result ≡ 0 →
+        CountsAsked words.now (O.contents out.old) (O.contents out.new) }
 {
     let bit_rate = match words.bit_rate {
         Some(word) => match rate_of(word) {

@@ -13,7 +13,9 @@ ghost use Rattle.conode_stats.specs.Frames.{counts_after, faults_in, good, line_
 ghost use Rattle.conode_stats.specs.Taking.{Takes};
 
 use co_stream::{BoundedLines, Found};
-use conode_convert::{TOO_LONG, add_frame, name_bad_line, name_cut, name_step_back, read_fault};
+use conode_convert::{
+    NOT_TEXT, TOO_LONG, add_frame, is_not_text, name_bad_line, name_cut, name_step_back, read_fault,
+};
 use conode_io::CmdFault;
 use conode_logs::{Form, Log};
 use conode_record::{BadLogLine, LogLine, RecordLine};
@@ -61,8 +63,8 @@ fn count_record<E: Write>(
     }
 }
 
-// Names a line that this log's reader doesn't know, and returns 1. A section line of a data sheet
-// before the first line that shows the form of a log ends it.
+// Names a line that this log's reader doesn't know, and returns 1. Before the first line that shows
+// the form of a log a section line of a data sheet ends it, and so does a line that isn't text.
 fn name_unknown<E: Write>(
     form: Form,
     number: u64,
@@ -75,6 +77,9 @@ fn name_unknown<E: Write>(
     if let Form::Unknown = form {
         if is_section_line(line) {
             return Err(IS_SHEET);
+        }
+        if is_not_text(form, line) {
+            return Err(NOT_TEXT);
         }
     }
     name_bad_line(number, bad.words(), err);
