@@ -208,7 +208,7 @@ fn compare_and_write<R: Read, O: Write, E: Write>(
 }
 
 // what is said of a file that is no recording: a data sheet, whose line is 0, or no text
-fn no_recording(number: u64) -> &'static str {
+fn no_recording(number: usize) -> &'static str {
     if number == 0 {
         SHEET_AS_TRACE
     } else {

@@ -121,7 +121,7 @@ of_file form sheets old new before after status h =
 -- ---- as it is asked for
 
 all_by : (form : Layout) (sheets : List KnownSheet) (old new : Option (List ℕ)) → EndsBy form sheets old new 0 → WritesFile form sheets old new 0
-all_by form sheets old new (inl h) = absurd (omega h.0)
+all_by form sheets old new (inl h) = absurd (omega (arith, h.0))
 all_by form sheets old new (inr h) = at_zero (WritesFile form sheets old new) h
 
 pub explains_all : (form : Layout) (old new : Option (List ℕ)) (status : ℕ) → EndsBySome form old new status → status ≡ 0 → ExplainsAll form old new

@@ -73,7 +73,7 @@ fn explain_whole<R: Read, O: Write, E: Write>(
 }
 
 // says that a file is no recording: a data sheet, whose line is 0, or no text
-fn no_recording<E: Write>(number: u64, err: &mut E) -> ExitCode
+fn no_recording<E: Write>(number: usize, err: &mut E) -> ExitCode
     ensures { exit_status result ≡ 1 }
 {
     if number == 0 {
@@ -357,7 +357,7 @@ fn bad_signal<O: Write, E: Write>(fault: SignalFault<'_>, out: &mut O, err: &mut
 
 // the signals that are asked for; none without the option
 fn signals_in<'a>(alloc: Global, text: Option<&'a str>) -> Result<Vec<Signal>, SignalFault<'a>>
-    ensures { IfOk result (λ found. signals_asked (option_copied text) ≡ Ok found.items) }
+    ensures { IfOk result (λ found. signals_asked (option_copied text.entry) ≡ Ok found.items) }
 {
     match text {
         Some(text) => Signal::read_all(alloc, text),

@@ -107,7 +107,7 @@ fn stats<R: Read, O: Write, E: Write>(
 }
 
 // says that a file is no recording: a data sheet, whose line is 0, or no text
-fn no_recording<E: Write>(number: u64, err: &mut E) -> ExitCode
+fn no_recording<E: Write>(number: usize, err: &mut E) -> ExitCode
     ensures { exit_status result ≡ 1 }
 {
     if number == 0 {

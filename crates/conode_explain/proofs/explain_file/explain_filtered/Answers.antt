@@ -13,9 +13,9 @@ returns-in-Ok-clause-whole g c is =
       format = refl;
       colours = refl;
       log = refl;
-      filter = c.args.requires;
+      filter = c.requires;
       signals = c.in-Ok.ensures;
     }, c.explain_named.ensures.whole is)
 
-pub returns-clause-whole : goal.returns-clause-whole
-returns-clause-whole g c = not_zero _ c.bad_signal.ensures
+pub returns-in-Err-clause-whole : goal.returns-in-Err-clause-whole
+returns-in-Err-clause-whole g c = not_zero _ c.bad_signal.ensures

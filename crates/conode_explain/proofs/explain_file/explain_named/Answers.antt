@@ -12,5 +12,5 @@ pub returns-in-Ok-clause-whole : goal.returns-in-Ok-clause-whole
 returns-in-Ok-clause-whole g c =
     explains_all c.args.form _ _ _ (rw c.in-Ok.ensures.kept at c.explain_texts.ensures)
 
-pub returns-clause-whole : goal.returns-clause-whole
-returns-clause-whole g c = not_zero _ c.in-Err.ensures.err
+pub returns-in-Err-clause-whole : goal.returns-in-Err-clause-whole
+returns-in-Err-clause-whole g c = not_zero _ c.in-Err.ensures.err

@@ -1,5 +1,6 @@
 -- By the outcome, after a flush.
 use Rattle.std.proofs.Common.{IfSome, refl}
+use Rattle.conode_io.specs.declared.fault.CmdFault.TheVariants.{BadLine}
 use Rattle.conode_io.specs.TraceTexts.{GaveText}
 use Rattle.conode_stats.specs.ExitStatus.{WritesPage}
 use Rattle.conode_stats.proofs.StatusLemmas.{at_ok, ends_bad, ends_early, ends_good, flushed_any, flushed_known, stopped_one}
@@ -55,11 +56,11 @@ returns-in-Ok-clause-any_reader g c =
 
 pub returns-in-Err-BadLine-clause-known : goal.returns-in-Err-BadLine-clause-known
 returns-in-Err-BadLine-clause-known g c =
-    ends_early (λ bad. IfSome (g.R.Read.remaining c.args.input.now) (WritesPage c.args.settings.now (g.O.Write.contents c.args.out.now) (g.O.Write.contents c.flushed.new.writer) bad)) _ c.in-Err-BadLine.number c.no_recording.ensures
+    ends_early (λ bad. IfSome (g.R.Read.remaining c.args.input.now) (WritesPage c.args.settings.now (g.O.Write.contents c.args.out.now) (g.O.Write.contents c.flushed.new.writer) bad)) _ (BadLine c.in-Err-BadLine.number) c.no_recording.ensures
 
 pub returns-in-Err-BadLine-clause-any_reader : goal.returns-in-Err-BadLine-clause-any_reader
 returns-in-Err-BadLine-clause-any_reader g c =
-    ends_early (λ bad. GaveText (g.R.Read.remaining c.args.input.now) (g.R.Read.remaining c.stats-outcome.new.input) (WritesPage c.args.settings.now (g.O.Write.contents c.args.out.now) (g.O.Write.contents c.flushed.new.writer) bad)) _ c.in-Err-BadLine.number c.no_recording.ensures
+    ends_early (λ bad. GaveText (g.R.Read.remaining c.args.input.now) (g.R.Read.remaining c.stats-outcome.new.input) (WritesPage c.args.settings.now (g.O.Write.contents c.args.out.now) (g.O.Write.contents c.flushed.new.writer) bad)) _ (BadLine c.in-Err-BadLine.number) c.no_recording.ensures
 
 pub returns-in-Err-clause-known : goal.returns-in-Err-clause-known
 returns-in-Err-clause-known g c =
