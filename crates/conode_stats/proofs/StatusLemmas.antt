@@ -1,5 +1,5 @@
 -- How a command over the statistics of a recording ends, by its exit status.
-use Rattle.std.proofs.Common.{◌≡◌, ℕ, zero, suc, ◌<◌, ◌⊎◌, ◌≢◌, inl, inr, List, Option, None, Some, IfSome, Result, Ok, Err, IfOk, IsOkAnd, refl, ap, sym, subst, ◌∙◌, arith}
+use Rattle.std.proofs.Common.{◌≡◌, ℕ, false, zero, suc, ◌<◌, ◌⊎◌, ◌≢◌, inl, inr, List, Option, None, Some, IfSome, Result, Ok, Err, IfOk, IsOkAnd, refl, ap, sym, subst, ◌∙◌, arith}
 use Rattle.std.specs.Io.KnownBytes.{Appends, Keeps}
 use Rattle.std.proofs.KnownBytes.{Appends-kept}
 use Rattle.conode_io.specs.declared.ending.Ending.{Ending}

@@ -217,7 +217,7 @@ fn stats_in<R: Files + AllocGlobal + Input, O: Write, E: Write>(
     requires { IfSome settings.bit_rate (λ rate. rate ≤ 1000000) }
     ensures status { (exit_status result ≡ 0) ⊎ ((exit_status result ≡ 1) ⊎ (exit_status result ≡ 2)) }
     ensures whole { exit_status result ≡ 0 →
-        CountsAll settings.bit_rate settings.json settings.log
+        CountsAll settings.entry.bit_rate settings.entry.json settings.entry.log
         (O.contents out.old) (O.contents out.new) }
 {
     let texts = match readable_texts(rt, words, out, err) {
