@@ -12,7 +12,14 @@ ghost use Rattle.std.specs.Prelude.{
   pos,
 };
 ghost use Rattle.std.specs.Fmt.{signed_decimal};
-ghost use Rattle.conode_show_text.specs.Numbers.{is_one_digit, number_text, small_bits};
+ghost use Rattle.co_value.specs.Numbers.{bits_of};
+ghost use Rattle.conode_show_text.specs.Numbers.{
+  if_small,
+  is_below,
+  is_one_digit,
+  is_plain,
+  number_text,
+};
 ghost use Rattle.conode_show_text.specs.Phrases.{phrase_text};
 ghost use Rattle.conode_show_text.specs.Values.{addend_text};
 
@@ -33,28 +40,23 @@ fn power_of_two(bits: usize) -> i128
     (1u128 << bits) as i128
 }
 
-// the bits of a number, if 64 are enough; a negative one is in two's complement, if the type has it
+// the bits of a number, if 64 are enough; a negative one is in two's complement
 fn small_bits(width: usize, number: i128) -> Option<u64>
     requires { width ≤ 8 }
-    ensures { result ≡ small_bits (8 * width) number }
+    ensures { result ≡ if_small (bits_of (8 * width) number) }
 {
-    if number >= 0 {
-        return if number > u64::MAX as i128 {
-            None
-        } else {
-            Some(number as u64)
-        };
+    let bits = if number < 0 {
+        number + power_of_two(8 * width)
+    } else {
+        number
+    };
+    if bits < 0 {
+        return Some(0);
     }
-    let power = power_of_two(8 * width);
-    if number < -power {
+    if bits > u64::MAX as i128 {
         return None;
     }
-    let bits = number + power;
-    if 2 * bits < power {
-        None
-    } else {
-        Some(bits as u64)
-    }
+    Some(bits as u64)
 }
 
 fn is_one_digit(number: i128) -> bool
@@ -63,13 +65,29 @@ fn is_one_digit(number: i128) -> bool
     0 <= number && number < 10
 }
 
+// whether it is below the least number of a signed type of this width
+fn is_below(width: usize, number: i128) -> bool
+    requires { width ≤ 8 }
+    ensures { result ≡ is_below (8 * width) number }
+{
+    number < -(power_of_two(8 * width) / 2)
+}
+
+// whether it is in decimal alone
+fn is_plain(width: usize, number: i128) -> bool
+    requires { width ≤ 8 }
+    ensures { result ≡ is_plain (8 * width) number }
+{
+    is_one_digit(number) || is_below(width, number)
+}
+
 /// A number of a type of `width` bytes: in decimal, and in hexadecimal digits if these differ.
 #[tactic(auto, unfolding(crate::specs::Numbers::number_text, crate::specs::Numbers::in_parentheses, conode_text::specs::Filled::filled))]
 pub(crate) fn number_of(width: usize, number: i128) -> Phrase<'static>
     requires { width ≤ 8 }
     ensures { phrase_text result ≡ number_text width number }
 {
-    if is_one_digit(number) {
+    if is_plain(width, number) {
         return alone(Piece::Signed(number));
     }
     match small_bits(width, number) {
@@ -107,7 +125,7 @@ pub(crate) fn sum_of(width: usize, addend: u64, number: i128) -> Phrase<'static>
     ensures { phrase_text result
         ≡ addend_text addend ++ codes " = " ++ number_text width number }
 {
-    if is_one_digit(number) {
+    if is_plain(width, number) {
         return sum_alone(addend, number);
     }
     match small_bits(width, number) {
