@@ -24,10 +24,14 @@ int main(void)
     const bafokun_frame upload = { 0x605, 8, { 0x40, 0x30, 0x71, 0x01 } };
     const uint8_t measured[2] = { 215, 0 };
     bafokun_fault fault;
+    char text[128];
     size_t length = fread(eds, 1, sizeof eds, stdin);
     if (!bafokun_build(&node, eds, length, 5, &config, &fault)) {
-        printf("fault %d of %s, line %d\n", fault.number, fault.stage == BAFOKUN_FAULT_SHEET ? "the sheet" : "the device",
-               (int)fault.line);
+        bafokun_fault_text(&fault, text, sizeof text);
+        printf("no device: %s", text);
+        if (fault.line > 0) printf(", line %d", (int)fault.line);
+        if (fault.index > 0) printf(", entry %04X:%02X", fault.index, fault.sub_index);
+        printf("\n");
         return 1;
     }
     print_frames(bafokun_boot(&node, frames, BAFOKUN_MOST_FRAMES));

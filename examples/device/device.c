@@ -192,11 +192,15 @@ int main(int argc, char **argv)
 {
     static const bafokun_config config = { 16, 889, 1000 };
     bafokun_fault fault;
+    char text[128];
     int status;
     if (argc != 1 && (argc != 3 || strcmp(argv[1], "--can") != 0)) return fputs("device [--can NAME]\n", stderr), 2;
     if (!bafokun_build(&node, eds, sizeof eds, 5, &config, &fault)) {
-        fprintf(stderr, "no device: stage %u, fault %u, line %lu, %04X:%02X\n", fault.stage, fault.number,
-                (unsigned long)fault.line, fault.index, fault.sub_index);
+        bafokun_fault_text(&fault, text, sizeof text);
+        fprintf(stderr, "no device: %s", text);
+        if (fault.line > 0) fprintf(stderr, ", line %lu", (unsigned long)fault.line);
+        if (fault.index > 0) fprintf(stderr, ", entry %04X:%02X", fault.index, fault.sub_index);
+        fputc('\n', stderr);
         return 1;
     }
     status = argc == 3 ? run_bus(argv[2]) : run_lines();

@@ -6,14 +6,14 @@ import operator
 from typing import Any
 
 
-def integer(name: str, value: Any, most: int) -> int:
-    """A number from 0 to most. TypeError: it is no int; ValueError: it is outside."""
+def integer(name: str, value: Any, most: int, *, kind: str = "an int", wanted: str = "") -> int:
+    """A number from 0 to most. TypeError: it is no int; ValueError: it is outside. kind and wanted are for their texts."""
     try:
         number = operator.index(value)
     except TypeError:
-        raise TypeError(f"{name} isn't an int: {value!r}") from None
+        raise TypeError(f"{name} isn't {kind}: {value!r}") from None
     if not 0 <= number <= most:
-        raise ValueError(f"{name} isn't 0 to {most}: {number}")
+        raise ValueError(f"{name} isn't {wanted or f'0 to {most}'}: {number}")
     return number
 
 

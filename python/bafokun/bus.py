@@ -55,7 +55,24 @@ def run(node: Node, bus: can.BusABC, *, seconds: Optional[float] = None, stop: O
     what the application does. CanError: the bus takes no frame for a second, or can't be read any more.
 
     A node boots up once: after another `run`, or after `boot`, it goes on as it is, and for it no time passed in between.
+    RuntimeError: it runs already, and its time would pass twice as fast.
     """
+    _begin(node, bus)
+    try:
+        _run(node, bus, seconds, stop)
+    finally:
+        node._runs.release()
+
+
+def _begin(node: Node, bus: can.BusABC) -> None:
+    """A run of the node begins, and is over when its lock is released."""
+    if not isinstance(node, Node):
+        raise TypeError(f"the node comes first, as in run(node, bus): {node!r} is none")
+    if not node._runs.acquire(blocking=False):
+        raise RuntimeError("the node runs already, on another bus or in another thread")
+
+
+def _run(node: Node, bus: can.BusABC, seconds: Optional[float], stop: Optional[threading.Event]) -> None:
     sender = _Sender(bus)
     if not node._has_booted:
         sender.send(node.boot())
@@ -75,18 +92,28 @@ def run(node: Node, bus: can.BusABC, *, seconds: Optional[float] = None, stop: O
 
 @contextmanager
 def running(node: Node, bus: can.BusABC) -> Iterator[None]:
-    """`with running(node, bus): ...` runs a node in a thread of its own meanwhile. What fails there is raised at the end."""
+    """`with running(node, bus): ...` runs a node in a thread of its own meanwhile. What fails there is raised at the end.
+
+    RuntimeError, at the beginning: it runs already.
+    """
     stop = threading.Event()
     errors: List[BaseException] = []
 
     def run_until_stop() -> None:
         try:
-            run(node, bus, stop=stop)
+            _run(node, bus, None, stop)
         except BaseException as error:  # also the end of the interpreter: it is raised below
             errors.append(error)
+        finally:
+            node._runs.release()
 
     thread = threading.Thread(target=run_until_stop, name="bafokun", daemon=True)
-    thread.start()
+    _begin(node, bus)
+    try:
+        thread.start()
+    except RuntimeError:  # there is no room for a thread more
+        node._runs.release()
+        raise
     try:
         yield
     finally:

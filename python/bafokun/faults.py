@@ -2,6 +2,8 @@
 
 from __future__ import annotations
 
+from typing import Any, Tuple
+
 # by number: the name, what is wrong (with a line; without one, where that differs), how it is fixed
 _SHEET = {
     1: ("TooLarge", "the line has more than 512 bytes", "shorten the line; take out comments and sections that are passed over"),
@@ -98,6 +100,7 @@ _BUILD = {
     ),
     7: ("Memory", "memory ran out", "run it again with more memory"),
 }
+_WITHOUT_NODE_ID = "no node-ID is given, and the sheet has none"
 _ABORTS = {
     0x05030000: "the toggle bit of a segment isn't the awaited one",
     0x05040000: "the transfer timed out",
@@ -138,7 +141,20 @@ def abort_text(code: int) -> str:
     return _ABORTS.get(code, "")
 
 
-class Fault(ValueError):
+class _Portable:
+    """An exception that pickle and copy make anew, for another process, say. By themselves they call __init__ with the text."""
+
+    args: Tuple[Any, ...]
+
+    def __reduce__(self) -> Tuple[Any, ...]:
+        return _anew, (type(self), *self.args), self.__dict__
+
+
+def _anew(kind: Any, *args: Any) -> Any:
+    return kind.__new__(kind, *args)
+
+
+class Fault(_Portable, ValueError):
     """Why there is no device of a sheet: its number and name, what it means and how it is fixed."""
 
     number: int
@@ -157,25 +173,32 @@ class SheetFault(Fault):
         self.name, self.meaning, self.fix = _SHEET[number]
         if line == 0:
             self.meaning = _SHEET_WITHOUT_LINE.get(number, self.meaning)
-        place = f"{path}:{line}: " if path else f"line {line}: "
+            place = f"{path}: " if path else ""
+        else:
+            place = f"{path}:{line}: " if path else f"line {line}: "
         super().__init__(f"{place}{self.name}: {self.meaning}: {self.fix}")
 
 
 class BuildFault(Fault):
-    """A sheet has no fault, and no device can be built of it for this node-ID. index and sub_index name an entry, or are 0."""
+    """A sheet has no fault, and no device can be built of it for this node-ID. index and sub_index name an entry, or are 0.
 
-    def __init__(self, number: int, index: int, sub_index: int, path: str = ""):
+    has_node_id is whether one is given, or the sheet has one.
+    """
+
+    def __init__(self, number: int, index: int, sub_index: int, path: str = "", has_node_id: bool = True):
         self.number = number
         self.index = index
         self.sub_index = sub_index
         self.path = path
         self.name, self.meaning, self.fix = _BUILD[number]
+        if not has_node_id:
+            self.meaning, self.fix = _WITHOUT_NODE_ID, "Node.from_sheet(PATH, 5)" if path else "Node(BYTES, 5)"
         place = f"{path}: " if path else ""
         entry = f" {index:04X}:{sub_index:02X}" if index else ""
         super().__init__(f"{place}{self.name}{entry}: {self.meaning}: {self.fix}")
 
 
-class Refused(Exception):
+class Refused(_Portable, Exception):
     """The node refused what the application did: the SDO abort code, and its meaning."""
 
     def __init__(self, code: int):

@@ -2,7 +2,7 @@
 
 from __future__ import annotations
 
-from typing import TYPE_CHECKING, NamedTuple, Optional, Tuple, Union
+from typing import TYPE_CHECKING, Any, NamedTuple, Optional, Tuple, Union
 
 from .arguments import integer, octets
 
@@ -34,15 +34,20 @@ def frame_of(frame: AnyFrame) -> Optional[Frame]:
     """The frame of a pair or a message.
 
     None for a message that a device doesn't hear: an identifier of 29 bits (python-can's default), a remote, error or
-    CAN FD frame. ValueError: a pair that is no frame; TypeError: neither a pair nor a message.
+    CAN FD frame. ValueError: a pair or a message that is no frame; TypeError: neither a pair nor a message.
     """
+    identifier: Any
+    data: Any
     if isinstance(frame, tuple) and len(frame) == 2:
-        identifier, data = integer("a frame's identifier", frame[0], 0x7FF), octets("a frame's data", frame[1])
-        if len(data) > 8:
-            raise ValueError(f"a frame's data isn't at most 8 bytes: {data!r}")
-        return Frame(identifier, data)
-    if not hasattr(frame, "is_extended_id"):
+        identifier, data = frame
+    elif not hasattr(frame, "is_extended_id"):
         raise TypeError(f"a frame is a pair (identifier, data) or a message of python-can, not {frame!r}")
-    if frame.is_extended_id or frame.is_remote_frame or frame.is_error_frame or frame.is_fd:
+    elif frame.is_extended_id or frame.is_remote_frame or frame.is_error_frame or frame.is_fd:
         return None
-    return Frame(frame.arbitration_id, bytes(frame.data))
+    else:
+        # python-can checks a message only if it is told to
+        identifier, data = frame.arbitration_id, frame.data
+    identifier, data = integer("a frame's identifier", identifier, 0x7FF), octets("a frame's data", data)
+    if len(data) > 8:
+        raise ValueError(f"a frame's data isn't at most 8 bytes: {data!r}")
+    return Frame(identifier, data)

@@ -3,7 +3,9 @@
 from __future__ import annotations
 
 import ctypes
+import operator
 import os
+import re
 import threading
 import weakref
 from enum import IntEnum
@@ -19,7 +21,9 @@ from .sheet import Description, Sheet, node_id_of
 from .values import DataType, Value
 
 Key = Union[str, int, Tuple[int, int]]
-"""An entry's name, "Object.Entry", an index, or an index and a sub-index."""
+"""An entry's name, "Object.Entry", an index, or an index and a sub-index, also as the text "1018:01"."""
+
+_TEXT_OF_KEY = re.compile("([0-9A-Fa-f]{4}):([0-9A-Fa-f]{2})")
 
 # the bit of the error register that is the kind of an emergency error code, by its first digit
 _KINDS = {0x2: 0x02, 0x3: 0x04, 0x4: 0x08, 0x8: 0x10, 0xF: 0x80}
@@ -79,7 +83,8 @@ class Node:
     What comes from the bus and the clock (`boot`, `take`, `tick`) gives the frames that the device sends, in order. What
     the application does (entries that are set, `write`, `changed`, `event`, `raise_error`, `clear_errors`) may send too:
     these frames wait, and are the first of what the next of those calls gives, or `frames`. Each call may come from any
-    thread. After a reset by NMT entries have their defaults again, as after the build.
+    thread, and none from a signal handler or a `__del__`: where it comes within another call, it is a RuntimeError. After
+    a reset by NMT entries have their defaults again, as after the build.
     """
 
     def __init__(
@@ -100,15 +105,16 @@ class Node:
         if isinstance(sheet, str):
             raise TypeError("a sheet's text is wanted as bytes, not as str; Node.from_sheet reads a file")
         sheet = octets("a sheet's text", sheet)
+        # that of one call; and that of one `run`, which gives the node its ticks
         self._lock = threading.RLock()
+        self._runs = threading.Lock()
         self._library: Any = c.load()
         self._handle = c.CNode()
         self._room = (c.CFrame * c.MOST_FRAMES)()
         self._waiting: List[Frame] = []
         self._has_booted = False
-        if node_id is None:
-            # where there is none, the library says so, or what else is wrong
-            node_id = node_id_of(sheet) or 0
+        # where there is none, the library says so, or what else is wrong; so of 0, and of 128 to 255
+        number = node_id_of(sheet) or 0 if node_id is None else integer("node_id", node_id, 0xFF, wanted="1 to 127")
         config = c.CConfig(
             integer("strings", strings, 0xFFFF),
             integer("domains", domains, 0xFFFF),
@@ -116,10 +122,10 @@ class Node:
         )
         fault = c.CFault()
         build = self._library.bafokun_build
-        if not build(self._handle, sheet, len(sheet), integer("node_id", node_id, 0xFF), config, fault):
+        if not build(self._handle, sheet, len(sheet), number, config, fault):
             if fault.stage == c.SHEET_FAULT:
                 raise SheetFault(fault.number, fault.line, path)
-            raise BuildFault(fault.number, fault.index, fault.sub_index, path)
+            raise BuildFault(fault.number, fault.index, fault.sub_index, path, node_id is not None or number > 0)
         # also where nobody closes it
         self._free = weakref.finalize(self, self._library.bafokun_free, self._handle)
         descriptions = enumerate(self._descriptions(Sheet(sheet)))
@@ -142,7 +148,7 @@ class Node:
 
     def close(self) -> None:
         """Gives the device and its memory back; no other call may come after this one."""
-        with self._lock:
+        with self._turn():
             self._free()
 
     def __enter__(self) -> Node:
@@ -177,61 +183,78 @@ class Node:
 
     # ---- the library's calls
 
+    def _turn(self) -> Any:
+        """The lock, for a call from outside; the calls of the library and their results are within it.
+
+        A signal handler comes within a call of its own thread, perhaps before the room is read, so that frames would be lost
+        and others come twice. The lock would let it in; one that doesn't would let it wait for ever.
+        """
+        if self._lock._is_owned():  # type: ignore[attr-defined]
+            raise RuntimeError("a call of this node isn't over: none may come from a signal handler")
+        return self._lock
+
     def _call(self, name: str, *words: object) -> Any:
-        """One call. All of them come from here."""
-        with self._lock:
-            if not self._free.alive:
-                raise ValueError("the node is closed")
-            return getattr(self._library, f"bafokun_{name}")(self._handle, *words)
+        """One call, with the lock. All of them come from here."""
+        if not self._free.alive:
+            raise ValueError("the node is closed")
+        return getattr(self._library, f"bafokun_{name}")(self._handle, *words)
+
+    def _ask(self, name: str, *words: object) -> Any:
+        """A question that is a whole call."""
+        with self._turn():
+            return self._call(name, *words)
 
     def _input(self, name: str, *words: object) -> None:
-        """One input; the frames that it gives wait."""
-        with self._lock:
-            count = self._call(name, *words, self._room, c.MOST_FRAMES)
-            if count:
-                self._waiting += [Frame(it.id, bytes(it.bytes[: it.length])) for it in self._room[:count]]
+        """One input, with the lock; the frames that it gives wait."""
+        count = self._call(name, *words, self._room, c.MOST_FRAMES)
+        if count:
+            self._waiting += [Frame(it.id, bytes(it.bytes[: it.length])) for it in self._room[:count]]
 
     def _event(self, name: str, *words: object) -> None:
-        """An event of the application."""
-        with self._lock:
+        """An event of the application, a whole call."""
+        with self._turn():
             self._input(name, *words)
             code = ctypes.c_uint32()
             if self._call("answer", code) == c.REFUSED:
                 raise Refused(code.value)
 
+    def _sent(self) -> List[Frame]:
+        """The frames that wait, with the lock: from now on they don't."""
+        frames, self._waiting = self._waiting, []
+        return frames
+
     # ---- the bus and the clock
 
     def frames(self) -> List[Frame]:
         """The frames that wait: what the application did gave them. They are to be sent once, in order."""
-        with self._lock:
-            frames, self._waiting = self._waiting, []
-            return frames
+        with self._turn():
+            return self._sent()
 
     def boot(self) -> List[Frame]:
         """The boot-up, to be sent once after the build. Another call gives it again, and changes nothing."""
-        with self._lock:
+        with self._turn():
             self._has_booted = True
             self._input("boot")
-            return self.frames()
+            return self._sent()
 
     def take(self, frame: AnyFrame) -> List[Frame]:
         """A frame was received: a pair (identifier, data) or a message of python-can."""
-        with self._lock:
-            taken = frame_of(frame)
+        taken = frame_of(frame)
+        with self._turn():
             if taken:
                 data = taken.data.ljust(8, b"\0")
                 self._input("take", c.CFrame(taken.id, len(taken.data), (ctypes.c_uint8 * 8)(*data)))
-            return self.frames()
+            return self._sent()
 
     def tick(self, ms: int = 1) -> List[Frame]:
         """So many ms elapsed, at most a day."""
         left, elapsed = integer("ms", ms, _DAY), ctypes.c_uint32()
-        with self._lock:
+        with self._turn():
             while left:
                 # these end with the first one that sends frames
                 self._input("ticks", left, elapsed)
                 left -= elapsed.value
-            return self.frames()
+            return self._sent()
 
     # ---- the application
 
@@ -280,29 +303,31 @@ class Node:
 
         OFF leaves operational or stops, by the error behaviour of 1029:01, as a lost heartbeat does.
         """
-        self._input("bus", BusChange(change))
+        number = integer("change", change, max(BusChange), kind="a BusChange")
+        with self._turn():
+            self._input("bus", number)
 
     # ---- questions
 
     @property
     def node_id(self) -> int:
         """The node-ID, 1 to 127."""
-        return int(self._call("node_id"))
+        return int(self._ask("node_id"))
 
     @property
     def state(self) -> State:
         """The NMT state."""
-        return State(self._call("state"))
+        return State(self._ask("state"))
 
     def idle(self) -> Optional[int]:
         """For at least so many ms it sends nothing, and neither an entry nor its state changes, if nothing is received. None: ever."""
-        ms = int(self._call("idle"))
+        ms = int(self._ask("idle"))
         return None if ms == c.FOREVER else ms
 
     def happened(self) -> Optional[Events]:
         """What happened since the last call, or since the node was made: what the inputs did. None: nothing did."""
         events = c.CEvents()
-        if not self._call("happened", events):
+        if not self._ask("happened", events):
             return None
         return Events(
             bool(events.reset_node),
@@ -317,7 +342,7 @@ class Node:
 
     def held(self, channel: int) -> int:
         """How many bytes are held for the transfer of an SDO channel; 0 is that of 1200h."""
-        return int(self._call("held", integer("channel", channel, 0xFF)))
+        return int(self._ask("held", integer("channel", channel, 0xFF)))
 
     def read(self, index: int, sub_index: int) -> bytes:
         """The bytes of an entry, least significant first. KeyError: there is none."""
@@ -329,7 +354,7 @@ class Node:
         return self._read(f"with number {number}", "value_at", number)
 
     def _read(self, shown: str, name: str, *words: int) -> bytes:
-        with self._lock:
+        with self._turn():
             room, length = 64, ctypes.c_size_t()
             while True:
                 data = (ctypes.c_uint8 * room)()
@@ -347,7 +372,7 @@ class Node:
         Also those that were set to the bytes that they had, and not those that the application sets.
         """
         entries, found, number = list(self), [], ctypes.c_size_t()
-        with self._lock:
+        with self._turn():
             while self._call("next_changed", number, number):
                 found.append(entries[number.value])
                 number.value += 1
@@ -362,12 +387,12 @@ class Node:
     def __getitem__(self, key: Key) -> Entry:
         """An entry by its name, by "Object.Entry", by index and sub-index, or by the index of a VAR or DOMAIN.
 
-        KeyError: there is none; or there are several, whose keys it has.
+        "1018:01", if it is no name, is index and sub-index. KeyError: there is none; or there are several, whose keys it has.
         """
         found = self._found(key)
         if len(found) != 1:
             several = ", ".join(f"{it.index:04X}:{it.sub_index:02X}" for it in found)
-            shown = f"{key:04X}h" if isinstance(key, int) else repr(key)
+            shown = f"{key:04X}h" if isinstance(key, int) and key >= 0 else repr(key)
             raise KeyError(f"{shown} is several entries: {several}" if found else f"no entry is {shown}")
         return found[0]
 
@@ -380,7 +405,16 @@ class Node:
 
     def _found(self, key: Key) -> List[Entry]:
         if isinstance(key, str):
-            return self._names.get(key) or [it for it in self if it.object_name == key]
-        if isinstance(key, int):
-            return [it for it in self if it.index == key]
-        return [self._entries[key]] if key in self._entries else []
+            named = self._names.get(key) or [it for it in self if it.object_name == key]
+            text = _TEXT_OF_KEY.fullmatch(key)
+            if named or not text:
+                return named
+            key = int(text[1], 16), int(text[2], 16)
+        try:
+            if not isinstance(key, tuple):
+                index = operator.index(key)
+                return [it for it in self if it.index == index]
+            index, sub_index = map(operator.index, key)
+        except (TypeError, ValueError):
+            raise TypeError(f"an entry is a name, an index, or a pair (index, sub-index), not {key!r}") from None
+        return [self._entries[index, sub_index]] if (index, sub_index) in self._entries else []

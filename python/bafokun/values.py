@@ -2,12 +2,16 @@
 
 from __future__ import annotations
 
+import operator
 import struct
 from enum import IntEnum
-from typing import Union
+from typing import Any, Union
 
 Value = Union[bool, int, float, str, bytes]
-"""bool for BOOLEAN, int for the other integers, float for REAL32 and REAL64, str for strings, bytes for all else."""
+"""bool for BOOLEAN, int for the other integers, float for REAL32 and REAL64, str for strings, bytes for all else.
+
+As an int is set, so is what has `__index__`, as the integers of other packages.
+"""
 
 
 class DataType(IntEnum):
@@ -75,7 +79,7 @@ def bytes_of(kind: DataType, value: Value) -> bytes:
         return value.encode(*_STRINGS[kind])
     if kind in _WIDTHS or kind is DataType.BOOLEAN:
         return _integer(kind, value)
-    if kind in _REALS and isinstance(value, (int, float)):
+    if kind in _REALS and (isinstance(value, float) or hasattr(value, "__index__")):
         try:
             return struct.pack(_REALS[kind], value)
         except (OverflowError, struct.error):
@@ -85,9 +89,11 @@ def bytes_of(kind: DataType, value: Value) -> bytes:
     raise TypeError(f"{value!r} is no value of {kind.name}")
 
 
-def _integer(kind: DataType, value: Value) -> bytes:
-    if not isinstance(value, int):
-        raise TypeError(f"{value!r} is no value of {kind.name}")
+def _integer(kind: DataType, value: Any) -> bytes:
+    try:
+        value = operator.index(value)
+    except TypeError:
+        raise TypeError(f"{value!r} is no value of {kind.name}") from None
     if kind is DataType.BOOLEAN and value not in (0, 1):
         raise ValueError(f"{value} is outside {kind.name}")
     try:

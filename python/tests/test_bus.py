@@ -4,6 +4,7 @@ import threading
 import time
 import unittest
 from pathlib import Path
+from unittest import mock
 
 import bafokun
 
@@ -49,6 +50,12 @@ class Bus(unittest.TestCase):
         self.assertEqual(self.node.take(can.Message(**request)), [])
         self.assertEqual(self.node.take(can.Message(is_extended_id=False, is_fd=True, **request)), [])
         self.assertEqual(self.node.take(can.Message(is_extended_id=False, arbitration_id=0x605, is_remote_frame=True)), [])
+        # python-can makes these too
+        request["arbitration_id"] = 0x10605
+        with self.assertRaisesRegex(ValueError, "identifier isn't 0 to 2047: 67077"):
+            self.node.take(can.Message(is_extended_id=False, **request))
+        with self.assertRaisesRegex(ValueError, "data isn't at most 8 bytes"):
+            self.node.take(can.Message(is_extended_id=False, arbitration_id=0x605, data=bytes(9)))
 
     def test_running(self):
         with bafokun.running(self.node, self.bus):
@@ -94,6 +101,43 @@ class Bus(unittest.TestCase):
         node.boot()
         bafokun.run(node, self.bus, seconds=0.02)
         self.assertIsNone(self.tool.recv(0.1))
+
+    def test_run_twice(self):
+        """Not at once; one after the other, also where the one before ended by an exception."""
+        words = "^the node runs already, on another bus or in another thread$"
+        other = can.Bus(self.id() + " other", interface="virtual")
+        with bafokun.running(self.node, self.bus):
+            for call in (
+                lambda: bafokun.run(self.node, other, seconds=0.02),
+                lambda: bafokun.running(self.node, self.bus).__enter__(),
+            ):
+                with self.assertRaisesRegex(RuntimeError, words):
+                    call()
+            # another node may
+            bafokun.run(bafokun.Node.from_sheet(MODULE, 8), other, seconds=0.02)
+            self.assertEqual(self.next(), "705#00")
+            # and the first one goes on
+            self.send(0x605, "4000100000000000")
+            self.assertEqual(self.next(), "585#4300100094010200")
+        with self.assertRaises(ZeroDivisionError):
+            with bafokun.running(self.node, self.bus):
+                1 / 0
+        with mock.patch.object(other, "recv", side_effect=[can.CanError("gone")] * 2):
+            with self.assertRaisesRegex(can.CanError, "gone"):
+                bafokun.run(self.node, other)
+            with self.assertRaisesRegex(can.CanError, "gone"):
+                with bafokun.running(self.node, other):
+                    pass
+        with mock.patch("threading.Thread.start", side_effect=RuntimeError("can't start new thread")):
+            with self.assertRaisesRegex(RuntimeError, "can't start"):
+                bafokun.running(self.node, self.bus).__enter__()
+        bafokun.run(self.node, self.bus, seconds=0.02)
+        other.shutdown()
+
+    def test_wrong_order(self):
+        for call in (lambda: bafokun.run(self.bus, self.node), lambda: bafokun.running(self.bus, self.node).__enter__()):
+            with self.assertRaisesRegex(TypeError, r"^the node comes first, as in run\(node, bus\): <"):
+                call()
 
     def test_own_frames(self):
         """A bus that gives what it sent itself: a node doesn't hear that."""

@@ -1,11 +1,16 @@
 """A node through frames, ticks and its entries. What it sends is that of CiA 301, or of a session in examples/."""
 
+import copy
 import gc
 import os
+import pickle
 import re
+import signal
 import threading
 import unittest
+from concurrent.futures import ProcessPoolExecutor
 from pathlib import Path
+from types import SimpleNamespace
 from unittest import mock
 
 import bafokun
@@ -57,6 +62,16 @@ def var(kind, name="value", access="rw", **keys):
     """The lines of a VAR."""
     lines = [f"ParameterName={name}", f"DataType={kind}", f"AccessType={access}"]
     return "\n".join(lines + [f"{key}={value}" for key, value in keys.items()])
+
+
+class Like:
+    """An integer of another package, as one of numpy: it has __index__, and is no int."""
+
+    def __init__(self, number):
+        self.number = number
+
+    def __index__(self):
+        return self.number
 
 
 def upload(node, index, sub_index):
@@ -145,10 +160,51 @@ class Entries(unittest.TestCase):
             ("device type", "no entry"),
             ((0x1000, 1), "no entry"),
             (0x1002, "no entry is 1002h"),
+            (-1, "no entry is -1"),
+            ((0x1000, -1), "no entry is \\(4096, -1\\)"),
+            ("1018:05", "no entry is '1018:05'"),
+            ("1018:1", "no entry"),
+            ("0x1018:01", "no entry"),
+            ("1018:01 ", "no entry"),
+            ("1018:01\n", "no entry"),
+            ("\u0661\u0660\u0661\u0668:01", "no entry"),
         ]:
             self.assertNotIn(missing, node)
             with self.assertRaisesRegex(KeyError, text):
                 node[missing]
+
+    def test_keys(self):
+        """As KeyError lists them: the text of a key, also in small letters; and what has __index__."""
+        node = bafokun.Node.from_sheet(SENSOR, 5)
+        for key in ("1018:01", (Like(0x1018), Like(1))):
+            self.assertIs(node[key], node[0x1018, 1])
+            self.assertIn(key, node)
+        self.assertIs(node[Like(0x1000)], node[0x1000])
+        node["7130:01"] = 7
+        self.assertEqual(node["AI input PV 1"].raw, 7)
+        node = bafokun.Node(sheet(var(5, name="2001:00"), *[var(5, name=f"other {it}") for it in range(11)]), 5)
+        self.assertIs(node["200a:00"], node[0x200A])
+        # a name goes first
+        self.assertIs(node["2001:00"], node[0x2000])
+
+    def test_keys_of_other_types(self):
+        node = bafokun.Node.from_sheet(SENSOR, 5)
+        for key in (None, 1.5, b"1018:01", [0x1018, 1], (0x1018,), (0x1018, 1, 0), (0x1018, "1"), (None, 1), ()):
+            words = f"an entry is a name, an index, or a pair (index, sub-index), not {key!r}"
+            for call in (lambda: node[key], lambda: key in node, lambda: node.__setitem__(key, 1)):
+                with self.assertRaisesRegex(TypeError, f"^{re.escape(words)}$"):
+                    call()
+
+    def test_values_with_index(self):
+        """What has __index__ is an int, as for ms."""
+        for kind, data in [(0x01, "01"), (0x02, "01"), (0x06, "0100"), (0x08, "0000803F")]:
+            text = var(7, OriginalDataType=8) if kind == 8 else var(kind)
+            node = bafokun.Node(sheet(text), 5)
+            node[0x2000].raw = Like(1)
+            self.assertEqual(node[0x2000].bytes, bytes.fromhex(data))
+            if kind != 8:
+                with self.assertRaisesRegex(ValueError, "70000 is outside"):
+                    node[0x2000].raw = Like(70000)
 
     def test_values(self):
         """Each type: a value, and its bytes."""
@@ -378,12 +434,44 @@ class Inputs(unittest.TestCase):
             lambda: node.raise_error(0x4200, 256),
             lambda: node.raise_error(0x4200, 8, b"1234"),
             lambda: node.held(256),
-            lambda: node.bus_changed(4),
             lambda: bafokun.Node.from_sheet(SENSOR, 261),
             lambda: bafokun.Node.from_sheet(SENSOR, 5, domains=65536),
         ):
             with self.assertRaises(ValueError):
                 call()
+        for call, words in (
+            (lambda: node.bus_changed(4), "change isn't 0 to 3: 4"),
+            (lambda: node.bus_changed(-1), "change isn't 0 to 3: -1"),
+            (lambda: bafokun.Node.from_sheet(SENSOR, 256), "node_id isn't 1 to 127: 256"),
+            (lambda: bafokun.Node.from_sheet(SENSOR, -1), "node_id isn't 1 to 127: -1"),
+        ):
+            with self.assertRaisesRegex(ValueError, f"^{words}$"):
+                call()
+        node = bafokun.Node.from_sheet(MODULE, 8)
+        node.bus_changed(3)
+        self.assertEqual([str(it) for it in node.frames()], ["088#4081110000000000"])
+
+    def test_messages(self):
+        """A message of python-can is checked as a pair is; one that a device doesn't hear is passed over before that."""
+        node = bafokun.Node.from_sheet(SENSOR, 5)
+
+        def message(identifier, data, **kind):
+            kinds = dict.fromkeys(("is_extended_id", "is_remote_frame", "is_error_frame", "is_fd"), False)
+            return SimpleNamespace(arbitration_id=identifier, data=data, **{**kinds, **kind})
+
+        request = bytearray.fromhex("4000100000000000")
+        self.assertEqual([str(it) for it in node.take(message(0x605, request))], ["585#4300100094010200"])
+        for frame, error, words in (
+            (message(0x10605, request), ValueError, "a frame's identifier isn't 0 to 2047: 67077"),
+            (message(-1, request), ValueError, "a frame's identifier isn't 0 to 2047: -1"),
+            (message(0x605, request + b"\0"), ValueError, "a frame's data isn't at most 8 bytes: "),
+            (message(605.0, request), TypeError, "a frame's identifier isn't an int: 605.0"),
+            (message(0x605, None), TypeError, "a frame's data isn't bytes: None"),
+        ):
+            with self.assertRaisesRegex(error, f"^{words}"):
+                node.take(frame)
+        for kind in ("is_extended_id", "is_remote_frame", "is_error_frame", "is_fd"):
+            self.assertEqual(node.take(message(0x10605, bytes(64), **{kind: True})), [])
 
     def test_words_of_other_types(self):
         """Each is said by a TypeError, which has what is wanted."""
@@ -408,6 +496,11 @@ class Inputs(unittest.TestCase):
             (lambda: setattr(node[0x7130, 1], "bytes", 2), "data isn't bytes: 2"),
             (lambda: node.read("7130", 1), "index isn't an int: '7130'"),
             (lambda: node.event(0.0), "tpdo isn't an int: 0.0"),
+            (lambda: node.bus_changed("OFF"), "^change isn't a BusChange: 'OFF'$"),
+            (lambda: node.bus_changed(None), "^change isn't a BusChange: None$"),
+            (lambda: node.bus_changed(1.0), "^change isn't a BusChange: 1.0$"),
+            (lambda: bafokun.run(object(), node), r"run\(node, bus\): <object object at \w+> is none"),
+            (lambda: bafokun.running(object(), node).__enter__(), r"run\(node, bus\): <object object at \w+> is none"),
             (lambda: node.raise_error("4200"), "code isn't an int: '4200'"),
             (lambda: node.raise_error(0x4200, 8, "12345"), "manufacturer isn't bytes: '12345'"),
         ):
@@ -457,6 +550,56 @@ class Inputs(unittest.TestCase):
         self.assertEqual(responses, [(0x585, bytes.fromhex("4300100094010200"))] * 2000)
 
 
+    def test_signal_handler(self):
+        """No call may come within another one of its thread, whose frames come once; between two calls each may."""
+        node, library = bafokun.Node.from_sheet(SENSOR, 5), bafokun.library.load()
+        request = (0x605, bytes.fromhex("4000100000000000"))
+        calls = (
+            lambda: node.take(request),
+            lambda: node.tick(1000),
+            lambda: setattr(node["AI input PV 1"], "raw", 1),
+            lambda: node.bus_changed(bafokun.BusChange.PASSIVE),
+            lambda: node["AI input PV 1"].raw,
+            lambda: node.state,
+            node.frames,
+            node.changed_entries,
+            node.close,
+        )
+        said, is_within = [], []
+
+        def handle(*_):
+            is_within.append(True)
+            for call in calls:
+                with self.assertRaises(RuntimeError) as caught:
+                    call()
+                said.append(str(caught.exception))
+
+        def take(*words):
+            count = library.bafokun_take(*words)
+            if not is_within:
+                signal.raise_signal(signal.SIGUSR1)
+            return count
+
+        before = signal.signal(signal.SIGUSR1, handle)
+        try:
+            with mock.patch.object(node, "_library", mock.Mock(wraps=library, bafokun_take=take)):
+                responses = node.take(request)
+        finally:
+            signal.signal(signal.SIGUSR1, before)
+        self.assertEqual(said, ["a call of this node isn't over: none may come from a signal handler"] * len(calls))
+        self.assertEqual([str(it) for it in responses], ["585#4300100094010200"])
+        self.assertEqual(node.frames(), [])
+        self.assertEqual(node.take(request), responses)
+
+    def test_call_after_an_exception(self):
+        """A call that ended by an exception is over."""
+        node = bafokun.Node.from_sheet(SENSOR, 5)
+        with mock.patch.object(node, "_library", mock.Mock(bafokun_take=mock.Mock(side_effect=KeyboardInterrupt))):
+            with self.assertRaises(KeyboardInterrupt):
+                node.take((0x605, bytes(8)))
+        self.assertEqual(node.state, bafokun.State.PRE_OPERATIONAL)
+
+
 class Faults(unittest.TestCase):
     def test_sheet(self):
         path = ROOT / "examples" / "typical-mistake.eds"
@@ -465,8 +608,13 @@ class Faults(unittest.TestCase):
         fault = caught.exception
         self.assertEqual((fault.number, fault.name, fault.line), (9, "BadList", 59))
         self.assertTrue(str(fault).startswith(f"{path}:59: BadList: SupportedObjects and the keys don't agree"))
-        with self.assertRaisesRegex(bafokun.Fault, r"^line 0: MissingSection: there is no section \[MandatoryObjects\]"):
-            bafokun.Node(b"", 5)
+        # no line is to blame
+        for path, place in (("x.eds", "x.eds: "), ("", "")):
+            with self.assertRaisesRegex(bafokun.SheetFault, rf"^{place}MissingSection: there is no section \[MandatoryObjects\]") as caught:
+                bafokun.Node(b"", 5, path=path)
+            self.assertEqual(caught.exception.line, 0)
+        with self.assertRaisesRegex(bafokun.SheetFault, "^line 1: BadLine: "):
+            bafokun.Node(b"[", 5)
 
     def test_build(self):
         with self.assertRaisesRegex(ValueError, "BadMapping 1A00:00") as caught:
@@ -480,8 +628,47 @@ class Faults(unittest.TestCase):
         self.assertEqual(bafokun.Node.from_sheet(ROOT / "examples" / "temperature-sensor.dcf").node_id, 5)
         self.assertEqual(bafokun.Node.from_sheet(ROOT / "examples" / "temperature-sensor.dcf", 6).node_id, 6)
         for node_id in (None, 0, 128):
-            with self.assertRaisesRegex(bafokun.BuildFault, "NodeId"):
+            with self.assertRaisesRegex(bafokun.BuildFault, "NodeId") as caught:
                 bafokun.Node.from_sheet(SENSOR, node_id)
+            self.assertEqual((caught.exception.number, caught.exception.name), (1, "NodeId"))
+            self.assertEqual("no node-ID is given" in str(caught.exception), node_id is None)
+        without = "no node-ID is given, and the sheet has none: "
+        for call, words in (
+            (lambda: bafokun.Node.from_sheet(SENSOR), f"{SENSOR}: NodeId: {without}Node.from_sheet(PATH, 5)"),
+            (lambda: bafokun.Node(SENSOR.read_bytes()), f"NodeId: {without}Node(BYTES, 5)"),
+        ):
+            with self.assertRaises(bafokun.BuildFault) as caught:
+                call()
+            fault = caught.exception
+            self.assertEqual(str(fault), words)
+            self.assertEqual(f"{fault.meaning}: {fault.fix}", words.partition("NodeId: ")[2])
+        # what is wrong in the sheet goes first
+        with self.assertRaises(bafokun.SheetFault):
+            bafokun.Node.from_sheet(ROOT / "examples" / "typical-mistake.eds")
+
+    def test_pickled_and_copied(self):
+        """Each exception stays what it is, also on its way from another process."""
+        node = bafokun.Node.from_sheet(SENSOR, 5)
+        for call in (
+            lambda: node.write(0x7130, 2, b"\0"),
+            lambda: bafokun.Node.from_sheet(ROOT / "examples" / "typical-mistake.eds", 5),
+            lambda: bafokun.Node(b"", 5),
+            lambda: bafokun.Node.from_sheet(ROOT / "examples" / "unmappable-entry.eds", 5),
+            lambda: bafokun.Node.from_sheet(SENSOR),
+        ):
+            with self.assertRaises((bafokun.Fault, bafokun.Refused)) as caught:
+                call()
+            error = caught.exception
+            error.note = "of the caller"
+            others = [pickle.loads(pickle.dumps(error, protocol)) for protocol in range(pickle.HIGHEST_PROTOCOL + 1)]
+            for other in (*others, copy.copy(error), copy.deepcopy(error)):
+                self.assertIs(type(other), type(error))
+                self.assertEqual((str(other), repr(other), vars(other)), (str(error), repr(error), vars(error)))
+        with ProcessPoolExecutor(1) as pool:
+            path = ROOT / "examples" / "typical-mistake.eds"
+            with self.assertRaisesRegex(bafokun.SheetFault, "^.*typical-mistake.eds:59: BadList: ") as caught:
+                pool.submit(bafokun.Node.from_sheet, path, 5).result()
+            self.assertEqual((caught.exception.line, caught.exception.path), (59, str(path)))
 
     def test_words(self):
         """The names and the numbers are those of docs/SHEETS.md, the abort codes those of docs/TRACES.md."""

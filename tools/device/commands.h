@@ -1,14 +1,21 @@
 /* A line of the application: an event line of a trace (docs/TRACES.md), or one that people write. */
 
-/* The commands: how each is written, and what it does. read_words knows a word in capitals by its first letter, and KEY. */
+#define HEX_WORDS ", of 4, 2 and 10 hexadecimal digits"
+
+/*
+ * The commands: how each is written, what it does, and what its words are, where the form doesn't say it. read_words knows a word in
+ * capitals by its first letter, and KEY.
+ */
 static const struct command {
     const char *form;
     enum action { SET, WRITE, CHANGED, EVENT, RAISE, CLEAR, GET, WATCH, STATE, TICK, HELP } action; /* events first */
+    const char *words;
 } commands[] = {
-    { "set KEY VALUE", SET }, { "get KEY", GET }, { "watch KEY", WATCH }, { "event TPDO", EVENT },
-    { "raise CODE [BITS [EXTRA]]", RAISE }, { "clear [BITS]", CLEAR }, { "state", STATE }, { "!write KEY HEX", WRITE },
-    { "!changed KEY", CHANGED }, { "!event K", EVENT }, { "!raise CODE BITS EXTRA", RAISE }, { "!clear BITS", CLEAR },
-    { "!tick N", TICK }, { "help", HELP },
+    { "set KEY VALUE", SET, "" }, { "get KEY", GET, "" }, { "watch KEY", WATCH, "" }, { "event TPDO", EVENT, ", its number from 1" },
+    { "raise CODE [BITS [EXTRA]]", RAISE, HEX_WORDS }, { "clear [BITS]", CLEAR, ", of 2 hexadecimal digits" },
+    { "state", STATE, "" }, { "!write KEY HEX", WRITE, "" }, { "!changed KEY", CHANGED, "" },
+    { "!event K", EVENT, ", the number of a TPDO from 0" }, { "!raise CODE BITS EXTRA", RAISE, HEX_WORDS },
+    { "!clear BITS", CLEAR, ", of 2 hexadecimal digits" }, { "!tick N", TICK, ", ms from 1" }, { "help", HELP, "" },
 }, *const commands_end = commands + sizeof commands / sizeof *commands;
 
 /* What the words of a line say; the bytes of its value. */
@@ -23,7 +30,8 @@ static bool answer(struct client *client, struct device *device, size_t count)
     char text[128] = "";
     uint32_t abort_code;
     bool is_done = bafokun_answer(&device->node, &abort_code) != BAFOKUN_REFUSED;
-    if (!in_stdio || !client->numbered) bafokun_abort_text(abort_code, text, sizeof text);
+    /* the answers to a trace are those of conode replay */
+    if (client != standard || !by_stamps) bafokun_abort_text(abort_code, text, sizeof text);
     if (!is_done) say(client, TROUBLE, "refused %08" PRIX32 "%s%s", abort_code, *text ? " " : "", text);
     send_frames(device, count);
     return is_done;
@@ -107,10 +115,12 @@ static bool read_words(struct client *client, struct device *device, const struc
         if (kind == 'N') is_right = read_number(word, 10, 1, DAY_MS, &number);
         if (kind == 'H' || kind == 'E') is_right = bytes_of(&plain, value, bytes, &length) && (kind == 'H' || length == 5);
         if (kind == 'V' && !bytes_of(&entry, value, bytes, &length))
-            return say(client, TROUBLE, "error: this is no value of data type %02Xh", entry.type);
+            return bafokun_find(&device->node, entry.index, entry.sub_index, &(size_t){ 0 })
+                ? say(client, TROUBLE, "error: this is no value of %s", type_names[entry.type])
+                : say(client, TROUBLE, "error: there is no entry %04X:%02X", entry.index, entry.sub_index);
     }
     if (is_right && !*rest && (!form || form[1] == '[')) return true;
-    return say(client, TROUBLE, "error: %s", command->form);
+    return say(client, TROUBLE, "error: wanted: %s%s", command->form, command->words);
 }
 
 /* Does a line. A node comes first, as 5 or can0:5, unless there is one alone, or the command is for all. */
@@ -118,10 +128,12 @@ static void do_line(struct client *client, char *line)
 {
     struct device *device = devices_end - 1;
     const struct command *command = commands;
+    const char *text = line;
     size_t size = strcspn(line, BLANKS), count = 0;
     if (*line == 0 || *line == ';') return;
     bool has_node = *line != '!' && size > 0 && isdigit((unsigned char)line[size - 1]);
     const char *name = has_node ? cut(&line, size) : NULL;
+    bool is_pasted = is_bare_frame(text) || is_bare_frame(line);
     bool is_for_all = strncmp(line, "!tick ", 6) == 0 || strcmp(line, "help") == 0;
     for (struct device *at = devices; at < devices_end; at++) {
         if (name && strcmp(name, at->name) != 0 && strcmp(name, strchr(at->name, ':') + 1) != 0) continue;
@@ -133,7 +145,9 @@ static void do_line(struct client *client, char *line)
     size = strcspn(rest, BLANKS);
     name = cut(&rest, size);
     while (command < commands_end && (strcspn(command->form, " ") != size || strncmp(command->form, name, size) != 0)) command++;
-    if (count == 0) say(client, TROUBLE, "error: there is no such node, as %s is one", device->name);
+    if (is_pasted && client == standard && in_stdio)
+        say(client, TROUBLE, "error: this is no command; a frame is a line of candump -L, (1.000000) %s 605#40", device->interface);
+    else if (count == 0) say(client, TROUBLE, "error: there is no such node, as %s is one", device->name);
     else if (count > 1 && !is_for_all) say(client, TROUBLE, "error: the node comes first, as %s", device->name);
     else if (command == commands_end || (*name == '!' && is_loose)) say(client, TROUBLE, "error: this is no command; help has them");
     else if (read_words(client, device, command, rest) && act(client, device, command->action) && !client->numbered)

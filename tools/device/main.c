@@ -46,13 +46,15 @@ static void build(struct device *device, const char *word)
     const char *own = strchr(node, ':') ? strsep(&node, ":") : NULL, *interface = own ? own : in_stdio ? "can0" : given[CAN];
     uint64_t node_id;
     bafokun_fault fault;
-    if (!sheet || !read_number(node, 10, 1, 127, &node_id) || !*interface || strlen(interface) > 15)
-        errx(1, "%s: [INTERFACE:]N=SHEET, with N from 1 to 127, and --can without INTERFACE", word);
+    if (!sheet || !read_number(node, 10, 1, 127, &node_id) || (own && !*own))
+        errx(2, "%s: a device is N=SHEET or INTERFACE:N=SHEET, N from 1 to 127", word);
+    if (!*interface) errx(2, "%s: on which bus? give --can INTERFACE, or --stdio", word);
+    if (strlen(interface) > 15) errx(2, "%s: the name of an interface has at most 15 characters", interface);
     device->hears_all = in_stdio && !own;
     strcpy(device->interface, interface);
     sprintf(device->name, "%s:%d", interface, (int)node_id);
     for (struct device *at = devices; at < device; at++)
-        if (strcmp(at->name, device->name) == 0) errx(1, "%s: there is a node %d on %s already", word, (int)node_id, interface);
+        if (strcmp(at->name, device->name) == 0) errx(2, "%s: there is a node %d on %s already", word, (int)node_id, interface);
     char *text = calloc(1, MOST_SHEET + 1);
     FILE *file = fopen(sheet, "re");
     size_t size = text && file ? fread(text, 1, MOST_SHEET, file) : 0;
@@ -61,9 +63,10 @@ static void build(struct device *device, const char *word)
     if (!bafokun_build(&device->node, text, size, (uint8_t)node_id, &config, &fault)) {
         bafokun_fault_text(&fault, what, sizeof what);
         if (fault.stage == BAFOKUN_FAULT_DEVICE)
-            errx(1, "%s: build fault %u %04X:%02X: %s; `conode adapt --force %s` may fix it", word, fault.number, fault.index,
-                 fault.sub_index, what, sheet);
-        errx(1, "%s: fault %u line %" PRIu64 ": %s; `conode lint %s` says how to fix it", word, fault.number, fault.line, what, sheet);
+            errx(1, "%s: build fault %u %04X:%02X: %s; `conode adapt --force %s` may rewrite it, `conode lint --node %d %s` says how to "
+                 "fix it", word, fault.number, fault.index, fault.sub_index, what, sheet, (int)node_id, sheet);
+        errx(1, "%s: fault %u line %" PRIu64 ": %s; `conode adapt %s` may rewrite it, `conode lint %s` says how to fix it", word,
+             fault.number, fault.line, what, sheet, sheet);
     }
     name_objects(device, text);
 }
@@ -105,7 +108,10 @@ int main(int count, char **words)
     signals = signalfd(-1, &ends, SFD_CLOEXEC);
     if (!wake_by(timer, EPOLLIN) || !wake_by(signals, EPOLLIN)) err(1, "canopen-device");
     for (struct device *at = devices; !in_stdio && at < devices_end; at++)
-        if (!open_bus(at)) err(1, "%s", at->interface);
+        if (!open_bus(at)) {
+            if (errno != ENODEV || strncmp(at->interface, "vcan", 4) != 0) err(1, "%s", at->interface);
+            errx(1, "%s: %s; `ip link add dev %s type vcan` makes a virtual one", at->interface, strerror(ENODEV), at->interface);
+        }
     open_clients();
     for (struct device *at = devices; at < devices_end; at++) send_frames(at, bafokun_boot(&at->node, FRAMES));
     run_loop();

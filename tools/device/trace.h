@@ -37,6 +37,13 @@ static void print_frame(struct device *device, const bafokun_frame *frame)
     if (heard_count < MOST_HEARD) heard[heard_count++] = (struct heard){ device, device->interface, *frame };
 }
 
+/* Whether a word is a frame as cansend takes it: 605#40. */
+static bool is_bare_frame(const char *word)
+{
+    size_t digits = strspn(word, DIGITS);
+    return (digits == 3 || digits == 8) && word[digits] == '#';
+}
+
 /* Takes a stamp, and a frame that follows, off a line. Time passes until then, or a line of --play waits. Gives what is wrong. */
 static const char *read_stamp(struct client *client, char **line)
 {

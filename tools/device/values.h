@@ -3,6 +3,13 @@
 static const bafokun_entry_info plain = { .type = 0x0F }; /* an entry of bytes: DOMAIN */
 /* What a value is by its data type: a number (u), one with a sign (i), a text (t), or else bytes. */
 static const char kinds[] = "-uiiiuuu-t------i-iiiiu-uuuu-";
+/* The names of the data types that an entry may have (CiA 301, 7.4.7.1). */
+static const char *const type_names[] = {
+    [0x01] = "BOOLEAN", "INTEGER8", "INTEGER16", "INTEGER32", "UNSIGNED8", "UNSIGNED16", "UNSIGNED32",
+    [0x09] = "VISIBLE_STRING", "OCTET_STRING", [0x0F] = "DOMAIN", "INTEGER24",
+    [0x12] = "INTEGER40", "INTEGER48", "INTEGER56", "INTEGER64", "UNSIGNED24",
+    [0x18] = "UNSIGNED40", "UNSIGNED48", "UNSIGNED56", "UNSIGNED64",
+};
 
 /* A number of digits alone. */
 static bool read_number(const char *word, int base, uint64_t least, uint64_t most, uint64_t *number)
