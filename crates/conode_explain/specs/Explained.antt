@@ -1,8 +1,9 @@
 -- What a log is explained as: the lines of its frames that are asked for, in order, each with that
 -- of the transfer that ended with it, and at the end those of the transfers that are open. A bad
 -- line has none here, and is counted.
-use Rattle.std.specs.Prelude.{ℕ, ◌+◌, ◌-◌, ◌==◌, Bool, true, false, min, nat_lt, ◌&&◌, ◌||◌, if◌then◌else◌, List, [], ◌∷◌, ◌++◌, length, slice_index, Option, Some, None}
+use Rattle.std.specs.Prelude.{ℕ, ◌+◌, ◌-◌, ◌==◌, Bool, true, false, min, nat_lt, ◌&&◌, ◌||◌, if◌then◌else◌, List, [], ◌∷◌, ◌++◌, length, slice_index, is_some, Option, Some, None}
 use Rattle.std.specs.List.{flat_map}
+use Rattle.std.specs.Option.{option_map_or}
 use Rattle.std.specs.Str.Lines.{lines}
 use Rattle.co_stream.specs.Founds.{is_closed}
 use Rattle.conode_convert.specs.Converted.{at_start}
@@ -25,6 +26,7 @@ use Rattle.conode_explain_entries.specs.declared.entries.ShownPdo.{ShownPdo}
 use Rattle.conode_explain_entries.specs.declared.further.ChannelIds.{ChannelIds}
 use Rattle.conode_explain_entries.specs.declared.further.FurtherChannel.{FurtherChannel}
 use Rattle.conode_explain_entries.specs.declared.further.Place.{Place}
+use Rattle.conode_explain_entries.specs.Frames.{segment_number}
 use Rattle.conode_explain_entries.specs.Further.{FurtherTelling, booted_all, further_telling, is_at}
 use Rattle.conode_explain_entries.specs.MovedIds.{moved_words}
 use Rattle.conode_explain_entries.specs.Tables.{entries_with}
@@ -122,15 +124,20 @@ abbrev pub seen_for : LineFormat → SoFar → SoFar
 seen_for Text so_far = so_far
 seen_for Json so_far = of_several so_far
 
+-- a segment of a sub-block, by its number
+abbrev pub is_segment : Option Told → Bool
+is_segment None = false
+is_segment (Some told) = option_map_or (λ part. is_some (segment_number part.what)) told.part false
+
 -- the line of a frame that says these words
-unfoldable pub frame_line : Layout → SoFar → Subject → Record → List ℕ → List ℕ
-frame_line form so_far subject frame words =
-    line_as form (frame_tone so_far subject frame) subject.kind subject.node (line_parts form.stamps (seen_for form.format so_far) frame words)
+unfoldable pub frame_line : Layout → SoFar → Subject → Bool → Record → List ℕ → List ℕ
+frame_line form so_far subject segment frame words =
+    line_as form (frame_tone so_far subject segment frame) subject.kind subject.node (line_parts form.stamps (seen_for form.format so_far) frame words)
 
 -- where it says something new
-abbrev pub news_lines : Layout → SoFar → List Said → Subject → Record → List ℕ → List (List ℕ)
-news_lines form so_far lasts subject frame words =
-    if is_news form lasts subject frame words then frame_line form so_far subject frame words ∷ [] else []
+abbrev pub news_lines : Layout → SoFar → List Said → Subject → Bool → Record → List ℕ → List (List ℕ)
+news_lines form so_far lasts subject segment frame words =
+    if is_news form lasts subject frame words then frame_line form so_far subject segment frame words ∷ [] else []
 
 -- the first line of a table of signals, where they are asked for
 abbrev pub header_lines : Layout → List KnownSheet → List (List ℕ)
@@ -155,7 +162,7 @@ words_at bus claims whose nodes frame told =
 abbrev pub line_of : Layout → Bus → List Claim → Whose → List Node → SoFar → List Said → Record → Option Told → List (List ℕ)
 line_of form bus claims whose nodes so_far lasts frame told =
     if length form.signals.now == 0
-    then news_lines form so_far lasts (subject_by whose claims frame) frame (words_at bus claims whose nodes frame told)
+    then news_lines form so_far lasts (subject_by whose claims frame) (is_segment told) frame (words_at bus claims whose nodes frame told)
     else signal_lines form so_far bus claims frame told
 
 -- where it is asked for

@@ -116,7 +116,8 @@ repeats _ = false
 abbrev pub is_repeating : Layout → Subject → Bool
 is_repeating form subject = form.changes && repeats subject.kind
 
--- the toggle bit at the end of a guarding answer, which changes from answer to answer; one that isn't awaited isn't at the end
+-- the toggle bit at the end of a guarding answer, which changes from answer to answer; one that isn't awaited isn't at the end, nor one
+-- before another state that was commanded
 abbrev pub ends_with : List ℕ → List ℕ → Bool
 ends_with words end = bytes_eq (drop (length words - length end) words) end
 

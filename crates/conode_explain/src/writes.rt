@@ -12,6 +12,7 @@ ghost use Rattle.conode_explain.specs.Explained.{
   frame_lines,
   header_lines,
   heard_at,
+  is_segment,
   lasts_with,
   lines_by,
   news_lines,
@@ -34,7 +35,7 @@ use crate::settings::Settings;
 use crate::told_words::set_told_words;
 use crate::whose::{Whose, is_named, read_by, whose_of};
 use conode_explain_cob_ids::{Bus, Claim, add_claims, is_unnamed};
-use conode_explain_entries::{Entries, Place, push_moved};
+use conode_explain_entries::{Entries, Place, push_moved, segment_number};
 use conode_explain_filter::Lasts;
 use conode_explain_forms::{
     data_of, frame_tone, header, json_line, place_of, put_tone, read_as, set_signal_line,
@@ -130,8 +131,9 @@ fn set_whose(
 }
 
 // Sets the line to that of a frame of which this is said, in the colour of a tone or as an object
-// of JSON; `claims` are the PDOs that the frame is, `whose` it is, if it is none. Apart from lines
-// without colours, which need neither tone nor kind and less room on the stack.
+// of JSON; `claims` are the PDOs that the frame is, `whose` it is, if it is none, `segment` is whether
+// it is a segment of a sub-block. Apart from lines without colours, which need neither tone nor kind
+// and less room on the stack.
 #[inline(never)]
 #[tactic(auto, unfolding(crate::specs::Explained::frame_line))]
 fn set_other_line(
@@ -140,11 +142,12 @@ fn set_other_line(
     seen: &Seen,
     whose: Whose,
     claims: &[Claim],
+    segment: bool,
     frame: &Record<'_>,
 ) -> Result<(), AllocError>
     requires { IsIdentifier frame.now.id }
     ensures { OnOk result (room.new.line.items ≡ frame_line form.now seen.now
-        (subject_by whose claims.now frame.now) frame.now (string_bytes room.old.said)) }
+        (subject_by whose claims.now frame.now) segment frame.now (string_bytes room.old.said)) }
 {
     let subject = subject_by(whose, claims, frame);
     match form.format {
@@ -157,7 +160,7 @@ fn set_other_line(
                 frame,
                 room.said.as_bytes(),
             ));
-            let tone = frame_tone(seen, &subject, frame);
+            let tone = frame_tone(seen, &subject, segment, frame);
             put_tone(room.alloc, &mut room.line, form.colours, tone)
         }
         LineFormat::Json => {
@@ -186,11 +189,12 @@ fn set_frame_line(
     seen: &Seen,
     whose: Whose,
     claims: &[Claim],
+    segment: bool,
     frame: &Record<'_>,
 ) -> Result<(), AllocError>
     requires { IsIdentifier frame.now.id }
     ensures { OnOk result (room.new.line.items ≡ frame_line form.now seen.now
-        (subject_by whose claims.now frame.now) frame.now (string_bytes room.old.said)) }
+        (subject_by whose claims.now frame.now) segment frame.now (string_bytes room.old.said)) }
 {
     match form.format {
         LineFormat::Text if !form.colours => set_line(
@@ -201,7 +205,7 @@ fn set_frame_line(
             frame,
             room.said.as_bytes(),
         ),
-        _ => set_other_line(room, form, seen, whose, claims, frame),
+        _ => set_other_line(room, form, seen, whose, claims, segment, frame),
     }
 }
 
@@ -235,6 +239,18 @@ fn set_words_at(
     }
 }
 
+fn is_segment(told: &Option<Told>) -> bool
+    ensures { result ≡ is_segment told.now }
+{
+    match told {
+        Some(told) => match told.part {
+            Some(part) => segment_number(part.what).is_some(),
+            None => false,
+        },
+        None => false,
+    }
+}
+
 // Writes the line of a frame that is asked for, if it says something new; `claims` are the PDOs
 // that it is, `whose` it is, if it is none, `nodes` have what the last frames of its node had.
 #[tactic(auto, using(crate::proofs::WriteSets::one_line))]
@@ -253,7 +269,8 @@ fn write_news<W: Write>(
 ) -> Result<(), CmdFault>
     requires { IsIdentifier frame.now.id }
     ensures lines { OnOk result (WritesLines (W.contents out.old) (W.contents out.new)
-        (news_lines form.now seen.now lasts.old (subject_by whose claims.now frame.now) frame.now
+        (news_lines form.now seen.now lasts.old (subject_by whose claims.now frame.now)
+        (is_segment told.now) frame.now
         (words_at (bus_view bus.entry) claims.now whose nodes.now frame.now told.now))) }
     ensures lasts { OnOk result (lasts.new ≡ lasts_told form.now lasts.old
         (subject_by whose claims.now frame.now) frame.now
@@ -267,7 +284,8 @@ fn write_news<W: Write>(
         Ok(false) => return Ok(()),
         Err(_) => return Err(CmdFault::Memory),
     }
-    attempt_in_memory!(set_frame_line(room, form, seen, whose, claims, frame));
+    let segment = is_segment(told);
+    attempt_in_memory!(set_frame_line(room, form, seen, whose, claims, segment, frame));
     hand_over(room.line.as_slice(), out)
 }
 

@@ -1,5 +1,5 @@
 -- Words of filters and frames, on both sides of each edge.
-use Rattle.std.proofs.Common.{◌≡◌, ℕ, true, false, [], ◌∷◌, Some, None, Ok, Err, refl}
+use Rattle.std.proofs.Common.{◌≡◌, ℕ, true, false, [], ◌∷◌, Some, None, Ok, Err, refl, map}
 use Rattle.std.specs.Prelude.{Option, codes}
 use Rattle.conode_record.specs.declared.content.Content.TheVariants.{Data, Remote, Fd}
 use Rattle.conode_record.specs.declared.fields.Identifier.TheVariants.{Base, Extended, Error}
@@ -13,7 +13,7 @@ use Rattle.conode_explain_filter.specs.declared.subject.Subject.{Subject}
 use Rattle.conode_explain_filter.specs.Conditions.{condition_in, conditions_in, conditions_of, holds, id_condition, range_of, words_in, written_in}
 use Rattle.conode_explain_filter.specs.Kinds.{kind_at}
 use Rattle.conode_explain_filter.specs.Moments.{fraction_in, is_from, is_until, micros_in}
-use Rattle.conode_explain_filter.specs.Subjects.{subject_at, subject_of}
+use Rattle.conode_explain_filter.specs.Subjects.{nmt_node, subject_at, subject_of}
 
 abbrev id : ℕ → Written
 id number = record { wide = false; number = number }
@@ -142,9 +142,11 @@ command : subject_of None (Base 0) (Data (1 ∷ 5 ∷ [])) ≡ record { id = id 
 unfolding subject_of subject_at
 command = refl
 
-no_command : subject_of None (Base 0) (Data (1 ∷ [])) ≡ record { id = id 0; kind = Nmt; node = None }
-unfolding subject_of subject_at
-no_command = refl
+-- one byte, and two to eight; all nodes, the last node-ID, and no node-ID
+nodes_of_commands : map (λ bytes. nmt_node (Data bytes))
+    ((1 ∷ []) ∷ (1 ∷ 5 ∷ []) ∷ (1 ∷ 5 ∷ 128 ∷ []) ∷ (130 ∷ 5 ∷ 0 ∷ 0 ∷ 0 ∷ 0 ∷ 0 ∷ 0 ∷ []) ∷ (1 ∷ 0 ∷ []) ∷ (1 ∷ 127 ∷ []) ∷ (1 ∷ 128 ∷ []) ∷ [])
+    ≡ None ∷ Some 5 ∷ Some 5 ∷ Some 5 ∷ Some 0 ∷ Some 127 ∷ None ∷ []
+nodes_of_commands = refl
 
 guarding : subject_of None (Base 0x705) (Remote 1) ≡ record { id = id 0x705; kind = Heartbeat; node = Some 5 }
 unfolding subject_of subject_at

@@ -1,5 +1,5 @@
 -- What a filter looks at of a frame.
-use Rattle.std.specs.Prelude.{ℕ, ◌+◌, ◌%◌, ◌==◌, true, false, if◌then◌else◌, length, slice_index, Option, Some, None}
+use Rattle.std.specs.Prelude.{ℕ, ◌+◌, ◌%◌, nat_lt, Bool, true, false, ◌&&◌, if◌then◌else◌, List, length, slice_index, Option, Some, None}
 use Rattle.conode_record.specs.declared.content.Content.{Content}
 use Rattle.conode_record.specs.declared.content.Content.TheVariants.{Data, Remote}
 use Rattle.conode_record.specs.declared.fields.Identifier.{Identifier}
@@ -16,9 +16,13 @@ written_of (Base id) = record { wide = false; number = id }
 written_of (Extended id) = record { wide = true; number = id }
 written_of (Error class) = record { wide = true; number = class + 0x20000000 }
 
--- the node that an NMT command is for, 0 for all (CiA 301, 7.2.8.3.1)
+-- two bytes or more, the second of them a node-ID, or 0 for all nodes
+abbrev pub names_node : List ℕ → Bool
+names_node bytes = nat_lt 1 (length bytes) && nat_lt (slice_index bytes 1) 128
+
+-- the node that an NMT command is for (CiA 301, 7.2.8.3.1): many masters send it in more than two bytes
 abbrev pub nmt_node : Content → Option ℕ
-nmt_node (Data bytes) = if length bytes == 2 then Some (slice_index bytes 1) else None
+nmt_node (Data bytes) = if names_node bytes then Some (slice_index bytes 1) else None
 nmt_node other = None
 
 -- the node that a frame of a kind is of

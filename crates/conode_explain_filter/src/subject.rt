@@ -22,7 +22,7 @@ pub struct Subject {
     pub id: Written,
     /// Its kind.
     pub kind: Kind,
-    /// Its node; 0 for all nodes, `None` for none.
+    /// Its node, at most 127; 0 for all nodes, `None` for none.
     pub node: Option<u8>,
 }
 
@@ -46,14 +46,14 @@ fn written_of(id: Identifier) -> Written
     }
 }
 
-// the node that an NMT command is for: its second byte
+// the node that an NMT command of two bytes or more is for: its second byte, unless that is no node-ID
 fn nmt_node(content: &Content<'_>) -> Option<u8>
     ensures { result ≡ nmt_node content.now }
 {
     match content {
         Content::Data(bytes) => {
             let bytes = bytes.to_list();
-            if bytes.len() == 2 {
+            if bytes.len() > 1 && bytes[1] < 128 {
                 Some(bytes[1])
             } else {
                 None

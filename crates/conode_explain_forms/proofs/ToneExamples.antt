@@ -8,23 +8,30 @@ use Rattle.conode_explain_forms.specs.declared.tones.Tone.TheVariants.{Plain, Ba
 use Rattle.conode_explain_forms.specs.Tones.{data_tone, ending_tone, or_odd, service_tone, toned}
 
 -- the code alone says whether an error is gone, of an emergency that is whole
-emergencies : map (data_tone Emergency) ((0 ∷ 0 ∷ 1 ∷ 0 ∷ 0 ∷ 0 ∷ 0 ∷ 0 ∷ []) ∷ (1 ∷ 0 ∷ 0 ∷ 0 ∷ 0 ∷ 0 ∷ 0 ∷ 0 ∷ []) ∷ (0 ∷ 1 ∷ 0 ∷ 0 ∷ 0 ∷ 0 ∷ 0 ∷ 0 ∷ []) ∷ (0 ∷ 0 ∷ 0 ∷ 0 ∷ 0 ∷ 0 ∷ 0 ∷ []) ∷ [] ∷ []) ≡ Good ∷ Bad ∷ Bad ∷ Bad ∷ Bad ∷ []
+emergencies : map (data_tone false Emergency) ((0 ∷ 0 ∷ 1 ∷ 0 ∷ 0 ∷ 0 ∷ 0 ∷ 0 ∷ []) ∷ (1 ∷ 0 ∷ 0 ∷ 0 ∷ 0 ∷ 0 ∷ 0 ∷ 0 ∷ []) ∷ (0 ∷ 1 ∷ 0 ∷ 0 ∷ 0 ∷ 0 ∷ 0 ∷ 0 ∷ []) ∷ (0 ∷ 0 ∷ 0 ∷ 0 ∷ 0 ∷ 0 ∷ 0 ∷ []) ∷ [] ∷ []) ≡ Good ∷ Bad ∷ Bad ∷ Bad ∷ Bad ∷ []
 unfolding data_tone
 emergencies = refl
 
-aborts : map (data_tone Sdo) ((0x80 ∷ 0 ∷ 0 ∷ 0 ∷ 0 ∷ 0 ∷ 0 ∷ 0 ∷ []) ∷ (0x81 ∷ 0 ∷ 0 ∷ 0 ∷ 0 ∷ 0 ∷ 0 ∷ 0 ∷ []) ∷ (0x80 ∷ 0 ∷ 0 ∷ 0 ∷ 0 ∷ 0 ∷ 0 ∷ []) ∷ []) ≡ Bad ∷ Plain ∷ Plain ∷ []
+abbrev first : ℕ → List ℕ
+first byte = byte ∷ 0 ∷ 0 ∷ 0 ∷ 0 ∷ 0 ∷ 0 ∷ 0 ∷ []
+
+aborts : map (data_tone false Sdo) (first 0x7F ∷ first 0x80 ∷ first 0x81 ∷ first 0x9F ∷ first 0xA0 ∷ (0x80 ∷ 0 ∷ 0 ∷ 0 ∷ 0 ∷ 0 ∷ 0 ∷ []) ∷ []) ≡ Plain ∷ Bad ∷ Bad ∷ Bad ∷ Plain ∷ Plain ∷ []
 unfolding data_tone
 aborts = refl
 
-error_control : map (data_tone Heartbeat) ((0 ∷ []) ∷ (5 ∷ []) ∷ [] ∷ (0 ∷ 0 ∷ []) ∷ []) ≡ Notable ∷ Plain ∷ Plain ∷ Plain ∷ []
+last_segment : data_tone true Sdo (first 0x81) ≡ Plain
+unfolding data_tone
+last_segment = refl
+
+error_control : map (data_tone false Heartbeat) ((0 ∷ []) ∷ (5 ∷ []) ∷ [] ∷ (0 ∷ 0 ∷ []) ∷ []) ≡ Notable ∷ Plain ∷ Plain ∷ Plain ∷ []
 unfolding data_tone
 error_control = refl
 
-others : map (λ kind. data_tone kind (0x80 ∷ [])) (Nmt ∷ Pdo ∷ Sync ∷ Other ∷ []) ≡ Notable ∷ Plain ∷ Plain ∷ Plain ∷ []
+others : map (λ kind. data_tone false kind (0x80 ∷ [])) (Nmt ∷ Pdo ∷ Sync ∷ Other ∷ []) ≡ Notable ∷ Plain ∷ Plain ∷ Plain ∷ []
 unfolding data_tone
 others = refl
 
-error_frame : map (λ id. service_tone id Other []) (Base 5 ∷ Extended 5 ∷ Error 4 ∷ []) ≡ Plain ∷ Plain ∷ Bad ∷ []
+error_frame : map (λ id. service_tone false id Other []) (Base 5 ∷ Extended 5 ∷ Error 4 ∷ []) ≡ Plain ∷ Plain ∷ Bad ∷ []
 unfolding data_tone
 error_frame = refl
 

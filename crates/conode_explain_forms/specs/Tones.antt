@@ -1,5 +1,5 @@
 -- The colour of a line on a terminal.
-use Rattle.std.specs.Prelude.{ℕ, ◌-◌, ◌==◌, Bool, true, false, not, ◌&&◌, if◌then◌else◌, List, [], ◌∷◌, ◌++◌, codes, length, slice_index, take, is_some}
+use Rattle.std.specs.Prelude.{ℕ, ◌-◌, ◌/◌, ◌==◌, Bool, true, false, not, ◌&&◌, if◌then◌else◌, List, [], ◌∷◌, ◌++◌, codes, length, slice_index, take, is_some}
 use Rattle.conode_record.specs.declared.content.Content.{Content}
 use Rattle.conode_record.specs.declared.content.Content.TheVariants.{Data}
 use Rattle.conode_record.specs.declared.fields.Identifier.{Identifier}
@@ -27,25 +27,25 @@ abbrev pub emergency_tone : List ℕ → Tone
 emergency_tone bytes =
     if (length bytes == 8) && ((slice_index bytes 0 == 0) && (slice_index bytes 1 == 0)) then Good else Bad
 
--- an abort (CiA 301, 7.2.4.3.17)
-abbrev pub abort_tone : List ℕ → Tone
-abort_tone bytes = if (length bytes == 8) && (slice_index bytes 0 == 0x80) then Bad else Plain
+-- an abort: cs = 4 in the upper three bits, 80h to 9Fh (CiA 301, 7.2.4.3.17); the last segment of a block transfer may have them too
+abbrev pub abort_tone : Bool → List ℕ → Tone
+abort_tone segment bytes = if (length bytes == 8) && ((slice_index bytes 0 / 32 == 4) && not segment) then Bad else Plain
 
 abbrev pub boot_up_tone : List ℕ → Tone
 boot_up_tone bytes = if (length bytes == 1) && (slice_index bytes 0 == 0) then Notable else Plain
 
--- of data by its service
-unfoldable pub data_tone : Kind → List ℕ → Tone
-data_tone Emergency bytes = emergency_tone bytes
-data_tone Sdo bytes = abort_tone bytes
-data_tone Nmt bytes = Notable
-data_tone Heartbeat bytes = boot_up_tone bytes
-data_tone _ bytes = Plain
+-- of data by its service, whether they are a segment of a block transfer
+unfoldable pub data_tone : Bool → Kind → List ℕ → Tone
+data_tone segment Emergency bytes = emergency_tone bytes
+data_tone segment Sdo bytes = abort_tone segment bytes
+data_tone segment Nmt bytes = Notable
+data_tone segment Heartbeat bytes = boot_up_tone bytes
+data_tone segment _ bytes = Plain
 
-abbrev pub service_tone : Identifier → Kind → List ℕ → Tone
-service_tone (Base id) kind bytes = data_tone kind bytes
-service_tone (Extended id) kind bytes = Plain
-service_tone (Error class) kind bytes = Bad
+abbrev pub service_tone : Bool → Identifier → Kind → List ℕ → Tone
+service_tone segment (Base id) kind bytes = data_tone segment kind bytes
+service_tone segment (Extended id) kind bytes = Plain
+service_tone segment (Error class) kind bytes = Bad
 
 -- an odd stamp shows where nothing else does
 abbrev pub odd_tone : Bool → Tone
@@ -55,9 +55,9 @@ abbrev pub or_odd : Bool → Tone → Tone
 or_odd is Plain = odd_tone is
 or_odd is tone = tone
 
-unfoldable pub frame_tone : SoFar → Subject → Record → Tone
-frame_tone so_far subject frame =
-    or_odd (is_some (odd_words (times_at so_far frame.micros))) (service_tone frame.id subject.kind (data_of frame.content))
+unfoldable pub frame_tone : SoFar → Subject → Bool → Record → Tone
+frame_tone so_far subject segment frame =
+    or_odd (is_some (odd_words (times_at so_far frame.micros))) (service_tone segment frame.id subject.kind (data_of frame.content))
 
 -- ---- of transfers that ended
 

@@ -61,10 +61,10 @@ fn emergency_tone(bytes: &[u8]) -> Tone
     }
 }
 
-fn abort_tone(bytes: &[u8]) -> Tone
-    ensures { result ≡ abort_tone bytes.now }
+fn abort_tone(segment: bool, bytes: &[u8]) -> Tone
+    ensures { result ≡ abort_tone segment bytes.now }
 {
-    if bytes.len() == 8 && bytes[0] == 0x80 {
+    if bytes.len() == 8 && bytes[0] / 32 == 4 && !segment {
         Tone::Bad
     } else {
         Tone::Plain
@@ -83,23 +83,23 @@ fn boot_up_tone(bytes: &[u8]) -> Tone
 
 // the tone of data by its service
 #[tactic(auto, unfolding(crate::specs::Tones::data_tone))]
-fn data_tone(kind: Kind, bytes: &[u8]) -> Tone
-    ensures { result ≡ data_tone kind bytes.now }
+fn data_tone(segment: bool, kind: Kind, bytes: &[u8]) -> Tone
+    ensures { result ≡ data_tone segment kind bytes.now }
 {
     match kind {
         Kind::Emergency => emergency_tone(bytes),
-        Kind::Sdo => abort_tone(bytes),
+        Kind::Sdo => abort_tone(segment, bytes),
         Kind::Nmt => Tone::Notable,
         Kind::Heartbeat => boot_up_tone(bytes),
         Kind::Pdo | Kind::Sync | Kind::Other => Tone::Plain,
     }
 }
 
-fn service_tone(id: Identifier, kind: Kind, bytes: &[u8]) -> Tone
-    ensures { result ≡ service_tone id kind bytes.now }
+fn service_tone(segment: bool, id: Identifier, kind: Kind, bytes: &[u8]) -> Tone
+    ensures { result ≡ service_tone segment id kind bytes.now }
 {
     match id {
-        Identifier::Base(_) => data_tone(kind, bytes),
+        Identifier::Base(_) => data_tone(segment, kind, bytes),
         Identifier::Extended(_) => Tone::Plain,
         Identifier::Error(_) => Tone::Bad,
     }
@@ -120,16 +120,17 @@ fn or_odd(is_odd: bool, tone: Tone) -> Tone
     }
 }
 
-/// The tone of the line of a frame.
+/// The tone of the line of a frame; `segment` is whether it is a segment of a block transfer, of which the
+/// last one may look like an abort.
 #[tactic(auto, unfolding(crate::specs::Tones::frame_tone))]
-pub fn frame_tone(seen: &Seen, subject: &Subject, frame: &Record<'_>) -> Tone
-    ensures { result ≡ frame_tone seen.now subject.now frame.now }
+pub fn frame_tone(seen: &Seen, subject: &Subject, segment: bool, frame: &Record<'_>) -> Tone
+    ensures { result ≡ frame_tone seen.now subject.now segment frame.now }
 {
     let data = data_of(&frame.content);
     let is_odd = odd_words(seen.times(frame.micros)).is_some();
     or_odd(
         is_odd,
-        service_tone(frame.id, subject.kind, data.as_slice()),
+        service_tone(segment, frame.id, subject.kind, data.as_slice()),
     )
 }
 

@@ -27,6 +27,13 @@ greatest_time : entry_words (at 0x1016 127) 32 (0xFF ∷ 0xFF ∷ 0x7F ∷ 0x01 
 unfolding consumer_time_text filled digits digits_text
 greatest_time = refl
 
+-- a time of 0, node-IDs of 0 and 128, and only reserved bits
+not_used : map (λ bytes. entry_words (at 0x1016 1) 32 bytes)
+    ((0 ∷ 0 ∷ 1 ∷ 0 ∷ []) ∷ (0xC8 ∷ 0 ∷ 0 ∷ 0 ∷ []) ∷ (0xC8 ∷ 0 ∷ 0x80 ∷ 0 ∷ []) ∷ (0 ∷ 0 ∷ 0 ∷ 1 ∷ []) ∷ [])
+    ≡ codes " (not used)" ∷ codes " (not used)" ∷ codes " (not used)" ∷ codes " (not used)" ∷ []
+unfolding consumer_time_text
+not_used = refl
+
 -- a word of 0, a part of one, another entry
 none : entry_words (at 0x1A01 1) 32 (0 ∷ 0 ∷ 0 ∷ 0 ∷ []) ∷ entry_words (at 0x1016 1) 32 (0 ∷ 0 ∷ 0 ∷ 0 ∷ [])
     ∷ entry_words (at 0x1A01 1) 31 (0x10 ∷ 0x04 ∷ 0x01 ∷ 0x64 ∷ []) ∷ entry_words (at 0x1A01 1) 16 (0x10 ∷ 0x04 ∷ [])

@@ -24,10 +24,16 @@ mapping_word_text word = filled (codes " (%, %%)") (key_text (mapped_key word) �
 abbrev pub is_consumer_time : Key → Bool
 is_consumer_time key = (key.index == 0x1016) && not (key.sub == 0)
 
-unfoldable pub consumer_time_text : ℕ → List ℕ
-consumer_time_text word = filled (codes " (node %, % ms)") (decimal (word / 65536 % 256) ∷ decimal (word % 65536) ∷ [])
+-- with a node-ID from 1 to 127 and a time
+abbrev pub is_consumer_used : ℕ → Bool
+is_consumer_used word = (nat_le 1 (word / 65536 % 256) && nat_le (word / 65536 % 256) 127) && not (word % 65536 == 0)
 
--- a word of 0 isn't used
+unfoldable pub consumer_time_text : ℕ → List ℕ
+consumer_time_text word =
+    if is_consumer_used word then filled (codes " (node %, % ms)") (decimal (word / 65536 % 256) ∷ decimal (word % 65536) ∷ [])
+    else codes " (not used)"
+
+-- a word of 0 has none
 abbrev pub word_text : Key → ℕ → List ℕ
 word_text key word =
     if word == 0 then []

@@ -6,6 +6,7 @@ ghost use Rattle.conode_explain_pdo.specs.EntryWords.{
   consumer_time_text,
   entry_words,
   is_consumer_time,
+  is_consumer_used,
   is_mapping_word,
   mapping_word_text,
   word_text,
@@ -54,11 +55,21 @@ fn is_consumer_time(key: Key) -> bool
     key.index == 0x1016 && key.sub != 0
 }
 
+fn is_consumer_used(word: u32) -> bool
+    ensures { result ≡ is_consumer_used word }
+{
+    let node = word / 65536 % 256;
+    (1 <= node && node <= 127) && word % 65536 != 0
+}
+
 #[tactic(auto, unfolding(crate::specs::EntryWords::consumer_time_text))]
 fn push_consumer_time(text: &mut String, word: u32) -> Result<(), AllocError>
     ensures { OnOk result
         (string_bytes text.new ≡ string_bytes text.old ++ consumer_time_text word) }
 {
+    if !is_consumer_used(word) {
+        return text.push_str(" (not used)");
+    }
     push_filled(
         text,
         " (node %, % ms)",
@@ -85,8 +96,8 @@ fn push_word(text: &mut String, key: Key, word: u32) -> Result<(), AllocError>
 }
 
 /// Appends in brackets what the parts of an entry of 32 bits mean: of a word of a mapping
-/// ` (6000:01, 8 bits)`, of a time of the heartbeat consumer ` (node 1, 200 ms)`; nothing of every
-/// other entry. On an `Err` memory ran out, and a part of it may be there.
+/// ` (6000:01, 8 bits)`, of a time of the heartbeat consumer ` (node 1, 200 ms)`, or ` (not used)`;
+/// nothing of every other entry. On an `Err` memory ran out, and a part of it may be there.
 pub(crate) fn push_entry_words(
     text: &mut String,
     key: Key,

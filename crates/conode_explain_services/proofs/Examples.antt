@@ -6,14 +6,15 @@ use Rattle.co_text.specs.Printed.{digits_text}
 use Rattle.conode_text.specs.Filled.{filled}
 use Rattle.conode_explain_services.specs.declared.guarding.Guarding.{Guarding}
 use Rattle.conode_explain_services.specs.declared.guarding.Guarding.TheVariants.{NotSeen, BootedUp, Requested, Answered}
-use Rattle.conode_explain_services.specs.declared.nmt_state.KnownState.TheVariants.{Unknown}
+use Rattle.conode_explain_services.specs.declared.nmt_state.KnownState.TheVariants.{Unknown, Commanded, CommandedOfAll}
+use Rattle.conode_explain_services.specs.declared.nmt_state.NmtState.TheVariants.{Operational}
 use Rattle.conode_explain_services.specs.declared.last.Last.{Last}
 use Rattle.conode_explain_services.specs.Codes.{class_for, class_words, code_words, drive_class_words, drive_code_words, known_class, single_words}
 use Rattle.conode_explain_services.specs.Emergencies.{emergency_words}
 use Rattle.conode_explain_services.specs.Guardings.{guarding_answer_words, guarding_request_words, no_state_words, state_words}
 use Rattle.conode_explain_services.specs.Lengths.{fixed_at, odd_length}
 use Rattle.conode_explain_services.specs.Lss.{answer_parameter, answer_words, lss_answer_words, lss_request_words, lss_text, failure_text, mode_words, node_failure, outcome_text, parameter_text, part_text, part_words, rate_words, request_parameter, request_words, scan_text, store_failure, timing_failure, timing_text}
-use Rattle.conode_explain_services.specs.NmtStates.{command_name, long_for_all, long_for_one}
+use Rattle.conode_explain_services.specs.NmtStates.{command_name, long_for_all, long_for_one, shown_words, state_at}
 use Rattle.conode_explain_services.specs.Nodes.{nothing_seen}
 use Rattle.conode_explain_services.specs.Registers.{bit_text, bit_word, bits_text, register_text}
 use Rattle.conode_explain_services.specs.Reserved.{is_reserved, reserved_words}
@@ -207,7 +208,7 @@ guarded guarding = record { register = None; guarding = guarding; state = Unknow
 toggled : map (λ byte. says nothing_seen 0x705 (byte ∷ [])) (0x84 ∷ 0x85 ∷ 0xFF ∷ [])
     ≡ Some (codes "guarding answer node 5 stopped toggle 1") ∷ Some (codes "guarding answer node 5 operational toggle 1")
     ∷ Some (codes "guarding answer node 5 pre-operational toggle 1") ∷ []
-unfolding service_words fixed_at guarding_answer_words state_words digits filled
+unfolding service_words fixed_at guarding_answer_words state_words shown_words digits filled
 toggled = refl
 
 -- numbers beside the states are none, without the toggle bit and with it; 0 is the boot-up, with the toggle bit it is none
@@ -236,29 +237,43 @@ heartbeats = refl
 
 answers : map (λ byte. says (guarded (Requested None)) 0x77F (byte ∷ [])) (0x00 ∷ 0x04 ∷ 0x85 ∷ [])
     ≡ None ∷ Some (codes "guarding answer node 127 stopped toggle 0") ∷ Some (codes "guarding answer node 127 operational toggle 1") ∷ []
-unfolding service_words fixed_at guarding_answer_words state_words digits filled
+unfolding service_words fixed_at guarding_answer_words state_words shown_words digits filled
 answers = refl
 
 awaited_one : map (λ byte. says (guarded (Requested (Some true))) 0x701 (byte ∷ [])) (0x05 ∷ 0x85 ∷ [])
     ≡ Some (codes "guarding answer node 1 operational toggle 0 (1 is awaited)") ∷ Some (codes "guarding answer node 1 operational toggle 1") ∷ []
-unfolding service_words fixed_at guarding_answer_words state_words digits filled
+unfolding service_words fixed_at guarding_answer_words state_words shown_words digits filled
 awaited_one = refl
 
 awaited_zero : map (λ byte. says (guarded (Requested (Some false))) 0x701 (byte ∷ [])) (0x7F ∷ 0xFF ∷ [])
     ≡ Some (codes "guarding answer node 1 pre-operational toggle 0") ∷ Some (codes "guarding answer node 1 pre-operational toggle 1 (0 is awaited)") ∷ []
-unfolding service_words fixed_at guarding_answer_words state_words digits filled
+unfolding service_words fixed_at guarding_answer_words state_words shown_words digits filled
 awaited_zero = refl
+
+-- after a command: another state, that one, and what is neither a state nor a boot-up
+abbrev commanded : Last
+commanded = record { register = None; guarding = Requested (Some false); state = Commanded Operational }
+
+after_command : map (λ byte. says commanded 0x705 (byte ∷ [])) (0xFF ∷ 0x05 ∷ 0x80 ∷ [])
+    ≡ Some (codes "guarding answer node 5 pre-operational toggle 1 (0 is awaited) (operational commanded)") ∷ Some (codes "guarding answer node 5 operational toggle 0")
+    ∷ Some (codes "error control node 5 state 0 toggle 1 (a boot-up has no toggle bit, a guarding answer no state 0)") ∷ []
+unfolding service_words fixed_at guarding_answer_words no_state_words state_words shown_words state_at digits filled
+after_command = refl
+
+after_command_to_all : says (record commanded { state = CommandedOfAll Operational }) 0x705 (0x7F ∷ []) ≡ Some (codes "guarding answer node 5 pre-operational toggle 0 (operational commanded)")
+unfolding service_words fixed_at guarding_answer_words state_words shown_words state_at digits filled
+after_command_to_all = refl
 
 -- without a request that was recorded: the next answer, or the one before again, which without the toggle bit is a heartbeat
 next_answers : map (λ guarding. says (guarded guarding) 0x701 (0x05 ∷ [])) (Answered false ∷ Answered true ∷ BootedUp ∷ [])
     ≡ Some (codes "guarding answer node 1 operational toggle 0") ∷ None ∷ None ∷ []
-unfolding service_words fixed_at guarding_answer_words state_words digits filled
+unfolding service_words fixed_at guarding_answer_words state_words shown_words digits filled
 next_answers = refl
 
 next_toggled : map (λ guarding. says (guarded guarding) 0x701 (0x85 ∷ [])) (Answered false ∷ Answered true ∷ BootedUp ∷ [])
     ≡ Some (codes "guarding answer node 1 operational toggle 1 (0 is awaited)") ∷ Some (codes "guarding answer node 1 operational toggle 1")
     ∷ Some (codes "guarding answer node 1 operational toggle 1 (0 is awaited)") ∷ []
-unfolding service_words fixed_at guarding_answer_words state_words digits filled
+unfolding service_words fixed_at guarding_answer_words state_words shown_words digits filled
 next_toggled = refl
 
 -- identifiers beside, and two bytes; 780h is reserved

@@ -1,6 +1,6 @@
 -- What a frame says by its service, where the text of `conode decode` says less or nothing (CiA
 -- 301, 7.3.3; CiA 305).
-use Rattle.std.specs.Prelude.{ℕ, ◌-◌, ◌==◌, nat_lt, ◌&&◌, ◌||◌, Bool, if◌then◌else◌, List, [], codes, length, slice_index, take, drop, Option, Some}
+use Rattle.std.specs.Prelude.{ℕ, ◌-◌, ◌==◌, nat_lt, ◌&&◌, ◌||◌, Bool, if◌then◌else◌, List, [], ◌++◌, codes, length, slice_index, take, drop, Option, Some}
 use Rattle.co_frame.specs.FrameContent.{FrameContent}
 use Rattle.co_frame.specs.declared.emergency.Emergency.{Emergency}
 use Rattle.co_value.specs.Numbers.{unsigned_of}
@@ -37,13 +37,14 @@ is_guarding last frame = is_error_control frame && is_answer last.guarding (slic
 abbrev pub is_stateless : FrameContent → Bool
 is_stateless frame = is_error_control frame && is_no_state (slice_index frame.bytes 0)
 
--- what a data frame says, where its node is a drive or isn't and its last frames had this; none where
--- its text as `conode decode` has it stays
+-- what a data frame says, where its node is a drive or isn't and its last frames had this: of an answer to a
+-- guarding request also the state that was commanded, where it shows another one; none where its text as
+-- `conode decode` has it stays
 unfoldable pub service_words : Bool → Last → FrameContent → Option (List ℕ)
 service_words drive last frame =
     if is_emergency frame then Some (emergency_words drive (frame.id - 0x080) last.register (emergency_of frame.bytes))
     else (if is_guarding last frame
-    then Some (guarding_answer_words (frame.id - 0x700) last.guarding (slice_index frame.bytes 0))
+    then Some (guarding_answer_words (frame.id - 0x700) last.guarding (slice_index frame.bytes 0) ++ shown_words last.state (slice_index frame.bytes 0))
     else (if is_time frame then Some (time_words frame.bytes)
     else (if is_lss lss_request_id frame then Some (lss_request_words frame.bytes)
     else (if is_lss lss_answer_id frame then Some (lss_answer_words frame.bytes)

@@ -80,7 +80,8 @@ fn push_said(text: &mut String, drive: bool, last: Last, frame: &Frame) -> Resul
         return push_emergency(text, drive, node, last.register, &emergency);
     }
     if is_guarding(last, frame) {
-        return push_answer(text, (frame.id() - 0x700) as u8, last.guarding, bytes[0]);
+        attempt!(push_answer(text, (frame.id() - 0x700) as u8, last.guarding, bytes[0]));
+        return push_shown(text, last.state, bytes[0]);
     }
     if is_time(frame) {
         return push_time(text, bytes);
