@@ -465,7 +465,7 @@ class Faults(unittest.TestCase):
         fault = caught.exception
         self.assertEqual((fault.number, fault.name, fault.line), (9, "BadList", 59))
         self.assertTrue(str(fault).startswith(f"{path}:59: BadList: SupportedObjects and the keys don't agree"))
-        with self.assertRaisesRegex(bafokun.Fault, r"^line 0: MissingSection: there is no section \[MandatoryObjects\]"):
+        with self.assertRaisesRegex(bafokun.Fault, r"^line 0: MissingSection: there is no section \[MandatoryObjects\]: add it, with 1000h"):
             bafokun.Node(b"", 5)
 
     def test_build(self):
