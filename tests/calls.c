@@ -954,6 +954,8 @@ static void test_texts(void)
     fault.line = 0;
     bafokun_fault_text(&fault, text, sizeof text);
     check(strcmp(text, "there is no section [MandatoryObjects]") == 0, "texts", text);
+    bafokun_fault_fix(&fault, text, sizeof text);
+    check(strcmp(text, "add it, with 1000h, 1001h and 1018h") == 0, "texts", text);
     for (stage = 0; stage <= 3; stage++)
         for (number = 0; number <= 21; number++) {
             size_t is_fault = (stage == BAFOKUN_FAULT_SHEET && number >= 1 && number <= 20)

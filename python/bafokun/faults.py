@@ -4,7 +4,7 @@ from __future__ import annotations
 
 from typing import Any, Tuple
 
-# by number: the name, what is wrong (with a line; without one, where that differs), how it is fixed
+# by number: the name, what is wrong, how it is fixed; without a line, where these differ
 _SHEET = {
     1: ("TooLarge", "the line has more than 512 bytes", "shorten the line; take out comments and sections that are passed over"),
     2: (
@@ -25,7 +25,11 @@ _SHEET = {
         "add the section, as [1019]; or take the object out of its list, unless it is mandatory",
     ),
     7: ("BadNumber", "the value is no whole number of at most 64 bits", "write decimal digits, or 0x and hexadecimal digits"),
-    8: ("AmbiguousNumber", "the leading zero may mean octal", "write the number without the zero, or in hexadecimal"),
+    8: (
+        "AmbiguousNumber",
+        "the leading zero may mean octal",
+        "write the number without the zero or in hexadecimal, or try conode adapt --leading-zeros",
+    ),
     9: (
         "BadList",
         "SupportedObjects and the keys don't agree, or an index is above 0xFFFF",
@@ -42,7 +46,11 @@ _SHEET = {
         "the code is none that this object or entry may have",
         "give the code that the device has, with ObjectType=2 DataType=0x000F; take an object of ObjectType=5 or 6 out of its list",
     ),
-    13: ("LeftOutType", "the data type isn't supported", "take the object out of its list, or describe it by a supported type"),
+    13: (
+        "LeftOutType",
+        "the data type isn't supported",
+        "try conode adapt, which may give it a supported type; or take the object out of its list",
+    ),
     14: ("BadAccess", "the access is none of ro, wo, rw, rwr, rww and const", "choose one of the six"),
     15: (
         "BadLimits",
@@ -62,14 +70,14 @@ _SHEET = {
     18: (
         "CompactForm",
         "the compact form isn't read",
-        "have the sheet's editor write each sub-index as a section of its own",
+        "try conode adapt, or have the sheet's editor write each sub-index as a section of its own",
     ),
     19: ("MissingMandatory", "1000h, 1001h or 1018h is in no object list", "list the three, with their sections"),
     20: ("Memory", "memory ran out", "run it again with more memory"),
 }
 _SHEET_WITHOUT_LINE = {
-    1: "the text has more than 1,048,576 bytes",
-    6: "there is no section [MandatoryObjects]",
+    1: ("the text has more than 1,048,576 bytes", "take out comments and sections that are passed over"),
+    6: ("there is no section [MandatoryObjects]", "add it, with 1000h, 1001h and 1018h"),
 }
 _BUILD = {
     1: ("NodeId", "the node-ID isn't one of 1 to 127", "give one of these"),
@@ -172,7 +180,7 @@ class SheetFault(Fault):
         self.path = path
         self.name, self.meaning, self.fix = _SHEET[number]
         if line == 0:
-            self.meaning = _SHEET_WITHOUT_LINE.get(number, self.meaning)
+            self.meaning, self.fix = _SHEET_WITHOUT_LINE.get(number, (self.meaning, self.fix))
             place = f"{path}: " if path else ""
         else:
             place = f"{path}:{line}: " if path else f"line {line}: "

@@ -610,7 +610,8 @@ class Faults(unittest.TestCase):
         self.assertTrue(str(fault).startswith(f"{path}:59: BadList: SupportedObjects and the keys don't agree"))
         # no line is to blame
         for path, place in (("x.eds", "x.eds: "), ("", "")):
-            with self.assertRaisesRegex(bafokun.SheetFault, rf"^{place}MissingSection: there is no section \[MandatoryObjects\]") as caught:
+            words = rf"^{place}MissingSection: there is no section \[MandatoryObjects\]: add it, with 1000h"
+            with self.assertRaisesRegex(bafokun.SheetFault, words) as caught:
                 bafokun.Node(b"", 5, path=path)
             self.assertEqual(caught.exception.line, 0)
         with self.assertRaisesRegex(bafokun.SheetFault, "^line 1: BadLine: "):

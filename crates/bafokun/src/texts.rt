@@ -53,7 +53,7 @@ pub extern "C" fn bafokun_fault_text(fault: &Fault, text: &mut [u8]) -> usize
 #[unsafe(no_mangle)]
 pub extern "C" fn bafokun_fault_fix(fault: &Fault, text: &mut [u8]) -> usize
     ensures sheet { (f : SheetFault) → fault.now ≡ sheet_fault f →
-        IsText (fix_of f.kind) text.old text.new result }
+        IsText (fix_of f) text.old text.new result }
     ensures device { (f : BuildFault) → fault.now ≡ device_fault f →
         IsText (build_fix_of f) text.old text.new result }
     ensures none { fault.now ≡ no_fault → IsText [] text.old text.new result }
@@ -85,13 +85,16 @@ fn meaning(fault: &Fault) -> &'static str
 }
 
 fn fix(fault: &Fault) -> &'static str
-    ensures sheet { (f : SheetFault) → fault.now ≡ sheet_fault f → result.now ≡ fix_of f.kind }
+    ensures sheet { (f : SheetFault) → fault.now ≡ sheet_fault f → result.now ≡ fix_of f }
     ensures device { (f : BuildFault) → fault.now ≡ device_fault f → result.now ≡ build_fix_of f }
     ensures none { fault.now ≡ no_fault → result.now ≡ [] }
 {
     match fault.stage {
         1 => match sheet_kind(fault.number) {
-            Some(kind) => fix_of(kind),
+            Some(kind) => fix_of(&SheetFault {
+                kind,
+                line: if fault.line == 0 { 0 } else { 1 },
+            }),
             None => "",
         },
         2 => match build_fault(fault.number) {

@@ -4,7 +4,7 @@ use Rattle.co_sheet_rows.specs.declared.fault.FaultKind.{FaultKind}
 use Rattle.co_sheet_rows.specs.declared.fault.FaultKind.TheVariants.{TooLarge, BadLine, KeyOutsideSection, DuplicateSection, DuplicateKey, MissingSection, BadNumber, AmbiguousNumber, BadList, ListedTwice, MissingKey, BadType, LeftOutType, BadAccess, BadLimits, BadDefault, MissingSub0, CompactForm, MissingMandatory, Memory}
 use Rattle.co_sheet_rows.specs.FaultTexts.{fault_number}
 use Rattle.co_sheet_faults.specs.declared.words.TheConstants.{MEANINGS, FIXES, SUBJECTS}
-use Rattle.co_sheet_faults.specs.FaultWords.{meaning_at_line, fix_of, subject_of}
+use Rattle.co_sheet_faults.specs.FaultWords.{meaning_at_line, fix_at_line, subject_of}
 
 abbrev pub meanings : List (List ℕ)
 meanings = map (λ text. text.now) MEANINGS
@@ -59,7 +59,7 @@ meant CompactForm = refl
 meant MissingMandatory = refl
 meant Memory = refl
 
-pub fixed : (kind : FaultKind) → get_or fixes (fault_number kind) [] ≡ fix_of kind
+pub fixed : (kind : FaultKind) → get_or fixes (fault_number kind) [] ≡ fix_at_line kind
 fixed TooLarge = refl
 fixed BadLine = refl
 fixed KeyOutsideSection = refl

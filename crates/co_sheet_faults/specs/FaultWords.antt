@@ -42,31 +42,43 @@ abbrev pub meaning_of : SheetFault → List ℕ
 meaning_of fault =
     if fault.line == 0 then meaning_without_line fault.kind else meaning_at_line fault.kind
 
--- how it is fixed
-abbrev pub fix_of : FaultKind → List ℕ
-fix_of TooLarge = codes "shorten the line; take out comments and sections that are passed over"
-fix_of BadLine = codes "put the missing `[`, `]` or `=`, or `;` before a comment"
-fix_of KeyOutsideSection = codes "move it after the line of its section; put `;` before a comment"
-fix_of DuplicateSection = codes "take one of the two out, or give it the index that was meant"
-fix_of DuplicateKey = codes "take one of the two out"
-fix_of MissingSection =
+-- how it is fixed, at a line
+abbrev pub fix_at_line : FaultKind → List ℕ
+fix_at_line TooLarge = codes "shorten the line; take out comments and sections that are passed over"
+fix_at_line BadLine = codes "put the missing `[`, `]` or `=`, or `;` before a comment"
+fix_at_line KeyOutsideSection = codes "move it after the line of its section; put `;` before a comment"
+fix_at_line DuplicateSection = codes "take one of the two out, or give it the index that was meant"
+fix_at_line DuplicateKey = codes "take one of the two out"
+fix_at_line MissingSection =
     codes "add the section, as [1019]; or take the object out of its list, unless it is mandatory"
-fix_of BadNumber = codes "write decimal digits, or 0x and hexadecimal digits"
-fix_of AmbiguousNumber = codes "write the number without the zero, or in hexadecimal"
-fix_of BadList = codes "number the keys 1, 2, 3 without a gap or leading zeros, and count them"
-fix_of ListedTwice = codes "take one of the two out, and renumber that list"
-fix_of MissingKey = codes "add it; to an ARRAY or a RECORD add ObjectType=8 or ObjectType=9"
-fix_of BadType =
+fix_at_line BadNumber = codes "write decimal digits, or 0x and hexadecimal digits"
+fix_at_line AmbiguousNumber =
+    codes "write the number without the zero or in hexadecimal, or try conode adapt --leading-zeros"
+fix_at_line BadList = codes "number the keys 1, 2, 3 without a gap or leading zeros, and count them"
+fix_at_line ListedTwice = codes "take one of the two out, and renumber that list"
+fix_at_line MissingKey = codes "add it; to an ARRAY or a RECORD add ObjectType=8 or ObjectType=9"
+fix_at_line BadType =
     codes
     "give the code that the device has, with ObjectType=2 DataType=0x000F; take an object of ObjectType=5 or 6 out of its list"
-fix_of LeftOutType = codes "take the object out of its list, or describe it by a supported type"
-fix_of BadAccess = codes "choose one of the six"
-fix_of BadLimits = codes "correct the limit; leave it out if the end of the type's range is meant"
-fix_of BadDefault = codes "correct the value or the limit"
-fix_of MissingSub0 = codes "describe sub-index 0; an object without sub-indices has ObjectType=7"
-fix_of CompactForm = codes "have the sheet's editor write each sub-index as a section of its own"
-fix_of MissingMandatory = codes "list the three, with their sections"
-fix_of Memory = codes "run it again with more memory"
+fix_at_line LeftOutType =
+    codes "try conode adapt, which may give it a supported type; or take the object out of its list"
+fix_at_line BadAccess = codes "choose one of the six"
+fix_at_line BadLimits = codes "correct the limit; leave it out if the end of the type's range is meant"
+fix_at_line BadDefault = codes "correct the value or the limit"
+fix_at_line MissingSub0 = codes "describe sub-index 0; an object without sub-indices has ObjectType=7"
+fix_at_line CompactForm =
+    codes "try conode adapt, or have the sheet's editor write each sub-index as a section of its own"
+fix_at_line MissingMandatory = codes "list the three, with their sections"
+fix_at_line Memory = codes "run it again with more memory"
+
+-- and where no line is to blame
+abbrev pub fix_without_line : FaultKind → List ℕ
+fix_without_line TooLarge = codes "take out comments and sections that are passed over"
+fix_without_line MissingSection = codes "add it, with 1000h, 1001h and 1018h"
+fix_without_line kind = fix_at_line kind
+
+abbrev pub fix_of : SheetFault → List ℕ
+fix_of fault = if fault.line == 0 then fix_without_line fault.kind else fix_at_line fault.kind
 
 -- the subject of the standard; none for out of memory
 abbrev pub subject_of : FaultKind → List ℕ

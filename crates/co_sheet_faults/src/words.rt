@@ -5,6 +5,8 @@ ghost use Rattle.co_sheet_faults.specs.FaultWords.{
   meaning_at_line,
   meaning_without_line,
   meaning_of,
+  fix_at_line,
+  fix_without_line,
   fix_of,
   subject_of,
 };
@@ -36,7 +38,7 @@ const MEANINGS: [&str; 21] = [
     "memory ran out",
 ];
 
-/// How each kind is fixed, likewise.
+/// How each kind is fixed at a line, likewise.
 const FIXES: [&str; 21] = [
     "",
     "shorten the line; take out comments and sections that are passed over",
@@ -46,18 +48,18 @@ const FIXES: [&str; 21] = [
     "take one of the two out",
     "add the section, as [1019]; or take the object out of its list, unless it is mandatory",
     "write decimal digits, or 0x and hexadecimal digits",
-    "write the number without the zero, or in hexadecimal",
+    "write the number without the zero or in hexadecimal, or try conode adapt --leading-zeros",
     "number the keys 1, 2, 3 without a gap or leading zeros, and count them",
     "take one of the two out, and renumber that list",
     "add it; to an ARRAY or a RECORD add ObjectType=8 or ObjectType=9",
     "give the code that the device has, with ObjectType=2 DataType=0x000F; take an object of \
     ObjectType=5 or 6 out of its list",
-    "take the object out of its list, or describe it by a supported type",
+    "try conode adapt, which may give it a supported type; or take the object out of its list",
     "choose one of the six",
     "correct the limit; leave it out if the end of the type's range is meant",
     "correct the value or the limit",
     "describe sub-index 0; an object without sub-indices has ObjectType=7",
-    "have the sheet's editor write each sub-index as a section of its own",
+    "try conode adapt, or have the sheet's editor write each sub-index as a section of its own",
     "list the three, with their sections",
     "run it again with more memory",
 ];
@@ -122,11 +124,31 @@ pub fn meaning_of(fault: &SheetFault) -> &'static str
     }
 }
 
-/// How a fault is fixed, in one line.
-pub fn fix_of(kind: FaultKind) -> &'static str
-    ensures { result.now ≡ fix_of kind }
+fn fix_at_line(kind: FaultKind) -> &'static str
+    ensures { result.now ≡ fix_at_line kind }
 {
     text_at(&FIXES, kind.number() as usize)
+}
+
+fn fix_without_line(kind: FaultKind) -> &'static str
+    ensures { result.now ≡ fix_without_line kind }
+{
+    match kind {
+        FaultKind::TooLarge => "take out comments and sections that are passed over",
+        FaultKind::MissingSection => "add it, with 1000h, 1001h and 1018h",
+        other => fix_at_line(other),
+    }
+}
+
+/// How a fault is fixed, in one line.
+pub fn fix_of(fault: &SheetFault) -> &'static str
+    ensures { result.now ≡ fix_of fault.now }
+{
+    if fault.line == 0 {
+        fix_without_line(fault.kind)
+    } else {
+        fix_at_line(fault.kind)
+    }
 }
 
 /// The subject of CiA 306-1 or CiA 301 that has the rule; empty where memory ran out.

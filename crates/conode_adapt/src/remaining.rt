@@ -61,6 +61,20 @@ fn about_of(fault: SheetFault, text: &[u8]) -> About {
     }
 }
 
+// how to fix it, without `conode adapt`, which has left it
+fn fix_left(fault: &SheetFault) -> &'static str {
+    match fault.kind {
+        FaultKind::AmbiguousNumber => "write the number without the zero, or in hexadecimal",
+        FaultKind::LeftOutType => {
+            "take the object out of its list, or describe it by a supported type"
+        }
+        FaultKind::CompactForm => {
+            "have the sheet's editor write each sub-index as a section of its own"
+        }
+        _ => fix_of(fault),
+    }
+}
+
 fn finding_of<'a>(fault: SheetFault, text: &'a [u8]) -> Finding<'a> {
     Finding {
         line: fault.line,
@@ -69,7 +83,7 @@ fn finding_of<'a>(fault: SheetFault, text: &'a [u8]) -> Finding<'a> {
         severity: Severity::Error,
         name: fault.kind.name(),
         meaning: meaning_of(&fault),
-        fix: fix_of(fault.kind),
+        fix: fix_left(&fault),
         subject: subject_of(fault.kind),
         text,
     }

@@ -1,7 +1,7 @@
 -- Formats, the node-ID and names that pass, evaluated.
 use Rattle.std.proofs.Common.{◌≡◌, true, false, [], ◌∷◌, ◌++◌, codes, map, Some, None, refl}
 use Rattle.co_sheet.specs.Content.{SheetContent}
-use Rattle.conode_lint_marks.specs.declared.mark.OtherFormat.TheVariants.{Xml, EtherNetIp, Utf16, NoSection}
+use Rattle.conode_lint_marks.specs.declared.mark.OtherFormat.TheVariants.{Xml, EtherNetIp, Utf16, CarriageReturns, NoSection}
 use Rattle.conode_lint.specs.Allowed.{names_after, names_allowed, names_in, names_on, passes_by}
 use Rattle.conode_lint.specs.Formats.{begins_with, format_line, has_line, has_text, is_text, other_format}
 use Rattle.conode_lint.specs.Marks.{format_of, node_for}
@@ -28,6 +28,13 @@ without_section : other_format (codes "; a" ∷ codes "" ∷ codes "(1.000000) c
 unfolding other_format has_line has_text
 without_section = refl
 
+-- one line with CR in it or at its end, also of a recording; of XML it is XML; two lines
+returns : other_format ((codes "[FileInfo]" ++ 13 ∷ codes "[1000]") ∷ []) ∷ other_format ((codes "; a" ++ 13 ∷ []) ∷ []) ∷ other_format ((codes "(1.0) can0 705#00" ++ 13 ∷ 13 ∷ codes "a") ∷ []) ∷ other_format ((codes "<?xml" ++ 13 ∷ []) ∷ [])
+    ∷ other_format (codes "[FileInfo]" ∷ []) ∷ other_format ((codes "[FileInfo]" ++ 13 ∷ []) ∷ codes "" ∷ []) ∷ []
+    ≡ Some CarriageReturns ∷ Some CarriageReturns ∷ Some CarriageReturns ∷ Some Xml ∷ None ∷ None ∷ []
+unfolding other_format has_line has_text
+returns = refl
+
 line_texts : map is_text (codes "" ∷ codes "a" ∷ codes "!" ∷ codes ";" ∷ codes " a" ∷ (31 ∷ []) ∷ (255 ∷ []) ∷ []) ≡ false ∷ true ∷ true ∷ false ∷ false ∷ false ∷ true ∷ []
 line_texts = refl
 
@@ -53,9 +60,9 @@ code_alone : other_format (codes "[DeviceInfo]" ∷ codes "VendCode=1" ∷ []) �
 unfolding other_format has_line
 code_alone = refl
 
--- the line that shows it: after others, in another case, after blanks; the first of two; of UTF-16 the first
+-- the line that shows it: after others, in another case, after blanks; the first of two; of UTF-16 and of CR alone the first
 shown : format_line Xml (codes "; a" ∷ codes "" ∷ codes " <?XML v" ∷ codes "<ISO15745" ∷ []) ∷ format_line Xml (codes "a <?xml" ∷ codes "<iso15745" ∷ []) ∷ format_line EtherNetIp (codes "[File]" ∷ codes "VendCode = 1;" ∷ codes "[DEVICE]" ∷ codes "[Device]" ∷ [])
-    ∷ format_line Utf16 ((0xFF ∷ 0xFE ∷ []) ∷ codes "<?xml" ∷ []) ∷ format_line NoSection (codes "; a" ∷ codes " b" ∷ codes "c" ∷ []) ∷ [] ≡ 3 ∷ 2 ∷ 3 ∷ 1 ∷ 2 ∷ []
+    ∷ format_line Utf16 ((0xFF ∷ 0xFE ∷ []) ∷ codes "<?xml" ∷ []) ∷ format_line NoSection (codes "; a" ∷ codes " b" ∷ codes "c" ∷ []) ∷ format_line CarriageReturns ((codes ";" ++ 13 ∷ []) ∷ []) ∷ [] ≡ 3 ∷ 2 ∷ 3 ∷ 1 ∷ 2 ∷ 1 ∷ []
 unfolding format_line
 shown = refl
 

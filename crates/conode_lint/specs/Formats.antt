@@ -4,7 +4,7 @@ use Rattle.std.specs.List.{list_any, position_or_len, starts_with}
 use Rattle.co_sheet_text.specs.Text.{same_name, trim}
 use Rattle.co_sheet_text_warnings.specs.Lines.{text_lines}
 use Rattle.conode_lint_marks.specs.declared.mark.OtherFormat.{OtherFormat}
-use Rattle.conode_lint_marks.specs.declared.mark.OtherFormat.TheVariants.{Xml, EtherNetIp, Utf16, NoSection}
+use Rattle.conode_lint_marks.specs.declared.mark.OtherFormat.TheVariants.{Xml, EtherNetIp, Utf16, CarriageReturns, NoSection}
 
 -- a line begins with a word, in any case of letters
 abbrev pub begins_with : List ℕ → List ℕ → Bool
@@ -31,6 +31,12 @@ is_ethernet_ip lines =
     has_line lines (codes "[Device]") && has_line lines (codes "VendCode")
     && not (has_line lines (codes "[DeviceInfo]") || has_line lines (codes "[MandatoryObjects]"))
 
+-- one line, with CR in it: a text whose lines end with CR alone, since LF ends a line
+abbrev pub has_returns : List (List ℕ) → Bool
+has_returns [] = false
+has_returns (line ∷ []) = list_any (λ b. b == 13) line
+has_returns (line ∷ other ∷ lines) = false
+
 -- a line has a text that is no comment; one that begins with a control character has none
 abbrev pub is_text : List ℕ → Bool
 is_text [] = false
@@ -43,12 +49,14 @@ has_text lines = list_any (λ line. is_text (trim line)) lines
 abbrev pub is_without_section : List (List ℕ) → Bool
 is_without_section lines = not (has_line lines (codes "[")) && has_text lines
 
--- a text in UTF-16; XML, as an XDD (CiA 311); an EDS of EtherNet/IP; a text without a section
+-- a text in UTF-16; XML, as an XDD (CiA 311); an EDS of EtherNet/IP; with CR alone at the ends of lines; a
+-- text without a section
 unfoldable pub other_format : List (List ℕ) → Option OtherFormat
 other_format lines =
     if begins_in_utf16 lines then Some Utf16
     else if has_line lines (codes "<?xml") || has_line lines (codes "<ISO15745") then Some Xml
     else if is_ethernet_ip lines then Some EtherNetIp
+    else if has_returns lines then Some CarriageReturns
     else if is_without_section lines then Some NoSection
     else None
 
@@ -57,11 +65,12 @@ abbrev pub text_format : List ℕ → Option OtherFormat
 text_format text = other_format (text_lines text)
 
 -- a line shows the format of its text: one that begins with the word of XML or with [Device]; in UTF-16
--- the first one does; one with a text, where no line begins a section
+-- and with CR alone the first one does; one with a text, where no line begins a section
 abbrev pub shows : OtherFormat → List ℕ → Bool
 shows Xml line = begins_with (codes "<?xml") (trim line) || begins_with (codes "<ISO15745") (trim line)
 shows EtherNetIp line = begins_with (codes "[Device]") (trim line)
 shows Utf16 line = true
+shows CarriageReturns line = true
 shows NoSection line = is_text (trim line)
 
 -- the first line that shows the format, from 1

@@ -61,7 +61,8 @@ place_of other = Beginning
 -- what it is about, at a line with this text among these sections: what the line alone doesn't show
 abbrev pub fault_about : List TextSection → ℕ → List ℕ → FaultKind → About
 fault_about sections line text fault.TooLarge = facts.too_large line
-fault_about sections line text fault.MissingSection = facts.missing_section line text
+fault_about sections line text fault.MissingSection =
+    facts.missing_section_in sections line text
 fault_about sections line text fault.MissingMandatory = facts.missing_mandatory sections
 fault_about sections line text fault.BadLine = facts.bad_line text
 fault_about sections line text fault.BadNumber = facts.bad_number text
@@ -109,17 +110,13 @@ about_of sections line text (Mapping fault) = mapping_about fault
 about_of sections line text (Warning kind) = warning_about sections line text kind
 about_of sections line text (Format format) = about.Line
 
--- how to fix it: what `conode adapt` mends, by that
+-- how to fix it, as at a line: a text without one has a fact, which says more
 abbrev pub fault_fix : FaultKind → List ℕ
 fault_fix fault.AmbiguousNumber =
     codes "CiA 306 reads a leading 0 as octal: write the number in decimal without it or in hexadecimal, or try conode adapt --leading-zeros"
-fault_fix fault.LeftOutType =
-    codes "try conode adapt, which may give it a supported type; or take the object out of its list"
-fault_fix fault.CompactForm =
-    codes "try conode adapt, or have the sheet's editor write each sub-index as a section of its own"
 fault_fix fault.BadList =
     codes "number the keys 1, 2, 3 without a gap, and count them; a key with a leading zero, as 01, isn't read: write 1, or try conode adapt"
-fault_fix kind = faults.fix_of kind
+fault_fix kind = faults.fix_of (record { kind = kind; line = 1 })
 
 abbrev pub fix_of : Subject → List ℕ
 fix_of (Format format) = format_fix format

@@ -14,6 +14,7 @@ pub fn format_meaning(format: OtherFormat) -> &'static str
         OtherFormat::EtherNetIp =>
             "this is an EDS of EtherNet/IP or DeviceNet, and none of CANopen",
         OtherFormat::Utf16 => "this is in UTF-16, and an EDS is in ASCII",
+        OtherFormat::CarriageReturns => "this is one line, since its lines end with CR alone",
         OtherFormat::NoSection => "this is no EDS: it has no section of an object, as [1000]",
     }
 }
@@ -26,6 +27,7 @@ pub(crate) fn format_fix(format: OtherFormat) -> &'static str
         OtherFormat::Xml => "export it as an EDS",
         OtherFormat::EtherNetIp => "ask the vendor for the EDS of its CANopen device",
         OtherFormat::Utf16 => "save it as UTF-8",
+        OtherFormat::CarriageReturns => "end the lines with CR and LF, or with LF alone",
         OtherFormat::NoSection => {
             "lint a data sheet, EDS or DCF; a recording is no data sheet: conode explain reads it"
         }

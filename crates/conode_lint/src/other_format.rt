@@ -6,6 +6,7 @@ ghost use Rattle.conode_lint.specs.Formats.{
   begins_with,
   format_line,
   has_line,
+  has_returns,
   has_text,
   is_ethernet_ip,
   is_text,
@@ -18,6 +19,7 @@ ghost use Rattle.conode_lint.specs.Formats.{
 
 use co_sheet_text::{same_name, trim};
 use co_sheet_text_warnings::text_lines;
+use co_text::split_at_first;
 use conode_lint_marks::OtherFormat;
 use std::alloc::{AllocError, Global};
 
@@ -65,6 +67,16 @@ fn is_ethernet_ip(lines: &[&[u8]]) -> bool
         && !(has_line(lines, b"[DeviceInfo]") || has_line(lines, b"[MandatoryObjects]"))
 }
 
+// one line with CR in it, as those of a text that end with CR alone
+fn has_returns(lines: &[&[u8]]) -> bool
+    ensures { result ≡ has_returns (map (λ line. line.now) lines.now) }
+{
+    match lines {
+        [line] => split_at_first(line, b'\r').is_some(),
+        _ => false,
+    }
+}
+
 // whether a line has a text that is no comment
 fn is_text(line: &[u8]) -> bool
     ensures { result ≡ is_text line.now }
@@ -105,6 +117,8 @@ pub(crate) fn other_format(lines: &[&[u8]]) -> Option<OtherFormat>
         Some(OtherFormat::Xml)
     } else if is_ethernet_ip(lines) {
         Some(OtherFormat::EtherNetIp)
+    } else if has_returns(lines) {
+        Some(OtherFormat::CarriageReturns)
     } else if is_without_section(lines) {
         Some(OtherFormat::NoSection)
     } else {
@@ -112,8 +126,8 @@ pub(crate) fn other_format(lines: &[&[u8]]) -> Option<OtherFormat>
     }
 }
 
-// whether a line shows the format of its text; in UTF-16 the first one does, without a section one
-// with a text
+// whether a line shows the format of its text; in UTF-16 and with CR alone the first one does, without
+// a section one with a text
 fn shows(format: OtherFormat, line: &[u8]) -> bool
     ensures { result ≡ shows format line.now }
 {
@@ -121,7 +135,7 @@ fn shows(format: OtherFormat, line: &[u8]) -> bool
     match format {
         OtherFormat::Xml => begins_with(b"<?xml", text) || begins_with(b"<ISO15745", text),
         OtherFormat::EtherNetIp => begins_with(b"[Device]", text),
-        OtherFormat::Utf16 => true,
+        OtherFormat::Utf16 | OtherFormat::CarriageReturns => true,
         OtherFormat::NoSection => is_text(text),
     }
 }

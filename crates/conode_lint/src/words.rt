@@ -29,7 +29,7 @@ use conode_lint_marks::{Mark, Subject};
 use conode_lint_text::{
     About, Place, Severity, ambiguous_number, bad_access, bad_default, bad_limits, bad_line,
     bad_list, bad_number, bad_type, device_info, duplicate_key, duplicate_section, file_info,
-    first_at, identity_number, listed_twice, missing_key, missing_mandatory, missing_section,
+    first_at, identity_number, listed_twice, missing_key, missing_mandatory, missing_section_in,
     misspelt_key, misspelt_section, pdo_count, reserved_value, sub_index_0, sub_number, too_large,
     utf8, wrong_access, wrong_list, wrong_type,
 };
@@ -94,7 +94,7 @@ fn fault_about(sections: &[TextSection<'_, '_>], line: usize, text: &[u8], kind:
 {
     match kind {
         FaultKind::TooLarge => too_large(line),
-        FaultKind::MissingSection => missing_section(line, text),
+        FaultKind::MissingSection => missing_section_in(sections, line, text),
         FaultKind::MissingMandatory => missing_mandatory(sections),
         FaultKind::BadLine => bad_line(text),
         FaultKind::BadNumber => bad_number(text),
@@ -190,7 +190,7 @@ pub(crate) fn meaning_with(
     }
 }
 
-// what `conode adapt` mends, by that
+// as at a line: a text without one has a fact, which says more
 fn fault_fix(kind: FaultKind) -> &'static str
     ensures { result.now ≡ fault_fix kind }
 {
@@ -199,18 +199,11 @@ fn fault_fix(kind: FaultKind) -> &'static str
             "CiA 306 reads a leading 0 as octal: write the number in decimal without it or in \
             hexadecimal, or try conode adapt --leading-zeros"
         }
-        FaultKind::LeftOutType => {
-            "try conode adapt, which may give it a supported type; or take the object out of its list"
-        }
-        FaultKind::CompactForm => {
-            "try conode adapt, or have the sheet's editor write each sub-index as a section of its \
-            own"
-        }
         FaultKind::BadList => {
             "number the keys 1, 2, 3 without a gap, and count them; a key with a leading zero, as \
             01, isn't read: write 1, or try conode adapt"
         }
-        _ => co_sheet_faults::fix_of(kind),
+        _ => co_sheet_faults::fix_of(&SheetFault { kind, line: 1 }),
     }
 }
 

@@ -14,6 +14,8 @@ pub enum OtherFormat {
     EtherNetIp,
     /// A text in UTF-16, by its byte order mark.
     Utf16,
+    /// A text whose lines end with CR alone.
+    CarriageReturns,
     /// A text without a section, as a recording is.
     NoSection,
 }

@@ -11,13 +11,13 @@ use Rattle.co_text.specs.Printed.{digits_text}
 use Rattle.co_value.specs.declared.data_type.DataType.TheVariants.{Boolean, Integer8, Integer16, Unsigned8, Unsigned16}
 use Rattle.conode_text.specs.Filled.{filled}
 use Rattle.co_sheet_text.specs.declared.section_kind.SectionKind.{SectionKind}
-use Rattle.co_sheet_text.specs.declared.section_kind.SectionKind.TheVariants.{MandatoryObjects, OptionalObjects, ManufacturerObjects, Object, SubIndex}
+use Rattle.co_sheet_text.specs.declared.section_kind.SectionKind.TheVariants.{DeviceInfo, MandatoryObjects, OptionalObjects, ManufacturerObjects, Object, SubIndex}
 use Rattle.co_sheet_text.specs.Sections.{Property, TextSection}
-use Rattle.conode_lint_text.specs.declared.finding.About.TheVariants.{Line, FirstAt, Misspelt, MisspeltBeside, NoSection, Access, Fact}
+use Rattle.conode_lint_text.specs.declared.finding.About.TheVariants.{Line, FirstAt, Misspelt, MisspeltBeside, NoSection, CompactPdo, Access, Fact}
 use Rattle.conode_lint_text.specs.declared.fact.Fact.TheVariants as fact
 use Rattle.conode_lint_text.specs.declared.meant_section.MeantSection.TheVariants as meant
 use Rattle.conode_lint_text.specs.FactTexts.{fact_text, hexadecimal, missing_text, texts_of, words_of}
-use Rattle.conode_lint_text.specs.Facts.{ambiguous_number, bad_access, bad_line, bad_list, bad_number, bad_type, count_fact, device_info, duplicate_key, duplicate_section, file_info, first_at, highest_fact, identity_number, list_fact, listed_twice, missing_key, missing_mandatory, missing_section, misspelt_key, misspelt_section, named_code, pdo_count, reserved_value, sub_index_0, sub_number, too_large, utf8, wrong_access, wrong_list, wrong_type}
+use Rattle.conode_lint_text.specs.Facts.{ambiguous_number, bad_access, bad_line, bad_list, bad_number, bad_type, count_fact, device_info, duplicate_key, duplicate_section, file_info, first_at, highest_fact, identity_number, list_fact, listed_twice, missing_key, missing_mandatory, missing_section, missing_section_in, misspelt_key, misspelt_section, named_code, pdo_count, reserved_value, sub_index_0, sub_number, too_large, utf8, wrong_access, wrong_list, wrong_type}
 use Rattle.conode_lint_text.specs.Bounds.{bad_default, bad_limits}
 use Rattle.conode_lint_text.specs.Findings.{about_message, fix_with}
 
@@ -195,6 +195,25 @@ type_text = refl
 section_text : about_message (NoSection 0x1A00) (codes "m") ∷ fix_with (NoSection 0x1A00) (codes "f") ∷ [] ≡ codes "the listed object has no section [1A00]" ∷ codes "add it; or take the object out of its list, unless it is mandatory" ∷ []
 unfolding about_message fix_with filled digits digits_text
 section_text = refl
+
+-- of objects of PDOs, first and last, where CompactPDO isn't 0; where it is 0, no number or absent; without DeviceInfo
+abbrev compact : List ℕ → List TextSection
+compact value = section 10 DeviceInfo (property 11 (codes "compactpdo") value ∷ []) ∷ []
+
+of_pdos : map (missing_section_in (compact (codes "0x2F")) 1) (codes "1=0x13FF" ∷ codes "1=0x1400" ∷ codes "1=0x1BFF" ∷ codes "1=0x1C00" ∷ codes "1=5376" ∷ codes "1=x" ∷ [])
+    ≡ NoSection 0x13FF ∷ CompactPdo 0x1400 ∷ CompactPdo 0x1BFF ∷ NoSection 0x1C00 ∷ Fact (fact.DecimalIndex 5376) ∷ Line ∷ []
+of_pdos = refl
+
+not_compact : map (λ s. missing_section_in s 1 (codes "1=0x1A00")) (compact (codes "1") ∷ compact (codes "0x0") ∷ compact (codes "x") ∷ (section 10 DeviceInfo [] ∷ []) ∷ sections ∷ [] ∷ [])
+    ≡ CompactPdo 0x1A00 ∷ NoSection 0x1A00 ∷ NoSection 0x1A00 ∷ NoSection 0x1A00 ∷ NoSection 0x1A00 ∷ NoSection 0x1A00 ∷ []
+not_compact = refl
+
+no_list_compact : missing_section_in (compact (codes "1")) 0 [] ≡ Fact fact.NoMandatoryList
+no_list_compact = refl
+
+compact_text : about_message (CompactPdo 0x1A00) (codes "m") ∷ fix_with (CompactPdo 0x1A00) (codes "f") ∷ [] ≡ codes "the listed object has no section [1A00]" ∷ codes "try conode adapt, which writes out the PDOs that CompactPDO describes; or add it" ∷ []
+unfolding about_message fix_with filled digits digits_text
+compact_text = refl
 
 -- the access of the entry whose section the line is in; of an entry without one nothing is said
 accesses : map (λ line. wrong_access line (section 10 (Object 0x1000) [] ∷ section 20 (Object 0x1017) [] ∷ section 30 (SubIndex (record { index = 0x1010; sub = 1 })) [] ∷ section 40 (SubIndex (record { index = 0x1003; sub = 0 })) [] ∷ [])) (10 ∷ 11 ∷ 20 ∷ 21 ∷ 31 ∷ 41 ∷ [])

@@ -9,7 +9,7 @@ use Rattle.co_value.specs.declared.key.Key.{Key}
 use Rattle.co_value.specs.Types.{code_of}
 use Rattle.co_profile.specs.FixedTypes.{fixed_type_of}
 use Rattle.co_sheet_text.specs.declared.section_kind.SectionKind.{SectionKind}
-use Rattle.co_sheet_text.specs.declared.section_kind.SectionKind.TheVariants.{Object, SubIndex}
+use Rattle.co_sheet_text.specs.declared.section_kind.SectionKind.TheVariants.{DeviceInfo, Object, SubIndex}
 use Rattle.co_sheet_text.specs.Names.{is_list, kind_of, number_in}
 use Rattle.co_sheet_text.specs.Numerals.{is_number_in, unsigned_number}
 use Rattle.co_sheet_text.specs.Properties.{number_at, property_number}
@@ -25,7 +25,7 @@ use Rattle.co_sheet_text_warnings.specs.declared.known_key.KnownKey.{KnownKey}
 use Rattle.conode_lint_text.specs.MeantSections.{meant_section}
 use Rattle.conode_lint_text.specs.declared.fact.Fact.TheVariants as fact
 use Rattle.conode_lint_text.specs.declared.finding.About.{About}
-use Rattle.conode_lint_text.specs.declared.finding.About.TheVariants.{Line, FirstAt, Misspelt, MisspeltBeside, NoSection, Access, Fact}
+use Rattle.conode_lint_text.specs.declared.finding.About.TheVariants.{Line, FirstAt, Misspelt, MisspeltBeside, NoSection, CompactPdo, Access, Fact}
 
 -- ---- sections
 
@@ -168,6 +168,25 @@ abbrev pub missing_section : ℕ → List ℕ → About
 missing_section line text =
     if line == 0 then Fact fact.NoMandatoryList
     else option_map_or (listed_fact (key_value text)) (key_number text) Line
+
+-- and where CompactPDO isn't 0, it describes PDOs, whose objects have no sections (CiA 306-1, compact
+-- storage)
+abbrev pub is_compact : TextSection → Bool
+is_compact s = option_map_or (λ n. not (n == 0)) (number_at (codes "CompactPDO") s) false
+
+abbrev pub has_compact_pdos : List TextSection → Bool
+has_compact_pdos sections = option_map_or is_compact (section_at DeviceInfo sections) false
+
+abbrev pub is_of_pdo : ℕ → Bool
+is_of_pdo index = nat_le 0x1400 index && nat_lt index 0x1C00
+
+abbrev pub without_section : List TextSection → About → About
+without_section sections (NoSection index) =
+    if is_of_pdo index && has_compact_pdos sections then CompactPdo index else NoSection index
+without_section sections about = about
+
+abbrev pub missing_section_in : List TextSection → ℕ → List ℕ → About
+missing_section_in sections line text = without_section sections (missing_section line text)
 
 -- of the WrongList of a line: an index below 1000h; one of four decimal digits was meant in
 -- hexadecimal

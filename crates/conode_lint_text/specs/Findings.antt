@@ -12,7 +12,7 @@ use Rattle.conode_lint_text.specs.FactTexts.{fact_text}
 use Rattle.conode_lint_text.specs.declared.fact.Fact.{Fact as SheetFact}
 use Rattle.conode_lint_text.specs.declared.fact.Fact.TheVariants.{HighIndex, NoMandatoryList, NotListed, LargeText, NoValue, NoMapping, NotOctal, OpenSection, Unsupported, ManyEntries, DecimalName, NoObjectType, TypeName, ReservedOfTpdo, ReservedOfRpdo, ReservedCounter, FileInfoLacks, DeviceInfoLacks, ByteOrderMark, CommentInValue, QuotedValue, NoPairs, EndMark, Truth, OtherNumber, DecimalIndex, LowDecimal, LowIndex, FixedType, NoType, NoAccess, NoTypeOrAccess}
 use Rattle.conode_lint_text.specs.declared.finding.About.{About}
-use Rattle.conode_lint_text.specs.declared.finding.About.TheVariants.{Line, Object, Entry, Sum, NoSum, Bits, FirstAt, Misspelt, MisspeltBeside, NoSection, Access, Fact}
+use Rattle.conode_lint_text.specs.declared.finding.About.TheVariants.{Line, Object, Entry, Sum, NoSum, Bits, FirstAt, Misspelt, MisspeltBeside, NoSection, CompactPdo, Access, Fact}
 use Rattle.conode_lint_text.specs.declared.finding.Finding.{Finding}
 use Rattle.conode_lint_text.specs.declared.finding.Place.{Place}
 use Rattle.conode_lint_text.specs.declared.finding.Place.TheVariants.{Beginning, Value}
@@ -71,6 +71,8 @@ about_message (MisspeltBeside known) meaning =
     filled (codes "the standard has no such key: did you mean %, which is there too") (key_text known ∷ [])
 about_message (NoSection index) meaning =
     filled (codes "the listed object has no section [%]") (digits_text 16 4 index ∷ [])
+about_message (CompactPdo index) meaning =
+    filled (codes "the listed object has no section [%]") (digits_text 16 4 index ∷ [])
 about_message (Access access) meaning = access_text access
 about_message (Fact fact) meaning = fact_text fact
 
@@ -121,6 +123,8 @@ fix_with (Fact (DecimalIndex index)) fix =
     codes "write the index in hexadecimal, after 0x; or add the section"
 fix_with (NoSection index) fix =
     codes "add it; or take the object out of its list, unless it is mandatory"
+fix_with (CompactPdo index) fix =
+    codes "try conode adapt, which writes out the PDOs that CompactPDO describes; or add it"
 fix_with (Fact (LowDecimal index)) fix = codes "write the index in hexadecimal, after 0x"
 fix_with (Fact (LowIndex index)) fix = codes "take it out of the list"
 fix_with (MisspeltBeside known) fix = codes "take it out"

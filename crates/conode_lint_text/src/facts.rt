@@ -18,12 +18,16 @@ ghost use Rattle.conode_lint_text.specs.Facts.{
   first_key,
   first_section,
   fixed_code,
+  has_compact_pdos,
   has_entries,
+  is_compact,
+  is_of_pdo,
   is_other_type,
   is_sub_index,
   key_fact,
   misspelt_key,
   missing_key,
+  missing_section_in,
   object_type_fact,
   other_type,
   reserved_fact,
@@ -32,13 +36,14 @@ ghost use Rattle.conode_lint_text.specs.Facts.{
   section_on,
   standard_fact,
   type_fact,
+  without_section,
   wrong_access,
   wrong_type,
 };
 
 use crate::fact::Fact;
 use crate::finding::About;
-use crate::line_facts::{key_name, key_number, section_kind};
+use crate::line_facts::{key_name, key_number, missing_section, section_kind};
 use co_profile::fixed_type;
 use co_sheet::section_at;
 use co_sheet_text::{SectionKind, TextSection, same_name};
@@ -303,6 +308,54 @@ pub fn reserved_value(sections: &[TextSection<'_, '_>], line: usize) -> About
         Some(section) => reserved_fact(section.kind),
         None => About::Line,
     }
+}
+
+// CompactPDO isn't 0
+fn is_compact(section: &TextSection<'_, '_>) -> bool
+    ensures { result ≡ is_compact (section_view section.now) }
+{
+    match section.number_at(b"CompactPDO") {
+        Some(number) => number != 0,
+        None => false,
+    }
+}
+
+fn has_compact_pdos(sections: &[TextSection<'_, '_>]) -> bool
+    ensures { result ≡ has_compact_pdos (map section_view sections.now) }
+{
+    match section_at(sections, SectionKind::DeviceInfo) {
+        Some(section) => is_compact(section),
+        None => false,
+    }
+}
+
+fn is_of_pdo(index: u16) -> bool
+    ensures { result ≡ is_of_pdo index }
+{
+    0x1400 <= index && index < 0x1C00
+}
+
+fn without_section(sections: &[TextSection<'_, '_>], about: About) -> About
+    ensures { result ≡ without_section (map section_view sections.now) about }
+{
+    match about {
+        About::NoSection(index) => {
+            if is_of_pdo(index) && has_compact_pdos(sections) {
+                About::CompactPdo(index)
+            } else {
+                about
+            }
+        }
+        _ => about,
+    }
+}
+
+/// Of the MissingSection of a line: an object of a PDO, where CompactPDO describes PDOs, or else what
+/// its line shows.
+pub fn missing_section_in(sections: &[TextSection<'_, '_>], line: usize, text: &[u8]) -> About
+    ensures { result ≡ missing_section_in (map section_view sections.now) line text.now }
+{
+    without_section(sections, missing_section(line, text))
 }
 
 fn first_section(section: &TextSection<'_, '_>) -> About

@@ -45,6 +45,8 @@ pub enum About {
     MisspeltBeside(KnownKey),
     /// A listed object without a section, by the index that names the section.
     NoSection(u16),
+    /// The same of an object of a PDO, where CompactPDO describes PDOs without sections.
+    CompactPdo(u16),
     /// An access other than this one, which CiA 301 has for the entry.
     Access(FixedAccess),
     /// What the sheet has there, which is said in place of what is wrong.

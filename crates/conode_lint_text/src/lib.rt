@@ -36,7 +36,7 @@ pub use characters::push_all_shown;
 pub use fact::Fact;
 pub use facts::{
     bad_type, device_info, duplicate_key, duplicate_section, file_info, first_at, missing_key,
-    misspelt_key, reserved_value, wrong_access, wrong_type,
+    missing_section_in, misspelt_key, reserved_value, wrong_access, wrong_type,
 };
 pub use finding::{About, Finding, Place, Rule, Severity};
 pub use json_form::{put_document_end, put_document_head, put_file};

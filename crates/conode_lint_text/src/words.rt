@@ -102,7 +102,7 @@ fn push_about(text: &mut String, about: About, meaning: &str) -> Result<(), Allo
             "the standard has no such key: did you mean %, which is there too",
             &[Value::Words(known.name())],
         ),
-        About::NoSection(index) => push_filled(
+        About::NoSection(index) | About::CompactPdo(index) => push_filled(
             text,
             "the listed object has no section [%]",
             &[Value::Short(index)],
@@ -224,6 +224,9 @@ pub(crate) fn fix_of<'a>(finding: &Finding<'a>) -> &'a str
     match finding.about {
         About::Fact(fact) => fact_fix(fact, finding.fix),
         About::NoSection(_) => "add it; or take the object out of its list, unless it is mandatory",
+        About::CompactPdo(_) => {
+            "try conode adapt, which writes out the PDOs that CompactPDO describes; or add it"
+        }
         About::MisspeltBeside(_) => "take it out",
         _ => finding.fix,
     }
