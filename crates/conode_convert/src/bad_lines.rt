@@ -39,7 +39,8 @@ pub fn say_not_text<E: Write>(err: &mut E) -> ExitCode
 }
 
 /// What is said of a log that isn't text.
-pub const SAYS_NOT_TEXT: &str = "the recording isn't text: unpack it, write it in UTF-8, or make a log of it by another tool, \
+pub const SAYS_NOT_TEXT: &str =
+    "the recording isn't text: unpack it, write it in UTF-8, or make a log of it by another tool, \
      as can_logconvert; with --log FORM its lines are read all the same";
 
 /// What is said of a stamp that steps back in what candump shows on a screen.

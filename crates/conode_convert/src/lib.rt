@@ -20,7 +20,8 @@ mod step;
 mod text;
 
 pub use bad_lines::{
-    NOT_TEXT, SAYS_NOT_TEXT, TOO_LONG, is_not_text, name_bad_line, name_step_back, read_fault, say_not_text,
+    NOT_TEXT, SAYS_NOT_TEXT, TOO_LONG, is_not_text, name_bad_line, name_step_back, read_fault,
+    say_not_text,
 };
 pub use conode_logs::Form;
 pub use converted::convert;

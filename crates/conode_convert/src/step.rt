@@ -10,7 +10,9 @@ ghost use Rattle.conode_convert.specs.Converted.{at_start, faults_in, written_of
 ghost use Rattle.conode_convert.specs.Printed.{line_text};
 ghost use Rattle.conode_convert.specs.Taking.{Takes};
 
-use crate::bad_lines::{NOT_TEXT, TOO_LONG, is_not_text, name_bad_line, name_step_back, read_fault};
+use crate::bad_lines::{
+    NOT_TEXT, TOO_LONG, is_not_text, name_bad_line, name_step_back, read_fault,
+};
 use crate::cut_off::name_cut;
 use crate::text::add_line;
 use co_stream::{BoundedLines, Found};
