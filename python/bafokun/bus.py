@@ -110,14 +110,15 @@ def running(node: Node, bus: can.BusABC) -> Iterator[None]:
     thread = threading.Thread(target=run_until_stop, name="bafokun", daemon=True)
     _begin(node, bus)
     try:
-        thread.start()
-    except RuntimeError:  # there is no room for a thread more
-        node._runs.release()
-        raise
-    try:
+        try:
+            thread.start()
+        except RuntimeError:  # there is no room for a thread more
+            node._runs.release()
+            raise
         yield
     finally:
         stop.set()
-        thread.join()
+        if thread.ident is not None:
+            thread.join()
     if errors:
         raise errors[0]

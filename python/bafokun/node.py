@@ -6,6 +6,7 @@ import ctypes
 import operator
 import os
 import re
+import sys
 import threading
 import weakref
 from enum import IntEnum
@@ -190,8 +191,23 @@ class Node:
         and others come twice. The lock would let it in; one that doesn't would let it wait for ever.
         """
         if self._lock._is_owned():  # type: ignore[attr-defined]
-            raise RuntimeError("a call of this node isn't over: none may come from a signal handler")
+            if self._is_called():
+                raise RuntimeError("a call of this node isn't over: none may come from a signal handler")
+            # (before Python 3.10 a signal handler's exception could end a call between its last line and the lock's release)
+            self._lock.release()
         return self._lock
+
+    def _is_called(self) -> bool:
+        """Whether a call of this node is below the newest one of this thread, whose own frames come first."""
+        frame = sys._getframe(1)
+        folder = os.path.dirname(__file__)
+        while frame is not None and os.path.dirname(frame.f_code.co_filename) == folder:
+            frame = frame.f_back
+        while frame is not None:
+            if frame.f_code.co_filename == __file__ and frame.f_locals.get("self") is self:
+                return True
+            frame = frame.f_back
+        return False
 
     def _call(self, name: str, *words: object) -> Any:
         """One call, with the lock. All of them come from here."""

@@ -599,6 +599,16 @@ class Inputs(unittest.TestCase):
                 node.take((0x605, bytes(8)))
         self.assertEqual(node.state, bafokun.State.PRE_OPERATIONAL)
 
+    def test_call_after_a_lock_that_stayed(self):
+        """A call that ended before it gave the lock back, as an exception may do it before Python 3.10, is over too."""
+        node, states = bafokun.Node.from_sheet(SENSOR, 5), []
+        node._lock.acquire()
+        self.assertEqual(node.state, bafokun.State.PRE_OPERATIONAL)
+        thread = threading.Thread(target=lambda: states.append(node.state), daemon=True)
+        thread.start()
+        thread.join(10)
+        self.assertEqual(states, [bafokun.State.PRE_OPERATIONAL])
+
 
 class Faults(unittest.TestCase):
     def test_sheet(self):
