@@ -50,9 +50,9 @@
 extern "C" {
 #endif
 
-#define BAFOKUN_VERSION "0.38.0"
+#define BAFOKUN_VERSION "0.39.0"
 #define BAFOKUN_VERSION_MAJOR 0
-#define BAFOKUN_VERSION_MINOR 38
+#define BAFOKUN_VERSION_MINOR 39
 #define BAFOKUN_VERSION_PATCH 0
 
 /* The version as a number: a byte for each of the three, the last in the lowest byte. */

@@ -1,3 +1,3 @@
 """The version, that of bafokun.h and of `conode --version`."""
 
-__version__ = "0.38.0"
+__version__ = "0.39.0"

@@ -6,7 +6,7 @@ ghost use Rattle.std.specs.Prelude.{◌≡◌, ◌*◌};
 /// `BAFOKUN_VERSION_NUMBER` of the header that belongs to it.
 #[unsafe(no_mangle)]
 pub extern "C" fn bafokun_version() -> u32
-    ensures { result ≡ 38 * 256 }
+    ensures { result ≡ 39 * 256 }
 {
-    0x00_26_00
+    0x00_27_00
 }

@@ -1,5 +1,4 @@
 pub mod AbortWords
-pub mod BadWords
 pub mod ExitStatus
 pub mod Explained
 pub mod Filtered

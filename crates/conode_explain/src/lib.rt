@@ -34,7 +34,6 @@ macro_rules! attempt_in_memory {
 }
 
 mod abort_words;
-mod bad_words;
 mod ends;
 mod explain_file;
 mod explained;

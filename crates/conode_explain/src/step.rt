@@ -30,7 +30,6 @@ ghost use Rattle.conode_explain.specs.LogLines.{good, line_at, said_in};
 ghost use Rattle.conode_explain.specs.Taking.{Takes};
 ghost use Rattle.conode_explain.specs.Sheets.{sheets_of};
 
-use crate::bad_words::bad_words;
 use crate::ends::{write_unfinished_default, write_unfinished_further};
 use crate::no_channel::NoChannel;
 use crate::progress::Progress;
@@ -43,7 +42,7 @@ use conode_convert::{
 use conode_explain_cob_ids::Claim;
 use conode_io::{CmdFault, flush};
 use conode_logs::{Form, Log};
-use conode_record::{LogLine, RecordLine};
+use conode_record::{BadLogLine, LogLine, RecordLine};
 use conode_sheets::{IS_SHEET, is_section_line};
 use std::alloc::{AllocError, Global};
 use std::io::{Read, Write};
@@ -89,7 +88,7 @@ fn explain_record<W: Write>(
             attempt!(write_frame(room, claims, progress, settings, no_channel, &frame, out));
             Ok(None)
         }
-        Err(bad) => Ok(Some(bad_words(bad))),
+        Err(bad) => Ok(Some(BadLogLine::of_record(bad).words())),
     }
 }
 

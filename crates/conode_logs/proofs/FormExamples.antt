@@ -110,6 +110,27 @@ not_known : says (log (Unknown)) (codes "605 40 00 10") ≡ (log Unknown, Err ba
 unfolding logs_on_lines
 not_known = refl
 
+-- a parenthesis and a number sign: what is wrong is said as of a line of `candump -L`
+short_stamp : says (log (Unknown)) (codes "(0.0) can0 705#05") ≡ (log Unknown, Err bad.RecordStamp)
+unfolding logs_on_lines
+short_stamp = refl
+
+half_a_byte : says (log (Unknown)) (codes "(1.000000) can0 705#0") ≡ (log Unknown, Err bad.RecordData)
+unfolding logs_on_lines
+half_a_byte = refl
+
+marked_record : says (log (Unknown)) (marked (codes "(1.000000) can0 705#05")) ≡ (log Unknown, Err bad.RecordStamp)
+unfolding logs_on_lines
+marked_record = refl
+
+no_number_sign : says (log (Unknown)) (codes "(1.0) can0 705") ≡ (log Unknown, Err bad.Unknown)
+unfolding logs_on_lines
+no_number_sign = refl
+
+no_parenthesis : says (log (Unknown)) (codes "can0 705#05") ≡ (log Unknown, Err bad.Unknown)
+unfolding logs_on_lines
+no_parenthesis = refl
+
 not_a_version : says (log (Unknown)) (codes ";$FILEVERSION=1.2") ≡ (log Unknown, Err bad.Version)
 unfolding logs_on_lines
 not_a_version = refl
@@ -124,7 +145,7 @@ a_version_shows_it = refl
 
 -- ---- a line of a form that is known
 
-candump_bad : says (log (Candump)) (codes "(1.000000) can0 605#4") ≡ (log Candump, Err bad.Data)
+candump_bad : says (log (Candump)) (codes "(1.000000) can0 605#4") ≡ (log Candump, Err bad.RecordData)
 unfolding logs_on_lines
 candump_bad = refl
 
@@ -132,7 +153,7 @@ candump_event : says (log (Candump)) (codes "!tick 5") ≡ (log Candump, Ok AsIt
 unfolding logs_on_lines
 candump_event = refl
 
-no_other_form : says (log (Candump)) (codes "  can0  605   [0] ") ≡ (log Candump, Err bad.Stamp)
+no_other_form : says (log (Candump)) (codes "  can0  605   [0] ") ≡ (log Candump, Err bad.RecordStamp)
 unfolding logs_on_lines
 no_other_form = refl
 

@@ -1,6 +1,6 @@
 -- What a line of a log says, and what is known of the log after it.
-use Rattle.std.specs.Prelude.{ℕ, nat_eq, Bool, true, false, ◌||◌, if◌then◌else◌, List, [], ◌∷◌, drop, Result, Ok, Err, codes, bytes_eq}
-use Rattle.std.specs.List.{starts_with}
+use Rattle.std.specs.Prelude.{ℕ, nat_eq, ◌==◌, Bool, true, false, ◌&&◌, ◌||◌, if◌then◌else◌, List, [], ◌∷◌, drop, Result, Ok, Err, codes, bytes_eq}
+use Rattle.std.specs.List.{list_any, starts_with}
 use Rattle.std.specs.Option.{option_map_or}
 use Rattle.conode_record.specs.declared.bad_line.BadLine.{BadLine}
 use Rattle.conode_record.specs.declared.line.RecordLine.{RecordLine}
@@ -66,12 +66,22 @@ abbrev pub record_line_of : Result RecordLine BadLine → Result LogLine BadLogL
 record_line_of (Ok says) = Ok AsItIs
 record_line_of (Err wrong) = Err (of_record wrong)
 
+abbrev pub has_number_sign : List ℕ → Bool
+has_number_sign text = list_any (λ byte. byte == 35) text
+
+-- a parenthesis at the front, as of a stamp, and a number sign: only `candump -L` writes both
+abbrev pub is_like_record : List ℕ → Bool
+is_like_record [] = false
+is_like_record (first ∷ rest) = (first == 40) && has_number_sign rest
+
 -- a line that leaves the form unknown; one with a byte order mark is no line of `candump -L`
 unfoldable pub unknown_line : List ℕ → Result LogLine BadLogLine
 unknown_line line =
     let text = without_mark line in
     if is_version text then Err bad.Version
-    else (if is_skipped line then Ok AsItIs else (if is_over text || is_skipped text then Ok Skipped else Err bad.Unknown))
+    else (if is_skipped line then Ok AsItIs
+    else (if is_over text || is_skipped text then Ok Skipped
+    else (if is_like_record text then record_line_of (line_in line) else Err bad.Unknown)))
 
 -- a log of this form at this time
 abbrev pub at_time : Form → ℕ × Result LogLine BadLogLine → Log × Result LogLine BadLogLine

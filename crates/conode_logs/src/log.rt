@@ -9,6 +9,8 @@ ghost use Rattle.conode_logs.specs.Logs.{
   begins_asc,
   form_of,
   record_line_of,
+  has_number_sign,
+  is_like_record,
   unknown_line,
   without_mark,
   says_by,
@@ -163,6 +165,22 @@ fn is_skipped(line: &[u8]) -> bool
     line.is_empty() || line[0] == b';' || line[0] == b'!'
 }
 
+fn has_number_sign(text: &[u8]) -> bool
+    ensures { result ≡ has_number_sign text.now }
+{
+    text.iter().any(|byte| *byte == b'#')
+}
+
+// a parenthesis at the front, as of a stamp, and a number sign: only `candump -L` writes both
+fn is_like_record(text: &[u8]) -> bool
+    ensures { result ≡ is_like_record text.now }
+{
+    match text {
+        [first, rest @ ..] => *first == b'(' && has_number_sign(rest),
+        [] => false,
+    }
+}
+
 // a line that leaves the form unknown
 #[tactic(auto, unfolding(crate::specs::Logs::unknown_line))]
 fn unknown_line(line: &[u8]) -> Result<LogLine<'_>, BadLogLine>
@@ -175,6 +193,8 @@ fn unknown_line(line: &[u8]) -> Result<LogLine<'_>, BadLogLine>
         Ok(LogLine::AsItIs)
     } else if is_over(text) || is_skipped(text) {
         Ok(LogLine::Skipped)
+    } else if is_like_record(text) {
+        record_line(line)
     } else {
         Err(BadLogLine::Unknown)
     }

@@ -7,14 +7,14 @@ use Rattle.conode_record.specs.declared.bad_log_line.BadLogLine.TheVariants as b
 
 -- what is wrong with a line as `candump -L` writes it
 abbrev pub of_record : BadLine → BadLogLine
-of_record record_bad.Stamp = bad.Stamp
-of_record record_bad.Interface = bad.Interface
-of_record record_bad.Identifier = bad.Identifier
-of_record record_bad.Flags = bad.Flags
-of_record record_bad.Length = bad.Length
-of_record record_bad.Data = bad.Data
+of_record record_bad.Stamp = bad.RecordStamp
+of_record record_bad.Interface = bad.RecordInterface
+of_record record_bad.Identifier = bad.RecordIdentifier
+of_record record_bad.Flags = bad.RecordFlags
+of_record record_bad.Length = bad.RecordLength
+of_record record_bad.Data = bad.RecordData
 of_record record_bad.TooManyBytes = bad.TooManyBytes
-of_record record_bad.Ending = bad.Ending
+of_record record_bad.Ending = bad.RecordEnding
 
 -- what is wrong, in words
 abbrev pub bad_words : BadLogLine → List ℕ
@@ -33,3 +33,10 @@ bad_words bad.Length = codes "there is no length up to 8, or of a CAN FD frame u
 bad_words bad.Data = codes "the data aren't as many bytes as the length says"
 bad_words bad.TooManyBytes = codes "there are more than 8 data bytes, or in a CAN FD frame more than 64"
 bad_words bad.Ending = codes "after the frame comes something else"
+bad_words bad.RecordStamp = codes "it doesn't begin with a stamp, as (1700000000.250000): seconds, and microseconds in six digits"
+bad_words bad.RecordInterface = codes "after the stamp there is no interface between blanks, as can0, of at most 15 bytes"
+bad_words bad.RecordIdentifier = codes "after the interface there is no identifier, as 185#: three digits up to 7FF, or eight up to 3FFFFFFF"
+bad_words bad.RecordFlags = codes "after ## there is no hexadecimal digit of a CAN FD frame's flags"
+bad_words bad.RecordLength = codes "the length of a remote frame is no digit up to 8"
+bad_words bad.RecordData = codes "the data are no pairs of hexadecimal digits"
+bad_words bad.RecordEnding = codes "after the data comes something else than R (received) or T (sent)"

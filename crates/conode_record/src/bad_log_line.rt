@@ -39,10 +39,24 @@ pub enum BadLogLine {
     TooManyBytes,
     /// The frame is followed by something else.
     Ending,
+    /// A line of `candump -L` doesn't begin with a stamp.
+    RecordStamp,
+    /// There is no interface after its stamp.
+    RecordInterface,
+    /// There is no identifier after its interface.
+    RecordIdentifier,
+    /// There are no flags of a CAN FD frame after its second number sign.
+    RecordFlags,
+    /// The length of its remote frame is no digit up to 8.
+    RecordLength,
+    /// Its data are no pairs of hexadecimal digits.
+    RecordData,
+    /// Its data are followed by something other than a direction.
+    RecordEnding,
 }
 
 /// What is wrong, in the order of `BadLogLine`.
-static WORDS: [&str; 15] = [
+static WORDS: [&str; 22] = [
     "no recorder is known that writes such a line; --log FORM names one",
     "the version of the .trc isn't 1.1, 1.3, 2.0 or 2.1",
     "the columns aren't N,O,T,B,I,d,R,L,D, where B and R may be left out, and l may be there for L",
@@ -58,6 +72,13 @@ static WORDS: [&str; 15] = [
     "the data aren't as many bytes as the length says",
     "there are more than 8 data bytes, or in a CAN FD frame more than 64",
     "after the frame comes something else",
+    "it doesn't begin with a stamp, as (1700000000.250000): seconds, and microseconds in six digits",
+    "after the stamp there is no interface between blanks, as can0, of at most 15 bytes",
+    "after the interface there is no identifier, as 185#: three digits up to 7FF, or eight up to 3FFFFFFF",
+    "after ## there is no hexadecimal digit of a CAN FD frame's flags",
+    "the length of a remote frame is no digit up to 8",
+    "the data are no pairs of hexadecimal digits",
+    "after the data comes something else than R (received) or T (sent)",
 ];
 
 impl BadLogLine {
@@ -66,14 +87,14 @@ impl BadLogLine {
         ensures { result ≡ of_record bad }
     {
         match bad {
-            BadLine::Stamp => BadLogLine::Stamp,
-            BadLine::Interface => BadLogLine::Interface,
-            BadLine::Identifier => BadLogLine::Identifier,
-            BadLine::Flags => BadLogLine::Flags,
-            BadLine::Length => BadLogLine::Length,
-            BadLine::Data => BadLogLine::Data,
+            BadLine::Stamp => BadLogLine::RecordStamp,
+            BadLine::Interface => BadLogLine::RecordInterface,
+            BadLine::Identifier => BadLogLine::RecordIdentifier,
+            BadLine::Flags => BadLogLine::RecordFlags,
+            BadLine::Length => BadLogLine::RecordLength,
+            BadLine::Data => BadLogLine::RecordData,
             BadLine::TooManyBytes => BadLogLine::TooManyBytes,
-            BadLine::Ending => BadLogLine::Ending,
+            BadLine::Ending => BadLogLine::RecordEnding,
         }
     }
 

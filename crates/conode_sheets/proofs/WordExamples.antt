@@ -3,7 +3,7 @@ use Rattle.std.proofs.Common.{◌≡◌, ℕ, [], ◌∷◌, List, Some, None, O
 use Rattle.std.specs.Prelude.{codes, Result}
 use Rattle.conode_sheets.specs.declared.sheet_word.SheetPart.{SheetPart}
 use Rattle.conode_sheets.specs.declared.sheet_word.SheetPart.TheVariants.{Interface, Node, Path}
-use Rattle.conode_sheets.specs.SheetWords.{Named, node_and_path, sheet_word}
+use Rattle.conode_sheets.specs.SheetWords.{Named, node_and_path, node_like, sheet_word}
 
 abbrev is : Option (List ℕ) → Option ℕ → List ℕ → Result Named SheetPart
 is interface node path = Ok (record { interface = interface; node = node; path = path })
@@ -67,3 +67,19 @@ after_interface = refl
 after_node : sheet_word (codes "5=a:b=c") ≡ is None (Some 5) (codes "a:b=c")
 unfolding sheet_word node_and_path
 after_node = refl
+
+-- ---- an interface that looks like a node-ID
+like_node : node_like None (Some (codes "127")) ≡ Some 127
+like_node = refl
+
+too_large_for_a_node : node_like None (Some (codes "128")) ≡ None
+too_large_for_a_node = refl
+
+of_a_name : node_like None (Some (codes "can1")) ≡ None
+of_a_name = refl
+
+with_a_node : node_like (Some 5) (Some (codes "1")) ≡ None
+with_a_node = refl
+
+without_interface : node_like None None ≡ None
+without_interface = refl

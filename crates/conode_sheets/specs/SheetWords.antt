@@ -68,3 +68,8 @@ sheet_word word = option_map_or with_interface (cut_at 58 word) (node_and_path N
 abbrev pub IsWrong : SheetWordFault → Type 0
 IsWrong Memory = ⊤
 IsWrong (Word part word) = sheet_word word.now ≡ Err part
+
+-- the node-ID that the interface of a word without a node-ID looks like, as of `5:FILE` for `5=FILE`
+abbrev pub node_like : Option ℕ → Option (List ℕ) → Option ℕ
+node_like (Some node) interface = None
+node_like None interface = option_and_then (decimal_in 1 127) interface

@@ -96,6 +96,17 @@ pub fn no_sheet<E: Write>(path: &str, err: &mut E) -> ExitCode
     ExitCode::FAILURE
 }
 
+// says so where a word's interface looks like the node-ID that an equals sign would end
+fn name_interface<E: Write>(word: &SheetWord<'_>, err: &mut E) {
+    if let Some(node) = word.node_like() {
+        let path = word.path;
+        let _ = writeln!(
+            err,
+            "--sheet: {node}:{path} is for the interface {node}; {node}={path} is for node-ID {node}"
+        );
+    }
+}
+
 /// The texts of the data sheets that words name, in UTF-8: a line that isn't is read as
 /// Windows-1252. On an `Err` a file can't be read, or has no section, or memory ran out, and it is
 /// said; else nothing is written to `out`.
@@ -110,6 +121,7 @@ pub(crate) fn texts_of<'a, R: Files + AllocGlobal, O: Write, E: Write>(
 {
     let mut texts = Vec::new(rt.alloc());
     for word in words {
+        name_interface(word, err);
         let text = match file_text(rt, word.path) {
             Ok(text) => text,
             Err(fault) => return Err(no_text(fault, word.path, out, err)),

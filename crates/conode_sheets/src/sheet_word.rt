@@ -10,6 +10,7 @@ ghost use Rattle.conode_sheets.specs.SheetWords.{
   if_own,
   is_in_path,
   is_interface,
+  node_like,
   word_view,
   node_and_path,
   sheet_word,
@@ -198,6 +199,16 @@ fn with_interface<'a>(front: &'a str, rest: &'a str) -> Result<SheetWord<'a>, Sh
 }
 
 impl<'a> SheetWord<'a> {
+    /// The node-ID that the interface looks like, where the word has none, as `5:FILE` for `5=FILE`.
+    pub(crate) fn node_like(&self) -> Option<u32>
+        ensures { result ≡ node_like self.now.node (option_copied self.now.interface) }
+    {
+        match (self.node, self.interface) {
+            (None, Some(name)) => decimal_in(name, 1, 127),
+            _ => None,
+        }
+    }
+
     /// What a word names: what comes before the first colon is an interface, and what comes before
     /// the first equals sign after it a node-ID, unless it has a slash or an equals sign and so is
     /// part of a path.

@@ -1,7 +1,7 @@
 //! The longer texts of help, in lines of at most 80 columns.
 
 /// What `--version` prints after the program's name: its version, and the kit that proves it.
-pub const VERSION: &str = "0.38.0, proved with rattle-kit-13f logic dac8208d650f15bf";
+pub const VERSION: &str = "0.39.0, proved with rattle-kit-13f logic dac8208d650f15bf";
 
 /// What the program does without a command.
 pub const TRACES: &str = "\
