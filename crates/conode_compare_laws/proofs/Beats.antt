@@ -1,7 +1,7 @@
 -- The heartbeats of a device in its recording, and what compare knows of them.
-use Rattle.std.proofs.Common.{◌≡◌, ◌≢◌, ℕ, ◌+◌, ◌*◌, ◌-◌, ◌%◌, ◌<◌, ◌≤◌, Bool, true, false, List, [], ◌∷◌, length, Option, Some, None, refl, sym, ap, ◌∙◌, subst, arith, ◌⊎◌, inl, inr, add-one}
-use Rattle.std.specs.Prelude.{if◌then◌else◌, ◌==◌, ◌&&◌, ◌||◌, nat_le, nat_lt, is_some, option_map, IfSome}
-use Rattle.std.specs.Option.{option_to_list}
+use Rattle.std.proofs.Common.{◌≡◌, ◌≢◌, ℕ, zero, suc, ◌+◌, ◌*◌, ◌-◌, ◌%◌, ◌<◌, ◌≤◌, Bool, true, false, List, [], ◌∷◌, length, Option, Some, None, refl, sym, ap, ◌∙◌, subst, arith, ◌⊎◌, inl, inr, add-one}
+use Rattle.std.specs.Prelude.{if◌then◌else◌, ◌==◌, ◌&&◌, ◌||◌, not, nat_le, nat_lt, is_some, option_map, IfSome}
+use Rattle.std.specs.Option.{option_or, option_to_list}
 use Rattle.std.proofs.Math.Nat.{mod-eq_of_lt, mod-lt, mod_self, suc-mod}
 use Rattle.std.proofs.lemmas.Bool.{eq-eqb, le-leb, ltb-false, ltb-true, ne_eqb, or_parts, or_right}
 use Rattle.co_frame.specs.FrameContent.{FrameContent}
@@ -23,6 +23,7 @@ use Rattle.conode_explain_transfers.specs.declared.kinds.Side.TheVariants.{Clien
 use Rattle.conode_compare_pdos.specs.declared.pdos.Sighting.{Sighting}
 use Rattle.conode_compare_nmt.specs.declared.entries.Entries.{Entries}
 use Rattle.conode_compare_nmt.specs.declared.finding.Finding.{Finding}
+use Rattle.conode_compare_nmt.specs.declared.finding.Finding.TheVariants.{HeartbeatOff}
 use Rattle.conode_compare_nmt.specs.declared.heartbeats.Heartbeats.{Heartbeats}
 use Rattle.conode_compare_nmt.specs.declared.heartbeats.Since.TheVariants.{Transfer}
 use Rattle.conode_compare_rules.specs.declared.kind.FrameKind.{FrameKind}
@@ -34,14 +35,15 @@ use Rattle.conode_compare_rules.specs.FrameKinds.{command_kind, command_to, cont
 use Rattle.conode_compare_rules.specs.Answers.{confirmed_finding}
 use Rattle.conode_compare_nmt.specs.EntriesInForce.{asked_by, asked_to_write, done_word, overwritten, shown_inhibit, shown_period, with_inhibit, with_period}
 use Rattle.conode_compare_nmt.specs.OtherClients.{is_channel}
-use Rattle.conode_compare_nmt.specs.Heartbeats.{after_transfer, allowance, follows_closely, is_gap, late_finding, late_since, overdue_by, overdue_for, overdue_since, overdue_with, runs_still, sent_after}
+use Rattle.conode_compare_nmt.specs.Heartbeats.{after_transfer, allowance, follows_closely, is_disabled, is_gap, is_zero, late_finding, late_since, overdue_by, overdue_for, overdue_since, overdue_with, runs_still, sent_after}
 use Rattle.conode_compare_rules.specs.NmtFrames as nmt_frames
 use Rattle.conode_compare_rules.specs.Gaps.{anew_after, begins_anew, begun, free_at, with_gap}
-use Rattle.conode_compare_rules.specs.NmtFrames.{after_command, booted, comes_again, control_findings, is_missing_at, heartbeat_findings, is_again, late_alone, late_at, late_by, late_coming, may_differ}
+use Rattle.conode_compare_rules.specs.NmtFrames.{after_command, booted, comes_again, comes_aside, control_findings, is_missing_at, heartbeat_findings, is_again, late_alone, late_at, late_by, late_coming, may_differ, off_coming}
 use Rattle.conode_compare_rules.specs.EmergencyRules.{after_emergency, emergency_findings}
 use Rattle.conode_compare_rules.specs.Channels.{after_sdo, answer_findings, answer_noted, channel_heard, confirmed_findings, entries_asked, entries_ended, entries_heard, exchange_at, exchange_noted, late_noted, request_findings, hides_end, shown_beside}
 use Rattle.conode_compare_rules.specs.Processes.{after_process, is_of_client, late_by_tpdo, process_findings, sighted, sighting_findings}
 use Rattle.conode_compare_rules.specs.Progresses.{after_frame, findings_at, findings_in, progress_with}
+use Rattle.conode_compare_nmt.specs.States.{is_guarded_state}
 use Rattle.conode_compare_nmt.specs.Times.{drift_of}
 use Rattle.conode_compare_transfers.specs.declared.dialogue.Asked.{Asked}
 use Rattle.conode_compare_transfers.specs.Dialogues.{asks_to_write, dialogue_heard, exchange_in}
@@ -203,6 +205,25 @@ none_late subject p micros period ago few h = unless_again (is_again subject p) 
 
 none_coming : (subject : Subject) (p : Progress) (micros period ago : ℕ) → (period ≡ 0) ⊎ (ago ≤ period * 1000) → Begun period micros ago p → late_coming subject p micros ≡ None
 none_coming subject p micros period ago few h = unless_again (comes_again subject p) (late_alone subject p micros) (none_alone subject p micros period ago few h)
+
+-- ---- a heartbeat though 1017:00 has 0
+
+not_zero : (known : Option ℕ) (period : ℕ) → 0 < period → IfSome known (λ n. n ≡ period) → is_zero known ≡ false
+not_zero None period some same = refl
+not_zero (Some zero) period some same = let e : 0 ≡ period = same in absurd (omega arith)
+not_zero (Some (suc n)) period some same = refl
+
+-- where the period isn't 0 none is found
+none_off : (subject : Subject) (p : Progress) (micros byte period : ℕ) → 0 < period → IfSome p.entries.period (λ n. n ≡ period) → off_coming subject p micros byte ≡ None
+none_off subject p micros byte period some known =
+    by (is_zero p.entries.period) (is_disabled p.heartbeats.awaited) (not (p.heartbeats.guarded || (is_guarded_state byte || comes_aside subject p micros byte))) (not_zero p.entries.period period some known)
+  where
+    by : (a b c : Bool) → a ≡ false → (if (a && b) && c then Some HeartbeatOff else None) ≡ None
+    by true b c off = absurd (cc)
+    by false b c off = refl
+
+neither : (late off : Option Finding) → late ≡ None → off ≡ None → option_or late off ≡ None
+neither late off none nothing = ap (λ o. option_or o off) none ∙ nothing
 
 -- ---- one frame
 
@@ -433,13 +454,14 @@ unfolding found booted
 boot_passes subject rows p micros period next ago after knows h =
     (let e : Beats period micros ago p = ended period micros ago p h in record { none = refl; beats = record { fresh = e.fresh; known = booted_known next subject (may_differ subject p) knows; since = always (if may_differ subject p then subject.facts.before else subject.facts.booted).period (λ n. inr (omega arith)) } })
 
-heartbeat_passes : (subject : Subject) (rows : List Row) (p : Progress) (micros byte period ago after : ℕ) → (byte == 0) ≡ false → (period ≡ 0) ⊎ (ago ≤ period * 1000) → Begun period micros ago p
+heartbeat_passes : (subject : Subject) (rows : List Row) (p : Progress) (micros byte period ago after : ℕ) → (byte == 0) ≡ false → 0 < period → (period ≡ 0) ⊎ (ago ≤ period * 1000) → Begun period micros ago p
     → Passes subject rows p micros (Control byte) period after
 unfolding found control_findings heartbeat_findings nmt_frames.after_control
-heartbeat_passes subject rows p micros byte period ago after other few h =
+heartbeat_passes subject rows p micros byte period ago after other some few h =
     (let e : Beats period micros ago p = ended period micros ago p h in
     record {
-      none = rw other (ap (λ o. option_to_list o) (none_coming subject p micros period ago few h));
+      none = rw other (ap (λ o. option_to_list o)
+          (neither (late_coming subject p micros) (off_coming subject p micros byte) (none_coming subject p micros period ago few h) (none_off subject p micros byte period some h.known)));
       beats = rw other (record { fresh = e.fresh; known = e.known; since = always p.entries.period (λ n. inr (omega arith)) });
     })
 
@@ -496,11 +518,11 @@ all_others subject rows micros (frame ∷ later) p period ago after knows few wi
     (first.0, all_others subject rows micros later (progress_with subject p micros kind) period ago after knows few without.1 first.1 shows.1)
 
 -- a heartbeat of the device: from then on so much may pass
-pub beat_runs : (subject : Subject) (rows : List Row) (micros : ℕ) (p : Progress) (life : Heartbeat) (period ago after : ℕ) → KnowsBefore period subject → (state_byte life == 0) ≡ false → (period ≡ 0) ⊎ (ago ≤ period * 1000)
+pub beat_runs : (subject : Subject) (rows : List Row) (micros : ℕ) (p : Progress) (life : Heartbeat) (period ago after : ℕ) → KnowsBefore period subject → (state_byte life == 0) ≡ false → 0 < period → (period ≡ 0) ⊎ (ago ≤ period * 1000)
     → Beats period micros ago p → AllRun late_differences subject rows micros p (record { id = 0x700 + subject.node; bytes = heartbeat_bytes life } ∷ []) (Beats period micros after)
-beat_runs subject rows micros p life period ago after knows other few h =
+beat_runs subject rows micros p life period ago after knows other some few h =
     one subject rows micros p (record { id = 0x700 + subject.node; bytes = heartbeat_bytes life }) (Control (state_byte life)) period after (life_kind subject.node life)
-    (heartbeat_passes subject rows (begun subject p micros) micros (state_byte life) period ago after other few (begun_beats subject period micros ago p knows h))
+    (heartbeat_passes subject rows (begun subject p micros) micros (state_byte life) period ago after other some few (begun_beats subject period micros ago p knows h))
 
 -- its boot-up: from then on it has the period that it begins with
 pub boot_runs : (subject : Subject) (rows : List Row) (micros : ℕ) (p : Progress) (period next ago after : ℕ) → KnowsBefore period subject → KnowsPeriod next subject → Beats period micros ago p

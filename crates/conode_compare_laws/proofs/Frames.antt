@@ -38,7 +38,7 @@ use Rattle.conode_compare_rules.specs.Channels.{answer_findings, channel_heard, 
 use Rattle.conode_compare_rules.specs.Processes.{after_process, late_by_tpdo, process_findings, sighting_findings}
 use Rattle.conode_compare_rules.specs.Progresses.{after_frame, findings_in}
 use Rattle.conode_compare_nmt.specs.States as states
-use Rattle.conode_compare_nmt.specs.States.{after_boot_up, after_other, awaits_boot_up, boot_finding, boots_known, control_finding, is_guarded_state, is_settled, said_of, second_boot_up, shows_state, state_commanded, state_finding, strays_again}
+use Rattle.conode_compare_nmt.specs.States.{after_boot_up, after_other, awaits_boot_up, boot_finding, boots_known, control_finding, is_guarded_state, is_settled, is_state, said_of, second_boot_up, shows_state, state_commanded, state_finding, strays_again}
 use Rattle.conode_compare_rules.specs.Verdicts.{found}
 use Rattle.conode_compare_pdos.specs.Followed as tpdos
 use Rattle.conode_compare_laws.specs.Differences.{state_differences}
@@ -241,7 +241,7 @@ never_again subject p micros node.Stopped h = none_wrong (not p.heartbeats.guard
 none_controlled : (subject : Subject) (p : Progress) (micros : ℕ) (actual : NodeState) → FitsAt micros (runs actual) p
     → control_finding subject p.started p.heartbeats.guarded (comes_early subject p micros (state_byte (heartbeat_of actual))) p.nmt p.free (state_byte (heartbeat_of actual)) ≡ None
 unfolding control_finding
-none_controlled subject p micros node.PreOperational h = by (strays_again subject p.started p.heartbeats.guarded (comes_early subject p micros 127) p.nmt p.free 127) (p.heartbeats.guarded || (is_guarded_state 127 || not (is_settled subject.limits p.started p.nmt.commanded p.free)))
+none_controlled subject p micros node.PreOperational h = by (strays_again subject p.started p.heartbeats.guarded (comes_early subject p micros 127) p.nmt p.free 127) ((p.heartbeats.guarded && is_state 127) || (is_guarded_state 127 || not (is_settled subject.limits p.started p.nmt.commanded p.free)))
     (never_again subject p micros node.PreOperational h)
   where
     by : (again b : Bool) → again ≡ false
@@ -249,7 +249,7 @@ none_controlled subject p micros node.PreOperational h = by (strays_again subjec
     by true b e = absurd (cc)
     by false true e = refl
     by false false e = ap (said_of p.nmt.odd) (none_judged subject.facts.starts_itself p.nmt.state p.nmt.due node.PreOperational h)
-none_controlled subject p micros node.Operational h = by (strays_again subject p.started p.heartbeats.guarded (comes_early subject p micros 5) p.nmt p.free 5) (p.heartbeats.guarded || (is_guarded_state 5 || not (is_settled subject.limits p.started p.nmt.commanded p.free)))
+none_controlled subject p micros node.Operational h = by (strays_again subject p.started p.heartbeats.guarded (comes_early subject p micros 5) p.nmt p.free 5) ((p.heartbeats.guarded && is_state 5) || (is_guarded_state 5 || not (is_settled subject.limits p.started p.nmt.commanded p.free)))
     (never_again subject p micros node.Operational h)
   where
     by : (again b : Bool) → again ≡ false
@@ -257,7 +257,7 @@ none_controlled subject p micros node.Operational h = by (strays_again subject p
     by true b e = absurd (cc)
     by false true e = refl
     by false false e = ap (said_of p.nmt.odd) (none_judged subject.facts.starts_itself p.nmt.state p.nmt.due node.Operational h)
-none_controlled subject p micros node.Stopped h = by (strays_again subject p.started p.heartbeats.guarded (comes_early subject p micros 4) p.nmt p.free 4) (p.heartbeats.guarded || (is_guarded_state 4 || not (is_settled subject.limits p.started p.nmt.commanded p.free)))
+none_controlled subject p micros node.Stopped h = by (strays_again subject p.started p.heartbeats.guarded (comes_early subject p micros 4) p.nmt p.free 4) ((p.heartbeats.guarded && is_state 4) || (is_guarded_state 4 || not (is_settled subject.limits p.started p.nmt.commanded p.free)))
     (never_again subject p micros node.Stopped h)
   where
     by : (again b : Bool) → again ≡ false

@@ -13,6 +13,7 @@ use Rattle.co_sheet.specs.Content.{Row}
 use Rattle.co_sdo.specs.Events.{frames_at}
 use Rattle.co_node_parts.specs.NmtStates.{heartbeat_of}
 use Rattle.co_node_parts.specs.Producers.{ProducerLog, is_heartbeat_due, period_of, ticks}
+use Rattle.co_node_parts.specs.declared.heartbeat_producer.ProducerEvent.{ProducerEvent}
 use Rattle.co_node_parts.specs.declared.heartbeat_producer.ProducerEvent.TheVariants as producer
 use Rattle.co_node_parts.specs.declared.nmt_state.NodeState.{NodeState}
 use Rattle.co_node_parts.specs.declared.nmt_state.NodeState.TheVariants as node
@@ -84,7 +85,7 @@ life_steps subject rows micros more period p log true number final knows some sa
         → AllRun late_differences subject rows micros p (life_frames subject.node (if is_heartbeat_due producer.Tick log then Some (heartbeat_of final) else None)) (Beats period micros (((ticks log + 1) % period) * 1000))
     by true is =
         subst (λ b. AllRun late_differences subject rows micros p (life_frames subject.node (if b then Some (heartbeat_of final) else None)) (Beats period micros (((ticks log + 1) % period) * 1000))) (sym (due ∙ is))
-        (beat_runs subject rows micros p (heartbeat_of final) period (ago_of period log + more) (((ticks log + 1) % period) * 1000) knows (no_boot final) (inr (omega (arith, mod-lt (ticks log) some))) h)
+        (beat_runs subject rows micros p (heartbeat_of final) period (ago_of period log + more) (((ticks log + 1) % period) * 1000) knows (no_boot final) some (inr (omega (arith, mod-lt (ticks log) some))) h)
     by false is =
         let next : (ticks log + 1) % period ≡ ticks log % period + 1 = elim (next_rest (ticks log) period some) [ inl on ↦ absurd (cc) | inr e ↦ e ] in
         subst (λ b. AllRun late_differences subject rows micros p (life_frames subject.node (if b then Some (heartbeat_of final) else None)) (Beats period micros (((ticks log + 1) % period) * 1000))) (sym (due ∙ is))
@@ -170,11 +171,27 @@ life_boots : (reset due : Bool) (state : NodeState) → reset ≡ true → (if r
 life_boots true due state on = refl
 life_boots false due state on = absurd (false≢true on)
 
--- where nothing is known of the period any time may be said of the last heartbeat, until one comes
-life_any : (subject : Subject) (rows : List Row) (micros period ago : ℕ) (life : Option Heartbeat) (p : Progress) → KnowsBefore period subject → IfSome life (λ one. (state_byte one == 0) ≡ false) → (period ≡ 0) ⊎ (ago ≤ period * 1000)
-    → Beats period micros ago p → AllRun late_differences subject rows micros p (life_frames subject.node life) (Beats period micros ago)
-life_any subject rows micros period ago None p knows other few h = h
-life_any subject rows micros period ago (Some life) p knows other few h = beat_runs subject rows micros p life period ago ago knows other few h
+-- with a period of 0, and where 1017:00 is written, no heartbeat is due
+zero_due : (event : ProducerEvent) (log : ProducerLog) → period_of log ≡ 0 → is_heartbeat_due event log ≡ false
+zero_due (producer.Begin period) log none = refl
+zero_due producer.Tick log none = ap (λ n. nat_lt 0 n && (ticks log + 1) % n == 0) none
+zero_due producer.Quiet log none = refl
+
+begun_due : (reset set : Bool) (period : ℕ) (event : ProducerEvent) (log : ProducerLog) → set ≡ true → is_heartbeat_due (if reset || set then producer.Begin period else event) log ≡ false
+begun_due true set period event log on = refl
+begun_due false true period event log on = refl
+begun_due false false period event log on = absurd (false≢true on)
+
+-- then it sends none but at a reset
+no_life : (reset due : Bool) (state : NodeState) → reset ≡ false → due ≡ false → (if reset then Some BootUp else (if due then Some (heartbeat_of state) else None)) ≡ None
+no_life true due state off none = absurd (false≢true (sym off))
+no_life false true state off none = absurd (false≢true (sym none))
+no_life false false state off none = refl
+
+-- so what is known of the last heartbeat stays
+life_none : (subject : Subject) (rows : List Row) (micros period ago : ℕ) (life : Option Heartbeat) (p : Progress) → life ≡ None → Beats period micros ago p
+    → AllRun late_differences subject rows micros p (life_frames subject.node life) (Beats period micros ago)
+life_none subject rows micros period ago life p none h = subst (λ o. AllRun late_differences subject rows micros p (life_frames subject.node o) (Beats period micros ago)) (sym none) h
 
 any_after : (subject : Subject) (rows : List Row) (micros : ℕ) (life : Option Heartbeat) (p : Progress) (period ago after : ℕ) → period ≡ 0 → AllRun late_differences subject rows micros p (life_frames subject.node life) (Beats period micros ago)
     → AllRun late_differences subject rows micros p (life_frames subject.node life) (Beats period micros after)
@@ -255,7 +272,8 @@ module _ (k : Constants) (subject : Subject) (rows : List Row) (micros : ℕ) (b
   kept_life reset is x b = elim (zero_or period) [
     | inl none ↦
         let beats : AllRun late_differences own rows micros x (life_frames k.description.node m.life) (Beats period micros ago) =
-        life_any own rows micros period ago m.life x knows (life_beats (is_reset m.mark) (is_heartbeat_due (producer_event m.mark m.contents) log) (state_at (m ∷ moments k before)) reset) (inl none) b in
+        life_none own rows micros period ago m.life x
+        (no_life (is_reset m.mark) (is_heartbeat_due (producer_event m.mark m.contents) log) (state_at (m ∷ moments k before)) reset (zero_due (producer_event m.mark m.contents) log (same ∙ none))) b in
         any_after own rows micros m.life x period ago (ago_of period (producer_log k (moments k (input ∷ before)))) none beats
     | inr some ↦ life_at k own rows micros (elapsed input) period (moments k before) input x knows some same reset is (ms input) (no_time k (moments k before) input) b
   ]
@@ -284,7 +302,9 @@ module _ (k : Constants) (subject : Subject) (rows : List Row) (micros : ℕ) (b
       by : (w r : Bool) → is_written k before input ≡ w → is_reset m.mark ≡ r → (q : Progress) → Beats period micros ago q → Sends q → AllRun late_differences own rows micros q (prescribed k before input) (λ q. Beats next micros after q × last_shows q)
       by true r is reset q g shows =
           sent_runs next after follows.next within_after
-          (λ x. life_any own rows micros next after m.life x follows.next (life_beats (is_reset m.mark) (is_heartbeat_due (producer_event m.mark m.contents) log) (state_at (m ∷ moments k before)) (written_no_reset m.mark is)) within_after)
+          (λ x. life_none own rows micros next after m.life x
+          (no_life (is_reset m.mark) (is_heartbeat_due (producer_event m.mark m.contents) log) (state_at (m ∷ moments k before)) (written_no_reset m.mark is)
+          (begun_due (is_reset m.mark) (is_set (marked_key m.mark) producer_key) (number_at m.contents producer_key) (if marked_tick m.mark then producer.Tick else producer.Quiet) log is)))
           q (unknown_beats period next micros ago after q (shows.0 is) g) (forgotten next q shows.1.1) shows.1.1
       by false false is reset q g shows =
           let e : next ≡ period = follows.kept is reset in

@@ -68,6 +68,6 @@ inhibit_differences kind found = []
 
 -- ---- heartbeats (CiA 301, 7.2.8.3.2)
 
--- `heartbeat-late`, at whatever frame it is found
+-- `heartbeat-late` and `heartbeat-off`, at whatever frame they are found
 abbrev pub late_differences : FrameKind → Findings → List Finding
 late_differences kind found = option_to_list found.heartbeat

@@ -34,11 +34,11 @@ use co_node::begins_apart;
 use co_node_laws::stays_apart;
 use co_sdo::Bank;
 
-/// The recording of a device has no `heartbeat-late` (CiA 301, 7.2.8.3.2), whatever the tolerance
-/// and the drift, and whatever transfers there are on its default SDO channel but of 1017:00.
-/// Conditions: `compare` has its node-ID; 1017:00 has the period from the build on, and isn't
-/// written (`AllKeepPeriod`); the data sheet has this period, if it is known by it
-/// (`KnowsPeriod`); no stamp is later than the ticks have it (`AreTimed`); no other node sends on
+/// The recording of a device has no `heartbeat-late` (CiA 301, 7.2.8.3.2) and no `heartbeat-off`
+/// (7.5.2.20), whatever the tolerance and the drift, and whatever transfers there are on its default
+/// SDO channel but of 1017:00. Conditions: `compare` has its node-ID; 1017:00 has the period from the
+/// build on, and isn't written (`AllKeepPeriod`); the data sheet has this period, if it is known by
+/// it (`KnowsPeriod`); no stamp is later than the ticks have it (`AreTimed`); no other node sends on
 /// the identifier of its error control (`AreElsewhere`), and no frame of a client names 1017:00
 /// on its default SDO channel (`IsUnnamed`). This is a law: a call of it changes nothing.
 pub fn no_late_heartbeats()

@@ -13,13 +13,13 @@ use Rattle.conode_explain_transfers.specs.declared.kinds.Direction.TheVariants.{
 use Rattle.conode_explain_transfers.specs.declared.kinds.Protocol.{Protocol}
 use Rattle.conode_explain_transfers.specs.declared.kinds.Protocol.TheVariants.{Expedited, Segmented}
 use Rattle.conode_compare_nmt.specs.declared.entries.Entries.{Entries}
-use Rattle.conode_compare_nmt.specs.declared.finding.Finding.TheVariants.{HeartbeatLate, LateAfterBootUp, LateAfterTransfer}
+use Rattle.conode_compare_nmt.specs.declared.finding.Finding.TheVariants.{HeartbeatLate, HeartbeatOff, LateAfterBootUp, LateAfterTransfer}
 use Rattle.conode_compare_nmt.specs.declared.finding.Remark.TheVariants.{EarlyHeartbeat}
 use Rattle.conode_compare_nmt.specs.declared.heartbeats.Heartbeats.{Heartbeats}
-use Rattle.conode_compare_nmt.specs.declared.heartbeats.Since.TheVariants.{Heartbeat, BootUp, Transfer}
+use Rattle.conode_compare_nmt.specs.declared.heartbeats.Since.TheVariants.{Heartbeat, BootUp, Transfer, Disabled, Off}
 use Rattle.conode_compare_nmt.specs.declared.limits.Limits.{Limits}
 use Rattle.conode_compare_nmt.specs.EntriesInForce.{ended_entries, shown_inhibit, shown_period}
-use Rattle.conode_compare_nmt.specs.Heartbeats.{after_byte, after_transfer, early_remark, follows_closely, late_finding, overdue_by, is_gap}
+use Rattle.conode_compare_nmt.specs.Heartbeats.{after_byte, after_transfer, awaited_after, early_remark, follows_closely, is_off_again, late_finding, off_finding, overdue_by, is_gap}
 
 -- 10 ms, 1 %, 1 s and 10 s
 abbrev pub limits : Limits
@@ -139,6 +139,58 @@ toggled = refl
 -- one that waited counts from when the bus was free
 waited : after_byte pulse 1000 2000 5 ≡ record { guarded = false; since = Some 2000; awaited = Heartbeat; sent = Some 1000; shown = None; slow = None; former = None; answered = None; asked = None }
 waited = refl
+
+-- ---- heartbeats while 1017:00 has 0
+
+abbrev disabled : Heartbeats
+disabled = record pulse { awaited = Disabled }
+
+off : off_finding (Some 0) disabled false 5 ≡ Some HeartbeatOff
+off = refl
+
+-- not where it has another number, or isn't known
+not_off : map (λ period. off_finding period disabled false 5) (Some 1 ∷ None ∷ []) ≡ None ∷ None ∷ []
+not_off = refl
+
+-- nor before a transfer showed it and a heartbeat came since, nor once more
+not_disabled : map (λ awaited. off_finding (Some 0) (record pulse { awaited = awaited }) false 5) (Heartbeat ∷ BootUp ∷ Transfer ∷ Off ∷ []) ≡ None ∷ None ∷ None ∷ None ∷ []
+not_disabled = refl
+
+-- nor at a change of the state, nor of answers of node guarding
+aside_off : off_finding (Some 0) disabled true 5 ∷ off_finding (Some 0) disabled false 0x85 ∷ off_finding (Some 0) (record disabled { guarded = true }) false 5 ∷ []
+    ≡ None ∷ None ∷ None ∷ []
+aside_off = refl
+
+-- after a heartbeat: the first one after the transfer, once no period that ran before may run; one of which that is found, or not
+first_off : map (λ former. awaited_after (Some 0) Transfer former false) (Some 1000 ∷ None ∷ []) ≡ Transfer ∷ Disabled ∷ []
+first_off = refl
+
+found_off : map (awaited_after (Some 0) Disabled None) (true ∷ false ∷ []) ≡ Off ∷ Disabled ∷ []
+found_off = refl
+
+still_off : map (λ awaited. awaited_after (Some 0) awaited None false) (Heartbeat ∷ BootUp ∷ Off ∷ []) ≡ Heartbeat ∷ Heartbeat ∷ Off ∷ []
+still_off = refl
+
+-- with another number, or an unknown one, it is a heartbeat as any
+any_awaited : map (λ awaited. awaited_after (Some 1) awaited None false) (Heartbeat ∷ BootUp ∷ Transfer ∷ Disabled ∷ Off ∷ [])
+    ≡ Heartbeat ∷ Heartbeat ∷ Heartbeat ∷ Heartbeat ∷ Heartbeat ∷ []
+any_awaited = refl
+
+unknown_awaited : map (λ awaited. awaited_after None awaited None false) (Transfer ∷ Disabled ∷ Off ∷ []) ≡ Heartbeat ∷ Heartbeat ∷ Heartbeat ∷ []
+unknown_awaited = refl
+
+off_again : map (λ awaited. is_off_again (Some 0) (record pulse { awaited = awaited })) (Off ∷ Heartbeat ∷ BootUp ∷ Transfer ∷ Disabled ∷ []) ≡ true ∷ false ∷ false ∷ false ∷ false ∷ []
+off_again = refl
+
+not_off_again : map (λ period. is_off_again period (record pulse { awaited = Off })) (Some 1 ∷ None ∷ []) ≡ false ∷ false ∷ []
+not_off_again = refl
+
+late_after_off : map (λ awaited. late_finding limits (Some 1000) (record pulse { awaited = awaited }) 1020006 1020006) (Disabled ∷ Off ∷ [])
+    ≡ Some (HeartbeatLate 1020001 1000) ∷ Some (HeartbeatLate 1020001 1000) ∷ []
+unfolding late_finding overdue_by
+late_after_off = refl
+
+-- ---- gaps
 
 -- more than three periods without a frame are a gap
 no_gap : is_gap limits (Some 1000) 7 3000007 ≡ false

@@ -1,9 +1,10 @@
 -- What is a difference of NMT states and boot-ups and what isn't, on both sides of each edge, computed
 -- from the definitions.
-use Rattle.std.proofs.Common.{◌≡◌, ℕ, true, false, [], ◌∷◌, map, Some, None, refl}
+use Rattle.std.proofs.Common.{◌≡◌, ℕ, true, false, [], ◌∷◌, map, Option, Some, None, refl}
 use Rattle.co_frame.specs.declared.nmt.NmtService.{NmtService}
 use Rattle.co_frame.specs.declared.nmt.NmtService.TheVariants.{Start, Stop, EnterPreOperational, ResetNode}
 use Rattle.conode_compare_pdos.specs.Followed.{unknown_pdos}
+use Rattle.conode_compare_nmt.specs.declared.finding.Finding.{Finding}
 use Rattle.conode_compare_nmt.specs.declared.finding.Finding.TheVariants.{BootMissing, SecondBootUp, NoState, WrongState}
 use Rattle.conode_compare_nmt.specs.declared.finding.Remark.TheVariants.{Restarted}
 use Rattle.conode_compare_nmt.specs.declared.finding.NmtState.{NmtState}
@@ -11,7 +12,8 @@ use Rattle.conode_compare_nmt.specs.declared.finding.NmtState.TheVariants.{Unkno
 use Rattle.conode_compare_nmt.specs.declared.leaving.Leaving.TheVariants.{Nothing}
 use Rattle.conode_compare_nmt.specs.declared.limits.Subject.{Subject}
 use Rattle.conode_compare_nmt.specs.declared.nmt.Nmt.{Nmt}
-use Rattle.conode_compare_nmt.specs.States.{either_state, after_boot_up, after_command, after_control, after_other, awaits_boot_up, boot_finding, control_finding, freer, is_settled, is_steady, is_turn, nothing_commanded, restart_remark, second_boot_up, state_finding, with_state}
+use Rattle.conode_compare_nmt.specs.declared.repeated.Odd.TheVariants.{Byte, Length}
+use Rattle.conode_compare_nmt.specs.States.{either_state, after_boot_up, after_command, after_control, after_other, awaits_boot_up, boot_finding, control_finding, freer, is_same_byte, is_settled, is_steady, is_turn, nothing_commanded, restart_remark, second_boot_up, state_finding, with_state}
 use Rattle.conode_compare_nmt.specs.OtherClients.{no_clients}
 use Rattle.conode_compare_nmt.proofs.Examples.{entries, limits}
 
@@ -311,6 +313,29 @@ waits_since = refl
 free_since : control_finding device 0 false false (commanded_to Stop Stopped) 110001 5 ≡ Some (WrongState Operational Stopped)
 unfolding control_finding is_settled state_finding
 free_since = refl
+
+-- Once node guarding was seen states aren't judged, with the toggle bit or without. Other bytes are: their seven bits are no state.
+abbrev guarded_at : ℕ → ℕ → Option Finding
+guarded_at free byte = control_finding device 0 true false (commanded_to Stop Stopped) free byte
+
+guarded_states : map (guarded_at 110001) (4 ∷ 5 ∷ 127 ∷ 0x84 ∷ 0x85 ∷ 0xFF ∷ []) ≡ None ∷ None ∷ None ∷ None ∷ None ∷ None ∷ []
+unfolding control_finding is_settled state_finding
+guarded_states = refl
+
+guarded_others : map (guarded_at 110001) (3 ∷ 0x83 ∷ 6 ∷ 126 ∷ 0x80 ∷ 0xFE ∷ []) ≡ Some (NoState 3) ∷ Some (NoState 0x83) ∷ Some (NoState 6) ∷ Some (NoState 126) ∷ Some (NoState 0x80) ∷ Some (NoState 0xFE) ∷ []
+unfolding control_finding is_settled state_finding
+guarded_others = refl
+
+guarded_waits : guarded_at 110000 3 ≡ None
+unfolding control_finding is_settled
+guarded_waits = refl
+
+-- one with another toggle bit is the same
+same_but_toggled : map (λ byte. is_same_byte byte (Some (Byte 0x83))) (3 ∷ 0x83 ∷ 2 ∷ 0x82 ∷ []) ≡ true ∷ true ∷ false ∷ false ∷ []
+same_but_toggled = refl
+
+not_same : is_same_byte 3 None ∷ is_same_byte 3 (Some (Length 3)) ∷ [] ≡ false ∷ false ∷ []
+not_same = refl
 
 -- the state stays as commanded, or is the one that is shown
 shows_none : (after_control limits 0 (commanded_to Start Operational) 110000 150000 127).state ≡ Operational

@@ -12,12 +12,12 @@ use Rattle.conode_explain_transfers.specs.declared.kinds.Side.TheVariants.{Clien
 use Rattle.conode_compare_transfers.specs.Breaches.{byte_at, key_in}
 use Rattle.conode_compare_transfers.specs.Dialogues.{asks_to_write}
 use Rattle.conode_compare_nmt.specs.declared.finding.Finding.{Finding}
-use Rattle.conode_compare_nmt.specs.declared.finding.Finding.TheVariants.{HeartbeatLate, LateAfterBootUp, LateAfterTransfer}
+use Rattle.conode_compare_nmt.specs.declared.finding.Finding.TheVariants.{HeartbeatLate, HeartbeatOff, LateAfterBootUp, LateAfterTransfer}
 use Rattle.conode_compare_nmt.specs.declared.finding.Remark.{Remark}
 use Rattle.conode_compare_nmt.specs.declared.finding.Remark.TheVariants.{EarlyHeartbeat}
 use Rattle.conode_compare_nmt.specs.declared.heartbeats.Heartbeats.{Heartbeats}
 use Rattle.conode_compare_nmt.specs.declared.heartbeats.Since.{Since}
-use Rattle.conode_compare_nmt.specs.declared.heartbeats.Since.TheVariants.{Heartbeat, BootUp, Transfer}
+use Rattle.conode_compare_nmt.specs.declared.heartbeats.Since.TheVariants.{Heartbeat, BootUp, Transfer, Disabled, Off}
 use Rattle.conode_compare_nmt.specs.declared.limits.Limits.{Limits}
 use Rattle.conode_compare_nmt.specs.EntriesInForce.{shown_period}
 use Rattle.conode_compare_nmt.specs.OtherClients.{is_channel}
@@ -184,6 +184,8 @@ abbrev pub late_since : Since → ℕ × ℕ → Finding
 late_since Heartbeat late = HeartbeatLate late.0 late.1
 late_since BootUp late = LateAfterBootUp late.0 late.1
 late_since Transfer late = LateAfterTransfer late.0 late.1
+late_since Disabled late = HeartbeatLate late.0 late.1
+late_since Off late = HeartbeatLate late.0 late.1
 
 -- `heartbeat-late`: the device sends, and its next heartbeat is late
 unfoldable pub late_finding : Limits → Option ℕ → Heartbeats → ℕ → ℕ → Option Finding
@@ -275,6 +277,50 @@ row_after limits (Some period) heartbeats free =
 abbrev pub slow_after : Limits → Option ℕ → Heartbeats → ℕ → ℕ → Option ℕ
 slow_after limits period heartbeats free micros =
     if comes_late limits period heartbeats free micros then row_after limits period heartbeats free else None
+
+-- ---- heartbeats of a producer that is disabled: 1017:00 has 0 (CiA 301, 7.5.2.20)
+
+-- what 1017:00 has is known, and is 0
+abbrev pub is_zero : Option ℕ → Bool
+is_zero None = false
+is_zero (Some period) = period == 0
+
+-- A heartbeat came since a transfer showed that. So the one of a period that ran before has come.
+abbrev pub is_disabled : Since → Bool
+is_disabled Disabled = true
+is_disabled Heartbeat = false
+is_disabled BootUp = false
+is_disabled Transfer = false
+is_disabled Off = false
+
+-- `heartbeat-off`: another one comes, no answer of node guarding, and none that may be sent `aside`, at a change of the state
+abbrev pub off_finding : Option ℕ → Heartbeats → Bool → ℕ → Option Finding
+off_finding period heartbeats aside byte =
+    if (is_zero period && is_disabled heartbeats.awaited) && not (heartbeats.guarded || (is_guarded_state byte || aside))
+    then Some HeartbeatOff else None
+
+-- A heartbeat comes where 1017:00 has 0: after a transfer that showed that it counts once no period that ran before may run,
+-- `former`; and once `heartbeat-off` was found, that isn't said again.
+abbrev pub disabled_after : Since → Option ℕ → Bool → Since
+disabled_after Heartbeat former off = Heartbeat
+disabled_after BootUp former off = Heartbeat
+disabled_after Transfer former off = if is_some former then Transfer else Disabled
+disabled_after Disabled former off = if off then Off else Disabled
+disabled_after Off former off = Off
+
+abbrev pub awaited_after : Option ℕ → Since → Option ℕ → Bool → Since
+awaited_after period awaited former off = if is_zero period then disabled_after awaited former off else Heartbeat
+
+-- it was found, and no transfer has shown what 1017:00 has since
+abbrev pub is_off : Since → Bool
+is_off Off = true
+is_off Heartbeat = false
+is_off BootUp = false
+is_off Transfer = false
+is_off Disabled = false
+
+abbrev pub is_off_again : Option ℕ → Heartbeats → Bool
+is_off_again period heartbeats = is_zero period && is_off heartbeats.awaited
 
 -- ---- early ones
 

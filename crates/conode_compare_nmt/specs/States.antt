@@ -1,6 +1,6 @@
 -- The NMT state of a device, as commands and its own frames have it (CiA 301, 7.3.2.2), and what it
 -- does otherwise.
-use Rattle.std.specs.Prelude.{ℕ, ◌-◌, ◌==◌, nat_le, Bool, true, false, not, ◌&&◌, ◌||◌, if◌then◌else◌, Option, Some, None, is_some, option_map, option_and_then}
+use Rattle.std.specs.Prelude.{ℕ, ◌-◌, ◌%◌, ◌==◌, nat_le, Bool, true, false, not, ◌&&◌, ◌||◌, if◌then◌else◌, Option, Some, None, is_some, option_map, option_and_then}
 use Rattle.std.specs.Option.{option_map_or}
 use Rattle.co_frame.specs.declared.nmt.NmtService.{NmtService}
 use Rattle.co_frame.specs.declared.nmt.NmtService.TheVariants.{Start, Stop, EnterPreOperational, ResetNode, ResetCommunication}
@@ -340,15 +340,16 @@ state_finding starts_itself state byte =
 
 -- ---- one mistake is one difference
 
+-- but for bit 7: that is the toggle bit of node guarding (CiA 301, 7.2.8.3.2), which changes with each answer
 abbrev pub is_same_byte : ℕ → Option Odd → Bool
-is_same_byte byte (Some (Byte other)) = byte == other
+is_same_byte byte (Some (Byte other)) = byte % 128 == other % 128
 is_same_byte byte odd = false
 
 abbrev pub is_same_length : ℕ → Option Odd → Bool
 is_same_length length (Some (Length other)) = length == other
 is_same_length length odd = false
 
--- a byte that is no state isn't said again until another byte or length comes, or a boot-up
+-- a byte that is no state isn't said again until another state or length comes, or a boot-up
 abbrev pub said_of : Option Odd → Option Finding → Option Finding
 said_of odd (Some (NoState byte)) = if is_same_byte byte odd then None else Some (NoState byte)
 said_of odd finding = finding
@@ -394,13 +395,14 @@ after_turn subject started guarded early nmt free byte next =
 
 -- ---- error control
 
--- The difference of a heartbeat's byte; answers of node guarding aren't judged. A heartbeat may
+-- The difference of a heartbeat's byte; the states of node guarding's answers aren't judged, but that they are states: in
+-- seven bits, beside the toggle bit. A heartbeat may
 -- have waited since the bus was free last: where a command came since, or within the tolerance
 -- before, it may be one of the state before that.
 unfoldable pub control_finding : Subject → ℕ → Bool → Bool → Nmt → ℕ → ℕ → Option Finding
 control_finding subject started guarded early nmt free byte =
     if strays_again subject started guarded early nmt free byte then Some (TwoStates (state_of byte) (judged_state nmt))
-    else (if guarded || (is_guarded_state byte || not (is_settled subject.limits started nmt.commanded free)) then None
+    else (if (guarded && is_state byte) || (is_guarded_state byte || not (is_settled subject.limits started nmt.commanded free)) then None
     else said_of nmt.odd (state_finding subject.facts.starts_itself (judged_state nmt) byte))
 
 -- a heartbeat shows the state, once it was settled when the bus was free last, and unless the boot-up

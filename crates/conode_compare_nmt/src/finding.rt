@@ -53,6 +53,8 @@ pub enum Finding {
     LateAfterBootUp(u64, u16),
     /// `heartbeat-late`: so many microseconds since a transfer of 1017:00 ended.
     LateAfterTransfer(u64, u16),
+    /// `heartbeat-off`: heartbeats one after another, and a transfer showed that 1017:00 has 0.
+    HeartbeatOff,
     /// `emcy-length`: an EMCY of so many bytes, not of eight.
     EmergencyLength(u8),
     /// `emcy-state`: an EMCY while stopped.

@@ -5,9 +5,12 @@ ghost use Rattle.conode_compare_nmt.specs.Heartbeats.{
   after_byte,
   after_transfer,
   allowance,
+  awaited_after,
+  disabled_after,
   early_remark,
   late_finding,
   no_heartbeat,
+  off_finding,
   overdue_by,
   overdue_with,
   comes_again,
@@ -17,7 +20,9 @@ ghost use Rattle.conode_compare_nmt.specs.Heartbeats.{
   is_late_again,
   is_missing,
   is_of_row,
+  is_off_again,
   is_shown,
+  is_zero,
   late_since,
   leeway,
   longer,
@@ -50,6 +55,11 @@ pub enum Since {
     BootUp,
     /// The end of a transfer of 1017:00.
     Transfer,
+    /// The last heartbeat, after such a transfer showed that 1017:00 has 0: that of a period which
+    /// ran before has come.
+    Disabled,
+    /// The last heartbeat, where `heartbeat-off` was found since such a transfer.
+    Off,
 }
 
 /// What a recording shows of a device's heartbeats: stamps in microseconds, periods in ms.
@@ -135,9 +145,33 @@ fn late_since(awaited: Since, passed: u64, period: u16) -> Finding
     ensures { result ≡ late_since awaited (passed, period) }
 {
     match awaited {
-        Since::Heartbeat => Finding::HeartbeatLate(passed, period),
+        Since::Heartbeat | Since::Disabled | Since::Off => Finding::HeartbeatLate(passed, period),
         Since::BootUp => Finding::LateAfterBootUp(passed, period),
         Since::Transfer => Finding::LateAfterTransfer(passed, period),
+    }
+}
+
+// whether what 1017:00 has is known, and is 0
+fn is_zero(period: Option<u16>) -> bool
+    ensures { result ≡ is_zero period }
+{
+    match period {
+        Some(period) => period == 0,
+        None => false,
+    }
+}
+
+// what came last, once a heartbeat comes where 1017:00 has 0; `former`: which period may run still,
+// `off`: whether `heartbeat-off` is found
+fn disabled_after(awaited: Since, former: Option<u16>, off: bool) -> Since
+    ensures { result ≡ disabled_after awaited former off }
+{
+    match awaited {
+        Since::Heartbeat | Since::BootUp => Since::Heartbeat,
+        Since::Transfer if former.is_some() => Since::Transfer,
+        Since::Disabled if off => Since::Off,
+        Since::Transfer | Since::Disabled => Since::Disabled,
+        Since::Off => Since::Off,
     }
 }
 
@@ -411,5 +445,39 @@ impl Heartbeats {
             return None;
         }
         self.row_after(limits, entries, free)
+    }
+
+    /// `heartbeat-off`: the difference of a heartbeat with this byte, where a transfer showed that
+    /// 1017:00 has 0 (CiA 301, 7.5.2.20), and another one came since. `aside`: it may be sent at a
+    /// change of the state.
+    pub fn off_finding(&self, entries: &Entries, aside: bool, byte: u8) -> Option<Finding>
+        ensures { result ≡ off_finding entries.now.period self.now aside byte }
+    {
+        if !is_zero(entries.period) || self.guarded || is_guarded_state(byte) || aside {
+            return None;
+        }
+        match self.awaited {
+            Since::Disabled => Some(Finding::HeartbeatOff),
+            Since::Heartbeat | Since::BootUp | Since::Transfer | Since::Off => None,
+        }
+    }
+
+    /// From what on the next heartbeat is awaited, once one comes: the period `former` may run still
+    /// after it, `off`: `heartbeat-off` is found.
+    pub fn awaited_after(&self, entries: &Entries, former: Option<u16>, off: bool) -> Since
+        ensures { result ≡ awaited_after entries.now.period self.now.awaited former off }
+    {
+        if is_zero(entries.period) {
+            disabled_after(self.awaited, former, off)
+        } else {
+            Since::Heartbeat
+        }
+    }
+
+    /// Whether `heartbeat-off` was found, and no transfer has shown what 1017:00 has since.
+    pub fn is_off_again(&self, entries: &Entries) -> bool
+        ensures { result ≡ is_off_again entries.now.period self.now }
+    {
+        is_zero(entries.period) && matches!(self.awaited, Since::Off)
     }
 }

@@ -241,7 +241,7 @@ impl Nmt {
 
     /// The difference of a heartbeat's byte (CiA 301, 7.2.8.3.2), by stamps in microseconds: the
     /// recording began at `started`, and the bus was free last at `free`. `early`: it comes sooner than
-    /// its period. Once node guarding was seen (`guarded`), none is judged.
+    /// its period. Once node guarding was seen (`guarded`), only that it is a state is judged.
     #[tactic(auto, unfolding(crate::specs::States::control_finding))]
     pub fn control_finding(
         &self,
@@ -257,7 +257,10 @@ impl Nmt {
         if self.strays_again(subject, started, guarded, early, free, byte) {
             return Some(Finding::TwoStates(state_of(byte), self.judged_state()));
         }
-        if guarded || is_guarded_state(byte) || !self.is_settled(&subject.limits, started, free) {
+        if guarded && is_state(byte)
+            || is_guarded_state(byte)
+            || !self.is_settled(&subject.limits, started, free)
+        {
             return None;
         }
         self.said_of(self.state_finding(subject.facts.starts_itself, byte))

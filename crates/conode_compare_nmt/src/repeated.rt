@@ -12,6 +12,9 @@ ghost use Rattle.conode_compare_nmt.specs.States.{
 use crate::finding::Finding;
 use crate::nmt::Nmt;
 
+// the toggle bit of node guarding, bit 7 of its answers
+const TOGGLE: u8 = 0x80;
+
 /// What is wrong about a frame of error control, other than the state.
 #[derive(Clone, Copy)]
 pub enum Odd {
@@ -22,12 +25,13 @@ pub enum Odd {
 }
 
 impl Nmt {
-    /// Whether the newest frame of error control had this byte, which is no state, too.
+    /// Whether the newest frame of error control had this byte, which is no state, too, but for the
+    /// toggle bit of node guarding, bit 7.
     pub fn is_same_byte(&self, byte: u8) -> bool
         ensures { result ≡ is_same_byte byte self.now.odd }
     {
         match self.odd {
-            Some(Odd::Byte(other)) => byte == other,
+            Some(Odd::Byte(other)) => byte % TOGGLE == other % TOGGLE,
             _ => false,
         }
     }

@@ -61,7 +61,7 @@ abbrev from : ℕ → ℕ → List ℕ
 from start zero = []
 from start (suc more) = start ∷ from (start + 1) more
 
-kinds_in_order : map (λ counted. kind_number counted.kind) no_counts ≡ from 0 29
+kinds_in_order : map (λ counted. kind_number counted.kind) no_counts ≡ from 0 30
 kinds_in_order = refl
 
 services_in_order : map (λ served. service_number served.service) no_services ≡ from 0 25

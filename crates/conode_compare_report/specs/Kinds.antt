@@ -9,7 +9,7 @@ use Rattle.conode_compare_values.specs.declared.mismatch.Mismatch.TheVariants.{C
 use Rattle.conode_compare_nmt.specs.declared.finding.Finding.{Finding}
 use Rattle.conode_compare_nmt.specs.declared.finding.Finding.TheVariants.{SecondBootUp, NoState, TwoStates, WrongState, EmergencyStopped, Unasked, AnswerStopped, Transfer, Value, Held, Pdo}
 use Rattle.conode_compare_report.specs.declared.kind.Kind.{Kind}
-use Rattle.conode_compare_report.specs.declared.kind.Kind.TheVariants.{HeartbeatLate, HeartbeatState, HeartbeatLength, PdoLength, PdoState, PdoSync, PdoInhibit, PdoLate, BootMissing, SecondSender, EmergencyLength, EmergencyState, EmergencyRegister, EmergencyInhibit, NoAnswer, AnswerKey, AnswerForm, AnswerToggle, AnswerSize, AnswerCrc, AnswerState, AbortKey, AbortEarly, ValueLength, ValueConst, ValueHeld, AccessRead, AccessWrite, AccessLimits}
+use Rattle.conode_compare_report.specs.declared.kind.Kind.TheVariants.{HeartbeatLate, HeartbeatOff, HeartbeatState, HeartbeatLength, PdoLength, PdoState, PdoSync, PdoInhibit, PdoLate, BootMissing, SecondSender, EmergencyLength, EmergencyState, EmergencyRegister, EmergencyInhibit, NoAnswer, AnswerKey, AnswerForm, AnswerToggle, AnswerSize, AnswerCrc, AnswerState, AbortKey, AbortEarly, ValueLength, ValueConst, ValueHeld, AccessRead, AccessWrite, AccessLimits}
 
 abbrev pub of_deviation : Deviation → Kind
 of_deviation (Length length mapped) = PdoLength
@@ -50,6 +50,7 @@ kind_of (WrongState shown held) = HeartbeatState
 kind_of (Finding.HeartbeatLate passed period) = HeartbeatLate
 kind_of (Finding.LateAfterBootUp passed period) = HeartbeatLate
 kind_of (Finding.LateAfterTransfer passed period) = HeartbeatLate
+kind_of Finding.HeartbeatOff = HeartbeatOff
 kind_of (Finding.EmergencyLength length) = EmergencyLength
 kind_of EmergencyStopped = EmergencyState
 kind_of (Finding.EmergencyRegister code register) = EmergencyRegister
@@ -65,6 +66,7 @@ kind_of (Pdo number deviation) = of_deviation deviation
 
 abbrev pub kind_name : Kind → List ℕ
 kind_name HeartbeatLate = codes "heartbeat-late"
+kind_name HeartbeatOff = codes "heartbeat-off"
 kind_name HeartbeatState = codes "heartbeat-state"
 kind_name HeartbeatLength = codes "heartbeat-length"
 kind_name PdoLength = codes "pdo-length"
@@ -97,6 +99,7 @@ kind_name AccessLimits = codes "access-limits"
 -- what CiA 301 prescribes
 abbrev pub kind_rule : Kind → List ℕ
 kind_rule HeartbeatLate = codes "a heartbeat comes within the producer heartbeat time, 1017:00 (CiA 301, 7.2.8.3.2)"
+kind_rule HeartbeatOff = codes "no heartbeat comes while the producer heartbeat time, 1017:00, is 0 (CiA 301, 7.5.2.20)"
 kind_rule HeartbeatState = codes "a heartbeat has the NMT state that the commands gave (CiA 301, 7.3.2.2)"
 kind_rule HeartbeatLength = codes "a frame of error control has one byte (CiA 301, 7.2.8.3.2)"
 kind_rule PdoLength = codes "a TPDO has as many bytes as its mapping (CiA 301, 7.5.2.38)"
@@ -129,31 +132,32 @@ kind_rule AccessLimits = codes "a value outside the limits is refused (CiA 301, 
 -- the place in the table
 abbrev pub kind_number : Kind → ℕ
 kind_number HeartbeatLate = 0
-kind_number HeartbeatState = 1
-kind_number HeartbeatLength = 2
-kind_number PdoLength = 3
-kind_number PdoState = 4
-kind_number PdoSync = 5
-kind_number PdoInhibit = 6
-kind_number PdoLate = 7
-kind_number BootMissing = 8
-kind_number SecondSender = 9
-kind_number EmergencyLength = 10
-kind_number EmergencyState = 11
-kind_number EmergencyRegister = 12
-kind_number EmergencyInhibit = 13
-kind_number NoAnswer = 14
-kind_number AnswerKey = 15
-kind_number AnswerForm = 16
-kind_number AnswerToggle = 17
-kind_number AnswerSize = 18
-kind_number AnswerCrc = 19
-kind_number AnswerState = 20
-kind_number AbortKey = 21
-kind_number AbortEarly = 22
-kind_number ValueLength = 23
-kind_number ValueConst = 24
-kind_number ValueHeld = 25
-kind_number AccessRead = 26
-kind_number AccessWrite = 27
-kind_number AccessLimits = 28
+kind_number HeartbeatOff = 1
+kind_number HeartbeatState = 2
+kind_number HeartbeatLength = 3
+kind_number PdoLength = 4
+kind_number PdoState = 5
+kind_number PdoSync = 6
+kind_number PdoInhibit = 7
+kind_number PdoLate = 8
+kind_number BootMissing = 9
+kind_number SecondSender = 10
+kind_number EmergencyLength = 11
+kind_number EmergencyState = 12
+kind_number EmergencyRegister = 13
+kind_number EmergencyInhibit = 14
+kind_number NoAnswer = 15
+kind_number AnswerKey = 16
+kind_number AnswerForm = 17
+kind_number AnswerToggle = 18
+kind_number AnswerSize = 19
+kind_number AnswerCrc = 20
+kind_number AnswerState = 21
+kind_number AbortKey = 22
+kind_number AbortEarly = 23
+kind_number ValueLength = 24
+kind_number ValueConst = 25
+kind_number ValueHeld = 26
+kind_number AccessRead = 27
+kind_number AccessWrite = 28
+kind_number AccessLimits = 29

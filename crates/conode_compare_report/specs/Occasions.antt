@@ -30,7 +30,7 @@ use Rattle.conode_compare_report.specs.declared.before.Role.{Role}
 use Rattle.conode_compare_report.specs.declared.before.Role.TheVariants.{Tpdo}
 use Rattle.conode_compare_report.specs.declared.kind.Counted.{Counted}
 use Rattle.conode_compare_report.specs.declared.kind.Kind.{Kind}
-use Rattle.conode_compare_report.specs.declared.kind.Kind.TheVariants.{HeartbeatLate, HeartbeatState, HeartbeatLength, PdoLength, PdoState, PdoSync, PdoInhibit, PdoLate, BootMissing, SecondSender, EmergencyLength, EmergencyState, EmergencyRegister, EmergencyInhibit, NoAnswer, AnswerKey, AnswerForm, AnswerToggle, AnswerSize, AnswerCrc, AnswerState, AbortKey, AbortEarly, ValueLength, ValueConst, ValueHeld, AccessRead, AccessWrite, AccessLimits}
+use Rattle.conode_compare_report.specs.declared.kind.Kind.TheVariants.{HeartbeatLate, HeartbeatOff, HeartbeatState, HeartbeatLength, PdoLength, PdoState, PdoSync, PdoInhibit, PdoLate, BootMissing, SecondSender, EmergencyLength, EmergencyState, EmergencyRegister, EmergencyInhibit, NoAnswer, AnswerKey, AnswerForm, AnswerToggle, AnswerSize, AnswerCrc, AnswerState, AbortKey, AbortEarly, ValueLength, ValueConst, ValueHeld, AccessRead, AccessWrite, AccessLimits}
 use Rattle.conode_compare_report.specs.Counts.{changed_at, one_more}
 use Rattle.conode_compare_report.specs.Kinds.{kind_number}
 
@@ -42,7 +42,7 @@ none_of kind = record { kind = kind; found = 0; occasions = 0 }
 -- each kind once, in the order of the table
 abbrev pub no_counts : List Counted
 no_counts =
-    none_of HeartbeatLate ∷ none_of HeartbeatState ∷ none_of HeartbeatLength ∷ none_of PdoLength ∷ none_of PdoState
+    none_of HeartbeatLate ∷ none_of HeartbeatOff ∷ none_of HeartbeatState ∷ none_of HeartbeatLength ∷ none_of PdoLength ∷ none_of PdoState
     ∷ none_of PdoSync ∷ none_of PdoInhibit ∷ none_of PdoLate ∷ none_of BootMissing ∷ none_of SecondSender
     ∷ none_of EmergencyLength ∷ none_of EmergencyState ∷ none_of EmergencyRegister ∷ none_of EmergencyInhibit
     ∷ none_of NoAnswer ∷ none_of AnswerKey ∷ none_of AnswerForm ∷ none_of AnswerToggle ∷ none_of AnswerSize

@@ -13,6 +13,7 @@ use conode_compare_values::Mismatch;
 #[derive(Clone, Copy)]
 pub enum Kind {
     HeartbeatLate,
+    HeartbeatOff,
     HeartbeatState,
     HeartbeatLength,
     PdoLength,
@@ -44,8 +45,9 @@ pub enum Kind {
 }
 
 /// Each kind once, in this order.
-pub(crate) const KINDS: [Kind; 29] = [
+pub(crate) const KINDS: [Kind; 30] = [
     Kind::HeartbeatLate,
+    Kind::HeartbeatOff,
     Kind::HeartbeatState,
     Kind::HeartbeatLength,
     Kind::PdoLength,
@@ -77,8 +79,9 @@ pub(crate) const KINDS: [Kind; 29] = [
 ];
 
 /// Their names, in this order.
-static NAMES: [&str; 29] = [
+static NAMES: [&str; 30] = [
     "heartbeat-late",
+    "heartbeat-off",
     "heartbeat-state",
     "heartbeat-length",
     "pdo-length",
@@ -110,8 +113,9 @@ static NAMES: [&str; 29] = [
 ];
 
 /// What CiA 301 prescribes of each, in this order.
-static RULES: [&str; 29] = [
+static RULES: [&str; 30] = [
     "a heartbeat comes within the producer heartbeat time, 1017:00 (CiA 301, 7.2.8.3.2)",
+    "no heartbeat comes while the producer heartbeat time, 1017:00, is 0 (CiA 301, 7.5.2.20)",
     "a heartbeat has the NMT state that the commands gave (CiA 301, 7.3.2.2)",
     "a frame of error control has one byte (CiA 301, 7.2.8.3.2)",
     "a TPDO has as many bytes as its mapping (CiA 301, 7.5.2.38)",
@@ -207,6 +211,7 @@ impl Kind {
             Finding::HeartbeatLate(_, _)
             | Finding::LateAfterBootUp(_, _)
             | Finding::LateAfterTransfer(_, _) => Kind::HeartbeatLate,
+            Finding::HeartbeatOff => Kind::HeartbeatOff,
             Finding::EmergencyLength(_) => Kind::EmergencyLength,
             Finding::EmergencyStopped => Kind::EmergencyState,
             Finding::EmergencyRegister(_, _) => Kind::EmergencyRegister,

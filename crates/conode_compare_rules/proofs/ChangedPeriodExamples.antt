@@ -1,21 +1,29 @@
 -- A period that may still run once 1017:00 has another, frame by frame, on both sides of each edge.
-use Rattle.std.proofs.Common.{◌≡◌, ℕ, Bool, true, false, [], ◌∷◌, map, Option, Some, None, refl}
+use Rattle.std.proofs.Common.{◌≡◌, ℕ, Bool, true, false, List, [], ◌∷◌, map, Option, Some, None, refl}
 use Rattle.co_frame.specs.SdoRequests.{request_row_in}
+use Rattle.co_frame.specs.declared.nmt.NmtService.TheVariants.{Start, ResetNode}
 use Rattle.conode_explain_transfers.specs.declared.kinds.Side.TheVariants.{Client}
 use Rattle.conode_compare_transfers.specs.Breaches.{breach_at}
 use Rattle.conode_compare_transfers.specs.Dialogues.{dialogue_heard, exchange_in, is_certain}
 use Rattle.conode_compare_transfers.specs.NewestFrames.{newest_after, newest_with}
 use Rattle.conode_compare_nmt.specs.declared.entries.Entries.{Entries}
-use Rattle.conode_compare_rules.specs.declared.kind.FrameKind.TheVariants.{Control}
+use Rattle.conode_compare_nmt.specs.declared.finding.Finding.{Finding}
+use Rattle.conode_compare_nmt.specs.declared.finding.Finding.TheVariants.{HeartbeatOff}
+use Rattle.conode_compare_nmt.specs.declared.heartbeats.Since.TheVariants.{Transfer}
+use Rattle.conode_compare_rules.specs.declared.kind.FrameKind.{FrameKind}
+use Rattle.conode_compare_rules.specs.declared.kind.FrameKind.TheVariants.{Command, Control, Fault, Guarding, OddControl, Other}
 use Rattle.conode_compare_nmt.specs.declared.limits.Subject.{Subject}
 use Rattle.conode_compare_rules.specs.declared.progress.Progress.{Progress}
+use Rattle.conode_compare_rules.specs.declared.verdict.Verdict.TheVariants.{Different, Unjudged}
 use Rattle.conode_compare_nmt.specs.EntriesInForce.{asked_to_write, shown_inhibit, shown_period}
-use Rattle.conode_compare_nmt.specs.Heartbeats.{early_remark, overdue_by}
+use Rattle.conode_compare_nmt.specs.Heartbeats.{early_remark, late_finding, overdue_by}
 use Rattle.conode_compare_rules.specs.NmtFrames as nmt_frames
 use Rattle.conode_compare_rules.specs.Gaps.{after_fault, before_recording, begun, with_bad_line, with_gap}
-use Rattle.conode_compare_rules.specs.NmtFrames.{booted, control_findings, is_overdue}
+use Rattle.conode_compare_rules.specs.NmtFrames.{after_odd_control, booted, control_findings, control_judged, heartbeat_findings, is_overdue}
+use Rattle.conode_compare_rules.specs.Answers.{silence_finding}
 use Rattle.conode_compare_rules.specs.Channels.{channel_heard, exchange_at}
-use Rattle.conode_compare_rules.specs.Progresses.{progress_with}
+use Rattle.conode_compare_rules.specs.Verdicts.{found}
+use Rattle.conode_compare_rules.specs.Progresses.{findings_at, progress_with}
 use Rattle.conode_compare_nmt.specs.States as states
 use Rattle.conode_compare_nmt.proofs.Examples.{pulse}
 use Rattle.conode_compare_rules.proofs.MissingExamples.{subject, waiting}
@@ -85,6 +93,59 @@ unknown_after as_sheet = record subject { facts = record subject.facts { booted 
 unseen_client : map (λ as_sheet. (progress_with (unknown_after as_sheet) changing 1010000 (Control 0)).heartbeats.former) (true ∷ false ∷ []) ≡ Some 65535 ∷ None ∷ []
 unfolding progress_with begun booted
 unseen_client = refl
+
+-- ---- heartbeats go on though 0 was written to 1017:00
+
+-- it had 1000 ms, and the answer came at 1 s
+abbrev zero_written : Progress
+zero_written = record waiting {
+  heartbeats = record waiting.heartbeats { since = Some 1000000; awaited = Transfer; former = Some 1000; answered = Some 1000000 };
+  entries = record waiting.entries { period = Some 0 };
+}
+
+-- frames with their stamps, one after another, and what is found of a heartbeat after them
+abbrev after_all : Progress → List (ℕ × FrameKind) → Progress
+after_all progress [] = progress
+after_all progress (frame ∷ later) = after_all (progress_with subject progress frame.0 frame.1) later
+
+abbrev off_after : List (ℕ × FrameKind) → ℕ → ℕ → Option Finding
+off_after before micros byte = (findings_at subject [] (after_all zero_written before) micros (Control byte)).heartbeat
+
+-- the first one may be that of the old period; the second one is found, and no later one
+off : off_after [] 1500000 5 ∷ off_after ((1500000, Control 5) ∷ []) 2000000 5 ∷ off_after ((1500000, Control 5) ∷ (2000000, Control 5) ∷ []) 2500000 5 ∷ []
+    ≡ None ∷ Some HeartbeatOff ∷ None ∷ []
+unfolding findings_at progress_with begun found control_findings heartbeat_findings nmt_frames.after_control late_finding overdue_by early_remark states.is_settled states.after_control states.after_other
+off = refl
+
+-- one that comes 10 ms after the answer may have been on its way
+on_its_way : map (λ first. off_after ((first, Control 5) ∷ []) 1500000 5) (1010000 ∷ 1010001 ∷ []) ≡ None ∷ Some HeartbeatOff ∷ []
+unfolding findings_at progress_with begun found control_findings heartbeat_findings nmt_frames.after_control late_finding overdue_by early_remark states.is_settled states.after_control states.after_other
+on_its_way = refl
+
+-- one that shows another state may be sent at its change, and the next one isn't
+at_change : off_after ((1500000, Control 5) ∷ []) 2000000 127 ∷ off_after ((1500000, Control 5) ∷ (2000000, Control 127) ∷ []) 2500000 127 ∷ [] ≡ None ∷ Some HeartbeatOff ∷ []
+unfolding findings_at progress_with begun found control_findings heartbeat_findings nmt_frames.after_control late_finding overdue_by early_remark states.is_settled states.after_control states.after_other states.awaits_boot_up
+at_change = refl
+
+-- other frames between them, of other nodes; error control of two bytes, node guarding, an error frame, a reset
+between : map (λ kind. off_after ((1500000, Control 5) ∷ (1600000, kind) ∷ (1700000, Control 5) ∷ []) 2000000 5) (OddControl 2 ∷ Guarding ∷ Fault ∷ Command ResetNode ∷ []) ≡ None ∷ None ∷ None ∷ None ∷ []
+unfolding findings_at progress_with begun found control_findings heartbeat_findings nmt_frames.after_control nmt_frames.after_command after_odd_control after_fault with_gap late_finding overdue_by early_remark states.is_settled states.after_control states.after_other states.awaits_boot_up
+between = refl
+
+others_between : map (λ kind. off_after ((1500000, Control 5) ∷ (1600000, kind) ∷ []) 2000000 5) (Other ∷ Command Start ∷ []) ≡ Some HeartbeatOff ∷ None ∷ []
+unfolding findings_at progress_with begun found control_findings heartbeat_findings nmt_frames.after_control nmt_frames.after_command late_finding overdue_by early_remark states.is_settled states.after_control states.after_other states.awaits_boot_up states.after_command
+others_between = refl
+
+-- where nothing was recorded for longer than an answer may take nothing is known
+in_a_gap : map (λ micros. off_after ((1500000, Control 5) ∷ []) micros 5) (2500000 ∷ 2500001 ∷ []) ≡ Some HeartbeatOff ∷ None ∷ []
+unfolding findings_at progress_with begun found control_findings heartbeat_findings nmt_frames.after_control late_finding overdue_by early_remark states.is_settled states.after_control states.after_other
+in_a_gap = refl
+
+-- later ones are the same mistake, and unjudged
+off_verdicts : map (λ before. (findings_at subject [] (after_all zero_written before) 2500000 (Control 5)).verdict) (((2000000, Control 5) ∷ []) ∷ ((1500000, Control 5) ∷ (2000000, Control 5) ∷ []) ∷ [])
+    ≡ Some Different ∷ Some Unjudged ∷ []
+unfolding findings_at progress_with begun found control_findings control_judged heartbeat_findings nmt_frames.after_control late_finding overdue_by early_remark states.is_settled states.after_control states.after_other states.awaits_boot_up states.boot_finding states.control_finding states.state_finding silence_finding
+off_verdicts = refl
 
 -- ---- a request to write 1017:00, and 1018:00
 

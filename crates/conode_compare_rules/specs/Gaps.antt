@@ -5,6 +5,7 @@ use Rattle.conode_compare_pdos.specs.declared.pdos.Pdos.{Pdos}
 use Rattle.conode_compare_pdos.specs.Followed as tpdos
 use Rattle.conode_compare_rules.specs.declared.progress.Progress.{Progress}
 use Rattle.conode_compare_transfers.specs.declared.dialogue.Dialogue.{Dialogue}
+use Rattle.conode_compare_nmt.specs.declared.heartbeats.Since.TheVariants.{Heartbeat}
 use Rattle.conode_compare_nmt.specs.declared.limits.Limits.{Limits}
 use Rattle.conode_compare_nmt.specs.declared.limits.Subject.{Subject}
 use Rattle.conode_compare_nmt.specs.declared.nmt.Nmt.{Nmt}
@@ -154,7 +155,7 @@ with_bad_line progress = record progress {
 -- what is open isn't known any more: after a reset, a boot-up, and an error frame
 unfoldable pub with_gap : Progress → ℕ → Progress
 with_gap progress micros = record progress {
-  heartbeats = record progress.heartbeats { since = None; sent = None; slow = None; asked = None };
+  heartbeats = record progress.heartbeats { since = None; awaited = Heartbeat; sent = None; slow = None; asked = None };
   emergency = None;
   dialogue = interrupted progress.dialogue micros;
   pdos = tpdos.interrupted progress.pdos;

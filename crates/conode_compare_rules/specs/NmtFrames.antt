@@ -1,6 +1,6 @@
 -- NMT commands, boot-ups and heartbeats of a recording (CiA 301, 7.2.8): what they show of a device, and where it differs.
 use Rattle.std.specs.Prelude.{ℕ, ◌==◌, Bool, true, false, not, ◌&&◌, ◌||◌, if◌then◌else◌, Option, Some, None, is_some}
-use Rattle.std.specs.Option.{option_map_or}
+use Rattle.std.specs.Option.{option_map_or, option_or}
 use Rattle.co_frame.specs.declared.nmt.NmtService.{NmtService}
 use Rattle.conode_compare_pdos.specs.declared.pdos.Pdos.{Pdos}
 use Rattle.conode_compare_pdos.specs.Followed as tpdos
@@ -10,6 +10,7 @@ use Rattle.conode_compare_nmt.specs.declared.finding.Finding.{Finding}
 use Rattle.conode_compare_nmt.specs.declared.finding.NmtState.{NmtState}
 use Rattle.conode_compare_nmt.specs.declared.finding.NmtState.TheVariants.{Unknown, Initialising}
 use Rattle.conode_compare_nmt.specs.declared.heartbeats.Heartbeats.{Heartbeats}
+use Rattle.conode_compare_nmt.specs.declared.heartbeats.Since.{Since}
 use Rattle.conode_compare_nmt.specs.declared.heartbeats.Since.TheVariants.{Heartbeat, BootUp}
 use Rattle.conode_compare_nmt.specs.declared.limits.Subject.{Subject}
 use Rattle.conode_compare_nmt.specs.declared.repeated.Odd.TheVariants.{Length}
@@ -19,7 +20,7 @@ use Rattle.conode_compare_transfers.specs.Dialogues.{given_up, interrupted, noth
 use Rattle.conode_compare_values.specs.HeldNumbers.{nothing_written}
 use Rattle.conode_compare_nmt.specs.EntriesInForce.{reset_entries}
 use Rattle.conode_compare_nmt.specs.Heartbeats as beats
-use Rattle.conode_compare_nmt.specs.Heartbeats.{after_byte, early_remark, former_after, late_finding, longest_period, may_be_of_change, is_late_again, is_missing, overdue_with, slow_after, with_shown}
+use Rattle.conode_compare_nmt.specs.Heartbeats.{after_byte, awaited_after, early_remark, former_after, late_finding, longest_period, may_be_of_change, is_late_again, is_missing, is_off_again, off_finding, overdue_with, slow_after, with_shown}
 use Rattle.conode_compare_nmt.specs.States as states
 use Rattle.conode_compare_nmt.specs.States.{boot_finding, control_finding, is_reset, is_same_byte, is_same_length, is_settled, is_steady, after_turn, odd_after, odd_finding, restart_remark, second_boot_up, with_odd}
 use Rattle.conode_compare_transfers.specs.Times.{is_past}
@@ -162,16 +163,26 @@ abbrev pub byte_finding : Subject → Progress → ℕ → ℕ → Option Findin
 byte_finding subject progress micros byte =
     control_finding subject progress.started progress.heartbeats.guarded (comes_early subject progress micros byte) progress.nmt progress.free byte
 
--- A heartbeat has the same byte as the last one, which is no state, or is late as the last one was. Both
--- were said of an earlier one, so it is unjudged.
+-- it comes early, or may be sent at a change of the state
+abbrev pub comes_aside : Subject → Progress → ℕ → ℕ → Bool
+comes_aside subject progress micros byte = comes_early subject progress micros byte || may_be_of_change progress.nmt byte
+
+-- it comes though 1017:00 has 0
+abbrev pub off_coming : Subject → Progress → ℕ → ℕ → Option Finding
+off_coming subject progress micros byte =
+    off_finding progress.entries.period progress.heartbeats (comes_aside subject progress micros byte) byte
+
+-- A heartbeat has the same byte as the last one, which is no state, is late as the last one was, or comes though 1017:00
+-- has 0, as the last ones did. Each was said of an earlier one, so it is unjudged.
 abbrev pub is_repeated : Subject → Progress → ℕ → ℕ → Bool
 is_repeated subject progress micros byte =
-    is_same_byte byte progress.nmt.odd || (comes_again subject progress && is_some (late_alone subject progress micros))
+    is_same_byte byte progress.nmt.odd
+    || ((comes_again subject progress && is_some (late_alone subject progress micros)) || is_off_again progress.entries.period progress.heartbeats)
 
 unfoldable pub heartbeat_findings : Subject → Progress → Option Finding → ℕ → ℕ → Findings
 heartbeat_findings subject progress answer micros byte =
     found (boot_finding subject.limits progress.nmt micros)
-    (late_coming subject progress micros)
+    (option_or (late_coming subject progress micros) (off_coming subject progress micros byte))
     answer
     (byte_finding subject progress micros byte)
     (control_judged subject progress && not (is_repeated subject progress micros byte))
@@ -185,19 +196,24 @@ control_findings subject progress micros byte = heartbeat_findings subject progr
 abbrev pub slow_then : Subject → Progress → ℕ → Option ℕ
 slow_then subject progress micros = slow_after subject.limits progress.entries.period progress.heartbeats progress.free micros
 
-abbrev pub comes_aside : Subject → Progress → ℕ → ℕ → Bool
-comes_aside subject progress micros byte = comes_early subject progress micros byte || may_be_of_change progress.nmt byte
-
 abbrev pub former_then : Subject → Progress → ℕ → ℕ → Option ℕ
 former_then subject progress micros byte =
     former_after subject.limits (comes_aside subject progress micros byte) progress.heartbeats.former progress.entries.period progress.heartbeats.answered progress.free
+
+abbrev pub awaited_then : Subject → Progress → ℕ → ℕ → Since
+awaited_then subject progress micros byte =
+    awaited_after progress.entries.period progress.heartbeats.awaited (former_then subject progress micros byte) (is_some (off_coming subject progress micros byte))
 
 unfoldable pub after_control : Subject → Progress → ℕ → ℕ → Progress
 after_control subject progress micros byte = record progress {
   nmt = with_odd (odd_after (byte_finding subject progress micros byte) byte progress.nmt.odd)
       (after_turn subject progress.started progress.heartbeats.guarded (comes_early subject progress micros byte) progress.nmt progress.free byte
       (states.after_control subject.limits progress.started progress.nmt progress.free micros byte));
-  heartbeats = record (after_byte progress.heartbeats progress.free micros byte) { slow = slow_then subject progress micros; former = former_then subject progress micros byte };
+  heartbeats = record (after_byte progress.heartbeats progress.free micros byte) {
+    awaited = awaited_then subject progress micros byte;
+    slow = slow_then subject progress micros;
+    former = former_then subject progress micros byte;
+  };
   pdos = if byte == 5 then progress.pdos else tpdos.commanded progress.pdos;
   dialogue = if is_some (silence_at subject progress micros byte) then given_up progress.dialogue micros else progress.dialogue;
   remark = early_remark subject.limits progress.entries.period progress.heartbeats progress.earlier micros byte;

@@ -12,6 +12,7 @@ ghost use Rattle.conode_compare_rules.specs.NmtFrames.{
   booted_pdos,
   byte_finding,
   comes_again,
+  comes_aside,
   comes_early,
   control_findings,
   control_judged,
@@ -26,6 +27,7 @@ ghost use Rattle.conode_compare_rules.specs.NmtFrames.{
   may_be_written,
   may_differ,
   odd_control_findings,
+  off_coming,
   steady_when_free,
   heartbeats_by,
   was_asked,
@@ -224,31 +226,42 @@ impl Progress {
             .control_finding(subject, self.started, guarded, early, self.free, byte)
     }
 
+    // whether a heartbeat comes early, or may be sent at a change of the state
+    fn comes_aside(&self, subject: &Subject, micros: u64, byte: u8) -> bool
+        ensures { result ≡ comes_aside subject.now self.now micros byte }
+    {
+        self.comes_early(subject, micros, byte) || self.nmt.may_be_of_change(byte)
+    }
+
     // whether what is wrong about a heartbeat was said of an earlier one
     fn is_repeated(&self, subject: &Subject, micros: u64, byte: u8) -> bool
         ensures { result ≡ is_repeated subject.now self.now micros byte }
     {
         self.nmt.is_same_byte(byte)
             || self.comes_again(subject) && self.late_alone(subject, micros).is_some()
+            || self.heartbeats.is_off_again(&self.entries)
     }
 
-    // what is found at a heartbeat; `frame`: the difference of its byte
+    // what is found at a heartbeat; `frame`: the difference of its byte, `off`: that it comes though
+    // 1017:00 has 0
     #[tactic(auto, unfolding(crate::specs::NmtFrames::heartbeat_findings))]
     fn heartbeat_findings(
         &self,
         subject: &Subject,
         answer: Option<Finding>,
         frame: Option<Finding>,
+        off: Option<Finding>,
         micros: u64,
         byte: u8,
     ) -> Findings
-        requires { frame ≡ byte_finding subject.now self.now micros byte }
+        requires frame_is { frame ≡ byte_finding subject.now self.now micros byte }
+        requires off_is { off ≡ off_coming subject.now self.now micros byte }
         ensures { result ≡ heartbeat_findings subject.now self.now answer micros byte }
     {
         let is_repeated = self.is_repeated(subject, micros, byte);
         Findings::of(
             self.nmt.boot_finding(&subject.limits, micros),
-            self.late_coming(subject, micros),
+            self.late_coming(subject, micros).or(off),
             answer,
             frame,
             self.control_judged(subject) && !is_repeated,
@@ -305,14 +318,18 @@ impl Progress {
         );
         let early = self.comes_early(subject, micros, byte);
         let frame = self.byte_finding(subject, micros, byte);
-        let findings = self.heartbeat_findings(subject, answer, frame, micros, byte);
+        let aside = self.comes_aside(subject, micros, byte);
+        let off = self.heartbeats.off_finding(&self.entries, aside, byte);
+        let findings = self.heartbeat_findings(subject, answer, frame, off, micros, byte);
         let slow = self
             .heartbeats
             .slow_after(limits, &self.entries, self.free, micros);
-        let aside = early || self.nmt.may_be_of_change(byte);
         let former = self
             .heartbeats
             .former_after(limits, aside, self.entries.period, self.free);
+        let awaited = self
+            .heartbeats
+            .awaited_after(&self.entries, former, off.is_some());
         self.remark = self
             .heartbeats
             .early_remark(limits, &self.entries, self.earlier, micros, byte);
@@ -332,6 +349,7 @@ impl Progress {
         );
         self.nmt.odd = odd;
         self.heartbeats = self.heartbeats.after_control(self.free, micros, byte);
+        self.heartbeats.awaited = awaited;
         self.heartbeats.slow = slow;
         self.heartbeats.former = former;
         if byte != 5 {

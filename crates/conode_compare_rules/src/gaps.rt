@@ -24,7 +24,7 @@ ghost use Rattle.conode_compare_rules.specs.Gaps.{
 
 use crate::progress::Progress;
 use conode_compare_nmt::{
-    LONGEST_PERIOD, Limits, Nmt, Subject, follows_closely, former_asked, is_gap,
+    LONGEST_PERIOD, Limits, Nmt, Since, Subject, follows_closely, former_asked, is_gap,
 };
 use conode_compare_transfers::is_past;
 use conode_compare_values::Written;
@@ -236,6 +236,7 @@ impl Progress {
         ensures { self.new ≡ with_gap self.old micros }
     {
         self.heartbeats.since = None;
+        self.heartbeats.awaited = Since::Heartbeat;
         self.heartbeats.sent = None;
         self.heartbeats.slow = None;
         self.heartbeats.asked = None;

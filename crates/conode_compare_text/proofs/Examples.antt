@@ -12,7 +12,7 @@ use Rattle.conode_explain_values.specs.Values.{value_text}
 use Rattle.conode_compare_pdos.specs.declared.deviation.Deviation.TheVariants.{Length, NotOperational, WithoutSync, FewSyncs, Inhibit, Timer}
 use Rattle.conode_compare_transfers.specs.declared.breach.Breach.TheVariants.{Toggle, Form, AbortKey, Size, Crc, Early}
 use Rattle.conode_compare_values.specs.declared.mismatch.Mismatch.TheVariants.{ValueLength, ValueConst, ConstText, ReadRefused, ReadServed, Written, AboveLimit, BelowLimit, BeyondRoom}
-use Rattle.conode_compare_nmt.specs.declared.finding.Finding.TheVariants.{BootMissing, SecondBootUp, HeartbeatLength, NoState, WrongState, TwoStates, HeartbeatLate, LateAfterBootUp, LateAfterTransfer, EmergencyLength, EmergencyRegister, EmergencyInhibit, NoAnswer, AnswerKey, AnswerForm, AnswerStopped, Transfer, Value, Held, Pdo}
+use Rattle.conode_compare_nmt.specs.declared.finding.Finding.TheVariants.{BootMissing, SecondBootUp, HeartbeatLength, NoState, WrongState, TwoStates, HeartbeatLate, LateAfterBootUp, LateAfterTransfer, HeartbeatOff, EmergencyLength, EmergencyRegister, EmergencyInhibit, NoAnswer, AnswerKey, AnswerForm, AnswerStopped, Transfer, Value, Held, Pdo}
 use Rattle.conode_compare_nmt.specs.declared.finding.NmtState.TheVariants.{PreOperational, Operational}
 use Rattle.conode_compare_rules.specs.declared.kind.FrameKind.TheVariants.{Control, Emergency, Fault, OddControl, OddEmergency, Process, Sdo}
 use Rattle.conode_compare_rules.specs.declared.verdict.Verdict.TheVariants.{Prescribed, Different, Unjudged}
@@ -63,6 +63,10 @@ late_after = refl
 late_after_transfer : finding_text plain (LateAfterTransfer 515001 500) ≡ codes "heartbeat-late: 515.001 ms since a transfer of 1017:00, which has 500 ms"
 unfolding finding_text millis_text digits_text digits filled
 late_after_transfer = refl
+
+off_line : finding_text plain HeartbeatOff ≡ codes "heartbeat-off: heartbeats go on, though 1017:00 has 0"
+unfolding finding_text
+off_line = refl
 
 boot_missing : finding_text plain (BootMissing 10000001) ≡ codes "boot-missing: no boot-up 10000.001 ms after the reset command"
 unfolding finding_text millis_text digits_text digits filled

@@ -11,7 +11,7 @@ use Rattle.conode_compare_transfers.specs.declared.breach.Breach.TheVariants.{To
 use Rattle.conode_compare_values.specs.declared.mismatch.Mismatch.{Mismatch}
 use Rattle.conode_compare_values.specs.declared.mismatch.Mismatch.TheVariants.{ValueLength, ValueConst, ConstText, ReadRefused, ReadServed, Written, AboveLimit, BelowLimit, BeyondRoom}
 use Rattle.conode_compare_nmt.specs.declared.finding.Finding.{Finding}
-use Rattle.conode_compare_nmt.specs.declared.finding.Finding.TheVariants.{BootMissing, SecondBootUp, HeartbeatLength, NoState, WrongState, TwoStates, HeartbeatLate, LateAfterBootUp, LateAfterTransfer, EmergencyLength, EmergencyStopped, EmergencyRegister, EmergencyInhibit, NoAnswer, Unasked, AnswerKey, AnswerForm, AnswerStopped, Transfer, Value, Held, Pdo}
+use Rattle.conode_compare_nmt.specs.declared.finding.Finding.TheVariants.{BootMissing, SecondBootUp, HeartbeatLength, NoState, WrongState, TwoStates, HeartbeatLate, LateAfterBootUp, LateAfterTransfer, HeartbeatOff, EmergencyLength, EmergencyStopped, EmergencyRegister, EmergencyInhibit, NoAnswer, Unasked, AnswerKey, AnswerForm, AnswerStopped, Transfer, Value, Held, Pdo}
 use Rattle.conode_compare_nmt.specs.declared.finding.NmtState.{NmtState}
 use Rattle.conode_compare_nmt.specs.declared.finding.NmtState.TheVariants.{Unknown, Initialising, PreOperational, Operational, Stopped}
 use Rattle.conode_text.specs.Filled.{filled}
@@ -139,6 +139,7 @@ finding_text details (LateAfterBootUp passed period) =
 finding_text details (LateAfterTransfer passed period) =
     filled (codes "heartbeat-late: % since a transfer of 1017:00, which has % ms")
     (millis_text passed ∷ decimal period ∷ [])
+finding_text details HeartbeatOff = codes "heartbeat-off: heartbeats go on, though 1017:00 has 0"
 finding_text details (EmergencyLength length) =
     filled (codes "emcy-length: %, not 8") (bytes_text length ∷ [])
 finding_text details EmergencyStopped = codes "emcy-state: an EMCY while stopped"

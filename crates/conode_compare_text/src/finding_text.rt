@@ -262,6 +262,9 @@ fn finding_said(details: Details, finding: Finding) -> Said
             Value::Millis(passed),
             Value::Number(period as u64),
         ),
+        Finding::HeartbeatOff => Said::Alone(
+            "heartbeat-off: heartbeats go on, though 1017:00 has 0",
+        ),
         Finding::EmergencyLength(length) => Said::One(
             "emcy-length: %, not 8",
             Value::Bytes(length as u64),
