@@ -30,7 +30,7 @@ use std::alloc::AllocError;
 const KEY: Key = Key { index: 0, sub: 0 };
 
 /// All kinds: another format, the faults of a text, those of a build, and the warnings.
-static SUBJECTS: [Subject; 59] = [
+static SUBJECTS: [Subject; 60] = [
     Subject::Format(OtherFormat::Xml),
     Subject::Fault(FaultKind::TooLarge),
     Subject::Fault(FaultKind::BadLine),
@@ -59,6 +59,7 @@ static SUBJECTS: [Subject; 59] = [
     Subject::Warning(WarningKind::SubNumber),
     Subject::Warning(WarningKind::SubIndex0),
     Subject::Warning(WarningKind::VarSubIndices),
+    Subject::Warning(WarningKind::MandatoryForm),
     Subject::Warning(WarningKind::FileInfoKeys([false; 10])),
     Subject::Warning(WarningKind::DeviceInfoKeys([false; 22])),
     Subject::Warning(WarningKind::PdoCount),
