@@ -11,6 +11,8 @@ pub enum WarningKind {
     SubIndex0,
     /// A VAR or a DOMAIN has sub-index sections.
     VarSubIndices,
+    /// 1000h or 1001h isn't a VAR, or 1018h isn't a RECORD with sub-index 1, the vendor-ID.
+    MandatoryForm,
     /// FileInfo is missing, or lacks a key that has to be there: of each, in the order of
     /// `FILE_KEYS`, whether it is missing.
     FileInfoKeys([bool; 10]),

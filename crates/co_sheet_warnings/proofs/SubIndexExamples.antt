@@ -1,6 +1,6 @@
 -- What an object says of its sub-indices, on both sides of each edge.
 use Rattle.std.proofs.Common.{◌≡◌, ℕ, List, [], ◌∷◌, ◌++◌, true, false, refl, codes, map}
-use Rattle.co_sheet_text_warnings.specs.declared.warning.WarningKind.TheVariants.{SubNumber, SubIndex0, VarSubIndices, MissingName}
+use Rattle.co_sheet_text_warnings.specs.declared.warning.WarningKind.TheVariants.{SubNumber, SubIndex0, VarSubIndices, MandatoryForm, MissingName}
 use Rattle.co_sheet_warnings.specs.SubIndices.{is_highest_by_rule, counted}
 use Rattle.co_sheet_warnings.specs.Warnings.{few_places, places_in, places_of}
 use Rattle.co_sheet_text_warnings.specs.InText.{place_in_text}
@@ -88,6 +88,33 @@ vars = refl
 one_sub : places VarSubIndices (codes "[2000]" ∷ codes "[2001subFF]" ∷ codes "[2001]" ∷ []) ≡ 3 ∷ []
 unfolding places_of few_places place_in_text places_in
 one_sub = refl
+
+-- ---- MandatoryForm
+
+-- 1000h and 1001h as a VAR, which they are without an ObjectType, and as no other; whether ObjectType is a number isn't asked here
+abbrev as_type : List ℕ → List (List ℕ)
+as_type line = codes "[0FFF]" ∷ line ∷ codes "[1000]" ∷ line ∷ codes "[1001]" ∷ line ∷ codes "[1002]" ∷ line ∷ []
+
+forms : map (λ line. places MandatoryForm (as_type line)) (codes "ObjectType=0x7" ∷ codes "DataType=9" ∷ codes "ObjectType=" ∷ codes "ObjectType=9" ∷ codes "ObjectType=8" ∷ codes "ObjectType=2" ∷ codes "ObjectType=VAR" ∷ [])
+    ≡ [] ∷ [] ∷ [] ∷ (3 ∷ 5 ∷ []) ∷ (3 ∷ 5 ∷ []) ∷ (3 ∷ 5 ∷ []) ∷ (3 ∷ 5 ∷ []) ∷ []
+unfolding places_of few_places place_in_text places_in
+forms = refl
+
+-- 1018h as a RECORD with sub-index 1
+abbrev identity : List ℕ → List ℕ → List (List ℕ)
+identity line sub = codes "[1018]" ∷ line ∷ codes "[1018sub0]" ∷ sub ∷ []
+
+identities : places MandatoryForm (identity (codes "ObjectType=9") (codes "[1018sub1]")) ∷ places MandatoryForm (identity (codes "ObjectType=9") (codes "[1018sub2]"))
+    ∷ places MandatoryForm (identity (codes "ObjectType=9") (codes "[1017sub1]")) ∷ places MandatoryForm (identity (codes "ObjectType=8") (codes "[1018sub1]")) ∷ []
+    ≡ [] ∷ (1 ∷ []) ∷ (1 ∷ []) ∷ (1 ∷ []) ∷ []
+unfolding places_of few_places place_in_text places_in
+identities = refl
+
+-- a VAR; with sub-index sections, which aren't read, it has VarSubIndices
+identity_var : places MandatoryForm (codes "[1018]" ∷ codes "ObjectType=7" ∷ []) ∷ places MandatoryForm (codes "[1018]" ∷ []) ∷ places MandatoryForm (identity (codes "ObjectType=7") (codes "[1018sub1]")) ∷ places VarSubIndices (identity (codes "ObjectType=7") (codes "[1018sub1]")) ∷ []
+    ≡ (1 ∷ []) ∷ (1 ∷ []) ∷ [] ∷ (1 ∷ []) ∷ []
+unfolding places_of few_places place_in_text places_in
+identity_var = refl
 
 -- ---- MissingName
 

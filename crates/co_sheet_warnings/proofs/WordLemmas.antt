@@ -1,7 +1,7 @@
 -- The tables of words have each kind's words in its row.
 use Rattle.std.proofs.Common.{◌≡◌, ◌<◌, ℕ, List, [], get_or, map, refl, arith}
 use Rattle.co_sheet_text_warnings.specs.declared.warning.WarningKind.{WarningKind}
-use Rattle.co_sheet_text_warnings.specs.declared.warning.WarningKind.TheVariants.{SubNumber, SubIndex0, VarSubIndices, FileInfoKeys, DeviceInfoKeys, PdoCount, WrongList, UncountedKey, Unlisted, IdentityNumber, FixedCobId, NodeIdPlace, NodeIdSum, NegativeLimit, ReservedValue, WrongAccess, WrongType, MisspeltSection, MisspeltKey, SharedCobId, InhibitTime, OwnHeartbeat, HeartbeatTwice, NoErrorControl, LongLine, Utf8, NotAscii, NodeId, ListOrder, EqualNames, MissingName, UnknownKey, DateFormat, LineEnds}
+use Rattle.co_sheet_text_warnings.specs.declared.warning.WarningKind.TheVariants.{SubNumber, SubIndex0, VarSubIndices, MandatoryForm, FileInfoKeys, DeviceInfoKeys, PdoCount, WrongList, UncountedKey, Unlisted, IdentityNumber, FixedCobId, NodeIdPlace, NodeIdSum, NegativeLimit, ReservedValue, WrongAccess, WrongType, MisspeltSection, MisspeltKey, SharedCobId, InhibitTime, OwnHeartbeat, HeartbeatTwice, NoErrorControl, LongLine, Utf8, NotAscii, NodeId, ListOrder, EqualNames, MissingName, UnknownKey, DateFormat, LineEnds}
 use Rattle.co_sheet_warnings.specs.declared.words.TheConstants.{NAMES, MEANINGS, FIXES, SUBJECTS}
 use Rattle.co_sheet_warnings.specs.WarningWords.{name_of, meaning_of, fix_of, subject_of}
 use Rattle.co_sheet_warnings.specs.private.Views.{kind_row}
@@ -22,6 +22,7 @@ pub named : (kind : WarningKind) → get_or names (kind_row kind) [] ≡ name_of
 named SubNumber = refl
 named SubIndex0 = refl
 named VarSubIndices = refl
+named MandatoryForm = refl
 named (FileInfoKeys missing) = refl
 named (DeviceInfoKeys missing) = refl
 named PdoCount = refl
@@ -58,6 +59,7 @@ pub meant : (kind : WarningKind) → get_or meanings (kind_row kind) [] ≡ mean
 meant SubNumber = refl
 meant SubIndex0 = refl
 meant VarSubIndices = refl
+meant MandatoryForm = refl
 meant (FileInfoKeys missing) = refl
 meant (DeviceInfoKeys missing) = refl
 meant PdoCount = refl
@@ -94,6 +96,7 @@ pub ruled : (kind : WarningKind) → get_or subjects (kind_row kind) [] ≡ subj
 ruled SubNumber = refl
 ruled SubIndex0 = refl
 ruled VarSubIndices = refl
+ruled MandatoryForm = refl
 ruled (FileInfoKeys missing) = refl
 ruled (DeviceInfoKeys missing) = refl
 ruled PdoCount = refl
@@ -130,6 +133,7 @@ pub fixed : (kind : WarningKind) → get_or fixes (kind_row kind) [] ≡ fix_of 
 fixed SubNumber = refl
 fixed SubIndex0 = refl
 fixed VarSubIndices = refl
+fixed MandatoryForm = refl
 fixed (FileInfoKeys missing) = refl
 fixed (DeviceInfoKeys missing) = refl
 fixed PdoCount = refl
@@ -163,10 +167,11 @@ fixed DateFormat = refl
 fixed LineEnds = refl
 
 -- no row past the last
-pub few_rows : (kind : WarningKind) → kind_row kind < 34
+pub few_rows : (kind : WarningKind) → kind_row kind < 35
 few_rows SubNumber = omega arith
 few_rows SubIndex0 = omega arith
 few_rows VarSubIndices = omega arith
+few_rows MandatoryForm = omega arith
 few_rows (FileInfoKeys missing) = omega arith
 few_rows (DeviceInfoKeys missing) = omega arith
 few_rows PdoCount = omega arith

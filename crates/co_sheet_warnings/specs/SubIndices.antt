@@ -21,6 +21,7 @@ use Rattle.std.specs.Prelude.{
   codes,
   is_none,
 }
+use Rattle.std.specs.List.{list_any}
 use Rattle.std.specs.Option.{option_map_or}
 use Rattle.co_sheet_text.specs.declared.section_kind.SectionKind.{SectionKind}
 use Rattle.co_sheet_text.specs.declared.section_kind.SectionKind.TheVariants.{Object, SubIndex}
@@ -45,10 +46,36 @@ sub_number sections s kind = []
 abbrev pub is_single : TextSection → Bool
 is_single s = is_one_of single_codes (object_code s)
 
+abbrev pub has_unread : List TextSection → TextSection → ℕ → Bool
+has_unread sections s index = is_single s && nat_lt 0 (length (sub_indices sections index))
+
 abbrev pub var_sub_indices : List TextSection → TextSection → SectionKind → List ℕ
 var_sub_indices sections s (Object index) =
-    if is_single s && nat_lt 0 (length (sub_indices sections index)) then s.line ∷ [] else []
+    if has_unread sections s index then s.line ∷ [] else []
 var_sub_indices sections s kind = []
+
+-- sub-index 1 is described
+abbrev pub is_sub_1 : Entry → Bool
+is_sub_1 e = e.key.sub == 1
+
+abbrev pub has_sub_1 : List Entry → Bool
+has_sub_1 entries = list_any is_sub_1 entries
+
+-- an object in another form than CiA 301 has it: 1000h and 1001h are a VAR, 1018h is a RECORD with
+-- sub-index 1, the vendor-ID
+abbrev pub is_other_form : List TextSection → TextSection → ℕ → Bool
+is_other_form sections s index =
+    if (index == 0x1000) || (index == 0x1001) then not (is_one_of (7 ∷ []) (object_code s))
+    else (index == 0x1018)
+    && not (is_one_of (9 ∷ []) (object_code s) && has_sub_1 (sub_indices sections index))
+
+-- a mandatory object in another form; of one whose sub-index sections aren't read, var_sub_indices
+-- says so
+abbrev pub mandatory_form : List TextSection → TextSection → SectionKind → List ℕ
+mandatory_form sections s (Object index) =
+    if is_other_form sections s index && not (has_unread sections s index) then s.line ∷ []
+    else []
+mandatory_form sections s kind = []
 
 -- an object section that no list names; of an object without one its first sub-index section
 abbrev pub is_first : List Entry → ℕ → Bool

@@ -6,6 +6,7 @@ use Rattle.co_sheet_text_warnings.specs.declared.warning.WarningKind.TheVariants
   SubNumber,
   SubIndex0,
   VarSubIndices,
+  MandatoryForm,
   FileInfoKeys,
   DeviceInfoKeys,
   PdoCount,
@@ -44,6 +45,7 @@ abbrev pub name_of : WarningKind → List ℕ
 name_of SubNumber = codes "SubNumber"
 name_of SubIndex0 = codes "SubIndex0"
 name_of VarSubIndices = codes "VarSubIndices"
+name_of MandatoryForm = codes "MandatoryForm"
 name_of (FileInfoKeys missing) = codes "FileInfoKeys"
 name_of (DeviceInfoKeys missing) = codes "DeviceInfoKeys"
 name_of PdoCount = codes "PdoCount"
@@ -82,6 +84,8 @@ meaning_of SubNumber = codes "SubNumber isn't the number of the object's sub-ind
 meaning_of SubIndex0 = codes "sub-index 0 isn't the highest sub-index of the object"
 meaning_of VarSubIndices =
     codes "the object is a VAR or a DOMAIN, so its sub-index sections aren't read"
+meaning_of MandatoryForm =
+    codes "CiA 301 has 1000h and 1001h as a VAR, 1018h as a RECORD with sub-index 1, the vendor-ID"
 meaning_of (FileInfoKeys missing) = codes "FileInfo is missing, or a key that it has to have"
 meaning_of (DeviceInfoKeys missing) = codes "DeviceInfo is missing, or a key that it has to have"
 meaning_of PdoCount = codes "this isn't the number of PDOs that the sheet has"
@@ -125,6 +129,8 @@ abbrev pub fix_of : WarningKind → List ℕ
 fix_of SubNumber = codes "count the sections; one may be missing, or its name misspelt"
 fix_of SubIndex0 = codes "give it the highest sub-index, or describe the one that is missing"
 fix_of VarSubIndices = codes "give it ObjectType=0x8 or 0x9, or take these sections out"
+fix_of MandatoryForm =
+    codes "give 1000h and 1001h ObjectType=7; give 1018h ObjectType=9, and describe [1018sub1]"
 fix_of (FileInfoKeys missing) = codes "add the missing section or keys"
 fix_of (DeviceInfoKeys missing) = codes "add the missing section or keys"
 fix_of PdoCount =
@@ -169,6 +175,7 @@ abbrev pub subject_of : WarningKind → List ℕ
 subject_of SubNumber = codes "CiA 306-1, object description"
 subject_of SubIndex0 = codes "CiA 301, sub-index 0 of arrays and records"
 subject_of VarSubIndices = codes "CiA 306-1, object description"
+subject_of MandatoryForm = codes "CiA 301, mandatory objects"
 subject_of (FileInfoKeys missing) = codes "CiA 306-1, file information"
 subject_of (DeviceInfoKeys missing) = codes "CiA 306-1, device information"
 subject_of PdoCount = codes "CiA 306-1, device information"

@@ -26,6 +26,7 @@ use Rattle.co_sheet_text_warnings.specs.declared.warning.WarningKind.TheVariants
   SubNumber,
   SubIndex0,
   VarSubIndices,
+  MandatoryForm,
   FileInfoKeys,
   DeviceInfoKeys,
   PdoCount,
@@ -65,6 +66,7 @@ use Rattle.co_sheet_warnings.specs.SubIndices.{
   sub_number,
   sub_index_0,
   var_sub_indices,
+  mandatory_form,
   unlisted,
   missing_name,
 }
@@ -91,6 +93,7 @@ unfoldable pub places_in : ReadText → WarningKind → TextSection → List ℕ
 places_in t SubNumber s = sub_number t.sections s s.kind
 places_in t SubIndex0 s = sub_index_0 t.sections s s.kind
 places_in t VarSubIndices s = var_sub_indices t.sections s s.kind
+places_in t MandatoryForm s = mandatory_form t.sections s s.kind
 places_in t Unlisted s = unlisted t.sections s s.kind
 places_in t FixedCobId s = fixed_cob_id t.sections s
 places_in t NodeIdPlace s = node_id_place s
@@ -132,7 +135,7 @@ places_of t kind = few_places t kind
 -- those after them, and those of taste; what a kind says of a text is still open
 abbrev pub first_kinds : List WarningKind
 first_kinds =
-    SubNumber ∷ SubIndex0 ∷ VarSubIndices ∷ FileInfoKeys (replicate 10 false)
+    SubNumber ∷ SubIndex0 ∷ VarSubIndices ∷ MandatoryForm ∷ FileInfoKeys (replicate 10 false)
     ∷ DeviceInfoKeys (replicate 22 false) ∷ PdoCount ∷ WrongList ∷ UncountedKey ∷ Unlisted
     ∷ IdentityNumber 1 ∷ IdentityNumber 2 ∷ IdentityNumber 3 ∷ FixedCobId ∷ NodeIdPlace
     ∷ NodeIdSum ∷ NegativeLimit ∷ ReservedValue ∷ WrongAccess ∷ WrongType ∷ MisspeltSection

@@ -10,7 +10,9 @@ use crate::communication::{heartbeat_twice, inhibit_time, own_heartbeat};
 use crate::limits::negative_limit;
 use crate::node_id_sums::node_id_sum;
 use crate::reserved_values::reserved_value;
-use crate::sub_indices::{missing_name, sub_index_0, sub_number, unlisted, var_sub_indices};
+use crate::sub_indices::{
+    mandatory_form, missing_name, sub_index_0, sub_number, unlisted, var_sub_indices,
+};
 use crate::types::wrong_type;
 use co_sheet_text::TextSection;
 use co_sheet_text_warnings::{ReadText, WarningKind, misspelt_section, no_node_id};
@@ -24,6 +26,7 @@ pub(crate) fn place_in(text: &ReadText, kind: WarningKind, section: &TextSection
         WarningKind::SubNumber => sub_number(text, section),
         WarningKind::SubIndex0 => sub_index_0(text, section),
         WarningKind::VarSubIndices => var_sub_indices(text, section),
+        WarningKind::MandatoryForm => mandatory_form(text, section),
         WarningKind::Unlisted => unlisted(text, section),
         WarningKind::FixedCobId => fixed_cob_id(text, section),
         WarningKind::NodeIdPlace => node_id_place(section),

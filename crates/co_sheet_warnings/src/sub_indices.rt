@@ -1,13 +1,20 @@
 //! What an object says of its sub-indices, against those that the text describes.
 
-ghost use Rattle.std.specs.Prelude.{◌≡◌, map, option_map, option_to_list};
+ghost use Rattle.std.specs.Prelude.{◌≡◌, [], ◌∷◌, map, option_map, option_to_list};
 ghost use Rattle.co_sheet_text.specs.Views.{property_view, section_view};
+ghost use Rattle.co_sheet.specs.Entries.{object_code};
+ghost use Rattle.co_sheet.specs.ObjectLists.{is_one_of};
 ghost use Rattle.co_sheet.specs.SectionViews.{entry_view};
 ghost use Rattle.co_sheet_warnings.specs.Repeats.{value_in};
 ghost use Rattle.co_sheet_warnings.specs.SubIndices.{
   highest_of,
   is_highest_by_rule,
+  has_sub_1,
+  has_unread,
+  is_other_form,
   is_single,
+  is_sub_1,
+  mandatory_form,
   missing_name,
   stands_for_object,
   sub_index_0,
@@ -53,13 +60,71 @@ fn is_single(section: &TextSection) -> bool
     }
 }
 
+// whether such an object has sub-index sections
+fn has_unread(text: &ReadText, section: &TextSection, index: u16) -> bool
+    ensures { result ≡ has_unread text.now.sections (section_view section.now) index }
+{
+    is_single(section) && 0 < text.parts(index).len()
+}
+
 /// The line of a VAR or a DOMAIN that has sub-index sections.
 pub(crate) fn var_sub_indices(text: &ReadText, section: &TextSection) -> Option<usize>
     ensures { option_to_list result
         ≡ var_sub_indices text.now.sections (section_view section.now) section.now.kind }
 {
     match section.kind {
-        SectionKind::Object(index) if is_single(section) && 0 < text.parts(index).len() => {
+        SectionKind::Object(index) if has_unread(text, section, index) => Some(section.line),
+        _ => None,
+    }
+}
+
+// whether an object has this ObjectType, which is 7 where there is none
+fn has_type(code: u64, section: &TextSection) -> bool
+    ensures { result ≡ is_one_of (code ∷ []) (object_code (section_view section.now)) }
+{
+    match section.property(b"ObjectType") {
+        Some(given) => given.number() == Some(code),
+        None => code == 7,
+    }
+}
+
+fn is_sub_1(part: &EntrySection) -> bool
+    ensures { result ≡ is_sub_1 (entry_view part.now) }
+{
+    part.key.sub == 1
+}
+
+fn has_sub_1(parts: &[EntrySection]) -> bool
+    ensures { result ≡ has_sub_1 (map entry_view parts.now) }
+{
+    for part in parts {
+        if is_sub_1(part) {
+            return true;
+        }
+    }
+    false
+}
+
+// whether an object is in another form than CiA 301 has it
+fn is_other_form(text: &ReadText, section: &TextSection, index: u16) -> bool
+    ensures { result ≡ is_other_form text.now.sections (section_view section.now) index }
+{
+    match index {
+        0x1000 | 0x1001 => !has_type(7, section),
+        0x1018 => !(has_type(9, section) && has_sub_1(text.parts(index))),
+        _ => false,
+    }
+}
+
+/// The line of a mandatory object in another form than CiA 301 has it (1000h and 1001h: VAR; 1018h:
+/// RECORD with sub-index 1, the vendor-ID), unless its sub-index sections aren't read.
+pub(crate) fn mandatory_form(text: &ReadText, section: &TextSection) -> Option<usize>
+    ensures { option_to_list result
+        ≡ mandatory_form text.now.sections (section_view section.now) section.now.kind }
+{
+    match section.kind {
+        SectionKind::Object(index)
+            if is_other_form(text, section, index) && !has_unread(text, section, index) => {
             Some(section.line)
         }
         _ => None,

@@ -19,37 +19,38 @@ fn row(kind: WarningKind) -> usize
         WarningKind::SubNumber => 0,
         WarningKind::SubIndex0 => 1,
         WarningKind::VarSubIndices => 2,
-        WarningKind::FileInfoKeys(_) => 3,
-        WarningKind::DeviceInfoKeys(_) => 4,
-        WarningKind::PdoCount => 5,
-        WarningKind::WrongList => 6,
-        WarningKind::UncountedKey => 7,
-        WarningKind::Unlisted => 8,
-        WarningKind::IdentityNumber(_) => 9,
-        WarningKind::FixedCobId => 10,
-        WarningKind::NodeIdPlace => 11,
-        WarningKind::NodeIdSum => 12,
-        WarningKind::NegativeLimit => 13,
-        WarningKind::ReservedValue => 14,
-        WarningKind::WrongAccess => 15,
-        WarningKind::WrongType => 16,
-        WarningKind::MisspeltSection => 17,
-        WarningKind::MisspeltKey(_) => 18,
-        WarningKind::SharedCobId(_) => 19,
-        WarningKind::InhibitTime => 20,
-        WarningKind::OwnHeartbeat => 21,
-        WarningKind::HeartbeatTwice(_) => 22,
-        WarningKind::NoErrorControl => 23,
-        WarningKind::LongLine => 24,
-        WarningKind::Utf8 => 25,
-        WarningKind::NotAscii => 26,
-        WarningKind::NodeId => 27,
-        WarningKind::ListOrder => 28,
-        WarningKind::EqualNames => 29,
-        WarningKind::MissingName => 30,
-        WarningKind::UnknownKey => 31,
-        WarningKind::DateFormat => 32,
-        WarningKind::LineEnds => 33,
+        WarningKind::MandatoryForm => 3,
+        WarningKind::FileInfoKeys(_) => 4,
+        WarningKind::DeviceInfoKeys(_) => 5,
+        WarningKind::PdoCount => 6,
+        WarningKind::WrongList => 7,
+        WarningKind::UncountedKey => 8,
+        WarningKind::Unlisted => 9,
+        WarningKind::IdentityNumber(_) => 10,
+        WarningKind::FixedCobId => 11,
+        WarningKind::NodeIdPlace => 12,
+        WarningKind::NodeIdSum => 13,
+        WarningKind::NegativeLimit => 14,
+        WarningKind::ReservedValue => 15,
+        WarningKind::WrongAccess => 16,
+        WarningKind::WrongType => 17,
+        WarningKind::MisspeltSection => 18,
+        WarningKind::MisspeltKey(_) => 19,
+        WarningKind::SharedCobId(_) => 20,
+        WarningKind::InhibitTime => 21,
+        WarningKind::OwnHeartbeat => 22,
+        WarningKind::HeartbeatTwice(_) => 23,
+        WarningKind::NoErrorControl => 24,
+        WarningKind::LongLine => 25,
+        WarningKind::Utf8 => 26,
+        WarningKind::NotAscii => 27,
+        WarningKind::NodeId => 28,
+        WarningKind::ListOrder => 29,
+        WarningKind::EqualNames => 30,
+        WarningKind::MissingName => 31,
+        WarningKind::UnknownKey => 32,
+        WarningKind::DateFormat => 33,
+        WarningKind::LineEnds => 34,
     }
 }
 
@@ -62,10 +63,11 @@ fn text_at(texts: &[&'static str], row: usize) -> &'static str
 }
 
 /// The names of all kinds, by row.
-const NAMES: [&str; 34] = [
+const NAMES: [&str; 35] = [
     "SubNumber",
     "SubIndex0",
     "VarSubIndices",
+    "MandatoryForm",
     "FileInfoKeys",
     "DeviceInfoKeys",
     "PdoCount",
@@ -107,10 +109,11 @@ pub fn name_of(kind: WarningKind) -> &'static str
 }
 
 /// What a warning of each kind means, by row.
-const MEANINGS: [&str; 34] = [
+const MEANINGS: [&str; 35] = [
     "SubNumber isn't the number of the object's sub-index sections",
     "sub-index 0 isn't the highest sub-index of the object",
     "the object is a VAR or a DOMAIN, so its sub-index sections aren't read",
+    "CiA 301 has 1000h and 1001h as a VAR, 1018h as a RECORD with sub-index 1, the vendor-ID",
     "FileInfo is missing, or a key that it has to have",
     "DeviceInfo is missing, or a key that it has to have",
     "this isn't the number of PDOs that the sheet has",
@@ -152,10 +155,11 @@ pub fn meaning_of(kind: WarningKind) -> &'static str
 }
 
 /// How a warning of each kind is fixed, by row.
-const FIXES: [&str; 34] = [
+const FIXES: [&str; 35] = [
     "count the sections; one may be missing, or its name misspelt",
     "give it the highest sub-index, or describe the one that is missing",
     "give it ObjectType=0x8 or 0x9, or take these sections out",
+    "give 1000h and 1001h ObjectType=7; give 1018h ObjectType=9, and describe [1018sub1]",
     "add the missing section or keys",
     "add the missing section or keys",
     "count the objects 1400h to 15FFh for NrOfRXPDO, 1800h to 19FFh for NrOfTXPDO",
@@ -200,10 +204,11 @@ pub fn fix_of(kind: WarningKind) -> &'static str
 }
 
 /// The subject that has the rule of each kind, by row.
-const SUBJECTS: [&str; 34] = [
+const SUBJECTS: [&str; 35] = [
     "CiA 306-1, object description",
     "CiA 301, sub-index 0 of arrays and records",
     "CiA 306-1, object description",
+    "CiA 301, mandatory objects",
     "CiA 306-1, file information",
     "CiA 306-1, device information",
     "CiA 306-1, device information",

@@ -1,9 +1,9 @@
 -- Formats, the node-ID and names that pass, evaluated.
 use Rattle.std.proofs.Common.{◌≡◌, true, false, [], ◌∷◌, ◌++◌, codes, map, Some, None, refl}
 use Rattle.co_sheet.specs.Content.{SheetContent}
-use Rattle.conode_lint_marks.specs.declared.mark.OtherFormat.TheVariants.{Xml, EtherNetIp, Utf16, CarriageReturns, NoSection}
+use Rattle.conode_lint_marks.specs.declared.mark.OtherFormat.TheVariants.{Xml, EtherNetIp, Utf16, CarriageReturns, NoSection, DoubledReturns}
 use Rattle.conode_lint.specs.Allowed.{names_after, names_allowed, names_in, names_on, passes_by}
-use Rattle.conode_lint.specs.Formats.{begins_with, format_line, has_line, has_text, is_text, other_format}
+use Rattle.conode_lint.specs.Formats.{begins_with, format_line, found_format, has_line, has_other_end, has_text, is_text, other_format}
 use Rattle.conode_lint.specs.Marks.{format_of, node_for}
 
 -- ---- formats
@@ -34,6 +34,24 @@ returns : other_format ((codes "[FileInfo]" ++ 13 ∷ codes "[1000]") ∷ []) �
     ≡ Some CarriageReturns ∷ Some CarriageReturns ∷ Some CarriageReturns ∷ Some Xml ∷ None ∷ None ∷ []
 unfolding other_format has_line has_text
 returns = refl
+
+-- CR left at the end of each line but the last, which may lack its end; a second line without it, an empty one too; one line; a
+-- recording has no section, and is no such sheet
+doubled : found_format ((codes "[1000]" ++ 13 ∷ []) ∷ (13 ∷ []) ∷ (codes "DataType=7" ++ 13 ∷ []) ∷ []) ∷ found_format ((codes "[1000]" ++ 13 ∷ []) ∷ codes "DataType=7" ∷ []) ∷ found_format ((codes "[1000]" ++ 13 ∷ []) ∷ codes "DataType=7" ∷ codes "" ∷ [])
+    ∷ found_format ((codes "[1000]" ++ 13 ∷ []) ∷ [] ∷ (13 ∷ []) ∷ []) ∷ found_format (codes "[1000]" ∷ (13 ∷ []) ∷ []) ∷ found_format (codes "[1000]" ∷ []) ∷ found_format ((codes "[1000]" ++ 13 ∷ []) ∷ [])
+    ∷ found_format ((codes "(1.0) can0 705#00" ++ 13 ∷ []) ∷ (codes "(2.0) can0 705#00" ++ 13 ∷ []) ∷ []) ∷ found_format [] ∷ []
+    ≡ Some DoubledReturns ∷ Some DoubledReturns ∷ None ∷ None ∷ None ∷ None ∷ Some CarriageReturns ∷ Some NoSection ∷ None ∷ []
+unfolding other_format has_line has_text has_other_end
+doubled = refl
+
+-- of that the first line shows it; other commands read such a sheet
+doubled_shown : format_line DoubledReturns ((codes ";" ++ 13 ∷ []) ∷ codes "[1000]" ∷ []) ≡ 1
+unfolding format_line
+doubled_shown = refl
+
+doubled_read : other_format ((codes "[1000]" ++ 13 ∷ []) ∷ (codes "DataType=7" ++ 13 ∷ []) ∷ []) ≡ None
+unfolding other_format has_line has_text
+doubled_read = refl
 
 line_texts : map is_text (codes "" ∷ codes "a" ∷ codes "!" ∷ codes ";" ∷ codes " a" ∷ (31 ∷ []) ∷ (255 ∷ []) ∷ []) ≡ false ∷ true ∷ true ∷ false ∷ false ∷ false ∷ true ∷ []
 line_texts = refl

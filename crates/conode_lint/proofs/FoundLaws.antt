@@ -22,7 +22,7 @@ use Rattle.conode_lint_marks.specs.declared.mark.Mark.{Mark}
 use Rattle.conode_lint_marks.specs.declared.mark.OtherFormat.{OtherFormat}
 use Rattle.conode_lint.specs.declared.marks.Checks.{Checks}
 use Rattle.conode_lint_marks.specs.BuildLines.{built_marks}
-use Rattle.conode_lint.specs.Formats.{other_format}
+use Rattle.conode_lint.specs.Formats.{found_format}
 use Rattle.co_sheet_text_warnings.specs.Lines.{text_lines}
 use Rattle.conode_lint.specs.Linted.{first_build_fault, has_error, is_good}
 use Rattle.conode_lint.specs.Marks.{IsAllFound, IsFaultList, IsFound, IsFoundIn, errors_of, fault_mark, left_of, format_of, node_for, sheet_marks, text_marks}
@@ -141,11 +141,11 @@ module _
       (subst (λ (l : List Mark). Contains l (fault_mark fault)) (sym all.are.are)
       (Contains-append_left (map fault_mark faults) _ (fault_mark fault) (contained-map faults fault there)))
 
-  no_other : (lines : List (List ℕ)) (faults : List SheetFault) → other_format lines ≡ None → format_of lines faults ≡ None
+  no_other : (lines : List (List ℕ)) (faults : List SheetFault) → found_format lines ≡ None → format_of lines faults ≡ None
   no_other lines [] other = refl
   no_other lines (fault ∷ faults) other = other
 
-  pub first-found : (checks : Checks) (found : List Mark) (fault : SheetFault) → IsFound text checks found → first_fault text ≡ Some fault → other_format (text_lines text) ≡ None
+  pub first-found : (checks : Checks) (found : List Mark) (fault : SheetFault) → IsFound text checks found → first_fault text ≡ Some fault → found_format (text_lines text) ≡ None
       → Contains found (fault_mark fault)
   first-found checks found fault is here other =
       in_read checks is.faults found fault (is.are_faults.all fault (first text fault here)) (format_of (text_lines text) is.faults) (no_other (text_lines text) is.faults other) is.marks

@@ -1,7 +1,7 @@
 -- The words about a text that is no data sheet of CANopen.
 use Rattle.std.specs.Prelude.{List, ℕ, codes}
 use Rattle.conode_lint_marks.specs.declared.mark.OtherFormat.{OtherFormat}
-use Rattle.conode_lint_marks.specs.declared.mark.OtherFormat.TheVariants.{Xml, EtherNetIp, Utf16, CarriageReturns, NoSection}
+use Rattle.conode_lint_marks.specs.declared.mark.OtherFormat.TheVariants.{Xml, EtherNetIp, Utf16, CarriageReturns, NoSection, DoubledReturns}
 
 -- what it is
 abbrev pub format_meaning : OtherFormat → List ℕ
@@ -10,6 +10,8 @@ format_meaning EtherNetIp = codes "this is an EDS of EtherNet/IP or DeviceNet, a
 format_meaning Utf16 = codes "this is in UTF-16, and an EDS is in ASCII"
 format_meaning CarriageReturns = codes "this is one line, since its lines end with CR alone"
 format_meaning NoSection = codes "this is no EDS: it has no section of an object, as [1000]"
+format_meaning DoubledReturns =
+    codes "its lines end with CR, CR and LF, as after two conversions of line ends"
 
 -- what to do
 abbrev pub format_fix : OtherFormat → List ℕ
@@ -19,6 +21,7 @@ format_fix Utf16 = codes "save it as UTF-8"
 format_fix CarriageReturns = codes "end the lines with CR and LF, or with LF alone"
 format_fix NoSection =
     codes "lint a data sheet, EDS or DCF; a recording is no data sheet: conode explain reads it"
+format_fix DoubledReturns = codes "end the lines with CR and LF, or with LF alone, or try conode adapt"
 
 abbrev pub format_subject : List ℕ
 format_subject = codes "CiA 306-1, structure of an EDS"

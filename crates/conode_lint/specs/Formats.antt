@@ -1,10 +1,11 @@
 -- Which texts with faults are of another format, and no data sheet of CANopen.
-use Rattle.std.specs.Prelude.{ℕ, ◌+◌, nat_eq, nat_le, nat_lt, ◌==◌, Bool, true, false, not, ◌&&◌, ◌||◌, if◌then◌else◌, List, [], ◌∷◌, length, take, codes, Option, Some, None}
+use Rattle.std.specs.Prelude.{ℕ, ◌+◌, ◌-◌, nat_eq, nat_le, nat_lt, ◌==◌, Bool, true, false, not, ◌&&◌, ◌||◌, if◌then◌else◌, List, [], ◌∷◌, length, slice_index, take, codes, Option, Some, None}
 use Rattle.std.specs.List.{list_any, position_or_len, starts_with}
+use Rattle.std.specs.Option.{option_or}
 use Rattle.co_sheet_text.specs.Text.{same_name, trim}
 use Rattle.co_sheet_text_warnings.specs.Lines.{text_lines}
 use Rattle.conode_lint_marks.specs.declared.mark.OtherFormat.{OtherFormat}
-use Rattle.conode_lint_marks.specs.declared.mark.OtherFormat.TheVariants.{Xml, EtherNetIp, Utf16, CarriageReturns, NoSection}
+use Rattle.conode_lint_marks.specs.declared.mark.OtherFormat.TheVariants.{Xml, EtherNetIp, Utf16, CarriageReturns, NoSection, DoubledReturns}
 
 -- a line begins with a word, in any case of letters
 abbrev pub begins_with : List ℕ → List ℕ → Bool
@@ -60,18 +61,39 @@ other_format lines =
     else if is_without_section lines then Some NoSection
     else None
 
+-- the last byte of a line isn't CR; one of the lines is such a line
+abbrev pub lacks_return : List ℕ → Bool
+lacks_return line = not (slice_index line (length line - 1) == 13)
+
+unfoldable pub has_other_end : List (List ℕ) → Bool
+has_other_end lines = list_any lacks_return lines
+
+-- several lines of which each but the last ends with CR, once the end of the line, CR and LF, is cut
+-- off: a text whose line ends were converted twice
+abbrev pub has_doubled_returns : List (List ℕ) → Bool
+has_doubled_returns lines =
+    nat_lt 1 (length lines) && not (has_other_end (take (length lines - 1) lines))
+
+-- the format that lint finds: another one, or that of a data sheet whose lines end with CR, CR and LF,
+-- which other commands read
+abbrev pub found_format : List (List ℕ) → Option OtherFormat
+found_format lines =
+    option_or (other_format lines)
+    (if has_doubled_returns lines then Some DoubledReturns else None)
+
 -- the format of a text, if it is another one
 abbrev pub text_format : List ℕ → Option OtherFormat
 text_format text = other_format (text_lines text)
 
--- a line shows the format of its text: one that begins with the word of XML or with [Device]; in UTF-16
--- and with CR alone the first one does; one with a text, where no line begins a section
+-- a line shows the format of its text: one that begins with the word of XML or with [Device]; in UTF-16,
+-- with CR alone and with CR, CR and LF the first one does; one with a text, where no line begins a section
 abbrev pub shows : OtherFormat → List ℕ → Bool
 shows Xml line = begins_with (codes "<?xml") (trim line) || begins_with (codes "<ISO15745") (trim line)
 shows EtherNetIp line = begins_with (codes "[Device]") (trim line)
 shows Utf16 line = true
 shows CarriageReturns line = true
 shows NoSection line = is_text (trim line)
+shows DoubledReturns line = true
 
 -- the first line that shows the format, from 1
 unfoldable pub format_line : OtherFormat → List (List ℕ) → ℕ

@@ -23,7 +23,7 @@ use Rattle.conode_lint.specs.declared.marks.Checks.{Checks}
 use Rattle.conode_lint_marks.specs.BuildLines.{built_marks}
 use Rattle.conode_lint_marks.specs.Beside.{beside_marks, sheet_of}
 use Rattle.conode_lint_marks.specs.KnownWarnings.{bad_lines, known_warnings, warning_mark}
-use Rattle.conode_lint.specs.Formats.{format_line, other_format}
+use Rattle.conode_lint.specs.Formats.{format_line, found_format}
 use Rattle.co_sheet_text_warnings.specs.Lines.{text_lines}
 
 -- the mark of a fault
@@ -115,7 +115,7 @@ pub record IsAllFound (text : List ℕ) (checks : Checks) (faults : List SheetFa
 -- the format of a text with faults, if it is another
 abbrev pub format_of : List (List ℕ) → List SheetFault → Option OtherFormat
 format_of lines [] = None
-format_of lines faults = other_format lines
+format_of lines faults = found_format lines
 
 -- what is found: only the format, if it is another one, else all
 abbrev pub IsFoundIn : List ℕ → Checks → List SheetFault → List Mark → Option OtherFormat → Type 0

@@ -16,6 +16,9 @@ pub fn format_meaning(format: OtherFormat) -> &'static str
         OtherFormat::Utf16 => "this is in UTF-16, and an EDS is in ASCII",
         OtherFormat::CarriageReturns => "this is one line, since its lines end with CR alone",
         OtherFormat::NoSection => "this is no EDS: it has no section of an object, as [1000]",
+        OtherFormat::DoubledReturns => {
+            "its lines end with CR, CR and LF, as after two conversions of line ends"
+        }
     }
 }
 
@@ -30,6 +33,9 @@ pub(crate) fn format_fix(format: OtherFormat) -> &'static str
         OtherFormat::CarriageReturns => "end the lines with CR and LF, or with LF alone",
         OtherFormat::NoSection => {
             "lint a data sheet, EDS or DCF; a recording is no data sheet: conode explain reads it"
+        }
+        OtherFormat::DoubledReturns => {
+            "end the lines with CR and LF, or with LF alone, or try conode adapt"
         }
     }
 }

@@ -6,7 +6,7 @@ ghost use Rattle.co_sheet.specs.Accepted.{first_fault};
 ghost use Rattle.co_dict_build.specs.Capacities.{limits_view};
 ghost use Rattle.conode_lint_marks.specs.declared.mark.Mark.{Mark};
 ghost use Rattle.conode_lint.specs.declared.marks.Checks.{Checks as Asked};
-ghost use Rattle.conode_lint.specs.Formats.{other_format};
+ghost use Rattle.conode_lint.specs.Formats.{found_format};
 ghost use Rattle.co_sheet_text_warnings.specs.Lines.{text_lines};
 ghost use Rattle.conode_lint.specs.Linted.{has_error, is_good};
 ghost use Rattle.conode_lint.specs.Marks.{IsFound, fault_mark};
@@ -24,7 +24,7 @@ pub fn linted_texts()
         has_error found ≡ not (is_good text checks.node (limits_view checks.limits)) }
     ensures first { (text : List ℕ) (checks : Asked) (found : List Mark) (fault : Fault) →
         IsFound text checks found → first_fault text ≡ Some fault →
-        other_format (text_lines text) ≡ None → Contains found (fault_mark fault) }
+        found_format (text_lines text) ≡ None → Contains found (fault_mark fault) }
 {
     all_faults();
     all_build_faults();

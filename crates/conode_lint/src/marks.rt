@@ -24,7 +24,7 @@ ghost use Rattle.conode_lint.specs.Marks.{
   text_sections,
 };
 
-use crate::other_format::{format_line, other_format};
+use crate::other_format::{format_line, found_format};
 use co_dict_build::Limits;
 use co_sheet::{GREATEST_SIZE, Sheet, SheetFault};
 use co_sheet_faults::{all_faults, find_faults};
@@ -215,7 +215,7 @@ fn format_of(lines: &[&[u8]], faults: &[SheetFault]) -> Option<OtherFormat>
     if faults.is_empty() {
         None
     } else {
-        other_format(lines)
+        found_format(lines)
     }
 }
 

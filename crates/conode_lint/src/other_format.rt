@@ -5,13 +5,17 @@ ghost use Rattle.conode_lint.specs.Formats.{
   begins_in_utf16,
   begins_with,
   format_line,
+  found_format,
+  has_doubled_returns,
   has_line,
+  has_other_end,
   has_returns,
   has_text,
   is_ethernet_ip,
   is_text,
   is_utf16,
   is_without_section,
+  lacks_return,
   other_format,
   shows,
   text_format,
@@ -126,8 +130,49 @@ pub(crate) fn other_format(lines: &[&[u8]]) -> Option<OtherFormat>
     }
 }
 
-// whether a line shows the format of its text; in UTF-16 and with CR alone the first one does, without
-// a section one with a text
+// whether the last byte of a line isn't CR
+fn lacks_return(line: &[u8]) -> bool
+    ensures { result ≡ lacks_return line.now }
+{
+    match line.last() {
+        Some(byte) => *byte != b'\r',
+        None => true,
+    }
+}
+
+#[tactic(auto, unfolding(crate::specs::Formats::has_other_end))]
+fn has_other_end(lines: &[&[u8]]) -> bool
+    ensures { result ≡ has_other_end (map (λ line. line.now) lines.now) }
+{
+    for line in lines {
+        if lacks_return(line) {
+            return true;
+        }
+    }
+    false
+}
+
+// whether each line but the last still ends with CR, as in a text whose line ends were converted twice
+fn has_doubled_returns(lines: &[&[u8]]) -> bool
+    ensures { result ≡ has_doubled_returns (map (λ line. line.now) lines.now) }
+{
+    1 < lines.len() && !has_other_end(&lines[..lines.len() - 1])
+}
+
+/// The format that lint finds in a text with faults: another one, or that of a data sheet whose lines
+/// end with CR, CR and LF.
+pub(crate) fn found_format(lines: &[&[u8]]) -> Option<OtherFormat>
+    ensures { result ≡ found_format (map (λ line. line.now) lines.now) }
+{
+    match other_format(lines) {
+        Some(format) => Some(format),
+        None if has_doubled_returns(lines) => Some(OtherFormat::DoubledReturns),
+        None => None,
+    }
+}
+
+// whether a line shows the format of its text; in UTF-16, with CR alone and with CR, CR and LF the first
+// one does, without a section one with a text
 fn shows(format: OtherFormat, line: &[u8]) -> bool
     ensures { result ≡ shows format line.now }
 {
@@ -135,7 +180,7 @@ fn shows(format: OtherFormat, line: &[u8]) -> bool
     match format {
         OtherFormat::Xml => begins_with(b"<?xml", text) || begins_with(b"<ISO15745", text),
         OtherFormat::EtherNetIp => begins_with(b"[Device]", text),
-        OtherFormat::Utf16 | OtherFormat::CarriageReturns => true,
+        OtherFormat::Utf16 | OtherFormat::CarriageReturns | OtherFormat::DoubledReturns => true,
         OtherFormat::NoSection => is_text(text),
     }
 }

@@ -30,7 +30,7 @@ use std::alloc::AllocError;
 const KEY: Key = Key { index: 0, sub: 0 };
 
 /// All kinds: another format, the faults of a text, those of a build, and the warnings.
-static SUBJECTS: [Subject; 59] = [
+static SUBJECTS: [Subject; 60] = [
     Subject::Format(OtherFormat::Xml),
     Subject::Fault(FaultKind::TooLarge),
     Subject::Fault(FaultKind::BadLine),
@@ -59,6 +59,7 @@ static SUBJECTS: [Subject; 59] = [
     Subject::Warning(WarningKind::SubNumber),
     Subject::Warning(WarningKind::SubIndex0),
     Subject::Warning(WarningKind::VarSubIndices),
+    Subject::Warning(WarningKind::MandatoryForm),
     Subject::Warning(WarningKind::FileInfoKeys([false; 10])),
     Subject::Warning(WarningKind::DeviceInfoKeys([false; 22])),
     Subject::Warning(WarningKind::PdoCount),
@@ -107,7 +108,7 @@ fn words_of(subject: Subject) -> (&'static str, &'static str)
     match subject {
         Subject::Format(_) => (
             "this is no EDS of CANopen: it is XML, an EDS of EtherNet/IP or DeviceNet, in UTF-16, with \
-            CR alone at line ends, or without a section",
+            CR alone or CR, CR and LF at line ends, or without a section",
             "export or ask for an EDS of CANopen, in ASCII",
         ),
         _ => (meaning_of(Mark { line: 1, subject }), fix_of(subject)),

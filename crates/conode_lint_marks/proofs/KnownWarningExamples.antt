@@ -9,7 +9,7 @@ use Rattle.co_sheet_text.specs.declared.section_kind.SectionKind.TheVariants.{De
 use Rattle.co_sheet_text.specs.Sections.{TextSection, form_of}
 use Rattle.co_sheet_text_warnings.specs.declared.warning.Warning.{Warning}
 use Rattle.co_sheet_text_warnings.specs.declared.warning.WarningKind.{WarningKind}
-use Rattle.co_sheet_text_warnings.specs.declared.warning.WarningKind.TheVariants.{SubNumber, SubIndex0, VarSubIndices, FileInfoKeys, DeviceInfoKeys, PdoCount, Unlisted, IdentityNumber, FixedCobId, NodeIdPlace, NodeIdSum, NegativeLimit, ReservedValue, WrongAccess, WrongType, SharedCobId, InhibitTime, OwnHeartbeat, HeartbeatTwice, NoErrorControl, LongLine}
+use Rattle.co_sheet_text_warnings.specs.declared.warning.WarningKind.TheVariants.{SubNumber, SubIndex0, VarSubIndices, MandatoryForm, FileInfoKeys, DeviceInfoKeys, PdoCount, Unlisted, IdentityNumber, FixedCobId, NodeIdPlace, NodeIdSum, NegativeLimit, ReservedValue, WrongAccess, WrongType, SharedCobId, InhibitTime, OwnHeartbeat, HeartbeatTwice, NoErrorControl, LongLine}
 use Rattle.conode_lint_marks.specs.declared.mark.Subject.TheVariants as mark
 use Rattle.conode_lint_marks.specs.AtFault.{is_complete, kinds_at_fault}
 use Rattle.conode_lint_marks.specs.BuildLines.{value_line}
@@ -140,6 +140,12 @@ var_subs = refl
 var_sections : left_by (fault BadLine 30 ∷ []) (warning VarSubIndices 50 ∷ []) ≡ []
 unfolding known_warnings unknown_of is_complete kinds_at_fault doubts_of whole_line value_line
 var_sections = refl
+
+-- so is a mandatory object in another form
+mandatory_form : map (λ line. left_by (fault BadAccess line ∷ []) (warning MandatoryForm 50 ∷ [])) (49 ∷ 50 ∷ 59 ∷ 60 ∷ []) ∷ map (λ kind. left_by (fault kind 30 ∷ []) (warning MandatoryForm 50 ∷ [])) (BadLine ∷ []) ∷ []
+    ≡ ((warning MandatoryForm 50 ∷ []) ∷ [] ∷ [] ∷ (warning MandatoryForm 50 ∷ []) ∷ []) ∷ ([] ∷ []) ∷ []
+unfolding known_warnings unknown_of is_complete kinds_at_fault doubts_of whole_line value_line
+mandatory_form = refl
 
 -- a bad COB-ID has neither of the two warnings of COB-IDs, and any other
 bad_cob_ids : known_warnings [] sections (12 ∷ 45 ∷ []) [] (warning FixedCobId 11 ∷ warning FixedCobId 12 ∷ warning NodeIdPlace 12 ∷ warning (HeartbeatTwice None) 12 ∷ warning (SharedCobId 5) 44 ∷ warning (SharedCobId 5) 45 ∷ warning FixedCobId 45 ∷ warning FixedCobId 46 ∷ [])

@@ -12,7 +12,7 @@ use Rattle.co_sheet_warnings.specs.Repeats.{compared}
 use Rattle.co_sheet_warnings.specs.declared.repeats.ComparedNumber.{ComparedNumber}
 use Rattle.co_sheet_text_warnings.specs.declared.warning.Warning.{Warning}
 use Rattle.co_sheet_text_warnings.specs.declared.warning.WarningKind.{WarningKind}
-use Rattle.co_sheet_text_warnings.specs.declared.warning.WarningKind.TheVariants.{SubNumber, SubIndex0, VarSubIndices, FileInfoKeys, DeviceInfoKeys, PdoCount, Unlisted, IdentityNumber, FixedCobId, NodeIdPlace, NodeIdSum, NegativeLimit, ReservedValue, WrongAccess, WrongType, SharedCobId, InhibitTime, OwnHeartbeat, HeartbeatTwice, NoErrorControl}
+use Rattle.co_sheet_text_warnings.specs.declared.warning.WarningKind.TheVariants.{SubNumber, SubIndex0, VarSubIndices, MandatoryForm, FileInfoKeys, DeviceInfoKeys, PdoCount, Unlisted, IdentityNumber, FixedCobId, NodeIdPlace, NodeIdSum, NegativeLimit, ReservedValue, WrongAccess, WrongType, SharedCobId, InhibitTime, OwnHeartbeat, HeartbeatTwice, NoErrorControl}
 use Rattle.conode_lint_marks.specs.declared.concerns.Concern.TheVariants.{CompactPdo, Same, SectionLine, SubsOf}
 use Rattle.conode_lint_marks.specs.declared.known_warnings.Unknown.{Unknown}
 use Rattle.conode_lint_marks.specs.declared.mark.Mark.{Mark}
@@ -163,6 +163,8 @@ rests_on_fault u sections kinds doubts bad here faults line SubNumber =
 rests_on_fault u sections kinds doubts bad here faults line SubIndex0 =
     u.sections || begins_at line faults || is_in_compact sections line here
 rests_on_fault u sections kinds doubts bad here faults line VarSubIndices =
+    u.sections || has_fault line here faults
+rests_on_fault u sections kinds doubts bad here faults line MandatoryForm =
     u.sections || has_fault line here faults
 rests_on_fault u sections kinds doubts bad here faults line (FileInfoKeys missing) =
     (line == 0) && u.sections

@@ -332,7 +332,9 @@ fn rests_on_fault(
         WarningKind::SubIndex0 => {
             unknown.sections || begins_at(line, faults) || is_in_compact(forms, line, here)
         }
-        WarningKind::VarSubIndices => unknown.sections || has_fault(line, here, faults),
+        WarningKind::VarSubIndices | WarningKind::MandatoryForm => {
+            unknown.sections || has_fault(line, here, faults)
+        }
         WarningKind::FileInfoKeys(_) => line == 0 && unknown.sections,
         WarningKind::DeviceInfoKeys(_) => {
             (line == 0 && unknown.sections) || is_any(Concern::CompactPdo, doubts)

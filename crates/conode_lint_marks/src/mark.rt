@@ -18,6 +18,8 @@ pub enum OtherFormat {
     CarriageReturns,
     /// A text without a section, as a recording is.
     NoSection,
+    /// A text whose lines end with CR, CR and LF.
+    DoubledReturns,
 }
 
 /// What is found.

@@ -245,8 +245,13 @@ ambiguous_numbers : map ambiguous_number (codes "DefaultValue=08" ∷ codes "Def
     ≡ Fact fact.NotOctal ∷ Fact fact.NotOctal ∷ Fact fact.NotOctal ∷ Fact fact.NotOctal ∷ Line ∷ Line ∷ Line ∷ Line ∷ []
 ambiguous_numbers = refl
 
-bad_lines : map bad_line (codes "[2001" ∷ codes "  [2001 ; x" ∷ codes "2001]" ∷ codes "x" ∷ [] ∷ []) ≡ Fact fact.OpenSection ∷ Fact fact.OpenSection ∷ Line ∷ Line ∷ Line ∷ []
+bad_lines : map bad_line (codes "[2001" ∷ codes "  [2001 ; x" ∷ codes "2001]" ∷ codes " 2001sub1] " ∷ codes "]" ∷ codes "x" ∷ [] ∷ [])
+    ≡ Fact fact.OpenSection ∷ Fact fact.OpenSection ∷ Fact fact.UnopenedSection ∷ Fact fact.UnopenedSection ∷ Fact fact.UnopenedSection ∷ Line ∷ Line ∷ []
 bad_lines = refl
+
+-- another `[`, `=` and more after `]` make it no section line
+no_section_lines : map bad_line (codes "20[01]" ∷ codes "=2001]" ∷ codes "2001] x" ∷ codes "2001];" ∷ []) ≡ Line ∷ Line ∷ Line ∷ Line ∷ []
+no_section_lines = refl
 
 -- the end of a file of DOS, and NUL bytes, alone on a line
 end_marks : map bad_line ((0x1A ∷ []) ∷ (32 ∷ 0x1A ∷ 0x1A ∷ 9 ∷ []) ∷ (0 ∷ 0 ∷ []) ∷ (0x1A ∷ 65 ∷ []) ∷ (0x1B ∷ []) ∷ (1 ∷ []) ∷ [])
@@ -272,15 +277,15 @@ rows_of_values : map bad_number (codes "1=0x3F800000" ∷ codes "12 = 5" ∷ cod
     ≡ Fact fact.OtherNumber ∷ Fact fact.OtherNumber ∷ Line ∷ Line ∷ Line ∷ []
 rows_of_values = refl
 
-slip_texts : map fact_text (fact.NoMapping ∷ fact.NotOctal ∷ fact.OpenSection ∷ fact.Unsupported ∷ fact.ManyEntries ∷ fact.DecimalName 10 16 ∷ [])
-    ≡ codes "PDOMapping is a number, and this is none" ∷ codes "a leading zero means octal, which has no digits 8 and 9" ∷ codes "the section line has no `]`" ∷ codes "CiA 301 defines this code, but it isn't supported"
+slip_texts : map fact_text (fact.NoMapping ∷ fact.NotOctal ∷ fact.OpenSection ∷ fact.UnopenedSection ∷ fact.Unsupported ∷ fact.ManyEntries ∷ fact.DecimalName 10 16 ∷ [])
+    ≡ codes "PDOMapping is a number, and this is none" ∷ codes "a leading zero means octal, which has no digits 8 and 9" ∷ codes "the section line has no `]`" ∷ codes "the section line has no `[`" ∷ codes "CiA 301 defines this code, but it isn't supported"
     ∷ codes "CiA 301 has an object with sub-indices here" ∷ codes "sub-index 0 is 10, and the highest sub-index of the object is 16: the name sub10 is hexadecimal" ∷ []
 unfolding fact_text words_of texts_of filled digits
 slip_texts = refl
 
-slip_fixes : map (λ about. fix_with about (codes "f")) (Fact fact.NoMapping ∷ Fact fact.NotOctal ∷ Fact fact.OpenSection ∷ Fact fact.Unsupported ∷ Fact fact.ManyEntries ∷ Fact (fact.DecimalName 10 16) ∷ Fact (fact.SubIndex0 10 16) ∷ [])
+slip_fixes : map (λ about. fix_with about (codes "f")) (Fact fact.NoMapping ∷ Fact fact.NotOctal ∷ Fact fact.OpenSection ∷ Fact fact.UnopenedSection ∷ Fact fact.Unsupported ∷ Fact fact.ManyEntries ∷ Fact (fact.DecimalName 10 16) ∷ Fact (fact.SubIndex0 10 16) ∷ [])
     ≡ codes "write 1 if the entry may be mapped into a PDO, or else 0" ∷ codes "write the number without the zero, or try conode adapt --leading-zeros decimal"
-    ∷ codes "put `]` after the name, or take the section out where the sheet has it already; until then its lines aren't read, so a listed object may lack them" ∷ codes "take the object out of its list"
+    ∷ codes "put `]` after the name, or take the section out where the sheet has it already; until then its lines aren't read, so a listed object may lack them" ∷ codes "put `[` before the name; until then the section before has its lines, so their keys may come twice there, and a listed object may have no section" ∷ codes "take the object out of its list"
     ∷ codes "describe its sub-indices, with ObjectType=8 of 1003h or ObjectType=9 of a mapping; or take the object out of its list"
     ∷ codes "write the sub-index in hexadecimal in each section's name, as subA for 10; or give the highest sub-index" ∷ codes "f" ∷ []
 unfolding fix_with

@@ -12,7 +12,7 @@ use Rattle.conode_lint_text.specs.MeantSections.{meant_text}
 use Rattle.conode_lint_text.specs.declared.fact.Fact.{Fact}
 use Rattle.conode_lint_text.specs.declared.fact.Part.{Part}
 use Rattle.conode_lint_text.specs.declared.fact.Part.TheVariants.{Number, Code, Hexadecimal, Signed}
-use Rattle.conode_lint_text.specs.declared.fact.Fact.TheVariants.{NoCount, ListCount, ListGap, HighIndex, NoMandatoryList, NotListed, LargeText, NoValue, NoMapping, NotOctal, OpenSection, Unsupported, ManyEntries, NoObjectType, NoDataType, TypeName, ReservedOfTpdo, ReservedOfRpdo, ReservedCounter, MeantSection, ByteOrderMark, CommentInValue, QuotedValue, NoPairs, DecimalIndex, LowDecimal, LowIndex, FixedType, StandardType, NoType, NoAccess, NoTypeOrAccess, NoFileInfo, FileInfoLacks, NoDeviceInfo, DeviceInfoLacks, NoSubNumber, SubNumber, SubIndex0, DecimalName, RpdoCount, TpdoCount, NoRpdoCount, NoTpdoCount, Identity, NoIdentity, BelowLow, AboveHigh, AboveNegative, ValueOutside, LimitOutside, LimitsCrossed, NegativeHigh, EndMark, Truth, OtherNumber}
+use Rattle.conode_lint_text.specs.declared.fact.Fact.TheVariants.{NoCount, ListCount, ListGap, HighIndex, NoMandatoryList, NotListed, LargeText, NoValue, NoMapping, NotOctal, OpenSection, UnopenedSection, Unsupported, ManyEntries, NoObjectType, NoDataType, TypeName, ReservedOfTpdo, ReservedOfRpdo, ReservedCounter, MeantSection, ByteOrderMark, CommentInValue, QuotedValue, NoPairs, DecimalIndex, LowDecimal, LowIndex, FixedType, StandardType, NoType, NoAccess, NoTypeOrAccess, NoFileInfo, FileInfoLacks, NoDeviceInfo, DeviceInfoLacks, NoSubNumber, SubNumber, SubIndex0, DecimalName, RpdoCount, TpdoCount, NoRpdoCount, NoTpdoCount, Identity, NoIdentity, BelowLow, AboveHigh, AboveNegative, ValueOutside, LimitOutside, LimitsCrossed, NegativeHigh, EndMark, Truth, OtherNumber}
 
 -- a number as sheets have it, in hexadecimal digits
 unfoldable pub hexadecimal : ℕ → List ℕ
@@ -58,6 +58,7 @@ words_of NoMapping = codes "PDOMapping is a number, and this is none"
 words_of NotOctal =
     codes "a leading zero means octal, which has no digits 8 and 9"
 words_of OpenSection = codes "the section line has no `]`"
+words_of UnopenedSection = codes "the section line has no `[`"
 words_of Unsupported = codes "CiA 301 defines this code, but it isn't supported"
 words_of ManyEntries = codes "CiA 301 has an object with sub-indices here"
 words_of NoObjectType = codes "ObjectType is a number, and this is none"

@@ -1,7 +1,7 @@
 -- What a sheet has where a finding is (CiA 306-1, structure of an EDS, object lists, object
 -- description, device information): its sections as they are read in spite of lines at fault, and
 -- the text of the finding's line.
-use Rattle.std.specs.Prelude.{ℕ, ◌+◌, ◌*◌, ◌/◌, ◌%◌, ◌==◌, nat_lt, nat_le, max, fold, Bool, true, false, ◌&&◌, ◌||◌, if◌then◌else◌, not, List, [], ◌∷◌, length, drop, find, count_by, codes, Option, Some, None, is_some, is_none, option_and_then, option_map}
+use Rattle.std.specs.Prelude.{ℕ, ◌+◌, ◌-◌, ◌*◌, ◌/◌, ◌%◌, ◌==◌, nat_lt, nat_le, max, fold, Bool, true, false, ◌&&◌, ◌||◌, if◌then◌else◌, not, List, [], ◌∷◌, length, slice_index, drop, find, count_by, codes, Option, Some, None, is_some, is_none, option_and_then, option_map}
 use Rattle.std.specs.List.{list_any, list_all, before_first, after_first}
 use Rattle.std.specs.Option.{option_map_or, option_or}
 use Rattle.std.specs.Result.{result_ok}
@@ -319,9 +319,16 @@ is_end_byte b = (b == 0x1A) || (b == 0)
 abbrev pub is_end_mark : List ℕ → Bool
 is_end_mark text = not (length text == 0) && list_all is_end_byte text
 
+-- or it ends with `]`, and has neither `[` nor `=`: a section line but for its first byte
+abbrev pub is_unopened : List ℕ → Bool
+is_unopened text =
+    (slice_index text (length text - 1) == 93)
+    && not (list_any (λ b. b == 91) text || list_any (λ b. b == 61) text)
+
 abbrev pub bad_line : List ℕ → About
 bad_line text =
     if is_open (trim text) then Fact fact.OpenSection
+    else if is_unopened (trim text) then Fact fact.UnopenedSection
     else if is_end_mark (trim text) then Fact fact.EndMark
     else Line
 

@@ -10,7 +10,7 @@ use Rattle.conode_json.specs.Characters.{characters_of}
 use Rattle.conode_lint_text.specs.Characters.{blanks}
 use Rattle.conode_lint_text.specs.FactTexts.{fact_text}
 use Rattle.conode_lint_text.specs.declared.fact.Fact.{Fact as SheetFact}
-use Rattle.conode_lint_text.specs.declared.fact.Fact.TheVariants.{HighIndex, NoMandatoryList, NotListed, LargeText, NoValue, NoMapping, NotOctal, OpenSection, Unsupported, ManyEntries, DecimalName, NoObjectType, TypeName, ReservedOfTpdo, ReservedOfRpdo, ReservedCounter, FileInfoLacks, DeviceInfoLacks, ByteOrderMark, CommentInValue, QuotedValue, NoPairs, EndMark, Truth, OtherNumber, DecimalIndex, LowDecimal, LowIndex, FixedType, NoType, NoAccess, NoTypeOrAccess}
+use Rattle.conode_lint_text.specs.declared.fact.Fact.TheVariants.{HighIndex, NoMandatoryList, NotListed, LargeText, NoValue, NoMapping, NotOctal, OpenSection, UnopenedSection, Unsupported, ManyEntries, DecimalName, NoObjectType, TypeName, ReservedOfTpdo, ReservedOfRpdo, ReservedCounter, FileInfoLacks, DeviceInfoLacks, ByteOrderMark, CommentInValue, QuotedValue, NoPairs, EndMark, Truth, OtherNumber, DecimalIndex, LowDecimal, LowIndex, FixedType, NoType, NoAccess, NoTypeOrAccess}
 use Rattle.conode_lint_text.specs.declared.finding.About.{About}
 use Rattle.conode_lint_text.specs.declared.finding.About.TheVariants.{Line, Object, Entry, Sum, NoSum, Bits, FirstAt, Misspelt, MisspeltBeside, NoSection, CompactPdo, Access, Fact}
 use Rattle.conode_lint_text.specs.declared.finding.Finding.{Finding}
@@ -96,6 +96,8 @@ fix_with (Fact NotOctal) fix =
     codes "write the number without the zero, or try conode adapt --leading-zeros decimal"
 fix_with (Fact OpenSection) fix =
     codes "put `]` after the name, or take the section out where the sheet has it already; until then its lines aren't read, so a listed object may lack them"
+fix_with (Fact UnopenedSection) fix =
+    codes "put `[` before the name; until then the section before has its lines, so their keys may come twice there, and a listed object may have no section"
 fix_with (Fact Unsupported) fix = codes "take the object out of its list"
 fix_with (Fact ManyEntries) fix =
     codes "describe its sub-indices, with ObjectType=8 of 1003h or ObjectType=9 of a mapping; or take the object out of its list"

@@ -47,6 +47,8 @@ pub enum Fact {
     NotOctal,
     /// A section line without `]`.
     OpenSection,
+    /// A section line without `[`.
+    UnopenedSection,
     /// A code of a type or of an object that CiA 301 defines, and that isn't supported.
     Unsupported,
     /// An entry where CiA 301 has an object with sub-indices.
@@ -214,6 +216,7 @@ fn words_of(fact: Fact) -> &'static str
         Fact::NoMapping => "PDOMapping is a number, and this is none",
         Fact::NotOctal => "a leading zero means octal, which has no digits 8 and 9",
         Fact::OpenSection => "the section line has no `]`",
+        Fact::UnopenedSection => "the section line has no `[`",
         Fact::Unsupported => "CiA 301 defines this code, but it isn't supported",
         Fact::ManyEntries => "CiA 301 has an object with sub-indices here",
         Fact::NoObjectType => "ObjectType is a number, and this is none",

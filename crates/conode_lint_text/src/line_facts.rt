@@ -1,7 +1,7 @@
 //! What the text of a finding's line shows: its key and value, or the name of the section that it
 //! begins.
 
-ghost use Rattle.std.specs.Prelude.{◌≡◌};
+ghost use Rattle.std.specs.Prelude.{◌≡◌, ◌-◌, ◌==◌, length, slice_index};
 ghost use Rattle.std.specs.List.{list_all};
 ghost use Rattle.conode_lint_text.specs.Facts.{
   ambiguous_number,
@@ -15,6 +15,7 @@ ghost use Rattle.conode_lint_text.specs.Facts.{
   is_open,
   is_quoted,
   is_truth,
+  is_unopened,
   is_value_key,
   key_name,
   key_number,
@@ -269,12 +270,33 @@ fn is_end_byte(byte: u8) -> bool
     byte == 0x1A || byte == 0
 }
 
-/// Of the BadLine of a line: one that begins with `[` has no `]`, or has a mark of an end alone.
+fn ends_in_bracket(text: &[u8]) -> bool
+    ensures { result ≡ (slice_index text.now (length text.now - 1) == 93) }
+{
+    match text.last() {
+        Some(byte) => *byte == b']',
+        None => false,
+    }
+}
+
+// whether a line is a section line but for its `[`
+fn is_unopened(text: &[u8]) -> bool
+    ensures { result ≡ is_unopened text.now }
+{
+    ends_in_bracket(text)
+        && !(split_at_first(text, b'[').is_some() || split_at_first(text, b'=').is_some())
+}
+
+/// Of the BadLine of a line: one that begins with `[` has no `]`, one that ends with `]` has no `[`,
+/// or it has a mark of an end alone.
 pub fn bad_line(text: &[u8]) -> About
     ensures { result ≡ bad_line text.now }
 {
     if is_open(trim(text)) {
         return About::Fact(Fact::OpenSection);
+    }
+    if is_unopened(trim(text)) {
+        return About::Fact(Fact::UnopenedSection);
     }
     if is_end_mark(trim(text)) {
         return About::Fact(Fact::EndMark);

@@ -143,6 +143,10 @@ fn fact_fix(fact: Fact, fix: &str) -> &str
             "put `]` after the name, or take the section out where the sheet has it already; until then \
             its lines aren't read, so a listed object may lack them"
         }
+        Fact::UnopenedSection => {
+            "put `[` before the name; until then the section before has its lines, so their keys may come \
+            twice there, and a listed object may have no section"
+        }
         Fact::Unsupported => "take the object out of its list",
         Fact::ManyEntries => {
             "describe its sub-indices, with ObjectType=8 of 1003h or ObjectType=9 of a mapping; or \

@@ -13,6 +13,7 @@ use Rattle.co_sheet_text_warnings.specs.declared.warning.WarningKind.TheVariants
   SubNumber,
   SubIndex0,
   VarSubIndices,
+  MandatoryForm,
   FileInfoKeys,
   DeviceInfoKeys,
   PdoCount,
@@ -54,37 +55,38 @@ abbrev pub kind_row : WarningKind → ℕ
 kind_row SubNumber = 0
 kind_row SubIndex0 = 1
 kind_row VarSubIndices = 2
-kind_row (FileInfoKeys missing) = 3
-kind_row (DeviceInfoKeys missing) = 4
-kind_row PdoCount = 5
-kind_row WrongList = 6
-kind_row UncountedKey = 7
-kind_row Unlisted = 8
-kind_row (IdentityNumber sub) = 9
-kind_row FixedCobId = 10
-kind_row NodeIdPlace = 11
-kind_row NodeIdSum = 12
-kind_row NegativeLimit = 13
-kind_row ReservedValue = 14
-kind_row WrongAccess = 15
-kind_row WrongType = 16
-kind_row MisspeltSection = 17
-kind_row (MisspeltKey meant) = 18
-kind_row (SharedCobId node) = 19
-kind_row InhibitTime = 20
-kind_row OwnHeartbeat = 21
-kind_row (HeartbeatTwice given) = 22
-kind_row NoErrorControl = 23
-kind_row LongLine = 24
-kind_row Utf8 = 25
-kind_row NotAscii = 26
-kind_row NodeId = 27
-kind_row ListOrder = 28
-kind_row EqualNames = 29
-kind_row MissingName = 30
-kind_row UnknownKey = 31
-kind_row DateFormat = 32
-kind_row LineEnds = 33
+kind_row MandatoryForm = 3
+kind_row (FileInfoKeys missing) = 4
+kind_row (DeviceInfoKeys missing) = 5
+kind_row PdoCount = 6
+kind_row WrongList = 7
+kind_row UncountedKey = 8
+kind_row Unlisted = 9
+kind_row (IdentityNumber sub) = 10
+kind_row FixedCobId = 11
+kind_row NodeIdPlace = 12
+kind_row NodeIdSum = 13
+kind_row NegativeLimit = 14
+kind_row ReservedValue = 15
+kind_row WrongAccess = 16
+kind_row WrongType = 17
+kind_row MisspeltSection = 18
+kind_row (MisspeltKey meant) = 19
+kind_row (SharedCobId node) = 20
+kind_row InhibitTime = 21
+kind_row OwnHeartbeat = 22
+kind_row (HeartbeatTwice given) = 23
+kind_row NoErrorControl = 24
+kind_row LongLine = 25
+kind_row Utf8 = 26
+kind_row NotAscii = 27
+kind_row NodeId = 28
+kind_row ListOrder = 29
+kind_row EqualNames = 30
+kind_row MissingName = 31
+kind_row UnknownKey = 32
+kind_row DateFormat = 33
+kind_row LineEnds = 34
 
 -- an entry that nobody writes, by its section
 abbrev pub is_constant_section : TextSection → Bool
