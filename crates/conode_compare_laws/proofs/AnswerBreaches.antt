@@ -1,6 +1,6 @@
 -- Answers within a transfer that isn't in blocks: nothing is found of their toggle bit, their form, the entry of an abort, and of a CRC.
-use Rattle.std.proofs.Common.{◌≡◌, ℕ, ◌+◌, ◌*◌, ◌/◌, ◌%◌, ◌<◌, ◌≤◌, Bool, true, false, List, [], length, Option, Some, None, refl, sym, ap, ◌∙◌, subst, arith}
-use Rattle.std.specs.Prelude.{◌==◌, ◌||◌, if◌then◌else◌}
+use Rattle.std.proofs.Common.{◌≡◌, ℕ, ◌+◌, ◌*◌, ◌/◌, ◌%◌, ◌<◌, ◌≤◌, Bool, true, false, List, [], length, Option, Some, None, refl, sym, ap, ◌∙◌, ◌⊎◌, inl, inr, subst, arith}
+use Rattle.std.specs.Prelude.{◌==◌, ◌||◌, if◌then◌else◌, nat_lt}
 use Rattle.std.proofs.lemmas.Bool.{false≢true}
 use Rattle.arrayvec.specs.ArrayVec.{ArrayVec}
 use Rattle.co_value.specs.declared.key.Key.{Key}
@@ -17,28 +17,33 @@ use Rattle.co_sdo_laws.proofs.Frames.{segment_done_read, segment_sent_read}
 use Rattle.conode_explain_transfers.specs.declared.channel.Heard.{Heard}
 use Rattle.conode_explain_transfers.specs.declared.ended.Ended.{Ended}
 use Rattle.conode_explain_transfers.specs.declared.ended.Ending.TheVariants.{Aborted, Done, Irregular}
+use Rattle.conode_explain_transfers.specs.declared.ended.Fault.{Fault}
+use Rattle.conode_explain_transfers.specs.declared.ended.Fault.TheVariants as fault
 use Rattle.conode_explain_transfers.specs.declared.kinds.Direction.{Direction}
 use Rattle.conode_explain_transfers.specs.declared.kinds.Direction.TheVariants.{Download, Upload}
-use Rattle.conode_explain_transfers.specs.declared.kinds.Side.TheVariants.{Server}
+use Rattle.conode_explain_transfers.specs.declared.kinds.Side.{Side}
+use Rattle.conode_explain_transfers.specs.declared.kinds.Side.TheVariants.{Client, Server}
 use Rattle.conode_explain_transfers.specs.declared.kinds.What.{What}
 use Rattle.conode_explain_transfers.specs.declared.kinds.What.TheVariants as what
-use Rattle.conode_explain_transfers.specs.declared.stage.Stage.TheVariants.{DownloadSent, UploadAsked}
+use Rattle.conode_explain_transfers.specs.declared.stage.Stage.{Stage}
+use Rattle.conode_explain_transfers.specs.declared.stage.Stage.TheVariants.{BlockEnded, DownloadSent, Initiated, UploadAsked}
 use Rattle.conode_explain_transfers.specs.declared.transfer.Transfer.{Transfer}
-use Rattle.conode_explain_transfers.specs.Endings.{ended, size_fault, size_verdict, verdict}
+use Rattle.conode_explain_transfers.specs.Endings.{bytes_come, ended, excess, fault_at, fault_of, fault_with, size_fault, size_verdict, verdict}
 use Rattle.conode_explain_transfers.specs.Followed.{abort_ending, one_more, turns_at}
 use Rattle.conode_explain_transfers.specs.SegmentedTurns.{download_stage, upload_stage}
 use Rattle.conode_explain_transfers.specs.Readings.{is_in_sub_block}
 use Rattle.conode_explain_transfers.specs.Stages.{confirmed_with}
-use Rattle.conode_explain_transfers.specs.Transfers.{Turn, after}
+use Rattle.conode_explain_transfers.specs.Transfers.{Turn, after, is_download}
 use Rattle.conode_explain_transfers.specs.Turns.{response_turn}
 use Rattle.conode_explain_transfers.specs.Unanswered.{not_followed_by}
+use Rattle.conode_explain_laws.proofs.UploadStanding.{is_ended}
 use Rattle.conode_explain_laws.proofs.Views.{is_begin}
 use Rattle.conode_explain_laws.proofs.Follows.{none_of_server}
 use Rattle.conode_explain_laws.proofs.Readings.{Reading, Begin, Abort, Response, follows_by, reading_of, response_reading}
 use Rattle.conode_compare_transfers.specs.declared.breach.Breach.TheVariants.{AbortKey, Size}
 use Rattle.conode_compare_transfers.specs.declared.newest.Newest.{Newest}
 use Rattle.conode_compare_transfers.specs.declared.newest.Newest.TheVariants.{Request, Answer, Data, LastData, Acknowledge, LaterData, LaterAcknowledge, AllAcknowledged}
-use Rattle.conode_compare_transfers.specs.Breaches.{breach_at, ended_breach, ending_breach, is_padded, key_in, may_refuse_next, names_none, server_breach}
+use Rattle.conode_compare_transfers.specs.Breaches.{breach_at, ended_breach, ending_breach, fault_breach, is_padded, key_in, may_refuse_next, names_none, server_breach}
 use Rattle.conode_compare_rules.specs.Answers.{breach_finding}
 use Rattle.conode_compare_laws.specs.AnswerFindings.{of_transfers}
 use Rattle.conode_compare_laws.proofs.AnswerFollowed.{reads}
@@ -151,6 +156,10 @@ abort_end : (frame : FrameContent) (e : Ended) (direction : Direction) (code : A
     → (newest : Newest) → of_transfers (breach_finding (ending_breach newest frame e direction (Aborted Server code))) ≡ []
 abort_end frame e direction code fit newest = ap (λ b. of_transfers (breach_finding (if (b || names_none newest (key_in frame) e.frames) || may_refuse_next newest e then None else Some (AbortKey e.key)))) fit
 
+-- by which end, and whether it may be none of this transfer
+abbrev pub aborted_end : Side → Transfer → AbortCode → ℕ → Option (Option ℕ) → Ended
+aborted_end side t code micros segment = record (ended (one_more t) micros (abort_ending side segment code)) { fault = fault_with (abort_ending side segment code) (one_more t) }
+
 pub abort_fine : (heard : Bool) (t : Transfer) (code : AbortCode) (micros : ℕ) (frame : FrameContent) → (same_key (key_in frame) t.key || (code.0 == unknown_command)) ≡ true
     → Fine frame (follows_by heard (Some t) (Abort code) micros Server frame.bytes).says
 abort_fine heard t code micros frame fit =
@@ -158,10 +167,48 @@ abort_fine heard t code micros frame fit =
   where
     -- nothing is found of what may be none of this transfer
     by : (segment : Option (Option ℕ)) (direction : Direction)
-        → (newest : Newest) → of_transfers (breach_finding (ending_breach newest frame (ended (one_more t) micros (abort_ending Server segment code)) direction (abort_ending Server segment code))) ≡ []
-    by None direction newest = abort_end frame (ended (one_more t) micros (Aborted Server code)) direction code fit newest
+        → (newest : Newest) → of_transfers (breach_finding (ending_breach newest frame (aborted_end Server t code micros segment) direction (abort_ending Server segment code))) ≡ []
+    by None direction newest = abort_end frame (aborted_end Server t code micros None) direction code fit newest
     by (Some next) Download newest = refl
     by (Some next) Upload newest = refl
+
+-- ---- the client's abort: nothing is found of a CRC where the device hasn't ended the transfer, or not both ends support it
+
+size_fine : (key : Key) (size : Option ℕ) (bytes : ℕ) → of_transfers (breach_finding (fault_breach key (excess size bytes))) ≡ []
+size_fine key None bytes = refl
+size_fine key (Some indicated) bytes = by (nat_lt indicated bytes)
+  where
+    by : (b : Bool) → of_transfers (breach_finding (fault_breach key (if b then Some (fault.Size indicated bytes) else None))) ≡ []
+    by true = refl
+    by false = refl
+
+verdict_fine : (key : Key) (u : Transfer) (bytes : ℕ) → of_transfers (breach_finding (fault_breach key (fault_of (verdict u None) bytes))) ≡ []
+verdict_fine key u bytes = by u.irregular (size_fault u.size u.taken.count)
+  where
+    by : (irregular : Bool) (o : Option ℕ) → of_transfers (breach_finding (fault_breach key (fault_of (if irregular then Irregular else size_verdict o (Done false)) bytes))) ≡ []
+    by true o = refl
+    by false None = refl
+    by false (Some indicated) = refl
+
+either_fine : (key : Key) (b : Bool) (o : Option Fault) → of_transfers (breach_finding (fault_breach key o)) ≡ [] → of_transfers (breach_finding (fault_breach key (if b then None else o))) ≡ []
+either_fine key true o h = refl
+either_fine key false o h = h
+
+abbrev pub IsCrcless : Transfer → Type 0
+IsCrcless u = (is_ended u.stage ≡ false) ⊎ (u.crc ≡ false)
+
+stage_fine : (key : Key) (u : Transfer) (stage : Stage) → (is_ended stage ≡ false) ⊎ (u.crc ≡ false) → of_transfers (breach_finding (fault_breach key (fault_at stage u))) ≡ []
+stage_fine key u Initiated h = refl
+stage_fine key u (BlockEnded crc) (inl n) = absurd (false≢true (sym n))
+stage_fine key u (BlockEnded crc) (inr c) = rw c (verdict_fine key u u.taken.count)
+stage_fine key u _ h = either_fine key u.irregular (excess u.size (bytes_come u)) (size_fine key u.size (bytes_come u))
+
+pub refused_fine : (frame : FrameContent) (t : Transfer) (code : AbortCode) (micros : ℕ) (direction : Direction) (segment : Option (Option ℕ)) → IsCrcless t
+    → (newest : Newest) → of_transfers (breach_finding (ending_breach newest frame (aborted_end Client t code micros segment) direction (abort_ending Client segment code))) ≡ []
+refused_fine frame t code micros Download None h newest = either_fine t.key (is_download t.direction) (fault_at t.stage (one_more t)) (stage_fine t.key (one_more t) t.stage h)
+refused_fine frame t code micros Upload None h newest = either_fine t.key (is_download t.direction) (fault_at t.stage (one_more t)) (stage_fine t.key (one_more t) t.stage h)
+refused_fine frame t code micros Download (Some next) h newest = refl
+refused_fine frame t code micros Upload (Some next) h newest = refl
 
 -- ---- where no transfer is open
 

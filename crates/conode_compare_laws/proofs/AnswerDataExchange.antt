@@ -74,7 +74,7 @@ standing_dropped rows log o none s = record {
   holds_data = record {
     got = s.holds_data.got;
     follows = subst (λ c. FollowsIn (Unit {0}) o s.holds_data.got c (acknowledged_whole (Dropped ∷ log))) (sym (ap opened none))
-        (subst (FollowsIn (Unit {0}) o s.holds_data.got None) (sym (dropped_whole log)) (drops (Unit {0}) o s.holds_data.got (opened_after log) (acknowledged_whole log) s.holds_data.follows));
+        (subst (FollowsIn (Unit {0}) o s.holds_data.got None) (sym (dropped_whole log)) (drops (Unit {0}) o s.holds_data.got (opened_after log) (acknowledged_whole log) s.holds_data.taken s.holds_data.follows));
     taken = s.holds_data.taken;
   };
 }

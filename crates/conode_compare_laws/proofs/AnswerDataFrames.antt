@@ -27,7 +27,7 @@ use Rattle.conode_compare_transfers.specs.declared.breach.Breach.TheVariants.{Ab
 use Rattle.conode_compare_transfers.specs.declared.dialogue.Dialogue.{Dialogue}
 use Rattle.conode_compare_transfers.specs.declared.newest.Newest.{Newest}
 use Rattle.conode_compare_transfers.specs.declared.newest.Newest.TheVariants.{Acknowledge, AllAcknowledged, Data, LastData, LaterAcknowledge, LaterData, Request}
-use Rattle.conode_compare_transfers.specs.Breaches.{breach_at, ending_breach, key_in, keyed_breach, may_refuse_next, names_none, server_breach}
+use Rattle.conode_compare_transfers.specs.Breaches.{breach_at, ending_breach, fault_breach, key_in, keyed_breach, may_refuse_next, names_none, server_breach}
 use Rattle.conode_compare_transfers.specs.Dialogues.{dialogue_heard, exchange_in}
 use Rattle.conode_compare_nmt.specs.declared.finding.Finding.{Finding}
 use Rattle.conode_compare_nmt.specs.declared.finding.Finding.TheVariants.{Transfer}
@@ -60,11 +60,13 @@ key_breach : (b : Bool) (key : Key) → of_data (breach_finding (if b then None 
 key_breach true key = refl
 key_breach false key = refl
 
-whole_end : (newest : Newest) (frame : FrameContent) (e : Ended) (direction : Direction) (ending : Ending) → is_partial direction ending ≡ false → of_data (breach_finding (ending_breach newest frame e direction ending)) ≡ []
-whole_end newest frame e direction (Aborted Server code) h = key_breach (((same_key (key_in frame) e.key || (code.0 == unknown_command)) || names_none newest (key_in frame) e.frames) || may_refuse_next newest e) e.key
-whole_end newest frame e Upload (SizeDiffers indicated) h = absurd (cc)
-whole_end newest frame e Upload (CrcDiffers came computed) h = absurd (cc)
-whole_end newest frame e direction ending h = refl
+whole_end : (newest : Newest) (frame : FrameContent) (e : Ended) (direction : Direction) (ending : Ending) → is_partial direction ending ≡ false → e.fault ≡ None
+    → of_data (breach_finding (ending_breach newest frame e direction ending)) ≡ []
+whole_end newest frame e direction (Aborted Server code) h f = key_breach (((same_key (key_in frame) e.key || (code.0 == unknown_command)) || names_none newest (key_in frame) e.frames) || may_refuse_next newest e) e.key
+whole_end newest frame e direction (Aborted Client code) h f = ap (λ o. of_data (breach_finding (fault_breach e.key o))) f
+whole_end newest frame e Upload (SizeDiffers indicated) h f = absurd (cc)
+whole_end newest frame e Upload (CrcDiffers came computed) h f = absurd (cc)
+whole_end newest frame e direction ending h f = refl
 
 form_breach : (b : Bool) (key : Key) → of_data (breach_finding (if b then None else Some (Form key))) ≡ []
 form_breach true key = refl
@@ -97,7 +99,7 @@ whole_breach (Some newest) side heard frame h = by heard.ended h
   where
     by : (o : Option Ended) → IsWhole o → of_data (breach_finding (breach_at (Some newest) side (record heard { ended = o }) frame)) ≡ []
     by None h = no_keyed newest side heard.of heard.what _
-    by (Some e) h = whole_end newest frame e e.direction e.ending h
+    by (Some e) h = whole_end newest frame e e.direction e.ending h.0 h.1
 
 ended_is : (following : Following) (micros : ℕ) (side : Side) (bytes : List ℕ) → (followed following micros side bytes).says.ended ≡ (reads following micros side bytes).says.ended
 ended_is following micros side bytes = ap (λ (f : Followed). f.says.ended) (same_reading following.heard following.transfer micros side bytes bytes).followed

@@ -18,15 +18,15 @@ use Rattle.conode_explain_transfers.specs.declared.ended.Ending.TheVariants.{Crc
 use Rattle.conode_explain_transfers.specs.declared.kinds.Direction.{Direction}
 use Rattle.conode_explain_transfers.specs.declared.kinds.Direction.TheVariants.{Download, Upload}
 use Rattle.conode_explain_transfers.specs.declared.kinds.Side.{Side}
-use Rattle.conode_explain_transfers.specs.declared.kinds.Side.TheVariants.{Server}
+use Rattle.conode_explain_transfers.specs.declared.kinds.Side.TheVariants.{Client, Server}
 use Rattle.conode_explain_transfers.specs.declared.kinds.What.{What}
 use Rattle.conode_explain_transfers.specs.declared.kinds.What.TheVariants as what
 use Rattle.conode_explain_transfers.specs.declared.stage.Stage.{Stage}
 use Rattle.conode_explain_transfers.specs.declared.stage.Stage.TheVariants.{AllAcknowledged, BlockEnded, BlockInitiated, Confirmed, DownloadConfirmed, DownloadSent, Initiated, SubBlock, UploadAsked, UploadTaken}
 use Rattle.conode_explain_transfers.specs.declared.transfer.Transfer.{Transfer}
 use Rattle.conode_explain_transfers.specs.BlockTurns.{acknowledged, block_ended, block_ended_at, block_segment_at, crc_in, end_confirmed, is_block, segment_added, segment_again, segment_ahead, segment_first}
-use Rattle.conode_explain_transfers.specs.Endings.{size_fault, size_verdict, verdict}
-use Rattle.conode_explain_transfers.specs.Followed.{Followed, abort_ending, turns_at, with_frame}
+use Rattle.conode_explain_transfers.specs.Endings.{fault_with, size_fault, size_verdict, upload_fault, verdict}
+use Rattle.conode_explain_transfers.specs.Followed.{Followed, abort_ending, one_more, turns_at, with_frame}
 use Rattle.conode_explain_transfers.specs.SegmentedTurns.{answering, segment_done_at, upload_segment_at}
 use Rattle.conode_explain_transfers.specs.Stages.{confirmed_with, is_initiated}
 use Rattle.conode_explain_transfers.specs.Transfers.{Turn, after, awaited_number, is_download, overtaken, unexpected}
@@ -52,10 +52,10 @@ abbrev pub is_partial : Direction → Ending → Bool
 is_partial Upload ending = differs ending
 is_partial Download ending = false
 
--- where it ends, it is no such upload
+-- where it ends, it is no such upload, nor one that the client aborts for its data
 abbrev pub IsWhole : Option Ended → Type 0
 IsWhole None = Unit {0}
-IsWhole (Some e) = is_partial e.direction e.ending ≡ false
+IsWhole (Some e) = (is_partial e.direction e.ending ≡ false) × (e.fault ≡ None)
 
 pub other_whole : (direction : Direction) (ending : Ending) → differs ending ≡ false → is_partial direction ending ≡ false
 other_whole Upload ending h = h
@@ -129,7 +129,7 @@ unfinished : {A : Type 0} (u : Transfer) → confirmed_with u.stage ≡ None →
 unfinished u e s = absurd (let yes : is_some (confirmed_with u.stage) ≡ true = ap (λ stage. is_some (confirmed_with stage)) s in false≢true (sym (ap is_some e) ∙ yes))
 
 turn_whole : (x : Option (Option ℕ)) (heard : Bool) (w : What) (u : Transfer) (micros : ℕ) (side : Side) → confirmed_with u.stage ≡ x → Leads u → Whole (turns_at x heard w u micros side)
-turn_whole (Some crc) heard w u micros side e h = record { ended = ended_whole u crc e h; next = tt }
+turn_whole (Some crc) heard w u micros side e h = record { ended = (ended_whole u crc e h, refl); next = tt }
 turn_whole None heard w u micros side e (rests r) = record { ended = tt; next = frame_rests w u micros side r }
 turn_whole None heard w u micros side e (done s n) = unfinished u e s
 
@@ -143,18 +143,36 @@ after_leads t turn (done s n) = done s n
 pub by_turn : (heard : Bool) (t : Transfer) (turn : Turn) (micros : ℕ) (side : Side) → Leads turn.transfer → Whole (turns_at (confirmed_with turn.transfer.stage) heard turn.what (after t turn) micros side)
 by_turn heard t turn micros side h = turn_whole (confirmed_with turn.transfer.stage) heard turn.what (after t turn) micros side refl (after_leads t turn h)
 
-pub abort_same : (side : Side) (segment : Option (Option ℕ)) (code : AbortCode) → differs (abort_ending side segment code) ≡ false
+abort_same : (side : Side) (segment : Option (Option ℕ)) (code : AbortCode) → differs (abort_ending side segment code) ≡ false
 abort_same side None code = refl
 abort_same side (Some next) code = refl
 
+-- nothing is wrong with its data where it is the client's abort
+abbrev pub Faultless : Reading → Transfer → Type 0
+Faultless (Abort code) t = upload_fault (one_more t) ≡ None
+Faultless _ t = Unit {0}
+
+pub faultless : (reading : Reading) (t : Transfer) → upload_fault (one_more t) ≡ None → Faultless reading t
+faultless (Abort code) t f = f
+faultless _ t f = tt
+
+no_fault : (side : Side) (segment : Option (Option ℕ)) (code : AbortCode) (t : Transfer) → (side ≡ Client → upload_fault (one_more t) ≡ None) → fault_with (abort_ending side segment code) (one_more t) ≡ None
+no_fault Client None code t f = f refl
+no_fault Server None code t f = refl
+no_fault side (Some next) code t f = refl
+
+pub abort_whole : (heard : Bool) (t : Transfer) (code : AbortCode) (micros : ℕ) (side : Side) (bytes : List ℕ) → (side ≡ Client → upload_fault (one_more t) ≡ None)
+    → IsWhole (follows_by heard (Some t) (Abort code) micros side bytes).says.ended
+abort_whole heard t code micros side bytes f = (other_whole t.direction _ (abort_same side (not_followed_by side t bytes) code), no_fault side (not_followed_by side t bytes) code t f)
+
 pub frame_whole : (heard : Bool) (t : Transfer) (reading : Reading) (micros : ℕ) (side : Side) (bytes : List ℕ) → is_begin reading ≡ false → Leads (turn_of t reading bytes).transfer
-    → Whole (follows_by heard (Some t) reading micros side bytes)
-frame_whole heard t (Begin new) micros side bytes n h = absurd (false≢true (sym n))
-frame_whole heard t (Abort code) micros side bytes n h = record { ended = other_whole t.direction _ (abort_same side (not_followed_by side t bytes) code); next = tt }
-frame_whole heard t (Segment segment) micros side bytes n h = by_turn heard t (turn_of t (Segment segment) bytes) micros side h
-frame_whole heard t (Request request) micros side bytes n h = by_turn heard t (turn_of t (Request request) bytes) micros side h
-frame_whole heard t (Response response) micros side bytes n h = by_turn heard t (turn_of t (Response response) bytes) micros side h
-frame_whole heard t Nothing micros side bytes n h = by_turn heard t (turn_of t Nothing bytes) micros side h
+    → (side ≡ Client → Faultless reading t) → Whole (follows_by heard (Some t) reading micros side bytes)
+frame_whole heard t (Begin new) micros side bytes n h f = absurd (false≢true (sym n))
+frame_whole heard t (Abort code) micros side bytes n h f = record { ended = abort_whole heard t code micros side bytes f; next = tt }
+frame_whole heard t (Segment segment) micros side bytes n h f = by_turn heard t (turn_of t (Segment segment) bytes) micros side h
+frame_whole heard t (Request request) micros side bytes n h f = by_turn heard t (turn_of t (Request request) bytes) micros side h
+frame_whole heard t (Response response) micros side bytes n h f = by_turn heard t (turn_of t (Response response) bytes) micros side h
+frame_whole heard t Nothing micros side bytes n h f = by_turn heard t (turn_of t Nothing bytes) micros side h
 
 pub stray_whole : (heard : Bool) (reading : Reading) (micros : ℕ) (side : Side) (bytes : List ℕ) → is_begin reading ≡ false → Whole (follows_by heard None reading micros side bytes)
 stray_whole heard (Begin t) micros side bytes n = absurd (false≢true (sym n))
@@ -293,12 +311,15 @@ server_leads t reading bytes b q (calm c) = by t.direction refl
     by Download e = download_leads t reading bytes e
     by Upload e = calm_leads t bytes (ap is_download e) reading b q c
 
+no_client : {A : Type 0} → Server ≡ Client → A
+no_client e = absurd (cc)
+
 pub server_whole : (heard : Bool) (current : Option Transfer) (micros : ℕ) (bytes : List ℕ) → IfSome current Rests → Whole (reads (record { heard = heard; transfer = current }) micros Server bytes)
 server_whole heard None micros bytes h = stray_whole heard (reading_of None Server micros bytes) micros Server bytes (server_no_begin None micros bytes)
 server_whole heard (Some t) micros bytes h =
     let reading : Reading = reading_of (Some t) Server micros bytes in
     let n : is_begin reading ≡ false = server_no_begin (Some t) micros bytes in
-    frame_whole heard t reading micros Server bytes n (server_leads t reading bytes n (server_no_request (Some t) micros bytes) h)
+    frame_whole heard t reading micros Server bytes n (server_leads t reading bytes n (server_no_request (Some t) micros bytes) h) no_client
 
 -- ---- all answers to a request
 
@@ -315,7 +336,7 @@ rest_answers stamp (answer ∷ later) v h =
 -- an abort
 aborted_whole : (heard : Bool) (current : Option Transfer) (reading : Reading) (micros : ℕ) (bytes : List ℕ) → is_abort_reading reading ≡ true → IsWhole (follows_by heard current reading micros Server bytes).says.ended
 aborted_whole heard None (Abort code) micros bytes h = tt
-aborted_whole heard (Some t) (Abort code) micros bytes h = other_whole t.direction _ (abort_same Server (not_followed_by Server t bytes) code)
+aborted_whole heard (Some t) (Abort code) micros bytes h = abort_whole heard t code micros Server bytes no_client
 aborted_whole heard current _ micros bytes h = absurd (false≢true h)
 
 pub abort_answers : (stamp : ℕ → ℕ) (key : Key) (code : ℕ) (v : View) → AllWhole stamp (aborted key code) v

@@ -49,6 +49,8 @@ use Rattle.conode_explain_transfers.specs.declared.channel.Heard.{Heard as Says}
 use Rattle.conode_explain_transfers.specs.declared.ended.Ended.{Ended}
 use Rattle.conode_explain_transfers.specs.declared.ended.Ending.{Ending}
 use Rattle.conode_explain_transfers.specs.declared.ended.Ending.TheVariants.{Aborted, CrcDiffers, SizeDiffers}
+use Rattle.conode_explain_transfers.specs.declared.ended.Fault.{Fault}
+use Rattle.conode_explain_transfers.specs.declared.ended.Fault.TheVariants as fault
 use Rattle.conode_explain_transfers.specs.declared.kinds.Direction.{Direction}
 use Rattle.conode_explain_transfers.specs.declared.kinds.Direction.TheVariants.{Upload}
 use Rattle.conode_explain_transfers.specs.declared.kinds.Side.{Side}
@@ -72,7 +74,7 @@ use Rattle.conode_compare_transfers.specs.declared.breach.Breach.TheVariants.{Ab
 use Rattle.conode_compare_transfers.specs.declared.dialogue.Dialogue.{Dialogue}
 use Rattle.conode_compare_transfers.specs.declared.newest.Newest.{Newest}
 use Rattle.conode_compare_transfers.specs.declared.newest.Newest.TheVariants.{Acknowledge, AllAcknowledged, Data, LastData, LaterAcknowledge, LaterData, Request}
-use Rattle.conode_compare_transfers.specs.Breaches.{breach_at, ending_breach, is_padded, key_in, keyed_breach, may_refuse_next, names_none, server_breach}
+use Rattle.conode_compare_transfers.specs.Breaches.{breach_at, ending_breach, fault_breach, is_padded, key_in, keyed_breach, may_refuse_next, names_none, server_breach}
 use Rattle.conode_compare_transfers.specs.Dialogues.{dialogue_heard, exchange_in, newest_heard}
 use Rattle.conode_compare_transfers.specs.NewestFrames.{newest_after, newest_with}
 use Rattle.conode_compare_nmt.specs.declared.finding.Finding.{Finding}
@@ -119,8 +121,14 @@ either_breach : (b : Bool) (x y : Option Breach) → of_toggles (breach_finding 
 either_breach true x y p q = p
 either_breach false x y p q = q
 
+no_fault : (key : Key) (o : Option Fault) → of_toggles (breach_finding (fault_breach key o)) ≡ []
+no_fault key None = refl
+no_fault key (Some (fault.Size indicated bytes)) = refl
+no_fault key (Some (fault.Crc came computed)) = refl
+
 no_end : (newest : Newest) (frame : FrameContent) (e : Ended) (direction : Direction) (ending : Ending) → of_toggles (breach_finding (ending_breach newest frame e direction ending)) ≡ []
 no_end newest frame e direction (Aborted Server code) = either_breach (((same_key (key_in frame) e.key || (code.0 == unknown_command)) || names_none newest (key_in frame) e.frames) || may_refuse_next newest e) None (Some (AbortKey e.key)) refl refl
+no_end newest frame e direction (Aborted Client code) = no_fault e.key e.fault
 no_end newest frame e Upload (SizeDiffers indicated) = either_breach (is_padded frame e indicated) None (Some (Size e.key indicated e.bytes)) refl refl
 no_end newest frame e Upload (CrcDiffers came computed) = refl
 no_end newest frame e direction ending = refl

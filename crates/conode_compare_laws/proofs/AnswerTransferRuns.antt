@@ -5,7 +5,6 @@ use Rattle.std.proofs.lemmas.Bool.{false≢true}
 use Rattle.co_value.specs.declared.key.Key.{Key}
 use Rattle.co_frame.specs.FrameContent.{FrameContent}
 use Rattle.co_frame.specs.SdoRequests.{request_in}
-use Rattle.co_frame_aborts.specs.declared.abort_code.AbortCode.{AbortCode}
 use Rattle.co_frame.specs.declared.sdo_request.SdoRequest.{SdoRequest}
 use Rattle.co_frame.specs.declared.sdo_request.SdoRequest.TheVariants.{DownloadExpedited, DownloadInitiate, DownloadSegment, Upload as UploadInitiate, UploadSegment as NextSegment, Abort as Abandon, BlockUploadInitiate, BlockUploadEnd as UploadEnd, BlockUploadAcknowledge, BlockUploadStart, BlockDownloadInitiate, BlockDownloadEnd}
 use Rattle.co_sdo.specs.Log.{Answer, answer_bytes, frames_on}
@@ -20,16 +19,19 @@ use Rattle.conode_explain_transfers.specs.declared.kinds.Side.{Side}
 use Rattle.conode_explain_transfers.specs.declared.kinds.Side.TheVariants.{Client, Server}
 use Rattle.conode_explain_transfers.specs.declared.kinds.What.{What}
 use Rattle.conode_explain_transfers.specs.declared.kinds.What.TheVariants as what
+use Rattle.conode_explain_transfers.specs.declared.stage.Stage.{Stage}
+use Rattle.conode_explain_transfers.specs.declared.stage.Stage.TheVariants.{BlockEnded}
 use Rattle.conode_explain_transfers.specs.declared.transfer.Transfer.{Transfer}
 use Rattle.conode_explain_transfers.specs.BlockTurns.{is_block}
 use Rattle.conode_explain_transfers.specs.Endings.{ended}
-use Rattle.conode_explain_transfers.specs.Followed.{Followed, Following, abort_ending, followed, key_for, left, left_by, one_more, turns_at, unless_lost}
+use Rattle.conode_explain_transfers.specs.Followed.{Followed, Following, followed, key_for, left, left_by, turns_at, unless_lost}
 use Rattle.conode_explain_transfers.specs.Readings.{reading_of as their_reading_of}
 use Rattle.conode_explain_transfers.specs.Stages.{confirmed_with}
 use Rattle.conode_explain_transfers.specs.Transfers.{Turn, after, is_same_request}
 use Rattle.conode_explain_transfers.specs.Turns.{request_turn}
 use Rattle.conode_explain_transfers.specs.Unanswered.{is_lost, not_followed_by, number_of, segment_follows}
 use Rattle.conode_explain_laws.proofs.Readings.{Request, Nothing, follows_by, request_reading, same as same_reading, turn_of}
+use Rattle.conode_explain_laws.proofs.UploadStanding.{is_ended}
 use Rattle.conode_explain_laws.proofs.Views.{server_no_begin}
 use Rattle.conode_compare_transfers.specs.declared.dialogue.Dialogue.{Dialogue}
 use Rattle.conode_compare_transfers.specs.declared.newest.Newest.{Newest}
@@ -48,14 +50,14 @@ use Rattle.conode_compare_rules.specs.Gaps.{begun}
 use Rattle.conode_compare_rules.specs.Channels.{channel_heard, exchange_noted, late_noted, left_open, may_miss_end}
 use Rattle.conode_compare_rules.specs.Progresses.{after_frame, findings_at, findings_in, progress_with}
 use Rattle.conode_compare_laws.specs.AnswerFindings.{of_transfers, transfer_differences}
-use Rattle.conode_compare_laws.proofs.AnswerTurns.{Sound, asked}
+use Rattle.conode_compare_laws.proofs.AnswerTurns.{Sound, asked, in_blocks}
 use Rattle.conode_compare_laws.proofs.AnswerKeys.{kept}
 use Rattle.conode_compare_laws.proofs.AnswerFollowed.{client_reading, reads}
-use Rattle.conode_compare_laws.proofs.AnswerBreaches.{Fine, FineEnd}
+use Rattle.conode_compare_laws.proofs.AnswerBreaches.{Fine, FineEnd, refused_fine}
 use Rattle.conode_compare_laws.proofs.AnswerDialogues.{channel_is, doubted_is, in_doubt}
 use Rattle.conode_compare_laws.proofs.AnswerOnly.{client_found, is_breach, server_found}
 use Rattle.conode_compare_laws.proofs.AnswerSteps.{Same, begun_same}
-use Rattle.conode_compare_laws.proofs.AnswerTransfers.{Shape, shape_goes}
+use Rattle.conode_compare_laws.proofs.AnswerTransfers.{Shape, outside_blocks, shape_goes}
 use Rattle.conode_compare_laws.proofs.AnswerExchange.{answer_kind}
 use Rattle.conode_compare_laws.proofs.Runs.{AllRun, joined}
 
@@ -96,7 +98,7 @@ abbrev leaves_as : ℕ → Bool → Bool → Bool → Side → Ending
 leaves_as number follows lost same side =
     if follows then NotFollowed (Some number) else (if lost then NotFollowed None else (if same then Repeated else left_by side))
 
--- how the transfer ends that another one follows, or the client's abort
+-- how the transfer ends that another one follows
 pub left_end : (frame : FrameContent) (current : Option Transfer) (micros : ℕ) (bytes : List ℕ) → FineEnd frame (left current micros bytes)
 left_end frame None micros bytes = tt
 left_end frame (Some t) micros bytes = by t.direction (segment_follows t bytes) (is_lost t) (is_same_request t bytes) t.by
@@ -114,12 +116,9 @@ left_end frame (Some t) micros bytes = by t.direction (segment_follows t bytes) 
     by Download false false false Server newest = refl
     by Upload false false false Server newest = refl
 
-abort_end : (frame : FrameContent) (t : Transfer) (code : AbortCode) (micros : ℕ) (direction : Direction) (segment : Option (Option ℕ)) (newest : Newest)
-    → of_transfers (breach_finding (ending_breach newest frame (ended (one_more t) micros (abort_ending Client segment code)) direction (abort_ending Client segment code))) ≡ []
-abort_end frame t code micros Download None newest = refl
-abort_end frame t code micros Upload None newest = refl
-abort_end frame t code micros Download (Some next) newest = refl
-abort_end frame t code micros Upload (Some next) newest = refl
+unended : (stage : Stage) → in_blocks stage ≡ false → is_ended stage ≡ false
+unended (BlockEnded crc) h = absurd (false≢true (sym h))
+unended _ h = refl
 
 -- no request confirms a transfer that isn't in blocks
 turn_end : (x : Option (Option ℕ)) (heard : Bool) (w : What) (u : Transfer) (micros : ℕ) (frame : FrameContent) → is_some x ≡ false → FineEnd frame (turns_at x heard w u micros Client).says.ended
@@ -145,7 +144,7 @@ client_end key heard current None micros frame s = by current s
     by None s = tt
     by (Some t) s = turn_end (confirmed_with t.stage) heard what.Unexpected (after t (turn_of t Nothing frame.bytes)) micros frame (ap is_some s.sound.unconfirmed)
 client_end key heard None (Some (Abandon k code)) micros frame s = tt
-client_end key heard (Some t) (Some (Abandon k code)) micros frame s = abort_end frame t code micros t.direction (not_followed_by Client t frame.bytes)
+client_end key heard (Some t) (Some (Abandon k code)) micros frame s = refused_fine frame t code micros t.direction (not_followed_by Client t frame.bytes) (inl (unended t.stage (outside_blocks key t s)))
 client_end key heard current (Some (DownloadExpedited k value)) micros frame s = left_end frame current micros frame.bytes
 client_end key heard current (Some (DownloadInitiate k size)) micros frame s = left_end frame current micros frame.bytes
 client_end key heard current (Some (UploadInitiate k)) micros frame s = left_end frame current micros frame.bytes

@@ -36,15 +36,15 @@ use Rattle.conode_explain_transfers.specs.declared.transfer.Transfer.{Transfer}
 use Rattle.conode_explain_transfers.specs.BlockTurns.{acknowledged, acknowledged_at, block_ended, crc_in, end_confirmed, end_confirmed_at, is_block, next_sub_block as after_sub_block, upload_started_at}
 use Rattle.conode_explain_transfers.specs.Data.{data_with}
 use Rattle.conode_explain_transfers.specs.Digests.{counted, digest_of}
-use Rattle.conode_explain_transfers.specs.Endings.{size_fault, verdict}
-use Rattle.conode_explain_transfers.specs.Followed.{Followed, left, left_by, turns_at, with_frame}
+use Rattle.conode_explain_transfers.specs.Endings.{size_fault, upload_fault, verdict}
+use Rattle.conode_explain_transfers.specs.Followed.{Followed, left, left_by, one_more, turns_at, with_frame}
 use Rattle.conode_explain_transfers.specs.Readings.{may_have_segment, is_sender}
 use Rattle.conode_explain_transfers.specs.SegmentedTurns.{download_segment_at, upload_request_at}
 use Rattle.conode_explain_transfers.specs.Stages.{confirmed_with}
 use Rattle.conode_explain_transfers.specs.Transfers.{Turn, after, awaited_number, goes_on as part, irregular, is_download, is_same_request, takes_pending, unexpected}
 use Rattle.conode_explain_transfers.specs.Turns.{request_turn}
 use Rattle.conode_explain_transfers.proofs.DataLemmas.{taking}
-use Rattle.conode_explain_transfers.specs.Unanswered.{is_lost, is_next_segment, not_followed_by, number_of, segment_follows}
+use Rattle.conode_explain_transfers.specs.Unanswered.{is_lost, is_next_segment, number_of, segment_follows}
 use Rattle.conode_explain_laws.specs.Downloads.{Complete}
 use Rattle.conode_explain_laws.specs.Uploads.{Read}
 use Rattle.conode_explain_laws.proofs.Begins.{outside_answers}
@@ -52,10 +52,11 @@ use Rattle.conode_explain_laws.proofs.Exchanges.{same_toggle}
 use Rattle.conode_explain_laws.proofs.Follows.{BegunBy, IsLate, begun_by, client_no_response, is_response, request_spoils, segment_spoils, begun_of}
 use Rattle.conode_explain_laws.proofs.NoUploads.{begins_nothing}
 use Rattle.conode_explain_laws.proofs.Readings.{Abort, Begin, Nothing, Reading, Request, Response, Segment, begun_with, bytes_by, follows_by, plain_reading, reading_of, request_reading, response_reading, sub_block_reading, turn_of, begun_after, begun_on}
-use Rattle.conode_explain_laws.proofs.UploadStanding.{AtEnd, FollowsIn, InUpload, IsWaiting, aside, asked, at_end, begun, blocks, gone, late_request, segmented, size_is}
+use Rattle.conode_explain_laws.proofs.UploadFaults.{begun_within, blocks_within, download_right, end_right, first_right, sending_right, upload_within, worn_right}
+use Rattle.conode_explain_laws.proofs.UploadStanding.{AtEnd, FollowsIn, InUpload, IsWaiting, aside, asked, at_end, begun, blocks, gone, is_sending, late_request, segmented, size_is}
 use Rattle.conode_explain_laws.proofs.UploadViews.{hears, hears_answers, holds, read_as}
 use Rattle.conode_explain_laws.proofs.Views.{View, is_begin, server_no_begin}
-use Rattle.conode_compare_laws.proofs.AnswerEnds.{AllWhole, IsWhole, Leads, Rests, Whole, abort_answers, abort_same, calm, differs, download, download_leads, first, frame_whole, is_calm, other_whole, rest_answers, rests, right_verdict, stray_whole, worn, worn_leads}
+use Rattle.conode_compare_laws.proofs.AnswerEnds.{AllWhole, Faultless, IsWhole, Leads, Rests, Whole, abort_answers, abort_whole, calm, differs, download, download_leads, faultless, first, frame_whole, is_calm, other_whole, rest_answers, rests, right_verdict, stray_whole, worn, worn_leads}
 use Rattle.conode_compare_laws.proofs.AnswerFollowed.{reads}
 
 -- ---- a request in an upload whose segments come, or whose next one the client asks for
@@ -129,7 +130,7 @@ module _ (t : Transfer) where
 -- a request that confirms nothing
 late_whole : (x : Option (Option ℕ)) (heard : Bool) (w : What) (u : Transfer) (micros : ℕ) (side : Side) → confirmed_with u.stage ≡ x → (u.irregular ≡ true) ⊎ (confirmed_with u.stage ≡ None) → IsWhole (turns_at x heard w u micros side).says.ended
 late_whole None heard w u micros side e late = tt
-late_whole (Some crc) heard w u micros side e (inl i) = other_whole u.direction (verdict u crc) (rw i refl)
+late_whole (Some crc) heard w u micros side e (inl i) = (other_whole u.direction (verdict u crc) (rw i refl), refl)
 late_whole (Some crc) heard w u micros side e (inr n) = absurd (let no : is_some (Some crc) ≡ false = ap is_some (sym e ∙ n) in false≢true (sym no))
 
 late_turn : (heard : Bool) (t : Transfer) (turn : Turn) (micros : ℕ) (side : Side) → IsLate turn → IsWhole (turns_at (confirmed_with turn.transfer.stage) heard turn.what (after t turn) micros side).says.ended
@@ -138,7 +139,7 @@ late_turn heard t turn micros side late = late_whole (confirmed_with turn.transf
 -- a transfer that another one follows
 pub left_whole : (current : Option Transfer) (micros : ℕ) (bytes : List ℕ) → IsWhole (left current micros bytes)
 left_whole None micros bytes = tt
-left_whole (Some t) micros bytes = other_whole t.direction _ (by (segment_follows t bytes) (is_lost t) (is_same_request t bytes) t.by)
+left_whole (Some t) micros bytes = (other_whole t.direction _ (by (segment_follows t bytes) (is_lost t) (is_same_request t bytes) t.by), refl)
   where
     by : (follows lost same : Bool) (side : Side)
         → differs (if follows then NotFollowed (Some (number_of bytes)) else (if lost then NotFollowed None else (if same then Repeated else left_by side))) ≡ false
@@ -189,7 +190,7 @@ module _ (stamp : ℕ → ℕ) (heard : Bool) (t : Transfer) (got : List ℕ) (d
   comes_whole : (last : Bool) → is_last_after sent bytes ≡ last
       → IsWhole (follows_by heard (Some asked_for) (Response (UploadSegment toggle (record { items = part_after sent bytes }) last)) (stamp (suc count)) Server (response_bytes (UploadSegment toggle (record { items = part_after sent bytes }) last))).says.ended
   comes_whole false l = rw (same_toggle toggle) tt
-  comes_whole true l = rw (same_toggle toggle) (other_whole t.direction _ (right_verdict confirmed right))
+  comes_whole true l = rw (same_toggle toggle) (other_whole t.direction _ (right_verdict confirmed right), refl)
     where
       confirmed : Transfer
       confirmed = after asked_for (record { what = what.Part; transfer = record asked_for { stage = Confirmed None; pending = record { items = [] } }; takes = Some (part_after sent bytes) })
@@ -228,7 +229,7 @@ pub record EndsWhole (f : Followed) : Type 0 where
 
 pub end_whole : (heard : Bool) (micros : ℕ) (frame : List ℕ) (t : Transfer) (got : List ℕ) (crc : ℕ) (bytes : List ℕ) → AtEnd t bytes crc → got ≡ bytes → t.taken ≡ digest_of got
     → EndsWhole (follows_by heard (Some t) (Request UploadEnd) micros Client frame)
-end_whole heard micros frame t got crc bytes h g kept = subst Ended (sym turn) (record { ended = other_whole t.direction _ (right_verdict (after t confirmed) right); none = refl })
+end_whole heard micros frame t got crc bytes h g kept = subst Ended (sym turn) (record { ended = (other_whole t.direction _ (right_verdict (after t confirmed) right), refl); none = refl })
   where
     confirmed : Turn
     confirmed = part (record t { stage = Confirmed None })
@@ -246,6 +247,11 @@ end_whole heard micros frame t got crc bytes h g kept = subst Ended (sym turn) (
     right : size_fault t.size t.taken.count ≡ None
     right = size_is t.size t.taken.count bytes h.is.size (ap (λ (x : Digest). x.count) kept ∙ ap (λ xs. counted (length xs)) g) h.is.few
 
+-- the client's abort after it
+pub counted_right : (t : Transfer) (got bytes : List ℕ) (crc : ℕ) → AtEnd t bytes crc → got ≡ bytes → t.taken ≡ digest_of got → upload_fault (one_more t) ≡ None
+counted_right t got bytes crc h g kept =
+    end_right (one_more t) got bytes crc (record { is = record { direction = h.is.direction; protocol = h.is.protocol; regular = h.is.regular; crc = h.is.crc; size = h.is.size; few = h.is.few }; stage = h.stage }) g kept
+
 -- ---- a request with its answers
 
 module _ (d : Description) (contents : Contents) (stamp : ℕ → ℕ) (frame : List ℕ) (heard : Bool) (got : List ℕ) (done : List Complete) (count : ℕ) where
@@ -257,8 +263,8 @@ module _ (d : Description) (contents : Contents) (stamp : ℕ → ℕ) (frame : 
   resting : (current : Option OpenTransfer) (held : Option Transfer) (reading : Reading) → Whole (follows_by heard held reading (stamp count) Client frame) → After current held reading
   resting current held reading w = (w.ended, rest_answers stamp (answers_to d contents current frame) (read_as (stamp count) Client frame (holds heard held got done count) reading) w.next)
 
-  led : (current : Option OpenTransfer) (t : Transfer) (reading : Reading) → is_begin reading ≡ false → Leads (turn_of t reading frame).transfer → After current (Some t) reading
-  led current t reading n h = resting current (Some t) reading (frame_whole heard t reading (stamp count) Client frame n h)
+  led : (current : Option OpenTransfer) (t : Transfer) (reading : Reading) → is_begin reading ≡ false → Leads (turn_of t reading frame).transfer → Faultless reading t → After current (Some t) reading
+  led current t reading n h f = resting current (Some t) reading (frame_whole heard t reading (stamp count) Client frame n h (λ c. f))
 
   -- where the channel has dropped the upload
   gone_request : (t : Transfer) (request : SdoRequest) → IsWaiting t → IsWhole (follows_by heard (Some t) (Request request) (stamp count) Client frame).says.ended
@@ -266,7 +272,7 @@ module _ (d : Description) (contents : Contents) (stamp : ℕ → ℕ) (frame : 
 
   gone_ends : (t : Transfer) (r : Option SdoRequest) → IsWaiting t → is_begin (request_reading r (stamp count) frame) ≡ false → IsWhole (follows_by heard (Some t) (request_reading r (stamp count) frame) (stamp count) Client frame).says.ended
   gone_ends t None h n = late_turn heard t (unexpected t) (stamp count) Client (inl refl)
-  gone_ends t (Some (Abandon key code)) h n = other_whole t.direction _ (abort_same Client (not_followed_by Client t frame) code)
+  gone_ends t (Some (Abandon key code)) h n = abort_whole heard t code (stamp count) Client frame (λ c. sending_right (one_more t) h.sending h.within)
   gone_ends t (Some (DownloadSegment toggle items last)) h n = gone_request t (DownloadSegment toggle items last) h
   gone_ends t (Some (NextSegment toggle)) h n = gone_request t (NextSegment toggle) h
   gone_ends t (Some BlockUploadStart) h n = gone_request t BlockUploadStart h
@@ -283,7 +289,7 @@ module _ (d : Description) (contents : Contents) (stamp : ℕ → ℕ) (frame : 
   to_gone t h n = (gone_ends t (request_in frame) h n, none_answers d contents stamp (request_in frame) _ (begins_nothing (request_in frame) (stamp count) frame n))
 
   -- in an upload that goes on
-  module _ (current : Option OpenTransfer) (t : Transfer) (up : t.direction ≡ Upload) (c : is_calm t.stage ≡ true) where
+  module _ (current : Option OpenTransfer) (t : Transfer) (up : t.direction ≡ Upload) (c : is_calm t.stage ≡ true) (right : upload_fault (one_more t) ≡ None) where
     abbrev OnSegment : Option SdoRequest → Type 0
     OnSegment r = (toggle : Bool) → t.stage ≡ UploadTaken toggle → r ≡ Some (NextSegment toggle) → After current (Some t) (Request (NextSegment toggle))
 
@@ -291,13 +297,13 @@ module _ (d : Description) (contents : Contents) (stamp : ℕ → ℕ) (frame : 
     OnEnd r = (crc : ℕ) → t.stage ≡ BlockEnded crc → r ≡ Some UploadEnd → After current (Some t) (Request UploadEnd)
 
     by_sent : (request : SdoRequest) → OnSegment (Some request) → OnEnd (Some request) → Sent t request (request_turn t request frame) → After current (Some t) (Request request)
-    by_sent request s e (leads l) = led current t (Request request) refl l
+    by_sent request s e (leads l) = led current t (Request request) refl l tt
     by_sent request s e (next_one toggle stage is) = subst (λ x. After current (Some t) (Request x)) (sym is) (s toggle stage (ap (λ x. Some x) is))
     by_sent request s e (end crc stage is) = subst (λ x. After current (Some t) (Request x)) (sym is) (e crc stage (ap (λ x. Some x) is))
 
     to_open : (r : Option SdoRequest) → is_begin (request_reading r (stamp count) frame) ≡ false → OnSegment r → OnEnd r → After current (Some t) (request_reading r (stamp count) frame)
-    to_open None n s e = led current t Nothing refl (spoilt _ refl)
-    to_open (Some (Abandon key code)) n s e = led current t (Abort code) refl (spoilt _ refl)
+    to_open None n s e = led current t Nothing refl (spoilt _ refl) tt
+    to_open (Some (Abandon key code)) n s e = led current t (Abort code) refl (spoilt _ refl) right
     to_open (Some (DownloadSegment toggle items last)) n s e = by_sent (DownloadSegment toggle items last) s e (sent_by t (DownloadSegment toggle items last) frame (ap is_download up) c)
     to_open (Some (NextSegment toggle)) n s e = by_sent (NextSegment toggle) s e (sent_by t (NextSegment toggle) frame (ap is_download up) c)
     to_open (Some BlockUploadStart) n s e = by_sent BlockUploadStart s e (sent_by t BlockUploadStart frame (ap is_download up) c)
@@ -351,24 +357,24 @@ module _ (d : Description) (contents : Contents) (stamp : ℕ → ℕ) (frame : 
   goes_on : (current : Option OpenTransfer) (ended : Option Read) (held : Option Transfer) (reading : Reading) → reading_of held Client (stamp count) frame ≡ reading → is_begin reading ≡ false
       → FollowsIn (Unit {0}) held got current ended → IfSome held (λ t. t.taken ≡ digest_of got) → After current held reading
   goes_on current ended None reading e n h kept = resting current None reading (stray_whole heard reading (stamp count) Client frame n)
-  goes_on current ended (Some t) reading e n (aside (inl i) a) kept = led current t reading n (worn_leads t reading frame i.1)
-  goes_on current ended (Some t) reading e n (aside (inr down) a) kept = led current t reading n (download_leads t reading frame down)
-  goes_on current ended (Some t) reading e n (asked l a) kept = led current t reading n (spoilt _ (asked_worn t reading frame n (sym (ap is_response e) ∙ client_no_response (Some t) (stamp count) frame) a))
+  goes_on current ended (Some t) reading e n (aside (inl i) a) kept = led current t reading n (worn_leads t reading frame i.1) (faultless reading t (worn_right (one_more t) i.1))
+  goes_on current ended (Some t) reading e n (aside (inr down) a) kept = led current t reading n (download_leads t reading frame down) (faultless reading t (download_right (one_more t) down))
+  goes_on current ended (Some t) reading e n (asked l a) kept = led current t reading n (spoilt _ (asked_worn t reading frame n (sym (ap is_response e) ∙ client_no_response (Some t) (stamp count) frame) a)) (faultless reading t (first_right (one_more t) a))
   goes_on current ended (Some t) reading e n (gone a c x) kept = followed current t reading e n a.direction (λ m. rw c (to_gone t a m))
   goes_on current ended (Some t) reading e n (segmented sent bytes a g c x) kept =
       followed current t reading e n a.direction
-      (λ m. to_open current t a.direction (ap is_calm a.stage) (request_in frame) m
+      (λ m. to_open current t a.direction (ap is_calm a.stage) (sending_right (one_more t) (ap is_sending a.stage) (upload_within t got bytes sent a g kept)) (request_in frame) m
       (λ toggle taken r. rw c (on_segment t sent bytes toggle a g kept taken (let q = a.stage in cc) r))
       (λ crc ended r. absurd (let q = a.stage in cc)))
   goes_on current ended (Some t) reading e n (begun size bytes a g c x) kept =
       followed current t reading e n a.is.direction
-      (λ m. to_open current t a.is.direction (ap is_calm a.stage) (request_in frame) m (λ toggle taken r. absurd (let q = a.stage in cc)) (λ crc ended r. absurd (let q = a.stage in cc)))
+      (λ m. to_open current t a.is.direction (ap is_calm a.stage) (sending_right (one_more t) (ap is_sending a.stage) (begun_within t got bytes size a g kept)) (request_in frame) m (λ toggle taken r. absurd (let q = a.stage in cc)) (λ crc ended r. absurd (let q = a.stage in cc)))
   goes_on current ended (Some t) reading e n (blocks position sent bytes a c x) kept =
       followed current t reading e n a.is.direction
-      (λ m. to_open current t a.is.direction (ap is_calm a.stage) (request_in frame) m (λ toggle taken r. absurd (let q = a.stage in cc)) (λ crc ended r. absurd (let q = a.stage in cc)))
+      (λ m. to_open current t a.is.direction (ap is_calm a.stage) (sending_right (one_more t) (ap is_sending a.stage) (blocks_within t got bytes position sent a kept)) (request_in frame) m (λ toggle taken r. absurd (let q = a.stage in cc)) (λ crc ended r. absurd (let q = a.stage in cc)))
   goes_on current ended (Some t) reading e n (at_end crc bytes a g c x) kept =
       followed current t reading e n a.is.direction
-      (λ m. to_open current t a.is.direction (ap is_calm a.stage) (request_in frame) m (λ toggle taken r. absurd (let q = a.stage in cc)) (λ crc ended r. on_end current t _ bytes a g kept))
+      (λ m. to_open current t a.is.direction (ap is_calm a.stage) (counted_right t got bytes crc a g kept) (request_in frame) m (λ toggle taken r. absurd (let q = a.stage in cc)) (λ crc ended r. on_end current t _ bytes a g kept))
 
   by_reading : (current : Option OpenTransfer) (ended : Option Read) (held : Option Transfer) (reading : Reading) → reading_of held Client (stamp count) frame ≡ reading
       → FollowsIn (Unit {0}) held got current ended → IfSome held (λ t. t.taken ≡ digest_of got) → After current held reading

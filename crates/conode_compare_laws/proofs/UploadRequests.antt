@@ -1,5 +1,5 @@
 -- The client's frames in a block upload without a CRC that goes on with none: what explain has then, and that nothing is found of them.
-use Rattle.std.proofs.Common.{◌≡◌, ℕ, ◌+◌, ◌*◌, ◌/◌, ◌<◌, Bool, true, false, not, List, [], length, Option, Some, None, refl, sym, ap, ◌∙◌, subst, arith}
+use Rattle.std.proofs.Common.{◌≡◌, ℕ, ◌+◌, ◌*◌, ◌/◌, ◌<◌, Bool, true, false, not, List, [], length, Option, Some, None, refl, sym, ap, ◌∙◌, inl, inr, subst, arith}
 use Rattle.std.specs.Prelude.{if◌then◌else◌, is_some, nat_lt, ◌==◌, ◌&&◌}
 use Rattle.std.proofs.lemmas.Bool.{eqb-true, false≢true}
 use Rattle.std.proofs.lemmas.Bool.Decides.{nat_tests}
@@ -11,8 +11,6 @@ use Rattle.co_frame.specs.declared.sdo_request.SdoRequest.{SdoRequest}
 use Rattle.co_frame.specs.declared.sdo_request.SdoRequest.TheVariants.{DownloadSegment, UploadSegment as NextSegment, Abort as Abandon, BlockUploadEnd as UploadEnd, BlockUploadAcknowledge, BlockUploadStart, BlockDownloadEnd}
 use Rattle.co_sdo.specs.OpenTransfers.{is_initiate as initiates}
 use Rattle.co_sdo.specs.Uploads.{segment_count}
-use Rattle.conode_explain_transfers.specs.declared.kinds.Direction.{Direction}
-use Rattle.conode_explain_transfers.specs.declared.kinds.Direction.TheVariants.{Download, Upload}
 use Rattle.conode_explain_transfers.specs.declared.kinds.Side.TheVariants.{Client}
 use Rattle.conode_explain_transfers.specs.declared.kinds.What.{What}
 use Rattle.conode_explain_transfers.specs.declared.kinds.What.TheVariants as what
@@ -21,18 +19,15 @@ use Rattle.conode_explain_transfers.specs.declared.stage.Stage.TheVariants.{AllA
 use Rattle.conode_explain_transfers.specs.declared.transfer.Transfer.{Transfer}
 use Rattle.conode_explain_transfers.specs.BlockTurns.{acknowledged, acknowledged_at, acknowledged_in, block_ended, block_ended_at, crc_in, end_confirmed, end_confirmed_at, is_block, next_sub_block as after_sub_block, upload_started_at}
 use Rattle.conode_explain_transfers.specs.Endings.{ended, verdict}
-use Rattle.conode_explain_transfers.specs.Followed.{Followed, abort_ending, one_more, turns_at, with_frame}
+use Rattle.conode_explain_transfers.specs.Followed.{Followed, one_more, turns_at, with_frame}
 use Rattle.conode_explain_transfers.specs.SegmentedTurns.{download_segment_at, upload_request_at}
 use Rattle.conode_explain_transfers.specs.Stages.{confirmed_with}
 use Rattle.conode_explain_transfers.specs.Transfers.{Turn, after, awaited_number, goes_on as part, is_download, takes_pending, unexpected}
 use Rattle.conode_explain_transfers.specs.Turns.{request_turn}
 use Rattle.conode_explain_transfers.specs.Unanswered.{not_followed_by}
 use Rattle.conode_explain_laws.proofs.Readings.{Abort, Nothing, Request, follows_by, request_reading, turn_of}
-use Rattle.conode_compare_transfers.specs.declared.newest.Newest.{Newest}
-use Rattle.conode_compare_transfers.specs.Breaches.{ending_breach}
-use Rattle.conode_compare_rules.specs.Answers.{breach_finding}
-use Rattle.conode_compare_laws.specs.AnswerFindings.{of_transfers}
-use Rattle.conode_compare_laws.proofs.AnswerBreaches.{FineEnd, IsWithoutCrc, confirmed_end}
+use Rattle.conode_explain_laws.proofs.UploadStanding.{is_ended}
+use Rattle.conode_compare_laws.proofs.AnswerBreaches.{FineEnd, IsCrcless, IsWithoutCrc, confirmed_end, refused_fine}
 use Rattle.conode_compare_laws.proofs.AnswerToggles.{is_kept, turn_what}
 use Rattle.conode_compare_laws.proofs.AnswerTurns.{in_blocks, unconfirmed}
 use Rattle.conode_compare_laws.proofs.UploadAnswers.{InSubBlock, IsBegun, IsBlockUp, has}
@@ -157,21 +152,14 @@ module _ (heard : Bool) (t : Transfer) (micros : ℕ) (frame : FrameContent) (is
   request_heard request = by_turn (request_turn t request frame.bytes) (makes t is request frame.bytes b)
 
 -- an abort ends it
-abort_end : (frame : FrameContent) (t : Transfer) (code : AbortCode) (micros : ℕ) (direction : Direction) (segment : Option (Option ℕ)) (newest : Newest)
-    → of_transfers (breach_finding (ending_breach newest frame (ended (one_more t) micros (abort_ending Client segment code)) direction (abort_ending Client segment code))) ≡ []
-abort_end frame t code micros Download None newest = refl
-abort_end frame t code micros Upload None newest = refl
-abort_end frame t code micros Download (Some next) newest = refl
-abort_end frame t code micros Upload (Some next) newest = refl
-
-pub abort_heard : (heard : Bool) (t : Transfer) (micros : ℕ) (frame : FrameContent) (code : AbortCode) → Heard t frame (follows_by heard (Some t) (Abort code) micros Client frame.bytes)
-abort_heard heard t micros frame code = record { follows = over refl; fine = abort_end frame t code micros t.direction (not_followed_by Client t frame.bytes) }
+pub abort_heard : (heard : Bool) (t : Transfer) (micros : ℕ) (frame : FrameContent) (code : AbortCode) → IsCrcless t → Heard t frame (follows_by heard (Some t) (Abort code) micros Client frame.bytes)
+abort_heard heard t micros frame code h = record { follows = over refl; fine = refused_fine frame t code micros t.direction (not_followed_by Client t frame.bytes) h }
 
 -- any frame that begins nothing
 pub later_heard : (heard : Bool) (t : Transfer) (micros : ℕ) (frame : FrameContent) (r : Option SdoRequest) → IsBlockUp t → in_blocks t.stage ≡ true → initiates r ≡ false
     → Heard t frame (follows_by heard (Some t) (request_reading r micros frame.bytes) micros Client frame.bytes)
 later_heard heard t micros frame None is b n = odd_by t (confirmed_with t.stage) heard (after t (unexpected t)) micros frame (unconfirmed t.stage b)
-later_heard heard t micros frame (Some (Abandon key code)) is b n = abort_heard heard t micros frame code
+later_heard heard t micros frame (Some (Abandon key code)) is b n = abort_heard heard t micros frame code (inr is.crc)
 later_heard heard t micros frame (Some (DownloadSegment toggle items last)) is b n = request_heard heard t micros frame is b (DownloadSegment toggle items last)
 later_heard heard t micros frame (Some (NextSegment toggle)) is b n = request_heard heard t micros frame is b (NextSegment toggle)
 later_heard heard t micros frame (Some UploadEnd) is b n = request_heard heard t micros frame is b UploadEnd
@@ -216,7 +204,7 @@ module _ (heard : Bool) (t : Transfer) (micros : ℕ) (frame : FrameContent) (e 
 
   pub first_heard : (r : Option SdoRequest) → initiates r ≡ false → Heard t frame (follows_by heard (Some t) (request_reading r micros frame.bytes) micros Client frame.bytes)
   first_heard None n = odd_by t (confirmed_with t.stage) heard (after t (unexpected t)) micros frame (ap confirmed_with e)
-  first_heard (Some (Abandon key code)) n = abort_heard heard t micros frame code
+  first_heard (Some (Abandon key code)) n = abort_heard heard t micros frame code (inl (ap is_ended e))
   first_heard (Some (DownloadSegment toggle items last)) n = first_request (DownloadSegment toggle items last)
   first_heard (Some (NextSegment toggle)) n = first_request (NextSegment toggle)
   first_heard (Some UploadEnd) n = first_request UploadEnd

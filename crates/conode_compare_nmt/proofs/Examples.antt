@@ -238,6 +238,7 @@ transferred key protocol = record {
   newest = 1;
   end = 7;
   ending = Done false;
+  fault = None;
 }
 
 -- an expedited transfer of 1015:00 shows it

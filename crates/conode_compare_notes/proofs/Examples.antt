@@ -57,6 +57,7 @@ transfer direction protocol ending count bytes = Some (record {
   newest = 1;
   end = 2;
   ending = ending;
+  fault = None;
 })
 
 abbrev exchange : Bool → What → Option Key → Option Ended → Option Exchange
@@ -163,6 +164,7 @@ refused_of index sub direction protocol bytes = record {
   newest = 1;
   end = 2;
   ending = Aborted Server (record { 0 = 0 });
+  fault = None;
 }
 
 abbrev entry_key : ℕ → ℕ → Key

@@ -179,6 +179,7 @@ begun_anew : map (λ (pdo : Tpdo). pdo.cycle)
       newest = 6;
       end = 7;
       ending = Done false;
+      fault = None;
     }) 7 0 sent ∷ [])
     ≡ Some new_cycle ∷ Some new_cycle ∷ Some new_cycle ∷ Some new_cycle ∷ Some new_cycle ∷ []
 begun_anew = refl

@@ -368,6 +368,7 @@ transferred direction protocol ending index sub = record {
   newest = 6;
   end = 7;
   ending = ending;
+  fault = None;
 }
 
 in_one_frame : after_transfer (transferred Download Expedited (Done false) 0x1800 5) 7 0 sent

@@ -187,6 +187,7 @@ ended direction protocol ending index sub bytes = record {
   newest = 1;
   end = 2;
   ending = ending;
+  fault = None;
 }
 
 abbrev after : Rpdo → Ended → Rpdo

@@ -295,6 +295,7 @@ ended direction begun = Some (record {
   newest = begun;
   end = 50000;
   ending = Done false;
+  fault = None;
 })
 
 abbrev answered : Receptions → Direction → ℕ → Receptions

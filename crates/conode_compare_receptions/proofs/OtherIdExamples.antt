@@ -77,6 +77,7 @@ ended protocol ending key bytes = record {
   newest = 1;
   end = 2;
   ending = ending;
+  fault = None;
 }
 
 -- four bytes; one byte isn't enough

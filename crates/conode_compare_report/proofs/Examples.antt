@@ -357,6 +357,7 @@ ended index direction protocol ending = record {
   newest = 0;
   end = 0;
   ending = ending;
+  fault = None;
 }
 
 abbrev done : Ending

@@ -155,6 +155,7 @@ uploaded_in_blocks count bytes = record {
       newest = 2;
       end = 3;
       ending = Done true;
+      fault = None;
     });
   };
   asked = None;
@@ -206,6 +207,7 @@ written_in_segments count = ended_finding device (row 0x2005 0 VisibleString Rw 
   newest = 2;
   end = 3;
   ending = Done false;
+  fault = None;
 }))
 
 beyond_the_room : written_in_segments 16 ∷ written_in_segments 17 ∷ [] ≡ None ∷ Some (Value (BeyondRoom (key 0x2005 0) 17 16)) ∷ []
@@ -231,6 +233,7 @@ gives_up certain = record {
       newest = 2;
       end = 3;
       ending = Aborted Server (record { 0 = 0x05040000 });
+      fault = None;
     });
   };
   asked = None;

@@ -5,6 +5,8 @@ use Rattle.co_value.specs.declared.key.Key.{Key}
 use Rattle.conode_explain_transfers.specs.declared.channel.Heard.{Heard}
 use Rattle.conode_explain_transfers.specs.declared.ended.Ending.{Ending}
 use Rattle.conode_explain_transfers.specs.declared.ended.Ending.TheVariants.{Aborted, CrcDiffers, Done, Irregular, SizeDiffers}
+use Rattle.conode_explain_transfers.specs.declared.ended.Fault.{Fault}
+use Rattle.conode_explain_transfers.specs.declared.ended.Fault.TheVariants as fault
 use Rattle.conode_explain_transfers.specs.declared.kinds.Direction.{Direction}
 use Rattle.conode_explain_transfers.specs.declared.kinds.Direction.TheVariants.{Download, Upload}
 use Rattle.conode_explain_transfers.specs.declared.kinds.Protocol.{Protocol}
@@ -228,6 +230,7 @@ ended_by direction ending = record {
     newest = 5;
     end = 6;
     ending = ending;
+    fault = None;
   });
 }
 
@@ -310,6 +313,7 @@ refused newest frames frame = ended_breach newest frame (record {
   newest = 1;
   end = 2;
   ending = Aborted Server (record { 0 = 0x08000000 });
+  fault = None;
 })
 
 abbrev abort_of_none : ℕ → ℕ → ℕ → FrameContent
@@ -347,6 +351,7 @@ in_blocks newest direction protocol frames = ended_breach newest (abort_of_none 
   newest = 1;
   end = 2;
   ending = Aborted Server (record { 0 = 0x06020000 });
+  fault = None;
 })
 
 next_segment : map (λ frames. in_blocks Request Download Block frames) (2 ∷ 3 ∷ 66 ∷ []) ≡ Some (AbortKey key) ∷ None ∷ None ∷ []
@@ -369,6 +374,7 @@ timed_out_for newest code frames = ended_breach newest (abort_of_none 9 0x20 1) 
   newest = 1;
   end = 2;
   ending = Aborted Server (record { 0 = code });
+  fault = None;
 })
 
 crossed : timed_out_for Request 0x05040000 2 ≡ None
@@ -380,3 +386,32 @@ not_crossed = refl
 by_client : breach_at (Some Answer) Client (ended_by Download (Aborted Client (record { 0 = 0x08000000 }))) (abort_of 9 0) ≡ None
 unfolding breach_at
 by_client = refl
+
+-- An upload that the client refuses, by what was wrong with its data: after whichever frame, also where the size would be that of a
+-- padded last segment. Not where the device aborts it.
+abbrev refused_for : Newest → Ending → Option Fault → Option Breach
+refused_for newest ending wrong = ended_breach newest (abort_of 8 0) (record {
+  key = key;
+  direction = Upload;
+  protocol = Segmented;
+  bytes = 7;
+  first = record { items = [] };
+  frames = 5;
+  begun = 1;
+  newest = 5;
+  end = 6;
+  ending = ending;
+  fault = wrong;
+})
+
+abbrev by_its_client : Ending
+by_its_client = Aborted Client (record { 0 = 0x06070012 })
+
+refused_size : refused_for Answer by_its_client (Some (fault.Size 3 7)) ∷ refused_for Data by_its_client (Some (fault.Size 20 28)) ∷ [] ≡ Some (Size key 3 7) ∷ Some (Size key 20 28) ∷ []
+refused_size = refl
+
+refused_crc : refused_for Answer by_its_client (Some (fault.Crc 0x1234 0x4321)) ≡ Some (Crc key 0x1234 0x4321)
+refused_crc = refl
+
+refused_without_fault : refused_for Answer by_its_client None ∷ refused_for Answer (Aborted Server (record { 0 = 0x06070012 })) (Some (fault.Size 3 7)) ∷ [] ≡ None ∷ None ∷ []
+refused_without_fault = refl

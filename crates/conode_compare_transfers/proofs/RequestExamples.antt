@@ -69,6 +69,7 @@ left_by index ending = Some (record {
   newest = 1;
   end = 7;
   ending = ending;
+  fault = None;
 })
 
 -- saving is left by another request, by the same one again, and by an abort of the client

@@ -74,6 +74,7 @@ ended_by ending awaited = record {
       newest = 2;
       end = 3;
       ending = ending;
+      fault = None;
     });
   };
   asked = None;

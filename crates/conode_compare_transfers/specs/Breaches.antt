@@ -9,12 +9,14 @@ use Rattle.conode_explain_transfers.specs.declared.channel.Heard.{Heard}
 use Rattle.conode_explain_transfers.specs.declared.ended.Ended.{Ended}
 use Rattle.conode_explain_transfers.specs.declared.ended.Ending.{Ending}
 use Rattle.conode_explain_transfers.specs.declared.ended.Ending.TheVariants.{Aborted, SizeDiffers, CrcDiffers}
+use Rattle.conode_explain_transfers.specs.declared.ended.Fault.{Fault}
+use Rattle.conode_explain_transfers.specs.declared.ended.Fault.TheVariants as fault
 use Rattle.conode_explain_transfers.specs.declared.kinds.Direction.{Direction}
 use Rattle.conode_explain_transfers.specs.declared.kinds.Direction.TheVariants.{Download, Upload}
 use Rattle.conode_explain_transfers.specs.declared.kinds.Protocol.{Protocol}
 use Rattle.conode_explain_transfers.specs.declared.kinds.Protocol.TheVariants.{Block, Segmented}
 use Rattle.conode_explain_transfers.specs.declared.kinds.Side.{Side}
-use Rattle.conode_explain_transfers.specs.declared.kinds.Side.TheVariants.{Server}
+use Rattle.conode_explain_transfers.specs.declared.kinds.Side.TheVariants.{Client, Server}
 use Rattle.conode_explain_transfers.specs.declared.kinds.What.{What}
 use Rattle.conode_explain_transfers.specs.declared.kinds.What.TheVariants.{Repeated, Unexpected}
 use Rattle.conode_compare_transfers.specs.declared.breach.Breach.{Breach}
@@ -86,9 +88,16 @@ is_padded frame ended indicated =
 abbrev pub size_breach : FrameContent → Ended → ℕ → Option Breach
 size_breach frame ended indicated = if is_padded frame ended indicated then None else Some (Size ended.key indicated ended.bytes)
 
+-- of an upload that the client refuses
+abbrev pub fault_breach : Key → Option Fault → Option Breach
+fault_breach key None = None
+fault_breach key (Some (fault.Size indicated bytes)) = Some (Size key indicated bytes)
+fault_breach key (Some (fault.Crc came computed)) = Some (Crc key came computed)
+
 -- `answer-size`, `answer-crc`: an upload whose bytes aren't those that the device named
 abbrev pub ending_breach : Newest → FrameContent → Ended → Direction → Ending → Option Breach
 ending_breach newest frame ended direction (Aborted Server code) = abort_breach newest (key_in frame) ended code
+ending_breach newest frame ended direction (Aborted Client code) = fault_breach ended.key ended.fault
 ending_breach newest frame ended Upload (SizeDiffers indicated) = size_breach frame ended indicated
 ending_breach newest frame ended Upload (CrcDiffers came computed) = Some (Crc ended.key came computed)
 ending_breach newest frame ended direction ending = None

@@ -7,6 +7,7 @@ ghost use Rattle.conode_compare_transfers.specs.Breaches.{
   breach_at,
   byte_at,
   ended_breach,
+  fault_breach,
   is_padded,
   key_in,
   may_refuse_next,
@@ -19,7 +20,7 @@ use crate::newest::Newest;
 use crate::timeouts::times_out;
 use co_frame::{AbortCode, Frame};
 use co_value::Key;
-use conode_explain_transfers::{Direction, Ended, Ending, Heard, Protocol, Side, What};
+use conode_explain_transfers::{Direction, Ended, Ending, Fault, Heard, Protocol, Side, What};
 
 /// A difference in the transfer of an entry.
 #[derive(Clone, Copy)]
@@ -31,7 +32,8 @@ pub enum Breach {
     Form(Key),
     /// `abort-key`: an abort has another multiplexer.
     AbortKey(Key),
-    /// `answer-size`: an upload indicates so many bytes, and has so many.
+    /// `answer-size`: an upload indicates so many bytes, and has so many; or so many have come when the
+    /// client aborts it.
     Size(Key, u32, u64),
     /// `answer-crc`: a block upload has this CRC, and its bytes have that one.
     Crc(Key, u16, u16),
@@ -141,6 +143,17 @@ fn size_breach(frame: &Frame, ended: &Ended, indicated: u32) -> Option<Breach>
     }
 }
 
+// the difference of an upload that the client refuses
+fn fault_breach(key: Key, fault: Option<Fault>) -> Option<Breach>
+    ensures { result ≡ fault_breach key fault }
+{
+    match fault {
+        Some(Fault::Size { indicated, bytes }) => Some(Breach::Size(key, indicated, bytes)),
+        Some(Fault::Crc { came, computed }) => Some(Breach::Crc(key, came, computed)),
+        None => None,
+    }
+}
+
 // the difference of the end of a transfer, after its newest frame
 fn ended_breach(newest: Newest, frame: &Frame, ended: &Ended) -> Option<Breach>
     ensures { result ≡ ended_breach newest frame.now ended.now }
@@ -153,6 +166,13 @@ fn ended_breach(newest: Newest, frame: &Frame, ended: &Ended) -> Option<Breach>
                 code,
             },
         ) => abort_breach(newest, key_in(frame), ended, code),
+        (
+            _,
+            Ending::Aborted {
+                by: Side::Client,
+                code: _,
+            },
+        ) => fault_breach(ended.key, ended.fault),
         (Direction::Upload, Ending::SizeDiffers { indicated }) => {
             size_breach(frame, ended, indicated)
         }

@@ -52,6 +52,7 @@ read entry exact protocol count bytes = value_mismatch 5 entry exact (record {
   newest = 1;
   end = 2;
   ending = Done false;
+  fault = None;
 })
 
 abbrev upload : Row → Bool → List ℕ → Option Mismatch
@@ -377,6 +378,7 @@ transfer entry direction protocol count ending = record {
   newest = 1;
   end = 2;
   ending = ending;
+  fault = None;
 }
 
 -- modules decide about the device type alone, but not about its length

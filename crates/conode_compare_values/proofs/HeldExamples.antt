@@ -102,6 +102,7 @@ transfer direction protocol ending key bytes = Some (record {
   newest = 1;
   end = 2;
   ending = ending;
+  fault = None;
 })
 
 abbrev expedited : Direction → Key → List ℕ → Option Ended

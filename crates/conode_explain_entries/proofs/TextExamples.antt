@@ -29,6 +29,7 @@ transfer direction bytes frames ending = record {
   newest = 1180000;
   end = 1182999;
   ending = ending;
+  fault = None;
 }
 
 -- the line of one whose value isn't shown

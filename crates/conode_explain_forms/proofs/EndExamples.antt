@@ -39,6 +39,7 @@ ended direction protocol ending count bytes = record {
   newest = 0;
   end = 0;
   ending = ending;
+  fault = None;
 }
 
 abbrev row : ℕ → DataType → Access → Option ℤ → Option ℤ → Row

@@ -126,6 +126,7 @@ ended protocol ending count bytes = record {
   newest = 0;
   end = 0;
   ending = ending;
+  fault = None;
 }
 
 -- of a download
@@ -141,6 +142,7 @@ down e = record {
   newest = e.newest;
   end = e.end;
   ending = e.ending;
+  fault = e.fault;
 }
 
 abbrev told : ℕ → Option Ended → Option Told

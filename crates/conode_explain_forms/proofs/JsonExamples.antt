@@ -154,6 +154,7 @@ transfer direction protocol bytes ending = record {
   newest = 1180000;
   end = 1182000;
   ending = ending;
+  fault = None;
 }
 
 done_line : end_json_line 5 (transfer Download Block 1024 (Done true)) (own_parts Relative (times 5 5 6) true (codes "can1") (codes "node 5  done"))
@@ -184,7 +185,7 @@ not_aborted : flat_map abort_members (Done false ∷ Unanswered ∷ SizeDiffers 
 not_aborted = refl
 
 -- an end with an earlier stamp than the beginning; a number that readers may not keep
-of_no_time : result_members (record { key = record { index = 0; sub = 0 }; direction = Upload; protocol = Block; bytes = 9007199254740992; first = record { items = [] }; frames = 1; begun = 2; newest = 2; end = 1; ending = Unfinished })
+of_no_time : result_members (record { key = record { index = 0; sub = 0 }; direction = Upload; protocol = Block; bytes = 9007199254740992; first = record { items = [] }; frames = 1; begun = 2; newest = 2; end = 1; ending = Unfinished; fault = None })
     ≡ key (codes "result") ∷ string (codes "unfinished") ∷ key (codes "bytes") ∷ string (codes "9007199254740992") ∷ key (codes "frames") ∷ number (codes "1") ∷ key (codes "duration") ∷ number (codes "0") ∷ []
 unfolding result_members text_member number_member digits
 of_no_time = refl

@@ -1,7 +1,7 @@
 -- Both read the client's frames alike, over all inputs whose frames are whole and whose sub-blocks are in order: all downloads that the
 -- channel sets are done, those in blocks too, and all uploads that it serves whole.
 use Rattle.std.proofs.Common.{◌≡◌, ℕ, suc, Bool, true, false, not, List, [], ◌∷◌, ◌++◌, length, Option, Some, None, refl, sym, ap, ◌∙◌, inr, subst}
-use Rattle.std.specs.Prelude.{if◌then◌else◌, ◌==◌, ◌&&◌}
+use Rattle.std.specs.Prelude.{if◌then◌else◌, ◌==◌, ◌&&◌, IfSome}
 use Rattle.std.proofs.lemmas.Bool.{false≢true}
 use Rattle.co_value.specs.Numbers.{AreBytes}
 use Rattle.co_frame.specs.SubBlocks.{ends_sub_block}
@@ -18,6 +18,7 @@ use Rattle.co_sdo_laws.proofs.Channel.{Serves, serves_first, served, serves_tick
 use Rattle.conode_explain_transfers.specs.declared.kinds.Side.TheVariants.{Client}
 use Rattle.conode_explain_transfers.specs.declared.transfer.Transfer.{Transfer}
 use Rattle.conode_explain_transfers.specs.Data.{data_after}
+use Rattle.conode_explain_transfers.specs.Digests.{digest_of}
 use Rattle.conode_explain_transfers.specs.Followed.{Event, following_after}
 use Rattle.conode_explain_transfers.proofs.DataLemmas.{open_after}
 use Rattle.conode_explain_laws.specs.Recordings.{Input, Received, Elapsed, Expired, Abandoned, Started, AreInputs, log_of, recorded, and_frame, and_answers}
@@ -136,9 +137,9 @@ module _ (stamp : ℕ → ℕ) (d : Description) where
   drops_orderly (Some t) got current newest o (all_sent h c) = gone (record { is = h.is.is; stage = h.stage; pending = h.pending }) refl
   drops_orderly (Some t) got current newest o (gone h c) = gone h refl
 
-  drops_upload : (held : Option Transfer) (got : List ℕ) (current : Option OpenTransfer) (ended : Option Read) → Stays held got current ended → Stays held got None ended
-  drops_upload held got current ended (plain_upload f) = plain_upload (drops_read ⊥ held got current ended f)
-  drops_upload held got current ended (in_blocks a b x) = plain_upload (aside_follows ⊥ None ended [] [] held got (inr (record { none = refl; no_end = x })) a)
+  drops_upload : (held : Option Transfer) (got : List ℕ) (current : Option OpenTransfer) (ended : Option Read) → IfSome held (λ t. t.taken ≡ digest_of got) → Stays held got current ended → Stays held got None ended
+  drops_upload held got current ended kept (plain_upload f) = plain_upload (drops_read ⊥ held got current ended kept f)
+  drops_upload held got current ended kept (in_blocks a b x) = plain_upload (aside_follows ⊥ None ended [] [] held got (inr (record { none = refl; no_end = x })) a)
 
   all_same : (inputs : List Input) → AreInputs d inputs → AreOrderly d inputs → Same d (log_of d inputs) (recorded stamp d inputs) (newest_in d inputs) (downloads_set stamp d inputs) (uploads_served stamp d inputs)
   all_same [] h p = record { current = None; serves = serves_first d.rows [] refl; holds = refl; same = refl; stays = plain_upload (inr (record { none = refl; no_end = refl })); read = refl }
@@ -162,7 +163,8 @@ module _ (stamp : ℕ → ℕ) (d : Description) where
         holds = drops_orderly (following_after (recorded stamp d older)).transfer (data_after (recorded stamp d older)) r.current (newest_in d older) (ap is_in_sub_block (sym r.serves.opens) ∙ p.0) r.holds;
         same = r.same;
         stays = subst (Stays (following_after (recorded stamp d older)).transfer (data_after (recorded stamp d older)) None) (sym (dropped_whole (log_of d older)))
-            (drops_upload (following_after (recorded stamp d older)).transfer (data_after (recorded stamp d older)) r.current (acknowledged_whole (log_of d older)) r.stays);
+            (drops_upload (following_after (recorded stamp d older)).transfer (data_after (recorded stamp d older)) r.current (acknowledged_whole (log_of d older))
+            (kept_of (following_after (recorded stamp d older)).transfer (data_after (recorded stamp d older)) (open_after (recorded stamp d older))) r.stays);
         read = r.read;
       }
   all_same (Started ∷ older) h p =

@@ -15,6 +15,7 @@ use Rattle.co_sdo_laws.proofs.Channel.{Serves, serves_first, served, serves_tick
 use Rattle.conode_explain_transfers.specs.declared.kinds.Side.TheVariants.{Client}
 use Rattle.conode_explain_transfers.specs.declared.transfer.Transfer.{Transfer}
 use Rattle.conode_explain_transfers.specs.Data.{data_after}
+use Rattle.conode_explain_transfers.specs.Digests.{digest_of}
 use Rattle.conode_explain_transfers.specs.Followed.{Event, following_after}
 use Rattle.conode_explain_transfers.specs.Stages.{confirmed_with}
 use Rattle.conode_explain_transfers.proofs.DataLemmas.{open_after}
@@ -27,6 +28,7 @@ use Rattle.conode_explain_laws.proofs.AllExact.{kept_of}
 use Rattle.conode_explain_laws.proofs.Views.{Closes}
 use Rattle.conode_explain_laws.proofs.UploadViews.{view_of, holds, read_as, hears_answers, hears_frame, hears_all, IsAside, KnowsAside, aside_turn, aborted_closes}
 use Rattle.conode_explain_laws.proofs.UploadSteps.{acknowledged_next, answered_next, completes, ticked_whole, dropped_whole}
+use Rattle.conode_explain_laws.proofs.UploadFaults.{begun_within, blocks_within, upload_within}
 use Rattle.conode_explain_laws.proofs.UploadStanding.{aside, asked, gone, segmented, begun, blocks, at_end, FollowsIn, Ends}
 use Rattle.conode_explain_laws.proofs.UploadExchanges.{exchange}
 
@@ -51,17 +53,18 @@ short_reads Loose micros frame heard (Some t) got done count l = aside_turn Loos
 -- ---- what holds after all inputs
 
 -- a transfer that is dropped
-pub drops : (Loose : Type 0) (held : Option Transfer) (got : List ℕ) (current : Option OpenTransfer) (ended : Option Read) → FollowsIn Loose held got current ended → FollowsIn Loose held got None ended
-drops Loose None got current ended (inl l) = inl l
-drops Loose None got current ended (inr h) = inr (record { none = refl; no_end = h.no_end })
-drops Loose (Some t) got current ended (aside a (inl l)) = aside a (inl l)
-drops Loose (Some t) got current ended (aside a (inr h)) = aside a (inr (record { none = refl; no_end = h.no_end }))
-drops Loose (Some t) got current ended (asked l a) = asked l a
-drops Loose (Some t) got current ended (gone a c e) = gone a refl e
-drops Loose (Some t) got current ended (segmented sent bytes a g c e) = gone (record { direction = a.direction; unconfirmed = ap confirmed_with a.stage; unended = rw a.stage refl }) refl e
-drops Loose (Some t) got current ended (begun block_size bytes a g c e) = gone (record { direction = a.is.direction; unconfirmed = ap confirmed_with a.stage; unended = rw a.stage refl }) refl e
-drops Loose (Some t) got current ended (blocks position sent bytes a c e) = gone (record { direction = a.is.direction; unconfirmed = ap confirmed_with a.stage; unended = rw a.stage refl }) refl e
-drops Loose (Some t) got current ended (at_end crc bytes a g c e) = at_end crc bytes a g (inl refl) e
+pub drops : (Loose : Type 0) (held : Option Transfer) (got : List ℕ) (current : Option OpenTransfer) (ended : Option Read) → IfSome held (λ t. t.taken ≡ digest_of got) → FollowsIn Loose held got current ended
+    → FollowsIn Loose held got None ended
+drops Loose None got current ended kept (inl l) = inl l
+drops Loose None got current ended kept (inr h) = inr (record { none = refl; no_end = h.no_end })
+drops Loose (Some t) got current ended kept (aside a (inl l)) = aside a (inl l)
+drops Loose (Some t) got current ended kept (aside a (inr h)) = aside a (inr (record { none = refl; no_end = h.no_end }))
+drops Loose (Some t) got current ended kept (asked l a) = asked l a
+drops Loose (Some t) got current ended kept (gone a c e) = gone a refl e
+drops Loose (Some t) got current ended kept (segmented sent bytes a g c e) = gone (record { direction = a.direction; unconfirmed = ap confirmed_with a.stage; unended = rw a.stage refl; sending = rw a.stage refl; within = upload_within t got bytes sent a g kept }) refl e
+drops Loose (Some t) got current ended kept (begun block_size bytes a g c e) = gone (record { direction = a.is.direction; unconfirmed = ap confirmed_with a.stage; unended = rw a.stage refl; sending = rw a.stage refl; within = begun_within t got bytes block_size a g kept }) refl e
+drops Loose (Some t) got current ended kept (blocks position sent bytes a c e) = gone (record { direction = a.is.direction; unconfirmed = ap confirmed_with a.stage; unended = rw a.stage refl; sending = rw a.stage refl; within = blocks_within t got bytes position sent a kept }) refl e
+drops Loose (Some t) got current ended kept (at_end crc bytes a g c e) = at_end crc bytes a g (inl refl) e
 
 -- some uploads may be left out
 abbrev Loose : Type 0
@@ -182,7 +185,8 @@ module _ (stamp : ℕ → ℕ) (d : Description) where
         current = None;
         serves = serves_first d.rows (Dropped ∷ log_of d older) (dropped_since (since_initiate (log_of d older)));
         follows = subst (FollowsIn Loose (following_after (recorded stamp d older)).transfer (data_after (recorded stamp d older)) None) (sym (dropped_whole (log_of d older)))
-            (drops Loose (following_after (recorded stamp d older)).transfer (data_after (recorded stamp d older)) r.current (acknowledged_whole (log_of d older)) r.follows);
+            (drops Loose (following_after (recorded stamp d older)).transfer (data_after (recorded stamp d older)) r.current (acknowledged_whole (log_of d older))
+            (kept_of (following_after (recorded stamp d older)).transfer (data_after (recorded stamp d older)) (open_after (recorded stamp d older))) r.follows);
         related = r.related;
       }
   all_related (Started ∷ older) h =

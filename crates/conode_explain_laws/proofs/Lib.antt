@@ -15,6 +15,7 @@ pub mod UploadViews
 pub mod UploadSteps
 pub mod UploadBlocks
 pub mod UploadStanding
+pub mod UploadFaults
 pub mod NoUploads
 pub mod UploadExchanges
 pub mod AllUploads

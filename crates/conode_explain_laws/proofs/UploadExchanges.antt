@@ -102,7 +102,7 @@ segment_comes Loose stamp micros heard t got done count sent bytes toggle false 
     answered stamp response (holds heard (Some (asks_next t toggle micros)) got done count) (Response response) (Ends Loose (opened_at t.key (Uploading (sent + 1)) bytes) None None done done)
     (ap response_reading (segment_sent_read toggle (part_after sent bytes) false (part_small sent bytes)))
     (rw (same_toggle toggle) (record {
-      follows = segmented (suc sent) bytes (record { direction = h.direction; stage = ap (λ b. UploadTaken b) alternates; regular = h.regular; size = h.size; few = h.few }) (whole_now got bytes sent g)
+      follows = segmented (suc sent) bytes (record { direction = h.direction; stage = ap (λ b. UploadTaken b) alternates; regular = h.regular; pending = refl; size = h.size; few = h.few }) (whole_now got bytes sent g)
           (ap (λ n. opened_at t.key (Uploading n) bytes) one) refl;
       reads = inr refl;
     }))

@@ -39,11 +39,11 @@ use Rattle.conode_explain_transfers.specs.declared.kinds.Direction.TheVariants.{
 use Rattle.conode_explain_transfers.specs.declared.kinds.Protocol.TheVariants.{Block, Undecided}
 use Rattle.conode_explain_transfers.specs.declared.kinds.Side.TheVariants.{Client, Server}
 use Rattle.conode_explain_transfers.specs.declared.stage.Stage.{Stage as Progress}
-use Rattle.conode_explain_transfers.specs.declared.stage.Stage.TheVariants.{Initiated, UploadTaken, BlockInitiated, BlockEnded}
+use Rattle.conode_explain_transfers.specs.declared.stage.Stage.TheVariants.{Initiated, UploadTaken, UploadAsked, BlockInitiated, SubBlock, AllAcknowledged, BlockEnded}
 use Rattle.conode_explain_transfers.specs.declared.transfer.Transfer.{Transfer}
 use Rattle.conode_explain_transfers.specs.BlockTurns.{is_block, end_confirmed, end_confirmed_at}
 use Rattle.conode_explain_transfers.specs.Digests.{counted}
-use Rattle.conode_explain_transfers.specs.Endings.{size_fault, verdict}
+use Rattle.conode_explain_transfers.specs.Endings.{bytes_come, excess, size_fault, verdict}
 use Rattle.conode_explain_transfers.specs.Initiates.{has_crc, initiate_of}
 use Rattle.conode_explain_transfers.specs.Stages.{confirmed_with}
 use Rattle.conode_explain_transfers.specs.Transfers.{Turn, begun as begun_with_initiate, is_download, unexpected}
@@ -67,6 +67,7 @@ pub record InUpload (t : Transfer) (bytes : List ℕ) (sent : ℕ) : Type 0 wher
   pub direction : t.direction ≡ Upload
   pub stage : t.stage ≡ UploadTaken (is_odd sent)
   pub regular : t.irregular ≡ false
+  pub pending : t.pending.items ≡ []
   pub size : t.size ≡ Some (length bytes)
   pub few : length bytes ≤ 65535
 
@@ -88,11 +89,22 @@ abbrev pub is_ended : Progress → Bool
 is_ended (BlockEnded crc) = true
 is_ended _ = false
 
--- an upload that no request completes
+-- the stages of an upload after the response and before the server's end
+abbrev pub is_sending : Progress → Bool
+is_sending (UploadTaken toggle) = true
+is_sending (UploadAsked toggle) = true
+is_sending BlockInitiated = true
+is_sending (SubBlock last) = true
+is_sending AllAcknowledged = true
+is_sending _ = false
+
+-- an upload that no request completes, and of which no more bytes came than were indicated
 pub record IsWaiting (t : Transfer) : Type 0 where
   pub direction : t.direction ≡ Upload
   pub unconfirmed : confirmed_with t.stage ≡ None
   pub unended : is_ended t.stage ≡ false
+  pub sending : is_sending t.stage ≡ true
+  pub within : excess t.size (bytes_come t) ≡ None
 
 -- the channel has no upload open, and none awaits the client's end; and the next frame isn't inside a sub-block
 abbrev pub is_segmented : Stage → Bool
@@ -262,7 +274,7 @@ segments_begin on Loose stamp key value micros frame done count k m =
     answered stamp response (asks (went_on_as on (uploads key micros frame)) done count) (Response response) (Ends Loose (opened_at key (Uploading 0) value) None None done done)
     (ap response_reading (upload_initiated_read key (length value) k (omega (arith, m))))
     (rw (same_key-refl key) (record {
-      follows = segmented 0 value (record { direction = refl; stage = refl; regular = refl; size = refl; few = m }) refl refl refl;
+      follows = segmented 0 value (record { direction = refl; stage = refl; regular = refl; pending = refl; size = refl; few = m }) refl refl refl;
       reads = inr refl;
     }))
 

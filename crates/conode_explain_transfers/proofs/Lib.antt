@@ -3,6 +3,7 @@ pub mod Confirmations
 pub mod DataLemmas
 pub mod Dialogues
 pub mod DoneLemmas
+mod FaultExamples
 pub mod HeardLemmas
 pub mod Kept
 mod LateExamples

@@ -15,7 +15,7 @@ use Rattle.conode_explain_transfers.specs.declared.reading.Reading.{Reading}
 use Rattle.conode_explain_transfers.specs.declared.reading.Reading.TheVariants.{Begin, Abort}
 use Rattle.conode_explain_transfers.specs.declared.transfer.Transfer.{Transfer}
 use Rattle.conode_explain_transfers.specs.Digests.{counted}
-use Rattle.conode_explain_transfers.specs.Endings.{verdict, ended}
+use Rattle.conode_explain_transfers.specs.Endings.{verdict, ended, fault_with}
 use Rattle.conode_explain_transfers.specs.Readings.{reading_of, has_key}
 use Rattle.conode_explain_transfers.specs.Stages.{confirmed_with}
 use Rattle.conode_explain_transfers.specs.Transfers.{Turn, begun, is_same_request, after}
@@ -109,7 +109,7 @@ abbrev pub aborts : Bool → Transfer → Side → AbortCode → ℕ → List �
 aborts heard transfer side code micros bytes =
     let ending = abort_ending side (not_followed_by side transfer bytes) code in
     record {
-      says = record { what = Part; of = None; ended = Some (ended (one_more transfer) micros ending) };
+      says = record { what = Part; of = None; ended = Some (record (ended (one_more transfer) micros ending) { fault = fault_with ending (one_more transfer) }) };
       next = record { heard = heard && not (may_be_segment side transfer bytes); transfer = None };
     }
 

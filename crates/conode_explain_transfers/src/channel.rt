@@ -323,12 +323,16 @@ impl Channel {
             Reading::Abort(code) => {
                 transfer.count_frame();
                 let ending = transfer.abort_ending(side, *code, frame);
+                let ended = Ended {
+                    fault: transfer.fault_with(ending),
+                    ..transfer.ended(micros, ending)
+                };
                 self.heard = transfer.stays_heard(self.heard, side, frame);
-                let ended = self.close(micros, ending);
+                self.transfer = None;
                 Heard {
                     what: What::Part,
                     of: None,
-                    ended,
+                    ended: Some(ended),
                 }
             }
             _ => self.go_on(reading, micros, side, frame),

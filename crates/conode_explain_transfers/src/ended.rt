@@ -1,13 +1,24 @@
 //! How transfers end.
 
 ghost use Rattle.std.specs.Prelude.{◌≡◌, take};
-ghost use Rattle.conode_explain_transfers.specs.Endings.{verdict, size_fault, ended, is_followed};
+ghost use Rattle.conode_explain_transfers.specs.Endings.{
+  bytes_come,
+  ended,
+  excess,
+  fault_of,
+  fault_with,
+  is_followed,
+  size_fault,
+  upload_fault,
+  verdict,
+};
 ghost use Rattle.conode_explain_transfers.specs.Tracks.{shown_end};
 
 use crate::kinds::{Direction, Protocol, Side};
+use crate::stage::Stage;
 use crate::transfer::Transfer;
 use arrayvec::ArrayVec;
-use co_frame::AbortCode;
+use co_frame::{AbortCode, BYTES_PER_SEGMENT};
 use co_value::Key;
 
 /// How a transfer ended.
@@ -40,6 +51,17 @@ pub enum Ending {
     NotFollowed { next: Option<u8> },
 }
 
+/// What was wrong with the data of an upload that the client aborted.
+#[derive(Clone, Copy)]
+pub enum Fault {
+    /// Another number of bytes than was indicated: the server ended the block upload with so many;
+    /// or before its end so many have come, which are more.
+    Size { indicated: u32, bytes: u64 },
+    /// Both ends support the CRC, and that with which the server ended the block upload isn't that
+    /// of the bytes.
+    Crc { came: u16, computed: u16 },
+}
+
 /// A transfer that ended.
 #[derive(Drop)]
 pub struct Ended {
@@ -63,6 +85,9 @@ pub struct Ended {
     pub end: u64,
     /// How it ended.
     pub ending: Ending,
+    /// Of an upload that the client aborted, what was wrong with its data, unless a frame came out of
+    /// sequence.
+    pub fault: Option<Fault>,
 }
 
 impl Ending {
@@ -97,6 +122,27 @@ fn size_fault(size: Option<u32>, count: u64) -> Option<u32>
 {
     match size {
         Some(size) if u64::from(size) != count => Some(size),
+        _ => None,
+    }
+}
+
+// what is wrong with the data of so many bytes, if the transfer were to end so
+fn fault_of(ending: Ending, bytes: u64) -> Option<Fault>
+    ensures { result ≡ fault_of ending bytes }
+{
+    match ending {
+        Ending::SizeDiffers { indicated } => Some(Fault::Size { indicated, bytes }),
+        Ending::CrcDiffers { came, computed } => Some(Fault::Crc { came, computed }),
+        _ => None,
+    }
+}
+
+// more bytes have come than were indicated
+fn excess(size: Option<u32>, bytes: u64) -> Option<Fault>
+    ensures { result ≡ excess size bytes }
+{
+    match size {
+        Some(indicated) if u64::from(indicated) < bytes => Some(Fault::Size { indicated, bytes }),
         _ => None,
     }
 }
@@ -141,6 +187,54 @@ impl Transfer {
             newest: self.newest,
             end,
             ending,
+            fault: None,
+        }
+    }
+
+    // How many bytes of data have come, at least: of the last segment of a block upload maybe none, as
+    // only the end says how many it has.
+    fn bytes_come(&self) -> u64
+        ensures { result ≡ bytes_come self.now }
+    {
+        let pending = self.pending.len();
+        let data = match self.stage {
+            Stage::SubBlock { last: true } | Stage::AllAcknowledged => {
+                pending.saturating_sub(BYTES_PER_SEGMENT)
+            }
+            _ => pending,
+        };
+        self.taken.count.saturating_add(data as u64)
+    }
+
+    // What is wrong with the data of an upload that the client aborts: of one that the server ended
+    // what the client would confirm; before that too many bytes.
+    fn upload_fault(&self) -> Option<Fault>
+        ensures { result ≡ upload_fault self.now }
+    {
+        if self.is_download() {
+            return None;
+        }
+        match self.stage {
+            Stage::Initiated => None,
+            Stage::BlockEnded { crc } => {
+                let compared = if self.crc { Some(crc) } else { None };
+                fault_of(self.verdict(compared), self.taken.count)
+            }
+            _ if self.irregular => None,
+            _ => excess(self.size, self.bytes_come()),
+        }
+    }
+
+    /// What was wrong with the data of a transfer that ends so.
+    pub(crate) fn fault_with(&self, ending: Ending) -> Option<Fault>
+        ensures { result ≡ fault_with ending self.now }
+    {
+        match ending {
+            Ending::Aborted {
+                by: Side::Client,
+                code: _,
+            } => self.upload_fault(),
+            _ => None,
         }
     }
 }

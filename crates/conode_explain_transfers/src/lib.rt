@@ -27,7 +27,7 @@ mod unanswered;
 
 pub use channel::{Channel, Heard};
 pub use channels::Channels;
-pub use ended::{Ended, Ending};
+pub use ended::{Ended, Ending, Fault};
 pub use kinds::{Direction, Protocol, Side, What};
 pub use laws::{done_in_recordings, done_is_confirmed, kept_data, kept_in_recordings};
 pub use revealed::Revealed;
