@@ -21,7 +21,8 @@
 #include <unistd.h>
 #endif
 
-static const char eds[] = {
+/* a byte may be above 127 */
+static const unsigned char eds[] = {
 #include "eds.inc"
 };
 
@@ -195,7 +196,7 @@ int main(int argc, char **argv)
     char text[128];
     int status;
     if (argc != 1 && (argc != 3 || strcmp(argv[1], "--can") != 0)) return fputs("device [--can NAME]\n", stderr), 2;
-    if (!bafokun_build(&node, eds, sizeof eds, 5, &config, &fault)) {
+    if (!bafokun_build(&node, (const char *)eds, sizeof eds, 5, &config, &fault)) {
         bafokun_fault_text(&fault, text, sizeof text);
         fprintf(stderr, "no device: %s", text);
         if (fault.line > 0) fprintf(stderr, ", line %lu", (unsigned long)fault.line);

@@ -100,8 +100,9 @@ class Node:
     ):
         """Of a sheet's text as bytes, at a node-ID, 1 to 127, or that of the sheet where it is a device configuration file.
 
-        strings and domains are the room of strings and domains in bytes, sdo_timeout is in ms, 0 for none, path is for
-        messages. SheetFault, BuildFault: why there is no device. OSError: there is no library.
+        strings and domains are the room of strings and domains in bytes, but for a string that clients may not write: it has
+        room for its default. sdo_timeout is in ms, 0 for none, path is for messages. SheetFault, BuildFault: why there is no
+        device. OSError: there is no library.
         """
         if isinstance(sheet, str):
             raise TypeError("a sheet's text is wanted as bytes, not as str; Node.from_sheet reads a file")

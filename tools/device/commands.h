@@ -116,7 +116,7 @@ static bool read_words(struct client *client, struct device *device, const struc
         if (kind == 'H' || kind == 'E') is_right = bytes_of(&plain, value, bytes, &length) && (kind == 'H' || length == 5);
         if (kind == 'V' && !bytes_of(&entry, value, bytes, &length))
             return bafokun_find(&device->node, entry.index, entry.sub_index, &(size_t){ 0 })
-                ? say(client, TROUBLE, "error: this is no value of %s", type_names[entry.type])
+                ? say(client, TROUBLE, "error: this is no value of %s", type_names[entry.original_type])
                 : say(client, TROUBLE, "error: there is no entry %04X:%02X", entry.index, entry.sub_index);
     }
     if (is_right && !*rest && (!form || form[1] == '[')) return true;

@@ -6,10 +6,12 @@
 #include <err.h>
 #include <errno.h>
 #include <fcntl.h>
+#include <float.h>
 #include <getopt.h>
 #include <inttypes.h>
 #include <linux/can/error.h>
 #include <linux/can/raw.h>
+#include <math.h>
 #include <net/if.h>
 #include <poll.h>
 #include <stdarg.h>
