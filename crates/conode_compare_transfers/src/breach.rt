@@ -32,8 +32,8 @@ pub enum Breach {
     Form(Key),
     /// `abort-key`: an abort has another multiplexer.
     AbortKey(Key),
-    /// `answer-size`: an upload indicates so many bytes, and has so many; or so many have come when the
-    /// client aborts it.
+    /// `answer-size`: an upload indicates so many bytes, and has so many; or so many have come as
+    /// the client aborts it.
     Size(Key, u32, u64),
     /// `answer-crc`: a block upload has this CRC, and its bytes have that one.
     Crc(Key, u16, u16),

@@ -85,8 +85,8 @@ pub struct Ended {
     pub end: u64,
     /// How it ended.
     pub ending: Ending,
-    /// Of an upload that the client aborted, what was wrong with its data, unless a frame came out of
-    /// sequence.
+    /// Of an upload that the client aborted, what was wrong with its data, unless a frame came out
+    /// of sequence.
     pub fault: Option<Fault>,
 }
 
@@ -191,8 +191,8 @@ impl Transfer {
         }
     }
 
-    // How many bytes of data have come, at least: of the last segment of a block upload maybe none, as
-    // only the end says how many it has.
+    // How many bytes of data have come, at least: of the last segment of a block upload maybe none,
+    // as only the end says how many it has.
     fn bytes_come(&self) -> u64
         ensures { result ≡ bytes_come self.now }
     {
