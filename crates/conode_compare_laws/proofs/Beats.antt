@@ -1,5 +1,5 @@
 -- The heartbeats of a device in its recording, and what compare knows of them.
-use Rattle.std.proofs.Common.{◌≡◌, ◌≢◌, ℕ, zero, suc, ◌+◌, ◌*◌, ◌-◌, ◌%◌, ◌<◌, ◌≤◌, Bool, true, false, List, [], ◌∷◌, length, Option, Some, None, refl, sym, ap, ◌∙◌, subst, arith, ◌⊎◌, inl, inr, add-one}
+use Rattle.std.proofs.Common.{◌≡◌, ◌≢◌, ℕ, ◌+◌, ◌*◌, ◌-◌, ◌%◌, ◌<◌, ◌≤◌, Bool, true, false, List, [], ◌∷◌, length, Option, Some, None, refl, sym, ap, ◌∙◌, subst, arith, ◌⊎◌, inl, inr, add-one}
 use Rattle.std.specs.Prelude.{if◌then◌else◌, ◌==◌, ◌&&◌, ◌||◌, not, nat_le, nat_lt, is_some, option_map, IfSome}
 use Rattle.std.specs.Option.{option_or, option_to_list}
 use Rattle.std.proofs.Math.Nat.{mod-eq_of_lt, mod-lt, mod_self, suc-mod}
@@ -208,10 +208,12 @@ none_coming subject p micros period ago few h = unless_again (comes_again subjec
 
 -- ---- a heartbeat though 1017:00 has 0
 
+apart : (n period : ℕ) → 0 < period → n ≡ period → n ≢ 0
+apart n period some same = λ none. omega arith
+
 not_zero : (known : Option ℕ) (period : ℕ) → 0 < period → IfSome known (λ n. n ≡ period) → is_zero known ≡ false
 not_zero None period some same = refl
-not_zero (Some zero) period some same = let e : 0 ≡ period = same in absurd (omega arith)
-not_zero (Some (suc n)) period some same = refl
+not_zero (Some n) period some same = ne_eqb n 0 (apart n period some same)
 
 -- where the period isn't 0 none is found
 none_off : (subject : Subject) (p : Progress) (micros byte period : ℕ) → 0 < period → IfSome p.entries.period (λ n. n ≡ period) → off_coming subject p micros byte ≡ None
