@@ -57,7 +57,7 @@ known : map is_known (codes "OtherFormat" ∷ codes "BadList" ∷ codes "BadCobI
 known = refl
 
 -- the rule of another format names no format
-other_format : (rule_of (Format Xml)).meaning ≡ codes "this is no EDS of CANopen: it is XML, an EDS of EtherNet/IP or DeviceNet, in UTF-16, with CR alone at line ends, or without a section"
+other_format : (rule_of (Format Xml)).meaning ≡ codes "this is no EDS of CANopen: it is XML, an EDS of EtherNet/IP or DeviceNet, in UTF-16, with CR alone at line ends, or without a section; or its lines end with CR, CR and LF"
 unfolding rule_of
 other_format = refl
 

@@ -29,7 +29,7 @@ seen_rule rule = record {
 -- what is wrong, and how to fix it, of a kind: of a text of another format without saying which
 abbrev pub rule_meaning : Subject → List ℕ
 rule_meaning (Format format) =
-    codes "this is no EDS of CANopen: it is XML, an EDS of EtherNet/IP or DeviceNet, in UTF-16, with CR alone or CR, CR and LF at line ends, or without a section"
+    codes "this is no EDS of CANopen: it is XML, an EDS of EtherNet/IP or DeviceNet, in UTF-16, with CR alone at line ends, or without a section; or its lines end with CR, CR and LF"
 rule_meaning subject = words.meaning_at 1 subject
 
 abbrev pub rule_fix : Subject → List ℕ

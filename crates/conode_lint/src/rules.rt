@@ -108,7 +108,7 @@ fn words_of(subject: Subject) -> (&'static str, &'static str)
     match subject {
         Subject::Format(_) => (
             "this is no EDS of CANopen: it is XML, an EDS of EtherNet/IP or DeviceNet, in UTF-16, with \
-            CR alone or CR, CR and LF at line ends, or without a section",
+            CR alone at line ends, or without a section; or its lines end with CR, CR and LF",
             "export or ask for an EDS of CANopen, in ASCII",
         ),
         _ => (meaning_of(Mark { line: 1, subject }), fix_of(subject)),
