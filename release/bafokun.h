@@ -12,7 +12,8 @@
  *     count = bafokun_take(&node, &frame, frames, BAFOKUN_MOST_FRAMES);
  *
  * For Linux with glibc, on every x86-64 processor and on 64-bit ARM. Link with libbafokun.a or
- * libbafokun.so alone; it calls malloc, realloc and free of the program.
+ * libbafokun.so alone; it calls malloc, realloc and free of the program. A program finds the latter
+ * as libbafokun.so.0, a link beside it that bin/libbafokun and bin/install make.
  *
  * Rules for every call:
  * - No pointer is NULL, even if its count is 0, and each is aligned as its type is. An array has as
@@ -50,9 +51,9 @@
 extern "C" {
 #endif
 
-#define BAFOKUN_VERSION "0.38.0"
+#define BAFOKUN_VERSION "0.39.0"
 #define BAFOKUN_VERSION_MAJOR 0
-#define BAFOKUN_VERSION_MINOR 38
+#define BAFOKUN_VERSION_MINOR 39
 #define BAFOKUN_VERSION_PATCH 0
 
 /* The version as a number: a byte for each of the three, the last in the lowest byte. */
@@ -84,8 +85,9 @@ typedef struct bafokun_frame {
 
 /* What an EDS leaves open. 6 bytes, no padding. */
 typedef struct bafokun_config {
-    uint16_t strings; /* bytes that each string has room for that may be written; a longer default makes more room */
-    uint16_t domains; /* bytes that each domain has room for */
+    uint16_t strings; /* bytes that each string has room for that SDO clients may write; a longer default makes more
+                         room. One that is BAFOKUN_RO or _CONST has room for its default, without one none */
+    uint16_t domains; /* bytes that each domain has room for, whatever its access */
     uint16_t time;    /* SDO timeout in ms; 0: none */
 } bafokun_config;
 
@@ -169,7 +171,7 @@ typedef struct bafokun_events {
  * place had is freed first, also if the build then fails. Returns whether there is a device; if not,
  * fault is the reason, and the place is empty. If malloc or realloc returns NULL, that is
  * BAFOKUN_SHEET_MEMORY or BAFOKUN_DEVICE_MEMORY, and all memory of the build is freed. If there is a
- * device, fault is BAFOKUN_FAULT_NONE.
+ * device, fault is BAFOKUN_FAULT_NONE. The NodeID of a device configuration file isn't read.
  */
 bool bafokun_build(bafokun_node *node, const char *text, size_t text_length, uint8_t node_id,
                    const bafokun_config *config, bafokun_fault *fault);
@@ -195,7 +197,8 @@ size_t bafokun_boot(bafokun_node *node, bafokun_frame *frames, size_t room);
  * A data frame with an identifier of 11 bits was received from another node: no remote frame, no
  * error frame of the driver, no frame that this device sent. One with an identifier above 7FFh, or
  * with more than 8 bytes, is no input: it sends nothing, and bafokun_sent and bafokun_answer still
- * return what they did.
+ * return what they did. An NMT command (identifier 0) of more than two bytes, as some masters send it,
+ * has no effect.
  */
 size_t bafokun_take(bafokun_node *node, const bafokun_frame *frame, bafokun_frame *frames, size_t room);
 
@@ -217,10 +220,13 @@ size_t bafokun_ticks(bafokun_node *node, uint32_t most, uint32_t *elapsed, bafok
 
 /*
  * The application writes an entry, even if SDO clients may only read it: all its bytes, as many as
- * its type has. bafokun_answer returns whether it was done: an entry that is BAFOKUN_CONST, or a
- * parameter of an SDO channel (1200h to 127Fh), is refused with the SDO abort code 06010002h. A
- * missing entry, another number of bytes or a value outside the limits is refused with the code that
- * an SDO client gets.
+ * its type has, of a string or a domain at most as many as it has room for (bafokun_config).
+ * bafokun_answer returns whether it was done: an entry that is BAFOKUN_CONST, or a parameter of an SDO
+ * channel (1200h to 127Fh), is refused with the SDO abort code 06010002h. A missing entry, another
+ * number of bytes, a value outside the limits, or one that the entry's own rule refuses, is refused
+ * with the code that an SDO client gets: 06070012h for a string that is too long, 06090030h for 1 in
+ * 1019h, 08000022h for a mapping while its PDO is valid, 08000020h for 1010h. A program that changes
+ * COB-IDs or mappings does so in a client's steps.
  */
 size_t bafokun_write(bafokun_node *node, uint16_t index, uint8_t sub_index, const uint8_t *bytes, size_t length,
                      bafokun_frame *frames, size_t room);
